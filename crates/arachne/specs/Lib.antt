@@ -1,0 +1,4 @@
+pub mod CommandLine
+pub mod Output
+pub mod Fault
+pub mod Drive

@@ -1,0 +1,179 @@
+-- The nodes of an expression are judged part by part.
+use Rattle.std.proofs.Common.{◌≡◌, ℕ, ◌+◌, ◌<◌, ◌≤◌, List, [], ◌∷◌, ◌++◌, length, refl, ap, sym, ◌∙◌, arith, length-append, Bool, true, false, Vec, Global, map, sum_by}
+use Rattle.std.specs.List.{fold}
+use Rattle.std.proofs.lemmas.List.{length-map}
+use Rattle.std.proofs.lemmas.Bool.Decides.{nat_tests}
+use Rattle.std.specs.Prelude.{nat_lt, Option, None, Some, Result, Ok, Err}
+use Rattle.arachne_lang.specs.declared.check_fault.CheckFault.{CheckFault}
+use Rattle.arachne_lang.specs.Tree.{Operation, Tree, Number, Variable, Length, Item, Binary, Choose, Bind, Tally, Hold, Fork, Fold, Sweep, Source}
+use Rattle.arachne_lang.specs.Text.{nesting}
+use Rattle.arachne_lang.specs.Checked.{NodeFault, node_faults, first_fault, is_within_limits, verdict_of}
+use Rattle.arachne_lang.specs.Program.{tree_of, source_of}
+use Rattle.arachne_lang.specs.declared.check_fault.CheckFault.TheVariants as fault
+use Rattle.arachne_lang.specs.declared.program.Class.{Class}
+use Rattle.arachne_lang.specs.declared.program.Program.{Program}
+use Rattle.arachne_lang.specs.Judgement.{node_count, judged, KeepsLimits}
+
+pub nesting_positive : (tree : Tree) → 0 < nesting tree
+nesting_positive (Number n) = omega arith
+nesting_positive (Variable k) = omega arith
+nesting_positive (Length a) = omega arith
+nesting_positive (Item a index) = omega arith
+nesting_positive (Binary operation a b) = omega arith
+nesting_positive (Choose condition first second) = omega arith
+nesting_positive (Bind bound body) = omega arith
+nesting_positive (Tally ledger amount body) = omega arith
+nesting_positive (Hold lock body) = omega arith
+nesting_positive (Fork class child during after) = omega arith
+nesting_positive (Fold from to first body) = omega arith
+nesting_positive (Sweep reduction grain from to body) = omega arith
+
+pub node_count_positive : (tree : Tree) → 0 < node_count tree
+node_count_positive (Number n) = omega arith
+node_count_positive (Variable k) = omega arith
+node_count_positive (Length a) = omega arith
+node_count_positive (Item a index) = omega arith
+node_count_positive (Binary operation a b) = omega arith
+node_count_positive (Choose condition first second) = omega arith
+node_count_positive (Bind bound body) = omega arith
+node_count_positive (Tally ledger amount body) = omega arith
+node_count_positive (Hold lock body) = omega arith
+node_count_positive (Fork class child during after) = omega arith
+node_count_positive (Fold from to first body) = omega arith
+node_count_positive (Sweep reduction grain from to body) = omega arith
+
+pub length-node_faults : (program : Source) (within : Bool) (bound : ℕ) (tree : Tree) → length (node_faults program within bound tree) ≡ node_count tree
+length-node_faults program within bound (Number n) = refl
+length-node_faults program within bound (Variable k) = refl
+length-node_faults program within bound (Length a) = refl
+length-node_faults program within bound (Item a index) = simp (length-node_faults program within bound index) (omega arith)
+length-node_faults program within bound (Binary operation a b) =
+    simp (length-append, length-node_faults program within bound a, length-node_faults program within bound b) (omega arith)
+length-node_faults program within bound (Choose condition first second) =
+    simp (length-append, length-node_faults program within bound condition, length-node_faults program within bound first, length-node_faults program within bound second) (omega arith)
+length-node_faults program within bound (Bind value body) =
+    simp (length-append, length-node_faults program within bound value, length-node_faults program within (bound + 1) body) (omega arith)
+length-node_faults program within bound (Tally ledger amount body) =
+    simp (length-append, length-node_faults program within bound amount, length-node_faults program within bound body) (omega arith)
+length-node_faults program within bound (Hold lock body) = simp (length-node_faults program true bound body) (omega arith)
+length-node_faults program within bound (Fork class child during after) =
+    simp (length-append, length-node_faults program within bound child, length-node_faults program within bound during, length-node_faults program within (bound + 2) after) (omega arith)
+length-node_faults program within bound (Fold from to first body) =
+    simp (length-append, length-node_faults program within bound from, length-node_faults program within bound to, length-node_faults program within bound first, length-node_faults program within (bound + 2) body) (omega arith)
+length-node_faults program within bound (Sweep reduction grain from to body) =
+    simp (length-append, length-node_faults program within bound from, length-node_faults program within bound to, length-node_faults program within (bound + 1) body) (omega arith)
+
+pub judged-append-ok : (node next : ℕ) (xs ys : List (Option NodeFault)) → judged node xs ≡ Ok next → judged node (xs ++ ys) ≡ judged next ys
+judged-append-ok node next [] ys is = let same : node ≡ next = cc in ap (λ n. judged n ys) same
+judged-append-ok node next (None ∷ xs) ys is = judged-append-ok (node + 1) next xs ys is
+judged-append-ok node next (Some fault ∷ xs) ys is = cc
+
+pub judged-append-err : (node : ℕ) (fault : CheckFault) (xs ys : List (Option NodeFault)) → judged node xs ≡ Err fault → judged node (xs ++ ys) ≡ Err fault
+judged-append-err node fault [] ys is = cc
+judged-append-err node fault (None ∷ xs) ys is = judged-append-err (node + 1) fault xs ys is
+judged-append-err node fault (Some found ∷ xs) ys is = is
+
+first_fault-ok : (node next : ℕ) (xs : List (Option NodeFault)) → judged node xs ≡ Ok next → first_fault node xs ≡ Ok tt
+first_fault-ok node next [] is = refl
+first_fault-ok node next (None ∷ xs) is = first_fault-ok (node + 1) next xs is
+first_fault-ok node next (Some fault ∷ xs) is = cc
+
+first_fault-err : (node : ℕ) (fault : CheckFault) (xs : List (Option NodeFault)) → judged node xs ≡ Err fault → first_fault node xs ≡ Err fault
+first_fault-err node fault [] is = cc
+first_fault-err node fault (None ∷ xs) is = first_fault-err (node + 1) fault xs is
+first_fault-err node fault (Some found ∷ xs) is = cc
+
+-- An expression of two parts, or of three, is at fault where its first part at fault is.
+module _ (program : Source) (bound node : ℕ) where
+  pub judged-Binary-first : (operation : Operation) (a b : Tree) (fault : CheckFault)
+      → Err fault ≡ judged (node + 1) (node_faults program false bound a)
+      → Err fault ≡ judged node (node_faults program false bound (Binary operation a b))
+  judged-Binary-first operation a b fault is =
+      sym (judged-append-err (node + 1) fault (node_faults program false bound a) (node_faults program false bound b) (sym is))
+
+  pub judged-Binary-second : (operation : Operation) (a b : Tree) (second : ℕ) (answer : Result ℕ CheckFault)
+      → Ok second ≡ judged (node + 1) (node_faults program false bound a)
+      → answer ≡ judged second (node_faults program false bound b)
+      → answer ≡ judged node (node_faults program false bound (Binary operation a b))
+  judged-Binary-second operation a b second answer first is =
+      is ∙ sym (judged-append-ok (node + 1) second (node_faults program false bound a) (node_faults program false bound b) (sym first))
+
+  pub judged-Fork-first : (class : Class) (child during after : Tree) (fault : CheckFault)
+      → Err fault ≡ judged (node + 1) (node_faults program false bound child)
+      → Err fault ≡ judged node (node_faults program false bound (Fork class child during after))
+  judged-Fork-first class child during after fault is =
+      sym (judged-append-err (node + 1) fault (node_faults program false bound child ++ node_faults program false bound during) (node_faults program false (bound + 2) after)
+      (judged-append-err (node + 1) fault (node_faults program false bound child) (node_faults program false bound during) (sym is)))
+
+  pub judged-Fork-second : (class : Class) (child during after : Tree) (second : ℕ) (fault : CheckFault)
+      → Ok second ≡ judged (node + 1) (node_faults program false bound child)
+      → Err fault ≡ judged second (node_faults program false bound during)
+      → Err fault ≡ judged node (node_faults program false bound (Fork class child during after))
+  judged-Fork-second class child during after second fault first is =
+      sym (judged-append-err (node + 1) fault (node_faults program false bound child ++ node_faults program false bound during) (node_faults program false (bound + 2) after)
+      (judged-append-ok (node + 1) second (node_faults program false bound child) (node_faults program false bound during) (sym first) ∙ sym is))
+
+  pub judged-Fork-third : (class : Class) (child during after : Tree) (second third : ℕ) (answer : Result ℕ CheckFault)
+      → Ok second ≡ judged (node + 1) (node_faults program false bound child)
+      → Ok third ≡ judged second (node_faults program false bound during)
+      → answer ≡ judged third (node_faults program false (bound + 2) after)
+      → answer ≡ judged node (node_faults program false bound (Fork class child during after))
+  judged-Fork-third class child during after second third answer first between is =
+      is ∙ sym (judged-append-ok (node + 1) third (node_faults program false bound child ++ node_faults program false bound during) (node_faults program false (bound + 2) after)
+      (judged-append-ok (node + 1) second (node_faults program false bound child) (node_faults program false bound during) (sym first) ∙ sym between))
+
+-- the limits one by one, and as a test
+items-of-arrays : (before : ℕ) (arrays : List (Vec ℕ Global)) → fold (λ so_far array. so_far + length array) before (map (λ array. array.items) arrays)
+    ≡ fold (λ so_far array. so_far + length array.items) before arrays
+items-of-arrays before [] = refl
+items-of-arrays before (array ∷ arrays) = items-of-arrays (before + length array.items) arrays
+
+sum_by-items : (arrays : List (Vec ℕ Global)) → sum_by length (map (λ array. array.items) arrays) ≡ sum_by (λ array. length array.items) arrays
+sum_by-items arrays = items-of-arrays 0 arrays
+
+kept-is_within_limits : (program : Program) → KeepsLimits program → is_within_limits (source_of program) ≡ true
+kept-is_within_limits program kept =
+    rw (length-node_faults (source_of program) false 0 (tree_of program.root), length-map, sum_by-items program.arrays.items) (grind (arith, nat_tests))
+
+is_within_limits-kept : (program : Program) → is_within_limits (source_of program) ≡ true → KeepsLimits program
+is_within_limits-kept program is =
+    let all = rw (length-node_faults (source_of program) false 0 (tree_of program.root), length-map, sum_by-items program.arrays.items) at is in
+    record {
+      nodes = grind (arith, nat_tests);
+      arrays = grind (arith, nat_tests);
+      items = grind (arith, nat_tests);
+      ledgers = grind (arith, nat_tests);
+      locks = grind (arith, nat_tests);
+    }
+
+false-from-not_true : (b : Bool) → (b ≡ true → ⊥) → b ≡ false
+false-from-not_true true not_true = absurd (not_true refl)
+false-from-not_true false not_true = refl
+
+-- the verdict, case by case
+pub verdict-nesting : (program : Program) → (nesting (tree_of program.root) ≤ 64 → ⊥) → Err fault.Nesting ≡ verdict_of (source_of program)
+verdict-nesting program deep =
+    let is_deep : nat_lt 64 (nesting (tree_of program.root)) ≡ true = grind (arith, nat_tests) in
+    rw is_deep refl
+
+pub verdict-limits : (program : Program) → nesting (tree_of program.root) ≤ 64 → (KeepsLimits program → ⊥) → Err fault.OverLimit ≡ verdict_of (source_of program)
+verdict-limits program flat over =
+    let is_flat : nat_lt 64 (nesting (tree_of program.root)) ≡ false = grind (arith, nat_tests) in
+    let is_over : is_within_limits (source_of program) ≡ false = false-from-not_true (is_within_limits (source_of program)) (λ kept. over (is_within_limits-kept program kept)) in
+    rw (is_flat, is_over) refl
+
+verdict-nodes : (program : Program) → nesting (tree_of program.root) ≤ 64 → KeepsLimits program → verdict_of (source_of program) ≡ first_fault 0 (node_faults (source_of program) false 0 (tree_of program.root))
+verdict-nodes program flat kept =
+    let is_flat : nat_lt 64 (nesting (tree_of program.root)) ≡ false = grind (arith, nat_tests) in
+    let is_kept : is_within_limits (source_of program) ≡ true = kept-is_within_limits program kept in
+    rw (is_flat, is_kept) refl
+
+pub verdict-ok : (program : Program) (next : ℕ) → nesting (tree_of program.root) ≤ 64 → KeepsLimits program
+    → Ok next ≡ judged 0 (node_faults (source_of program) false 0 (tree_of program.root)) → Ok tt ≡ verdict_of (source_of program)
+verdict-ok program next flat kept found =
+    sym (verdict-nodes program flat kept ∙ first_fault-ok 0 next (node_faults (source_of program) false 0 (tree_of program.root)) (sym found))
+
+pub verdict-err : (program : Program) (fault : CheckFault) → nesting (tree_of program.root) ≤ 64 → KeepsLimits program
+    → Err fault ≡ judged 0 (node_faults (source_of program) false 0 (tree_of program.root)) → Err fault ≡ verdict_of (source_of program)
+verdict-err program fault flat kept found =
+    sym (verdict-nodes program flat kept ∙ first_fault-err 0 fault (node_faults (source_of program) false 0 (tree_of program.root)) (sym found))

@@ -1,0 +1,70 @@
+-- Which programs are checked, and the first fault of the others.
+use Rattle.std.specs.Prelude.{ℕ, ◌≡◌, ◌+◌, ◌*◌, ◌^◌, ◌<◌, ◌≤◌, nat_lt, nat_le, ◌==◌, ◌&&◌, Bool, true, false, if◌then◌else◌, List, [], ◌∷◌, ◌++◌, length, sum_by, Option, None, Some, Result, Ok, Err}
+use Rattle.arachne_lang.specs.declared.check_fault.CheckFault.{CheckFault}
+use Rattle.arachne_lang.specs.declared.check_fault.CheckFault.TheVariants as fault
+use Rattle.arachne_lang.specs.Tree.{Tree, Number, Variable, Length, Item, Binary, Choose, Bind, Tally, Hold, Fork, Fold, Sweep, Source}
+use Rattle.arachne_lang.specs.Text.{nesting}
+
+-- what may be wrong at a node, whose number in the text's order is given
+abbrev pub NodeFault : Type 0
+NodeFault = ℕ → CheckFault
+
+-- a fault where a test fails
+abbrev pub unless : Bool → NodeFault → Option NodeFault
+unless holds fault = if holds then None else Some fault
+
+-- the first fault of two
+abbrev pub or_else : Option NodeFault → Option NodeFault → Option NodeFault
+or_else None other = other
+or_else (Some fault) other = Some fault
+
+-- For each node of an expression in the text's order, a node before its parts, its first fault if it has one. The program says which arrays, ledgers and
+-- locks there are; so many variables are bound; and the expression stands within a hold or does not.
+abbrev pub node_faults : Source → Bool → ℕ → Tree → List (Option NodeFault)
+node_faults program within bound (Number n) = None ∷ []
+node_faults program within bound (Variable k) = unless (nat_lt k bound) fault.Unbound ∷ []
+node_faults program within bound (Length a) = unless (nat_lt a (length program.arrays)) fault.NoArray ∷ []
+node_faults program within bound (Item a index) =
+    unless (nat_lt a (length program.arrays)) fault.NoArray ∷ node_faults program within bound index
+node_faults program within bound (Binary operation a b) =
+    None ∷ node_faults program within bound a ++ node_faults program within bound b
+node_faults program within bound (Choose condition first second) =
+    None ∷ node_faults program within bound condition ++ node_faults program within bound first ++ node_faults program within bound second
+node_faults program within bound (Bind value body) =
+    None ∷ node_faults program within bound value ++ node_faults program within (bound + 1) body
+node_faults program within bound (Tally ledger amount body) =
+    unless (nat_lt ledger program.ledgers) fault.NoLedger ∷ node_faults program within bound amount ++ node_faults program within bound body
+node_faults program within bound (Hold lock body) =
+    or_else (if within then Some fault.WithinHold else None) (unless (nat_lt lock program.locks) fault.NoLock)
+    ∷ node_faults program true bound body
+node_faults program within bound (Fork class child during after) =
+    (if within then Some fault.WithinHold else None)
+    ∷ node_faults program within bound child ++ node_faults program within bound during ++ node_faults program within (bound + 2) after
+node_faults program within bound (Fold from to first body) =
+    None ∷ node_faults program within bound from ++ node_faults program within bound to ++ node_faults program within bound first
+    ++ node_faults program within (bound + 2) body
+node_faults program within bound (Sweep reduction grain from to body) =
+    or_else (if within then Some fault.WithinHold else None) (unless (nat_lt 0 grain) fault.NoGrain)
+    ∷ node_faults program within bound from ++ node_faults program within bound to ++ node_faults program within (bound + 1) body
+
+-- the first fault of nodes that are numbered from here on
+abbrev pub first_fault : ℕ → List (Option NodeFault) → Result (Unit {0}) CheckFault
+first_fault node [] = Ok tt
+first_fault node (None ∷ nodes) = first_fault (node + 1) nodes
+first_fault node (Some fault ∷ nodes) = Err (fault node)
+
+-- nodes, arrays, items of all arrays, ledgers and locks
+abbrev pub is_within_limits : Source → Bool
+is_within_limits program =
+    nat_le (length (node_faults program false 0 program.root)) 4096 && nat_le (length program.arrays) 64
+    && nat_le (sum_by length program.arrays) 1000000 && nat_le program.ledgers 16 && nat_le program.locks 16
+
+-- What the check of a program answers: first the nesting is judged, then the limits, then the nodes.
+abbrev pub verdict_of : Source → Result (Unit {0}) CheckFault
+verdict_of program =
+    if nat_lt 64 (nesting program.root) then Err fault.Nesting
+    else if is_within_limits program then first_fault 0 (node_faults program false 0 program.root)
+    else Err fault.OverLimit
+
+abbrev pub IsChecked : Source → Type 0
+IsChecked program = verdict_of program ≡ Ok tt

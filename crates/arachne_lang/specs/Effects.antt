@@ -1,0 +1,125 @@
+-- What the evaluation of an expression does beside its value: sums for the ledgers, holds of locks, and threads.
+use Rattle.std.specs.Prelude.{ℕ, zero, suc, ◌+◌, ◌-◌, ◌/◌, ◌%◌, ◌^◌, max, nat_le, ◌==◌, if◌then◌else◌, List, [], ◌∷◌, ◌++◌, length, Option, None, Some, option_and_then, slice_get}
+use Rattle.arachne_lang.specs.declared.meaning.Line.{Line}
+use Rattle.arachne_lang.specs.Tree.{Reduction, Tree, Number, Variable, Length, Item, Binary, Choose, Bind, Tally, Hold, Fork, Fold, Sweep, Source}
+use Rattle.arachne_lang.specs.Value.{wrapped, apply, operation_of, unit_of, turns, Environment, with_newest, value_of}
+
+-- What a thread evaluates: an expression, or a reduction over so many numbers of a range from a first one on.
+pub data Task : Type 0 where
+  Evaluate : Tree → Environment → Task
+  Reduce : Reduction → ℕ → Tree → Environment → ℕ → ℕ → Task
+
+pub record Effects : Type 0 where
+  -- for each ledger, all that is added to it, by the children too
+  pub sums : ℕ → ℕ
+  -- for each lock, how often the own thread holds it
+  pub holds : ℕ → ℕ
+  -- what the own thread forks, in order
+  pub children : List Task
+  -- the lines of the threads below the own one, whose name is given, and the number that its next fork gets
+  pub lines : List ℕ → ℕ → List Line
+
+-- f of 0, of 1, and so on, so many
+abbrev pub tabulated : ℕ → (ℕ → ℕ) → List ℕ
+tabulated zero f = []
+tabulated (suc n) f = tabulated n f ++ wrapped (f n) ∷ []
+
+-- the line of a thread
+abbrev pub line_of : ℕ → List ℕ → Effects → Line
+line_of locks name effects = record { name = name; holds = tabulated locks effects.holds }
+
+-- no effect at all
+abbrev pub nothing : Effects
+nothing = record { sums = λ ledger. 0; holds = λ lock. 0; children = []; lines = λ name next. [] }
+
+-- One after the other: the later forks are numbered after the earlier ones.
+infixl 10 ◌⨾◌
+abbrev pub ◌⨾◌ : Effects → Effects → Effects
+a ⨾ b = record {
+  sums = λ ledger. a.sums ledger + b.sums ledger;
+  holds = λ lock. a.holds lock + b.holds lock;
+  children = a.children ++ b.children;
+  lines = λ name next. a.lines name next ++ b.lines name (next + length a.children);
+}
+
+abbrev pub tallied : ℕ → ℕ → Effects
+tallied ledger amount = record nothing { sums = λ other. if other == ledger then amount else 0 }
+
+abbrev pub held : ℕ → Effects
+held lock = record nothing { holds = λ other. if other == lock then 1 else 0 }
+
+-- A child is forked for a task, this is done during its life, and the child is joined. The fork comes before those of during,
+-- and the lines of during stand before the child's own, which stands before those below it.
+abbrev pub forked : ℕ → Task → Effects → Effects → Effects
+forked locks task child during = record {
+  sums = λ ledger. child.sums ledger + during.sums ledger;
+  holds = during.holds;
+  children = task ∷ during.children;
+  lines = λ name next.
+      during.lines name (next + 1)
+      ++ line_of locks (name ++ next ∷ []) child ∷ []
+      ++ child.lines (name ++ next ∷ []) 0;
+}
+
+-- the effects of so many turns, one after the other
+abbrev pub turns_effects : (ℕ → Effects) → ℕ → Effects
+turns_effects turn zero = nothing
+turns_effects turn (suc j) = turns_effects turn j ⨾ turn j
+
+-- The effects of a range of n numbers from a first one on. One that is longer than the grain is halved: the left half is forked, and the
+-- right half is done during its life. A fuel of n is enough.
+abbrev pub halves : ℕ → (ℕ → ℕ → Task) → (ℕ → Effects) → ℕ → ℕ → ℕ → ℕ → Effects
+halves locks task turn grain zero first n = turns_effects (λ j. turn (first + j)) n
+halves locks task turn grain (suc fuel) first n =
+    if nat_le n (max 1 grain)
+    then turns_effects (λ j. turn (first + j)) n
+    else forked locks (task first (n / 2))
+    (halves locks task turn grain fuel first (n / 2))
+    (halves locks task turn grain fuel (first + n / 2) (n - n / 2))
+
+abbrev pub effects_of : List (List ℕ) → ℕ → Tree → Environment → Effects
+effects_of arrays locks (Number n) env = nothing
+effects_of arrays locks (Variable k) env = nothing
+effects_of arrays locks (Length a) env = nothing
+effects_of arrays locks (Item a index) env = effects_of arrays locks index env
+effects_of arrays locks (Binary operation a b) env = effects_of arrays locks a env ⨾ effects_of arrays locks b env
+effects_of arrays locks (Choose condition first second) env =
+    effects_of arrays locks condition env
+    ⨾ (if value_of arrays condition env == 0 then effects_of arrays locks second env else effects_of arrays locks first env)
+effects_of arrays locks (Bind bound body) env =
+    effects_of arrays locks bound env ⨾ effects_of arrays locks body (with_newest env (value_of arrays bound env))
+effects_of arrays locks (Tally ledger amount body) env =
+    effects_of arrays locks amount env ⨾ tallied ledger (value_of arrays amount env) ⨾ effects_of arrays locks body env
+effects_of arrays locks (Hold lock body) env = held lock ⨾ effects_of arrays locks body env
+effects_of arrays locks (Fork class child during after) env =
+    forked locks (Evaluate child env) (effects_of arrays locks child env) (effects_of arrays locks during env)
+    ⨾ effects_of arrays locks after (with_newest (with_newest env (value_of arrays child env)) (value_of arrays during env))
+effects_of arrays locks (Fold from to first body) env =
+    effects_of arrays locks from env ⨾ effects_of arrays locks to env ⨾ effects_of arrays locks first env
+    ⨾ turns_effects
+    (λ j. effects_of arrays locks body (with_newest (with_newest env (value_of arrays from env + j))
+    (turns (λ i so_far. value_of arrays body (with_newest (with_newest env (value_of arrays from env + i)) so_far)) j (value_of arrays first env))))
+    (value_of arrays to env - value_of arrays from env)
+effects_of arrays locks (Sweep reduction grain from to body) env =
+    effects_of arrays locks from env ⨾ effects_of arrays locks to env
+    ⨾ halves locks (Reduce reduction grain body env) (λ i. effects_of arrays locks body (with_newest env i)) grain
+    (value_of arrays to env - value_of arrays from env)
+    (value_of arrays from env)
+    (value_of arrays to env - value_of arrays from env)
+
+-- the value and the effects of a task
+abbrev pub task_value : List (List ℕ) → Task → ℕ
+task_value arrays (Evaluate tree env) = value_of arrays tree env
+task_value arrays (Reduce reduction grain body env first n) =
+    turns (λ j so_far. apply (operation_of reduction) so_far (value_of arrays body (with_newest env (first + j)))) n (unit_of reduction)
+
+abbrev pub task_effects : List (List ℕ) → ℕ → Task → Effects
+task_effects arrays locks (Evaluate tree env) = effects_of arrays locks tree env
+task_effects arrays locks (Reduce reduction grain body env first n) =
+    halves locks (Reduce reduction grain body env) (λ i. effects_of arrays locks body (with_newest env i)) grain n first n
+
+-- the task of the thread that the forks lead to from a task, if there is one
+abbrev pub task_below : List (List ℕ) → ℕ → Task → List ℕ → Option Task
+task_below arrays locks task [] = Some task
+task_below arrays locks task (k ∷ forks) =
+    option_and_then (λ child. task_below arrays locks child forks) (slice_get (task_effects arrays locks task).children k)

@@ -1,0 +1,13 @@
+pub mod Tree
+pub mod Program
+pub mod Value
+pub mod Effects
+pub mod Meaning
+pub mod Spelling
+pub mod Text
+pub mod Checked
+pub mod Evaluation
+pub mod Judgement
+pub mod Same
+pub mod SameDecides
+pub mod Reading

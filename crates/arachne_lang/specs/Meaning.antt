@@ -1,0 +1,20 @@
+-- What a program means on one thread.
+use Rattle.std.specs.Prelude.{ℕ, List, [], ◌∷◌, Option}
+use Rattle.arachne_lang.specs.declared.meaning.Meaning.{Meaning}
+use Rattle.arachne_lang.specs.Tree.{Source}
+use Rattle.arachne_lang.specs.Value.{value_of}
+use Rattle.arachne_lang.specs.Effects.{Task, Evaluate, effects_of, task_below, line_of, tabulated}
+
+-- the value of the root, for each ledger its total, and the root's line before the lines of the threads below it
+abbrev pub meaning_of : Source → Meaning
+meaning_of program =
+    let effects = effects_of program.arrays program.locks program.root [] in
+    record {
+      value = value_of program.arrays program.root [];
+      totals = tabulated program.ledgers effects.sums;
+      threads = line_of program.locks [] effects ∷ effects.lines [] 0;
+    }
+
+-- the task of the thread of this name
+abbrev pub task_of : Source → List ℕ → Option Task
+task_of program name = task_below program.arrays program.locks (Evaluate program.root []) name

@@ -1,0 +1,115 @@
+-- Which texts are accepted, and the faults of the others.
+use Rattle.std.specs.Prelude.{ℕ, ◌≡◌, ◌+◌, ◌-◌, ◌*◌, ◌^◌, ◌<◌, ◌≤◌, ◌==◌, max, List, [], ◌∷◌, ◌++◌, length, take, count_by, slice_index, ◌⊎◌, codes}
+use Rattle.std.specs.List.{AllByRecursion}
+use Rattle.arachne_lang.specs.declared.program.Class.{Class}
+use Rattle.arachne_lang.specs.declared.program.Class.TheVariants.{Normal, Exclusive}
+use Rattle.arachne_lang.specs.declared.text_fault.TextFault.{TextFault}
+use Rattle.arachne_lang.specs.declared.text_fault.TextFault.TheVariants.{Memory, Header, Syntax, Number as Overflow, Nesting}
+use Rattle.arachne_lang.specs.Tree.{Operation, Add, Sub, Mul, Min, Max, Xor, Lt, Eq, Tree, Number, Variable, Length, Item, Binary, Choose, Bind, Tally, Hold, Fork, Fold, Sweep, Source}
+use Rattle.arachne_lang.specs.Spelling.{header, text_of}
+
+-- the forms that are built so far: numbers, variables, sums and normal forks
+abbrev pub IsBuilt : Tree → Type 0
+IsBuilt (Number n) = Unit {0}
+IsBuilt (Variable k) = Unit {0}
+IsBuilt (Binary Add a b) = IsBuilt a × IsBuilt b
+IsBuilt (Fork Normal child during after) = IsBuilt child × IsBuilt during × IsBuilt after
+IsBuilt _ = ⊥
+
+-- The shape: the texts of all programs, with numbers of any size and any nesting. So far with no array, no ledger and no lock.
+pub record IsOfShape (program : Source) : Type 0 where
+  pub arrays : program.arrays ≡ []
+  pub ledgers : program.ledgers ≡ 0
+  pub locks : program.locks ≡ 0
+  pub root : IsBuilt program.root
+
+-- each number of an expression is in range
+abbrev pub NumbersFit : Tree → Type 0
+NumbersFit (Number n) = n < 2 ^ 64
+NumbersFit (Variable k) = k < 2 ^ 64
+NumbersFit (Length a) = a < 2 ^ 64
+NumbersFit (Item a index) = (a < 2 ^ 64) × NumbersFit index
+NumbersFit (Binary operation a b) = NumbersFit a × NumbersFit b
+NumbersFit (Choose condition first second) = NumbersFit condition × NumbersFit first × NumbersFit second
+NumbersFit (Bind bound body) = NumbersFit bound × NumbersFit body
+NumbersFit (Tally ledger amount body) = (ledger < 2 ^ 64) × NumbersFit amount × NumbersFit body
+NumbersFit (Hold lock body) = (lock < 2 ^ 64) × NumbersFit body
+NumbersFit (Fork class child during after) = NumbersFit child × NumbersFit during × NumbersFit after
+NumbersFit (Fold from to first body) = NumbersFit from × NumbersFit to × NumbersFit first × NumbersFit body
+NumbersFit (Sweep reduction grain from to body) = (grain < 2 ^ 64) × NumbersFit from × NumbersFit to × NumbersFit body
+
+-- of the shape, and each number in range
+pub record IsInRange (program : Source) : Type 0 where
+  pub shape : IsOfShape program
+  pub arrays : AllByRecursion (AllByRecursion (λ n. n < 2 ^ 64)) program.arrays
+  pub ledgers : program.ledgers < 256
+  pub locks : program.locks < 256
+  pub root : NumbersFit program.root
+
+-- the level of the deepest part, the whole being at level 1
+abbrev pub nesting : Tree → ℕ
+nesting (Number n) = 1
+nesting (Variable k) = 1
+nesting (Length a) = 1
+nesting (Item a index) = nesting index + 1
+nesting (Binary operation a b) = max (nesting a) (nesting b) + 1
+nesting (Choose condition first second) = max (nesting condition) (max (nesting first) (nesting second)) + 1
+nesting (Bind bound body) = max (nesting bound) (nesting body) + 1
+nesting (Tally ledger amount body) = max (nesting amount) (nesting body) + 1
+nesting (Hold lock body) = nesting body + 1
+nesting (Fork class child during after) = max (nesting child) (max (nesting during) (nesting after)) + 1
+nesting (Fold from to first body) = max (nesting from) (max (nesting to) (max (nesting first) (nesting body))) + 1
+nesting (Sweep reduction grain from to body) = max (nesting from) (max (nesting to) (nesting body)) + 1
+
+-- the programs whose texts are accepted
+pub record IsAccepted (program : Source) : Type 0 where
+  pub in_range : IsInRange program
+  pub nesting : nesting program.root ≤ 64
+
+-- The bytes begin the text of a program of which P holds.
+abbrev pub Begins : (Source → Type 0) → List ℕ → Type 0
+Begins P bytes = (program : Source) × (rest : List ℕ) × P program × (text_of program ≡ bytes ++ rest)
+
+-- The bytes are the text of a program of which P holds.
+abbrev pub IsText : (Source → Type 0) → List ℕ → Type 0
+IsText P bytes = (program : Source) × P program × (text_of program ≡ bytes)
+
+abbrev pub StartsWith : List ℕ → List ℕ → Type 0
+StartsWith front bytes = (rest : List ℕ) × (bytes ≡ front ++ rest)
+
+-- how many brackets are open after the bytes; brackets enclose expressions alone
+abbrev pub level : List ℕ → ℕ
+level bytes = count_by (λ byte. byte == 40) bytes - count_by (λ byte. byte == 41) bytes
+
+-- The input has this fault. Where the header is missing no other fault is looked for.
+abbrev pub HasFault : List ℕ → TextFault → Type 0
+HasFault bytes Memory = ⊥
+-- it does not begin with the header
+HasFault bytes (Header at) = (at ≡ 0) × ¬ StartsWith header bytes
+-- it is no text of the shape, and its longest front that begins one has this length
+HasFault bytes (Syntax at) =
+    StartsWith header bytes × ¬ IsText IsOfShape bytes
+    × (at ≤ length bytes) × Begins IsOfShape (take at bytes)
+    × ((longer : ℕ) → longer ≤ length bytes → Begins IsOfShape (take longer bytes) → longer ≤ at)
+-- this byte is the first digit that brings a number over its range
+HasFault bytes (Overflow at) =
+    StartsWith header bytes × (at < length bytes) × Begins IsOfShape (take (at + 1) bytes)
+    × Begins IsInRange (take at bytes) × ¬ Begins IsInRange (take (at + 1) bytes)
+-- this byte is the first opening bracket at level 65
+HasFault bytes (Nesting at) =
+    StartsWith header bytes × (at < length bytes) × Begins IsOfShape (take (at + 1) bytes)
+    × (slice_index bytes at ≡ 40) × (level (take at bytes) ≡ 64)
+    × ((shorter : ℕ) → shorter ≤ at → level (take shorter bytes) ≤ 64)
+
+-- the byte of a fault
+abbrev pub byte_of : TextFault → ℕ
+byte_of Memory = 0
+byte_of (Header at) = at
+byte_of (Syntax at) = at
+byte_of (Overflow at) = at
+byte_of (Nesting at) = at
+
+-- It is the fault with the least byte, and the only one there.
+pub record IsFirstFault (bytes : List ℕ) (fault : TextFault) : Type 0 where
+  pub has : HasFault bytes fault
+  pub first : (other : TextFault) → HasFault bytes other → (byte_of fault < byte_of other) ⊎ (other ≡ fault)

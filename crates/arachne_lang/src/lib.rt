@@ -1,0 +1,24 @@
+//! The task language: its programs, their texts, and what they mean on one thread.
+#![tactic(auto)]
+
+mod check_fault;
+mod checker;
+mod evaluator;
+mod laws;
+mod meaning;
+mod name;
+mod program;
+mod reading;
+mod sequence;
+mod text_fault;
+
+pub use check_fault::CheckFault;
+pub use checker::check;
+pub use evaluator::eval;
+pub use laws::names_differ;
+pub use meaning::{Line, Meaning};
+pub use name::Name;
+pub use program::{Class, Expr, Program};
+pub use reading::parse;
+pub use sequence::Sequence;
+pub use text_fault::TextFault;

@@ -1,0 +1,70 @@
+//! Reading the text of a program.
+
+ghost use Rattle.std.specs.Prelude.{◌≡◌, ◌⊎◌, IfOk, IfErr, IsErrAnd, MatchResult};
+ghost use Rattle.arachne_lang.specs.declared.text_fault.TextFault.{TextFault as Fault};
+ghost use Rattle.arachne_lang.specs.Tree.{Source};
+ghost use Rattle.arachne_lang.specs.Program.{source_of};
+ghost use Rattle.arachne_lang.specs.Spelling.{text_of};
+ghost use Rattle.arachne_lang.specs.Text.{IsAccepted, IsFirstFault};
+ghost use Rattle.arachne_lang.specs.Reading.{Gives, program_at};
+
+mod expressions;
+mod numbers;
+mod stop;
+mod words;
+
+use crate::program::Program;
+use crate::text_fault::TextFault;
+use expressions::expression;
+use std::alloc::Global;
+use stop::Stop;
+use words::word;
+
+/// The deepest nesting of a program that is read.
+const NESTING: u8 = 64;
+
+/// The program that the text spells, all of the text. Linear in the bytes, with no copy of them; memory is
+/// taken for the boxes of the program alone.
+pub fn parse(alloc: Global, text: &[u8]) -> Result<Program, TextFault>
+    // What is read is accepted, and the text is its spelling.
+    ensures accepted { IfOk result (λ program. IsAccepted (source_of program) × (text_of (source_of program) ≡ text.now)) }
+    // What is accepted is read, unless memory is refused.
+    ensures every_text { (source : Source) → IsAccepted source → text_of source ≡ text.now
+        → MatchResult result (λ program. source_of program ≡ source) (λ fault. fault ≡ TextFault.Memory) }
+
+    // A fault is the first one of the text, unless memory is refused.
+    ensures first_fault { IfErr result (λ fault. (fault ≡ TextFault.Memory) ⊎ IsFirstFault text.now fault) }
+    // A text with a first fault is refused by it, unless memory is refused.
+    ensures every_fault { (first : Fault) → IsFirstFault text.now first → IsErrAnd result (λ fault. (fault ≡ TextFault.Memory) ⊎ (fault ≡ first)) }
+{
+    let Ok(rest) = word(text, b"arachne 1\n") else {
+        return Err(TextFault::Header { at: 0 });
+    };
+    match program(alloc, rest) {
+        Ok(program) => Ok(program),
+        Err(stop) => Err(stop.fault(text)),
+    }
+}
+
+/// The program that stands behind the header.
+#[tactic(auto, unfolding(crate::specs::Reading::program_at, crate::specs::Reading::source_at))]
+fn program(alloc: Global, text: &[u8]) -> Result<Program, Stop<'_>>
+    ensures { Gives source_of result (program_at text.now) }
+{
+    let rest = word(text, b"ledgers 0\n")?;
+    let rest = word(rest, b"locks 0\n")?;
+    let (root, rest) = expression(alloc, NESTING, rest)?;
+    let rest = word(rest, b"\n")?;
+    if !rest.is_empty() {
+        return Err(Stop::Departs(rest));
+    }
+    Ok(Program {
+        arrays: Vec::new(alloc),
+        ledgers: 0,
+        locks: 0,
+        root,
+    })
+}
+
+#[cfg(test)]
+mod tests;

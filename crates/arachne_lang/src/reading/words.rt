@@ -1,0 +1,18 @@
+ghost use Rattle.std.specs.Prelude.{◌≢◌, IfErr};
+ghost use Rattle.arachne_lang.specs.Reading.{Gives, word_at};
+
+use super::stop::Stop;
+
+/// The text behind this word.
+pub fn word<'t>(text: &'t [u8], word: &[u8]) -> Result<&'t [u8], Stop<'t>>
+    ensures read { Gives (λ rest. rest.now) result (word_at word.now text.now) }
+    ensures takes_no_memory { IfErr result (λ stop. stop ≢ Stop.Memory) }
+{
+    let [first, others @ ..] = word else {
+        return Ok(text);
+    };
+    match text {
+        [byte, rest @ ..] if *byte == *first => self::word(rest, others),
+        _ => Err(Stop::Departs(text)),
+    }
+}

@@ -1,0 +1,27 @@
+-- What callers see of an advance.
+use Rattle.std.proofs.Common.{◌≡◌, ◌≤◌, ℕ, ◌+◌, Option, None, Some, refl, ap, arith}
+use Rattle.arachne_machine.specs.declared.state.State.{State}
+use Rattle.arachne_machine.specs.declared.state.Stop.{Stop}
+use Rattle.arachne_machine.specs.declared.state.Stop.TheVariants as stop
+use Rattle.arachne_machine.specs.Advance.{Advanced, pause_of, IsSoundStop}
+use Rattle.arachne_machine.specs.Steps.{StopsAt, suspended}
+use Rattle.arachne_machine.specs.Sound.{IsSound}
+use Rattle.arachne_machine.proofs.Soundness.{sound_goes, sound_fork, sound_child, same_thread, forked_seen, stopped_seen}
+
+pub sound_after : (n : ℕ) (old new : State) (s : Option Stop) → IsSound old → StopsAt n old s new → IsSound new
+sound_after n old new None s h = sound_goes n old new s h.0
+sound_after n old new (Some (stop.Forks class child)) s h = sound_fork old new child.value _ s h
+sound_after n old new (Some stop.Joins) s h = sound_goes 1 old new s h.0
+sound_after n old new (Some stop.Ended) s h = sound_goes 0 old new s h.0
+
+pub sound_stop : (n : ℕ) (old new : State) (s : Option Stop) → IsSound old → StopsAt n old s new → IsSoundStop s
+sound_stop n old new None s h = tt
+sound_stop n old new (Some (stop.Forks class child)) s h = sound_child old new child.value _ s h
+sound_stop n old new (Some stop.Joins) s h = tt
+sound_stop n old new (Some stop.Ended) s h = tt
+
+pub advanced_seen : (n : ℕ) (old new : State) (s : Option Stop) → IsSound old → StopsAt n old s new → Advanced n (suspended old) (pause_of s) (suspended new)
+advanced_seen n old new None s h = (same_thread n old new h.0, h.1, h.0.work)
+advanced_seen n old new (Some (stop.Forks class child)) s h = forked_seen old new child.value _ s h
+advanced_seen n old new (Some stop.Joins) s h = (same_thread 1 old new h.0, h.1, stopped_seen 1 old new h.0 h.1, h.0.work)
+advanced_seen n old new (Some stop.Ended) s h = (same_thread 0 old new h.0, h.1, h.2, omega (arith, h.0.work))

@@ -1,0 +1,391 @@
+-- A sound thread stays sound, and ends in the outcome of its name.
+use Rattle.std.proofs.Common.{◌≡◌, ◌≤◌, ℕ, ◌+◌, List, [], ◌∷◌, ◌++◌, length, map, Option, None, Some, refl, ap, sym, ◌∙◌, subst, arith, rules, length-append}
+use Rattle.std.specs.Prelude.{option_map, slice_get, IsSome, OnOk, OnErr, Result, Ok, Err}
+use Rattle.std.proofs.lemmas.List.{map-append, length-map}
+use Rattle.arachne_lang.specs.declared.program.Program.{Program}
+use Rattle.arachne_lang.specs.declared.meaning.Meaning.{Meaning}
+use Rattle.arachne_lang.specs.declared.meaning.Line.{Line}
+use Rattle.arachne_lang.specs.Tree.{Source}
+use Rattle.arachne_lang.specs.Program.{source_of}
+use Rattle.arachne_lang.specs.Effects.{Task, Evaluate, Effects, task_value, task_effects, line_of, tabulated}
+use Rattle.arachne_lang.specs.Meaning.{task_of}
+use Rattle.arachne_machine.specs.declared.frame.Control.{Control}
+use Rattle.arachne_machine.specs.declared.frame.Control.TheVariants.{Begin, Give, Forked as Forks, Awaits, Ended}
+use Rattle.arachne_machine.specs.declared.pause.Pending.{Pending}
+use Rattle.arachne_machine.specs.declared.pause.Pending.TheVariants as pause
+use Rattle.arachne_machine.specs.Suspended.{Suspended, SameThread, Forked, Joined, awaited}
+use Rattle.arachne_machine.specs.declared.state.State.{State}
+use Rattle.arachne_machine.specs.declared.state.Stop.{Stop}
+use Rattle.arachne_machine.specs.declared.state.Stop.TheVariants as stop
+use Rattle.arachne_machine.specs.Outcome.{Finished, named_holds, meaning_as, meaning_in, outcome_of, IsOfItsName}
+use Rattle.arachne_machine.specs.Account.{Account, untouched, after, with_fork, with_join}
+use Rattle.arachne_machine.specs.Ending.{Status, child_task, ending, account_at_end, work_left, unjoined_of, resume, resume_account, frames_left, begun, begun_account, fork_awaited, forks_of}
+use Rattle.arachne_machine.specs.Steps.{Goes, GoesToFork, KeepsOverFork, IsNew, Joins, KeepsOverJoin, StopsAt, IsUnchanged, pending_of, suspended, IsNumbered}
+use Rattle.arachne_machine.specs.Sound.{IsSound}
+use Rattle.arachne_machine.proofs.Accounts.{after-children}
+use Rattle.arachne_machine.proofs.Names.{task_below-child, slice_get-seam}
+use Rattle.arachne_machine.proofs.Outlooks.{child_task-found, goes_by, SameOutlook}
+use Rattle.arachne_machine.proofs.Tables.{tabulated-same, length-tabulated}
+
+-- steps after steps
+pub goes_on : (m n k : ℕ) (a b c : State) → Goes m a b → Goes n b c → k ≤ m + n → Goes k a c
+goes_on m n k a b c p q le = record {
+  program = q.program ∙ p.program;
+  own = q.own ∙ p.own;
+  below = q.below ∙ p.below;
+  sums = q.sums ∙ p.sums;
+  forks = q.forks ∙ p.forks;
+  unjoined = q.unjoined ∙ p.unjoined;
+  ending = q.ending ∙ p.ending;
+  account = λ account. q.account account ∙ p.account account;
+  work = omega (arith, p.work, q.work);
+}
+
+forks_after : (m : ℕ) (a b c child : State) (task : Task) → Goes m a b → GoesToFork b c child task → GoesToFork a c child task
+forks_after m a b c child task p q =
+    let source_is = ap (λ g. source_of g.now) p.program in
+    let name_is = ap (λ o. o.name) p.own in
+    let named : (task_of (source_of a.program.now) (a.own.name ++ a.forks ∷ []) ≡ Some task) → task_of (source_of b.program.now) (b.own.name ++ b.forks ∷ []) ≡ Some task =
+    λ h. ap (λ s. task_of s (b.own.name ++ b.forks ∷ [])) source_is ∙ ap (λ n. task_of (source_of a.program.now) (n ++ b.forks ∷ [])) name_is
+    ∙ ap (λ k. task_of (source_of a.program.now) (a.own.name ++ k ∷ [])) p.forks ∙ h in
+    let new1 = subst (λ x. IsNew x (b.own.name ++ b.forks ∷ []) 0 task child) (ap (λ g. g.now) p.program) q.fresh in
+    let new2 = subst (λ x. IsNew a.program.now (x ++ b.forks ∷ []) 0 task child) name_is new1 in
+    let new3 = subst (λ x. IsNew a.program.now (a.own.name ++ x ∷ []) 0 task child) p.forks new2 in
+    record {
+      program = q.program ∙ p.program;
+      own = q.own ∙ p.own;
+      below = q.below ∙ p.below;
+      sums = q.sums ∙ p.sums;
+      forks = q.forks ∙ ap (λ k. k + 1) p.forks;
+      unjoined = q.unjoined ∙ ap (λ k. k ∷ unjoined_of b) p.forks ∙ ap (λ l. a.forks ∷ l) p.unjoined;
+      pending = q.pending;
+      fresh = new3;
+      next_child = λ account. let next = q.next_child account in (next.0, ap (λ x. x.children) (sym (p.account account)) ∙ next.1);
+      keeps = λ h. let kept = q.keeps (named h) in record {
+        ending = kept.ending ∙ p.ending;
+        account = λ account e. kept.account account (e ∙ sym p.forks) ∙ p.account account;
+        work = omega (arith, kept.work, p.work);
+      };
+    }
+
+pub goes_then_stops : (m n : ℕ) (a b c : State) (s : Stop) → Goes m a b → StopsAt 1 b (Some s) c → StopsAt n a (Some s) c
+goes_then_stops m n a b c (stop.Forks class child) p q = forks_after m a b c child.value _ p q
+goes_then_stops m n a b c stop.Joins p q = (goes_on m 1 1 a b c p q.0 (omega arith), q.1)
+goes_then_stops m n a b c stop.Ended p q = (goes_on m 0 0 a b c p q.0 (omega arith), q.1, q.2)
+
+-- a new thread of the task of its name is sound
+pub sound_new : (program : Program) (name : List ℕ) (tag : ℕ) (task : Task) (t : State) →
+    IsNew program name tag task t → task_of (source_of program) name ≡ Some task → IsSound t
+sound_new program name tag task t new has =
+    let program_is = sym new.same_program in
+    let name_is = sym new.has_name in
+    record {
+      task = task;
+      has_task = subst (λ x. task_of (source_of t.program.now) x ≡ Some task) name_is (subst (λ x. task_of (source_of x) name ≡ Some task) program_is has);
+      account = untouched;
+      sums = subst (λ x. t.sums.items ≡ tabulated (source_of x).ledgers (λ ledger. 0)) program_is new.sums;
+      holds = subst (λ x. t.own.holds ≡ tabulated (source_of x).locks (λ lock. 0)) program_is new.holds;
+      lines = ap (map named_holds) new.below;
+      forks = new.forks;
+      value = subst (λ x. (ending t).value ≡ task_value (source_of x).arrays task) program_is new.value;
+      whole = subst (λ x. account_at_end t untouched ≡ after x (task_effects (source_of t.program.now).arrays (source_of t.program.now).locks task) untouched) name_is
+          (subst (λ x. account_at_end t untouched ≡ after name (task_effects (source_of x).arrays (source_of x).locks task) untouched) program_is new.account);
+      numbered = omega (arith, new.forks);
+    }
+
+pub sound_goes : (n : ℕ) (old new : State) → IsSound old → Goes n old new → IsSound new
+sound_goes n old new s g =
+    let program_is = sym (ap (λ x. source_of x.now) g.program) in
+    let own_is = sym g.own in
+    record {
+      task = s.task;
+      has_task = subst (λ x. task_of (source_of new.program.now) x.name ≡ Some s.task) own_is (subst (λ x. task_of x old.own.name ≡ Some s.task) program_is s.has_task);
+      account = s.account;
+      sums = g.sums ∙ subst (λ x. old.sums.items ≡ tabulated x.ledgers s.account.sums) program_is s.sums;
+      holds = subst (λ x. x.holds ≡ tabulated (source_of new.program.now).locks s.account.holds) own_is (subst (λ x. old.own.holds ≡ tabulated x.locks s.account.holds) program_is s.holds);
+      lines = ap (map named_holds) g.below ∙ s.lines;
+      forks = g.forks ∙ s.forks;
+      value = ap (λ x. x.value) g.ending ∙ subst (λ x. (ending old).value ≡ task_value x.arrays s.task) program_is s.value;
+      whole = g.account s.account ∙ subst (λ x. account_at_end old s.account ≡ after x.name (task_effects (source_of new.program.now).arrays (source_of new.program.now).locks s.task) untouched) own_is
+          (subst (λ x. account_at_end old s.account ≡ after old.own.name (task_effects x.arrays x.locks s.task) untouched) program_is s.whole);
+      numbered = omega (arith, s.numbered, g.forks, ap length g.below, ap length g.unjoined);
+    }
+
+-- the task of a thread's child is the child of that number of its task
+next_task : (t : State) (s : IsSound t) (task : Task) (rest : List Task) → (account_at_end t s.account).children ≡ s.account.children ++ task ∷ rest →
+    task_of (source_of t.program.now) (t.own.name ++ t.forks ∷ []) ≡ Some task
+next_task t s task rest e =
+    let source = source_of t.program.now in
+    let effects = task_effects source.arrays source.locks s.task in
+    let children : effects.children ≡ s.account.children ++ task ∷ rest =
+    sym (after-children t.own.name effects untouched) ∙ sym (ap (λ a. a.children) s.whole) ∙ e in
+    task_below-child source.arrays source.locks (Evaluate source.root []) t.own.name t.forks s.task s.has_task
+    ∙ ap (λ l. slice_get l t.forks) children ∙ ap (λ k. slice_get (s.account.children ++ task ∷ rest) k) s.forks
+    ∙ slice_get-seam s.account.children task rest
+
+with_fork-sums : (task : Task) (a : Account) → (with_fork task a).sums ≡ a.sums
+unfolding with_fork
+with_fork-sums task a = refl
+
+with_fork-holds : (task : Task) (a : Account) → (with_fork task a).holds ≡ a.holds
+unfolding with_fork
+with_fork-holds task a = refl
+
+with_fork-lines : (task : Task) (a : Account) → (with_fork task a).lines ≡ a.lines
+unfolding with_fork
+with_fork-lines task a = refl
+
+with_fork-children : (task : Task) (a : Account) → (with_fork task a).children ≡ a.children ++ task ∷ []
+unfolding with_fork
+with_fork-children task a = refl
+
+-- the child that a sound thread forks has its task
+pub fork_has_task : (old new child : State) (task : Task) → IsSound old → GoesToFork old new child task →
+    task_of (source_of old.program.now) (old.own.name ++ old.forks ∷ []) ≡ Some task
+fork_has_task old new child task s g = next_task old s task (g.next_child s.account).0 (g.next_child s.account).1
+
+pub sound_child : (old new child : State) (task : Task) → IsSound old → GoesToFork old new child task → IsSound child
+sound_child old new child task s g =
+    sound_new old.program.now (old.own.name ++ old.forks ∷ []) 0 task child g.fresh (fork_has_task old new child task s g)
+
+pub sound_fork : (old new child : State) (task : Task) → IsSound old → GoesToFork old new child task → IsSound new
+sound_fork old new child task s g =
+    let kept = g.keeps (fork_has_task old new child task s g) in
+    let program_is = sym (ap (λ x. source_of x.now) g.program) in
+    let own_is = sym g.own in
+    record {
+      task = s.task;
+      has_task = subst (λ x. task_of (source_of new.program.now) x.name ≡ Some s.task) own_is (subst (λ x. task_of x old.own.name ≡ Some s.task) program_is s.has_task);
+      account = with_fork task s.account;
+      sums = g.sums ∙ subst (λ x. old.sums.items ≡ tabulated x.ledgers s.account.sums) program_is s.sums ∙ ap (tabulated (source_of new.program.now).ledgers) (sym (with_fork-sums task s.account));
+      holds = subst (λ x. x.holds ≡ tabulated (source_of new.program.now).locks s.account.holds) own_is (subst (λ x. old.own.holds ≡ tabulated x.locks s.account.holds) program_is s.holds)
+          ∙ ap (tabulated (source_of new.program.now).locks) (sym (with_fork-holds task s.account));
+      lines = ap (map named_holds) g.below ∙ s.lines ∙ sym (with_fork-lines task s.account);
+      forks = omega (arith, g.forks, s.forks, length-append s.account.children (task ∷ []), ap length (with_fork-children task s.account));
+      value = ap (λ x. x.value) kept.ending ∙ subst (λ x. (ending old).value ≡ task_value x.arrays s.task) program_is s.value;
+      whole = kept.account s.account (sym s.forks) ∙ subst (λ x. account_at_end old s.account ≡ after x.name (task_effects (source_of new.program.now).arrays (source_of new.program.now).locks s.task) untouched) own_is
+          (subst (λ x. account_at_end old s.account ≡ after old.own.name (task_effects x.arrays x.locks s.task) untouched) program_is s.whole);
+      numbered = omega (arith, s.numbered, g.forks, ap length g.below, ap length g.unjoined);
+    }
+
+none_some : (m : Meaning) → None ≡ Some m → ⊥
+none_some m h = cc
+
+same_some : (x y : Meaning) → Some x ≡ Some y → x ≡ y
+same_some x y h = cc
+
+-- what an outcome's name and meaning say of its task
+outcome_task : (source : Source) (name : List ℕ) (m : Meaning) → outcome_of source name ≡ Some m →
+    (t : Task) × (task_of source name ≡ Some t) × (meaning_as source name t ≡ m)
+outcome_task source name m h =
+    elim (task_of source name) as (λ o. option_map (meaning_as source name) o ≡ Some m → (t : Task) × (o ≡ Some t) × (meaning_as source name t ≡ m)) [
+      | None ↦ λ e. absurd (none_some m e)
+      | Some t ↦ λ e. (t, refl, same_some (meaning_as source name t) m e)
+    ] h
+
+with_join-sums : (locks : ℕ) (name : List ℕ) (n : ℕ) (e : Effects) (a : Account) → (with_join locks name n e a).sums ≡ (λ l. a.sums l + e.sums l)
+unfolding with_join
+with_join-sums locks name n e a = refl
+
+with_join-holds : (locks : ℕ) (name : List ℕ) (n : ℕ) (e : Effects) (a : Account) → (with_join locks name n e a).holds ≡ a.holds
+unfolding with_join
+with_join-holds locks name n e a = refl
+
+with_join-children : (locks : ℕ) (name : List ℕ) (n : ℕ) (e : Effects) (a : Account) → (with_join locks name n e a).children ≡ a.children
+unfolding with_join
+with_join-children locks name n e a = refl
+
+with_join-lines : (locks : ℕ) (name : List ℕ) (n : ℕ) (e : Effects) (a : Account) →
+    (with_join locks name n e a).lines ≡ a.lines ++ (line_of locks (name ++ n ∷ []) e ∷ e.lines (name ++ n ∷ []) 0)
+unfolding with_join
+with_join-lines locks name n e a = refl
+
+-- the outcome is what the awaited child means
+join_means : (old new : State) (outcome : Finished) → IsOfItsName outcome → source_of outcome.program ≡ source_of old.program.now → (j : Joins old outcome new) →
+    meaning_as (source_of old.program.now) (old.own.name ++ j.number ∷ []) (child_task (source_of old.program.now) old.own.name j.number) ≡ meaning_in outcome
+join_means old new outcome of_name same_source j =
+    let source = source_of old.program.now in
+    let name = old.own.name ++ j.number ∷ [] in
+    let here : outcome_of source name ≡ Some (meaning_in outcome) =
+    ap (λ x. outcome_of x name) (sym same_source) ∙ ap (outcome_of (source_of outcome.program)) (sym j.name) ∙ of_name in
+    let found = outcome_task source name (meaning_in outcome) here in
+    ap (meaning_as source name) (child_task-found source old.own.name j.number found.0 found.1) ∙ found.2
+
+-- the join keeps what the thread comes to
+pub join_keeps : (old new : State) (outcome : Finished) → IsOfItsName outcome → source_of outcome.program ≡ source_of old.program.now →
+    (j : Joins old outcome new) → KeepsOverJoin old new j.number
+join_keeps old new outcome of_name same_source j = j.keeps (sym (ap (λ m. m.value) (join_means old new outcome of_name same_source j)))
+
+-- A sound thread that joins an outcome of the awaited child stays sound.
+pub sound_join : (old new : State) (outcome : Finished) → IsSound old → IsOfItsName outcome → source_of outcome.program ≡ source_of old.program.now →
+    Joins old outcome new → IsSound new
+sound_join old new outcome s of_name same_source j =
+    let source = source_of old.program.now in
+    let name = old.own.name in
+    let n = j.number in
+    let effects = task_effects source.arrays source.locks (child_task source name n) in
+    let means = join_means old new outcome of_name same_source j in
+    let kept = join_keeps old new outcome of_name same_source j in
+    let childs : outcome.sums ≡ tabulated source.ledgers effects.sums = sym (ap (λ m. m.totals) means) in
+    let lines : map named_holds outcome.lines ≡ line_of source.locks (name ++ n ∷ []) effects ∷ effects.lines (name ++ n ∷ []) 0 = sym (ap (λ m. m.threads) means) in
+    let program_is = sym (ap (λ x. source_of x.now) j.program) in
+    let own_is = sym j.own in
+    let account = with_join source.locks name n effects s.account in
+    record {
+      task = s.task;
+      has_task = subst (λ x. task_of (source_of new.program.now) x.name ≡ Some s.task) own_is (subst (λ x. task_of x name ≡ Some s.task) program_is s.has_task);
+      account = account;
+      sums = subst (λ x. new.sums.items ≡ tabulated x.ledgers account.sums) program_is
+          (j.sums source.ledgers s.account.sums effects.sums s.sums childs ∙ ap (tabulated source.ledgers) (sym (with_join-sums source.locks name n effects s.account)));
+      holds = subst (λ x. x.holds ≡ tabulated (source_of new.program.now).locks account.holds) own_is
+          (subst (λ x. old.own.holds ≡ tabulated x.locks account.holds) program_is (s.holds ∙ ap (tabulated source.locks) (sym (with_join-holds source.locks name n effects s.account))));
+      lines = ap (map named_holds) j.below ∙ map-append named_holds old.below.items outcome.lines ∙ ap (λ l. l ++ map named_holds outcome.lines) s.lines
+          ∙ ap (λ l. s.account.lines ++ l) lines ∙ sym (with_join-lines source.locks name n effects s.account);
+      forks = j.forks ∙ s.forks ∙ ap length (sym (with_join-children source.locks name n effects s.account));
+      value = ap (λ x. x.value) kept.ending ∙ subst (λ x. (ending old).value ≡ task_value x.arrays s.task) program_is s.value;
+      whole = kept.account s.account ∙ subst (λ x. account_at_end old s.account ≡ after x.name (task_effects (source_of new.program.now).arrays (source_of new.program.now).locks s.task) untouched) own_is
+          (subst (λ x. account_at_end old s.account ≡ after name (task_effects x.arrays x.locks s.task) untouched) program_is s.whole);
+      numbered = omega (arith, s.numbered, j.forks, ap length j.below, length-append old.below.items outcome.lines, ap length j.unjoined, length-map outcome.lines named_holds, ap length lines);
+    }
+
+after-sums : (name : List ℕ) (e : Effects) (a : Account) → (after name e a).sums ≡ (λ l. a.sums l + e.sums l)
+unfolding after
+after-sums name e a = refl
+
+after-holds : (name : List ℕ) (e : Effects) (a : Account) → (after name e a).holds ≡ (λ l. a.holds l + e.holds l)
+unfolding after
+after-holds name e a = refl
+
+after-lines : (name : List ℕ) (e : Effects) (a : Account) → (after name e a).lines ≡ a.lines ++ e.lines name (length a.children)
+unfolding after
+after-lines name e a = refl
+
+same_meaning : (v v' : ℕ) (t t' : List ℕ) (l l' : List Line) → v ≡ v' → t ≡ t' → l ≡ l' →
+    ◌≡◌ {A = Meaning} (record { value = v; totals = t; threads = l }) (record { value = v'; totals = t'; threads = l' })
+same_meaning v v' t t' l l' p q r =
+    let f : ℕ → Meaning = λ x. record { value = x; totals = t; threads = l } in
+    let g : List ℕ → Meaning = λ x. record { value = v'; totals = x; threads = l } in
+    let h : List Line → Meaning = λ x. record { value = v'; totals = t'; threads = x } in
+    ap f p ∙ ap g q ∙ ap h r
+
+-- A sound thread that has ended has the outcome of its name.
+pub sound_end : (t : State) (v : ℕ) → IsSound t → t.control ≡ Ended v →
+    IsOfItsName (record { program = t.program.now; name = t.own.name; value = v; sums = t.sums.items; lines = t.own ∷ t.below.items })
+sound_end t v s ended =
+    let source = source_of t.program.now in
+    let name = t.own.name in
+    let effects = task_effects source.arrays source.locks s.task in
+    let value : v ≡ task_value source.arrays s.task =
+    subst (λ k. (resume source name (frames_left k t.frames.items) (begun source name k t.environment.items)).value ≡ task_value source.arrays s.task) ended s.value in
+    let whole : s.account ≡ after name effects untouched =
+    subst (λ k. resume_account source name (frames_left k t.frames.items) (begun source name k t.environment.items) (begun_account source name k t.environment.items s.account)
+    ≡ after name effects untouched) ended s.whole in
+    let sums : t.sums.items ≡ tabulated source.ledgers effects.sums =
+    s.sums ∙ ap (λ a. tabulated source.ledgers a.sums) whole ∙ ap (tabulated source.ledgers) (after-sums name effects untouched)
+    ∙ tabulated-same source.ledgers (λ l. 0 + effects.sums l) effects.sums (λ k. omega arith) in
+    let holds : t.own.holds ≡ tabulated source.locks effects.holds =
+    s.holds ∙ ap (λ a. tabulated source.locks a.holds) whole ∙ ap (tabulated source.locks) (after-holds name effects untouched)
+    ∙ tabulated-same source.locks (λ l. 0 + effects.holds l) effects.holds (λ k. omega arith) in
+    let below : map named_holds t.below.items ≡ effects.lines name 0 = s.lines ∙ ap (λ a. a.lines) whole ∙ after-lines name effects untouched in
+    let line : List ℕ → Line = λ h. record { name = name; holds = h } in
+    ap (option_map (meaning_as source name)) s.has_task
+    ∙ ap (λ m. Some m) (same_meaning (task_value source.arrays s.task) v (tabulated source.ledgers effects.sums) t.sums.items
+    (line_of source.locks name effects ∷ effects.lines name 0) (map named_holds (t.own ∷ t.below.items))
+    (sym value) (sym sums)
+    (ap (λ h. line h ∷ effects.lines name 0) (sym holds) ∙ ap (λ l. line t.own.holds ∷ l) (sym below)))
+
+-- What callers see of these steps.
+pub same_thread : (n : ℕ) (old new : State) → Goes n old new → SameThread (suspended old) (suspended new)
+same_thread n old new g = record {
+  program = ap (λ p. p.now) g.program;
+  name = ap (λ o. o.name) g.own;
+  tag = ap (λ o. o.tag) g.own;
+  forks = g.forks;
+  unjoined = g.unjoined;
+  below = g.below;
+}
+
+pub forked_seen : (old new child : State) (task : Task) → IsSound old → GoesToFork old new child task → Forked (suspended old) (suspended new) (suspended child)
+forked_seen old new child task s g =
+    let kept = g.keeps (fork_has_task old new child task s g) in
+    record {
+      program = ap (λ p. p.now) g.program;
+      name = ap (λ o. o.name) g.own;
+      tag = ap (λ o. o.tag) g.own;
+      forks = g.forks;
+      unjoined = g.unjoined;
+      below = g.below;
+      pending = g.pending;
+      fresh = record {
+        same_program = g.fresh.same_program;
+        has_name = g.fresh.has_name;
+        has_tag = g.fresh.has_tag;
+        no_forks = g.fresh.forks;
+        none_unjoined = g.fresh.unjoined;
+        none_below = g.fresh.below;
+        not_paused = g.fresh.pending;
+      };
+      work = kept.work;
+    }
+
+not_joins_0 : ◌≡◌ {A = Option Pending} None (Some pause.Joins) → ⊥
+not_joins_0 h = cc
+
+not_joins_1 : Some pause.Forks ≡ Some pause.Joins → ⊥
+not_joins_1 h = cc
+
+not_joins_2 : Some pause.Ended ≡ Some pause.Joins → ⊥
+not_joins_2 h = cc
+
+-- a thread that awaits a child shows whose outcome it awaits
+awaits_some : (k : Control) (name frames : List ℕ) → pending_of k ≡ Some pause.Joins →
+    IsSome (option_map (λ number. name ++ number ∷ []) (slice_get (fork_awaited k ++ frames) 0))
+awaits_some (Awaits number during next) name frames h = search rules
+awaits_some (Begin expr) name frames h = absurd (not_joins_0 h)
+awaits_some (Give value) name frames h = absurd (not_joins_0 h)
+awaits_some (Forks expr) name frames h = absurd (not_joins_1 h)
+awaits_some (Ended value) name frames h = absurd (not_joins_2 h)
+
+pub stopped_seen : (n : ℕ) (old new : State) → Goes n old new → pending_of new.control ≡ Some pause.Joins → IsSome (awaited (suspended new))
+stopped_seen n old new g h = awaits_some new.control new.own.name (forks_of new.frames.items) h
+
+pub joined_seen : (old new : State) (outcome : Finished) → IsSound old → IsOfItsName outcome → source_of outcome.program ≡ source_of old.program.now →
+    Joins old outcome new → Joined (suspended old) outcome (suspended new)
+joined_seen old new outcome s of_name same_source j = record {
+  of_child = ap (λ l. option_map (λ k. old.own.name ++ k ∷ []) (slice_get l 0)) j.unjoined ∙ ap (λ n. Some n) (sym j.name);
+  program = ap (λ p. p.now) j.program;
+  name = ap (λ o. o.name) j.own;
+  tag = ap (λ o. o.tag) j.own;
+  forks = j.forks;
+  unjoined = (j.number, j.unjoined);
+  below = j.below;
+  pending = j.pending;
+  work = (join_keeps old new outcome of_name same_source j).work;
+}
+
+-- both sums have an item for each ledger
+pub same_length : (t : State) (outcome : Finished) → IsSound t → IsOfItsName outcome → source_of outcome.program ≡ source_of t.program.now →
+    length outcome.sums ≡ length t.sums.items
+same_length t outcome s of_name same_source =
+    let source = source_of outcome.program in
+    let found = outcome_task source outcome.name (meaning_in outcome) of_name in
+    let effects = task_effects source.arrays source.locks found.0 in
+    sym (ap (λ m. length m.totals) found.2) ∙ length-tabulated source.ledgers effects.sums ∙ ap (λ x. x.ledgers) same_source
+    ∙ sym (length-tabulated (source_of t.program.now).ledgers s.account.sums) ∙ sym (ap length s.sums)
+
+-- a sound thread in which nothing has changed but room
+pub goes_nowhere : (old new : State) → IsUnchanged old new → Goes 0 old new
+goes_nowhere old new u =
+    goes_by 0 old new old.control old.control old.frames.items old.frames.items old.environment.items old.environment.items
+    u.program u.own u.below u.sums u.forks refl u.control refl u.frames refl u.environment
+    (record { unjoined = refl; ending = refl; account = λ a. refl; work = omega arith })
+
+-- and it looks the same
+pub unchanged_seen : (old new : State) → IsUnchanged old new → suspended new ≡ suspended old
+unchanged_seen old new u = cc
+
+-- the join of the outcome of a child, or none
+pub sound_joined : {E : Type 0} (r : Result (Unit {0}) E) (old new : State) (outcome : Finished) → IsSound old → IsOfItsName outcome → source_of outcome.program ≡ source_of old.program.now →
+    OnOk r (Joins old outcome new) → OnErr r (IsUnchanged old new) → IsSound new
+sound_joined (Ok done) old new outcome s of_name same_source j u = sound_join old new outcome s of_name same_source j
+sound_joined (Err e) old new outcome s of_name same_source j u = sound_goes 0 old new s (goes_nowhere old new u)

@@ -1,0 +1,9 @@
+use Rattle.std.proofs.Common.{◌≡◌, None}
+use Rattle.arachne_machine.specs.Steps.{Goes, pending_of}
+use Rattle.arachne_machine.proofs.state.State.advance.Given as goal
+
+abbrev pub invariant-loop : goal.invariant-loop
+invariant-loop l = record {
+  goes : Goes l.counter l.initial.self l.self;
+  running : pending_of l.self.control ≡ None;
+}

@@ -1,0 +1,39 @@
+-- What a thread has done so far beside its value.
+use Rattle.std.specs.Prelude.{ℕ, ◌+◌, List, [], ◌∷◌, ◌++◌, length}
+use Rattle.arachne_lang.specs.declared.meaning.Line.{Line}
+use Rattle.arachne_lang.specs.Effects.{Task, Effects, line_of}
+
+pub record Account : Type 0 where
+  -- for each ledger, all that was added to it, by the joined children too
+  pub sums : ℕ → ℕ
+  -- for each lock, how often the thread held it
+  pub holds : ℕ → ℕ
+  -- what it has forked, in order
+  pub children : List Task
+  -- the lines of the threads below it, as far as they were joined
+  pub lines : List Line
+
+abbrev pub untouched : Account
+untouched = record { sums = λ ledger. 0; holds = λ lock. 0; children = []; lines = [] }
+
+-- the account of the thread of this name after these effects
+unfoldable pub after : List ℕ → Effects → Account → Account
+after name effects account = record {
+  sums = λ ledger. account.sums ledger + effects.sums ledger;
+  holds = λ lock. account.holds lock + effects.holds lock;
+  children = account.children ++ effects.children;
+  lines = account.lines ++ effects.lines name (length account.children);
+}
+
+-- after a fork for a task
+unfoldable pub with_fork : Task → Account → Account
+with_fork task account = record account { children = account.children ++ task ∷ [] }
+
+-- after the join of the child of this number, which had these effects
+unfoldable pub with_join : ℕ → List ℕ → ℕ → Effects → Account → Account
+with_join locks name number child account = record {
+  sums = λ ledger. account.sums ledger + child.sums ledger;
+  holds = account.holds;
+  children = account.children;
+  lines = account.lines ++ (line_of locks (name ++ number ∷ []) child ∷ child.lines (name ++ number ∷ []) 0);
+}

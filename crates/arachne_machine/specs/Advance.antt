@@ -1,0 +1,50 @@
+-- What the calls of a thread do.
+use Rattle.std.specs.Prelude.{◌≡◌, ◌≤◌, ℕ, ◌+◌, [], Option, None, Some, IsSome, Result, Ok, Err}
+use Rattle.arachne_machine.specs.declared.pause.Pending.TheVariants as pause
+use Rattle.arachne_machine.specs.declared.pause.Pause.{Pause}
+use Rattle.arachne_machine.specs.declared.pause.Pause.TheVariants as pauses
+use Rattle.arachne_machine.specs.declared.pause.NotJoined.{NotJoined}
+use Rattle.arachne_machine.specs.declared.pause.NotJoined.TheVariants as refused
+use Rattle.arachne_machine.specs.Outcome.{Finished}
+use Rattle.arachne_machine.specs.declared.state.Stop.{Stop}
+use Rattle.arachne_machine.specs.declared.state.Stop.TheVariants as stop
+use Rattle.arachne_machine.specs.Steps.{suspended}
+use Rattle.arachne_machine.specs.Sound.{IsSound}
+use Rattle.arachne_machine.specs.Suspended.{Suspended, SameThread, Forked, awaited}
+
+-- What an advance does, by the pause that it gives. The budget bounds the steps.
+abbrev pub Advanced : ℕ → Suspended → Pause → Suspended → Type 0
+-- the whole budget was used
+Advanced budget old pauses.Budget new = SameThread old new × (new.pending ≡ None) × (new.work + budget ≤ old.work)
+-- a child was forked
+Advanced budget old (pauses.Forks class child) new = Forked old new child
+-- a child is awaited, the one of the newest fork that is not joined
+Advanced budget old pauses.Joins new =
+    SameThread old new × (new.pending ≡ Some pause.Joins) × IsSome (awaited new) × (new.work + 1 ≤ old.work)
+-- it has ended, and has joined each child
+Advanced budget old pauses.Ended new = SameThread old new × (new.pending ≡ Some pause.Ended) × (new.unjoined ≡ []) × (new.work ≤ old.work)
+
+-- the outcome that was refused
+abbrev pub handed_back : NotJoined → Finished
+handed_back (refused.Foreign outcome) = outcome
+handed_back (refused.Memory outcome) = outcome
+
+-- it was refused as that of another thread
+abbrev pub IsForeign : Result (Unit {0}) NotJoined → Type 0
+IsForeign (Ok done) = ⊥
+IsForeign (Err (refused.Foreign outcome)) = Unit {0}
+IsForeign (Err (refused.Memory outcome)) = ⊥
+
+-- the pause that a stop is
+abbrev pub pause_of : Option Stop → Pause
+pause_of None = pauses.Budget
+pause_of (Some (stop.Forks class child)) = pauses.Forks class (suspended child.value)
+pause_of (Some stop.Joins) = pauses.Joins
+pause_of (Some stop.Ended) = pauses.Ended
+
+-- a child that is forked is sound
+abbrev pub IsSoundStop : Option Stop → Type 0
+IsSoundStop None = Unit {0}
+IsSoundStop (Some (stop.Forks class child)) = IsSound child.value
+IsSoundStop (Some stop.Joins) = Unit {0}
+IsSoundStop (Some stop.Ended) = Unit {0}

@@ -1,0 +1,15 @@
+pub mod Outcome
+pub mod Suspended
+pub mod Advance
+pub mod Work
+pub mod Account
+pub mod Ending
+pub mod Steps
+pub mod Sound
+pub mod Alone
+pub use Rattle.arachne_lang.specs.Tree
+pub use Rattle.arachne_lang.specs.Program
+pub use Rattle.arachne_lang.specs.Value
+pub use Rattle.arachne_lang.specs.Effects
+pub use Rattle.arachne_lang.specs.Meaning
+pub use Rattle.arachne_lang.specs.Checked

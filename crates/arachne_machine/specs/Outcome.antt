@@ -1,0 +1,44 @@
+-- What a thread brings in the end.
+use Rattle.std.specs.Prelude.{◌≡◌, ℕ, List, [], ◌∷◌, map, Option, Some, option_map}
+use Rattle.arachne_lang.specs.declared.program.Program.{Program}
+use Rattle.arachne_lang.specs.declared.meaning.Line.{Line}
+use Rattle.arachne_lang.specs.declared.meaning.Meaning.{Meaning}
+use Rattle.arachne_lang.specs.Tree.{Source}
+use Rattle.arachne_lang.specs.Program.{source_of}
+use Rattle.arachne_lang.specs.Effects.{Task, task_value, task_effects, line_of, tabulated}
+use Rattle.arachne_lang.specs.Meaning.{task_of}
+use Rattle.arachne_machine.specs.declared.line.ThreadLine.{ThreadLine}
+
+-- What a task means as the task of the thread of this name: its value, its sum for each ledger, and the thread's line before the lines of the threads below it.
+abbrev pub meaning_as : Source → List ℕ → Task → Meaning
+meaning_as program name task =
+    let effects = task_effects program.arrays program.locks task in
+    record {
+      value = task_value program.arrays task;
+      totals = tabulated program.ledgers effects.sums;
+      threads = line_of program.locks name effects ∷ effects.lines name 0;
+    }
+
+-- What the thread of this name brings, if the program has such a thread. For the root it is what the program means.
+abbrev pub outcome_of : Source → List ℕ → Option Meaning
+outcome_of program name = option_map (meaning_as program name) (task_of program name)
+
+-- what callers see of an outcome; the thread's own line is the first
+pub record Finished : Type 0 where
+  pub program : Program
+  pub name : List ℕ
+  pub value : ℕ
+  pub sums : List ℕ
+  pub lines : List ThreadLine
+
+-- the name and the holds of a line
+abbrev pub named_holds : ThreadLine → Line
+named_holds line = record { name = line.name; holds = line.holds }
+
+-- the value, the sums, and the names and holds of the lines
+abbrev pub meaning_in : Finished → Meaning
+meaning_in outcome = record { value = outcome.value; totals = outcome.sums; threads = map named_holds outcome.lines }
+
+-- it is what the thread of its name brings
+abbrev pub IsOfItsName : Finished → Type 0
+IsOfItsName outcome = outcome_of (source_of outcome.program) outcome.name ≡ Some (meaning_in outcome)

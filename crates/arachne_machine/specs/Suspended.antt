@@ -1,0 +1,69 @@
+-- What callers see of a thread between two calls.
+use Rattle.std.specs.Prelude.{◌≡◌, ◌≤◌, ℕ, ◌+◌, List, [], ◌∷◌, ◌++◌, Option, None, Some, option_map, slice_get}
+use Rattle.arachne_lang.specs.declared.program.Program.{Program}
+use Rattle.arachne_machine.specs.declared.line.ThreadLine.{ThreadLine}
+use Rattle.arachne_machine.specs.declared.pause.Pending.{Pending}
+use Rattle.arachne_machine.specs.declared.pause.Pending.TheVariants as pause
+use Rattle.arachne_machine.specs.Outcome.{Finished}
+
+pub record Suspended : Type 0 where
+  pub program : Program
+  pub name : List ℕ
+  pub tag : ℕ
+  -- how many threads it has forked
+  pub forks : ℕ
+  -- the numbers of its forks that are not joined, the newest first
+  pub unjoined : List ℕ
+  -- the pause that is not answered
+  pub pending : Option Pending
+  -- the lines of the threads below it, as far as they were joined
+  pub below : List ThreadLine
+  -- a bound on the steps that it and the threads that it will fork have left
+  pub work : ℕ
+
+-- the name of the child that a join awaits: that of the newest fork that is not joined
+abbrev pub awaited : Suspended → Option (List ℕ)
+awaited thread = option_map (λ number. thread.name ++ number ∷ []) (slice_get thread.unjoined 0)
+
+-- both are of one program, have one name and tag, and have made and joined the same forks
+pub record SameThread (old new : Suspended) : Type 0 where
+  pub program : new.program ≡ old.program
+  pub name : new.name ≡ old.name
+  pub tag : new.tag ≡ old.tag
+  pub forks : new.forks ≡ old.forks
+  pub unjoined : new.unjoined ≡ old.unjoined
+  pub below : new.below ≡ old.below
+
+-- a thread of this name that has not begun
+pub record IsFresh (program : Program) (name : List ℕ) (tag : ℕ) (thread : Suspended) : Type 0 where
+  pub same_program : thread.program ≡ program
+  pub has_name : thread.name ≡ name
+  pub has_tag : thread.tag ≡ tag
+  pub no_forks : thread.forks ≡ 0
+  pub none_unjoined : thread.unjoined ≡ []
+  pub none_below : thread.below ≡ []
+  pub not_paused : thread.pending ≡ None
+
+-- It has forked this child, whose name is its own followed by the number of the fork.
+pub record Forked (old new child : Suspended) : Type 0 where
+  pub program : new.program ≡ old.program
+  pub name : new.name ≡ old.name
+  pub tag : new.tag ≡ old.tag
+  pub forks : new.forks ≡ old.forks + 1
+  pub unjoined : new.unjoined ≡ old.forks ∷ old.unjoined
+  pub below : new.below ≡ old.below
+  pub pending : new.pending ≡ Some pause.Forks
+  pub fresh : IsFresh old.program (old.name ++ old.forks ∷ []) 0 child
+  pub work : new.work + child.work + 1 ≤ old.work
+
+-- It has joined this outcome, which is that of the child that it awaited.
+pub record Joined (old : Suspended) (outcome : Finished) (new : Suspended) : Type 0 where
+  pub of_child : awaited old ≡ Some outcome.name
+  pub program : new.program ≡ old.program
+  pub name : new.name ≡ old.name
+  pub tag : new.tag ≡ old.tag
+  pub forks : new.forks ≡ old.forks
+  pub unjoined : (number : ℕ) × (old.unjoined ≡ number ∷ new.unjoined)
+  pub below : new.below ≡ old.below ++ outcome.lines
+  pub pending : new.pending ≡ None
+  pub work : new.work ≤ old.work

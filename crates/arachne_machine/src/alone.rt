@@ -1,0 +1,85 @@
+ghost use Rattle.std.specs.Prelude.{◌≡◌, ◌+◌, ◌∷◌, ◌≤◌, ◌<◌, map, reverse, sum_by, None, IfOk, OnOk};
+ghost use Rattle.arachne_lang.specs.Program.{source_of};
+ghost use Rattle.arachne_lang.specs.Meaning.{meaning_of};
+ghost use Rattle.arachne_machine.specs.Outcome.{meaning_in, named_holds, IsOfItsName};
+ghost use Rattle.arachne_machine.specs.Alone.{Rests, key, turns_left};
+
+use crate::line::ThreadLine;
+use crate::outcome::Outcome;
+use crate::pause::{NotJoined, Pause};
+use crate::thread::Thread;
+use arachne_lang::{Line, Meaning, Program, Sequence};
+use std::alloc::{AllocError, Global};
+
+/// What a program means, found by its threads in turn on this one kernel thread: all are in one list, of
+/// which the newest goes on, for so many steps at a time.
+pub fn run_alone(alloc: Global, program: &Program, budget: u32) -> Result<Meaning, AllocError>
+    requires { 1 ≤ budget }
+    ensures { IfOk result (λ meaning. meaning ≡ meaning_of (source_of program.now)) }
+{
+    let mut threads = Vec::new(alloc);
+    let mut outcomes: Vec<Outcome> = Vec::new(alloc);
+    threads.push(Thread::start(alloc, program, 0)?)?;
+    while let Some(thread) = threads.pop() {
+        take_turn(&mut threads, &mut outcomes, thread, budget)?;
+    }
+    meaning(alloc, outcomes.pop().unwrap())
+}
+
+/// A turn of the newest thread, which is given apart from the list. An outcome lies ready until its parent
+/// joins it. The outcomes that were brought last are those of the newest thread's children, and so on.
+fn take_turn<'p>(
+    threads: &mut Vec<Thread<'p>>,
+    outcomes: &mut Vec<Outcome<'p>>,
+    mut thread: Thread<'p>,
+    budget: u32,
+) -> Result<(), AllocError>
+    requires some { 1 ≤ budget }
+    requires rests { Rests thread.program (thread ∷ reverse threads.old.items) (map key (reverse outcomes.old.items)) }
+    ensures rests { OnOk result (Rests thread.entry.program (reverse threads.new.items) (map key (reverse outcomes.new.items))) }
+    ensures falls { OnOk result (sum_by turns_left threads.new.items < sum_by turns_left threads.old.items + turns_left thread.entry) }
+{
+    match thread.advance(budget)? {
+        Pause::Budget => threads.push(thread)?,
+        Pause::Forks(_, child) => {
+            thread.forked();
+            threads.push(thread)?;
+            threads.push(child)?;
+        }
+        Pause::Joins => {
+            let outcome = outcomes.pop().unwrap();
+            match thread.joined(outcome) {
+                Ok(()) => threads.push(thread)?,
+                Err(NotJoined::Memory(_)) => return Err(AllocError),
+                Err(NotJoined::Foreign(_)) => unreachable!(),
+            }
+        }
+        Pause::Ended => outcomes.push(thread.finish())?,
+    }
+    Ok(())
+}
+
+/// The meaning that an outcome has.
+fn meaning(alloc: Global, outcome: Outcome) -> Result<Meaning, AllocError>
+    ensures means { IfOk result (λ meaning. meaning ≡ meaning_in outcome.entry) }
+    ensures of_its_name { IsOfItsName outcome.entry }
+{
+    let parts = outcome.into_parts()?;
+    let lines = parts.lines.into_vec();
+    let threads: Vec<Line> = lines.into_iter().map(line_of_thread).collect(alloc)?;
+    Ok(Meaning {
+        value: parts.value,
+        totals: parts.sums,
+        threads: Sequence::from(threads),
+    })
+}
+
+/// The name and the holds of a line.
+fn line_of_thread(line: ThreadLine) -> Line
+    ensures { result ≡ named_holds line }
+{
+    Line {
+        name: line.name,
+        holds: line.holds,
+    }
+}

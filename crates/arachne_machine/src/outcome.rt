@@ -1,0 +1,90 @@
+ghost use Rattle.std.specs.Prelude.{◌≡◌, ◌∷◌, IfOk};
+ghost use Rattle.arachne_machine.specs.Outcome.{IsOfItsName};
+
+use crate::line::ThreadLine;
+use arachne_lang::{Name, Program, Sequence};
+use std::alloc::AllocError;
+use std::marker::Model;
+
+/// What a thread brings in the end: its value, the ledger sums, and the lines of itself and of all threads
+/// below it. It is what the program means for the thread of its name.
+#[derive(Debug, Drop)]
+pub struct Outcome<'p> {
+    pub(crate) program: &'p Program,
+    pub(crate) value: u64,
+    pub(crate) sums: Vec<u64>,
+    pub(crate) own: ThreadLine,
+    pub(crate) below: Vec<ThreadLine>,
+}
+
+impl<'p> Model for Outcome<'p> {
+    ghost use Rattle.std.specs.Prelude.{◌∷◌};
+    ghost use Rattle.arachne_machine.specs.Outcome.{Finished, IsOfItsName};
+
+    ghost Value = { Finished };
+
+    ghost use Rattle.std.specs.Coded.{codes};
+    ghost use Rattle.arachne_lang.specs.contracts.program.Expr as expr;
+
+    ghost coded = { Prim.hlevel (codes, expr.the_row.coded) };
+
+    ghost view = { λ o. record { program = o.program.now; name = o.own.name; value = o.value; sums = o.sums.items; lines = o.own ∷ o.below.items } };
+
+    ghost invariant = { λ o. IsOfItsName (record { program = o.program.now; name = o.own.name; value = o.value; sums = o.sums.items; lines = o.own ∷ o.below.items }) };
+}
+
+/// An outcome taken apart.
+#[derive(Debug, Drop)]
+pub struct OutcomeParts {
+    pub value: u64,
+    /// For each ledger its sum, modulo 2^64.
+    pub sums: Sequence<u64>,
+    /// The own line, then those below.
+    pub lines: Sequence<ThreadLine>,
+}
+
+impl<'p> Outcome<'p> {
+    /// The program.
+    pub fn program(&self) -> &'p Program
+        ensures { result.now ≡ self.now.program }
+    {
+        self.program
+    }
+
+    /// The thread's name.
+    pub fn name(&self) -> &Name
+        ensures { result.now ≡ self.now.name }
+    {
+        &self.own.name
+    }
+
+    /// The value.
+    pub fn value(&self) -> u64
+        ensures value { result ≡ self.now.value }
+        ensures of_its_name { IsOfItsName self.now }
+    {
+        self.value
+    }
+
+    /// The value, the sums and the lines. It takes memory for one line.
+    pub fn into_parts(self) -> Result<OutcomeParts, AllocError>
+        ensures value { IfOk result (λ parts. parts.value ≡ self.entry.value) }
+        ensures sums { IfOk result (λ parts. parts.sums ≡ self.entry.sums) }
+        ensures lines { IfOk result (λ parts. parts.lines ≡ self.entry.lines) }
+        ensures of_its_name { IsOfItsName self.entry }
+    {
+        let Outcome {
+            program: _,
+            value,
+            sums,
+            own,
+            mut below,
+        } = self;
+        below.insert(0, own)?;
+        Ok(OutcomeParts {
+            value,
+            sums: Sequence::from(sums),
+            lines: Sequence::from(below),
+        })
+    }
+}

@@ -1,0 +1,36 @@
+use crate::outcome::Outcome;
+use crate::thread::Thread;
+use arachne_lang::Class;
+use thiserror::Error;
+
+/// Why a thread paused.
+#[derive(Drop)]
+pub enum Pause<'p> {
+    /// The budget is used up: advance it again.
+    Budget,
+    /// It forks a child of this class: give the child away and answer `forked`.
+    Forks(Class, Thread<'p>),
+    /// It awaits the outcome of a child: answer `joined`.
+    Joins,
+    /// It has ended: `finish` it.
+    Ended,
+}
+
+/// A pause that is not answered yet.
+#[derive(Clone, Copy, Debug, PartialEq, Eq)]
+pub enum Pending {
+    Forks,
+    Joins,
+    Ended,
+}
+
+/// Why an outcome was not joined. It comes back.
+#[derive(Debug, Drop, Error)]
+pub enum NotJoined<'p> {
+    /// It is not that of the child that is awaited.
+    #[error("the outcome of another thread")]
+    Foreign(Outcome<'p>),
+    /// Memory was refused.
+    #[error("out of memory")]
+    Memory(Outcome<'p>),
+}

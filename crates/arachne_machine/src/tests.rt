@@ -1,0 +1,238 @@
+ghost use Rattle.std.specs.Prelude.{◌≡◌, None, Some, IfOk, OnOk};
+ghost use Rattle.arachne_machine.specs.declared.pause.Pending.TheVariants as pause;
+ghost use Rattle.arachne_machine.specs.Suspended.{Suspended};
+ghost use Rattle.arachne_machine.specs.Advance.{Advanced};
+
+use crate::{NotJoined, Outcome, Pause, Pending, Thread, run_alone};
+use arachne_lang::{Class, Expr, Program};
+use std::alloc::{AllocError, Global};
+use std::process::Abort;
+use std::test::Fail;
+
+fn boxed(alloc: Global, expr: Expr) -> Result<Box<Expr>, AllocError> {
+    Ok(Box::new(alloc, expr)?)
+}
+
+fn sum(alloc: Global, left: Expr, right: Expr) -> Result<Expr, AllocError> {
+    Ok(Expr::Add(boxed(alloc, left)?, boxed(alloc, right)?))
+}
+
+fn fork(alloc: Global, child: Expr, during: Expr, after: Expr) -> Result<Expr, AllocError> {
+    Ok(Expr::Fork(
+        Class::Exclusive,
+        boxed(alloc, child)?,
+        boxed(alloc, during)?,
+        boxed(alloc, after)?,
+    ))
+}
+
+fn plain(alloc: Global, root: Expr) -> Program {
+    Program {
+        arrays: Vec::new(alloc),
+        ledgers: 0,
+        locks: 0,
+        root,
+    }
+}
+
+/// `(fork x (num 2) (num 3) (add (var 0) (var 1)))`
+fn one_fork(alloc: Global) -> Result<Program, AllocError> {
+    let after = sum(alloc, Expr::Var(0), Expr::Var(1))?;
+    Ok(plain(alloc, fork(alloc, Expr::Num(2), Expr::Num(3), after)?))
+}
+
+/// A fork whose child and whose during fork too, each with another value.
+fn forks_within(alloc: Global) -> Result<Program, AllocError> {
+    let child = fork(alloc, Expr::Num(1), Expr::Num(10), Expr::Var(0))?;
+    let during = fork(alloc, Expr::Num(100), Expr::Num(5), Expr::Var(0))?;
+    let after = sum(alloc, Expr::Var(0), Expr::Var(1))?;
+    Ok(plain(alloc, fork(alloc, child, during, after)?))
+}
+
+/// Each budget gives this value and these names, of each its length and then its numbers.
+fn expect_meaning(
+    rt: &impl Abort,
+    alloc: Global,
+    program: &Program,
+    value: u64,
+    names: &[u64],
+) -> Result<(), Fail> {
+    for budget in [1, 7, 100] {
+        let meaning = run_alone(alloc, program, budget)?;
+        let mut found = Vec::new(alloc);
+        for thread in meaning.threads.as_slice() {
+            let forks = thread.name.forks();
+            found.push(forks.len() as u64)?;
+            found.extend_from_slice(forks)?;
+            assert_eq!(rt; thread.holds.as_slice().len(), 0);
+        }
+        assert_eq!(rt; meaning.value, value);
+        assert_eq!(rt; meaning.totals.as_slice().len(), 0);
+        assert_eq!(rt; found.as_slice(), names);
+    }
+    Ok(())
+}
+
+#[test]
+fn worked_rows(rt: HostRuntime) -> Result<(), Fail> {
+    let alloc = rt.alloc();
+    let seven = plain(alloc, Expr::Num(7));
+    expect_meaning(&rt, alloc, &seven, 7, &[0])?;
+    let wraps = plain(alloc, sum(alloc, Expr::Num(u64::MAX), Expr::Num(1))?);
+    expect_meaning(&rt, alloc, &wraps, 0, &[0])?;
+    expect_meaning(&rt, alloc, &one_fork(alloc)?, 5, &[0, 1, 0])?;
+    expect_meaning(
+        &rt,
+        alloc,
+        &forks_within(alloc)?,
+        101,
+        &[0, 1, 1, 1, 0, 2, 0, 0],
+    )
+}
+
+#[test]
+fn sum_in_single_steps(rt: HostRuntime) -> Result<(), Fail> {
+    let alloc = rt.alloc();
+    let program = plain(alloc, sum(alloc, Expr::Num(1), Expr::Num(2))?);
+    let mut thread = Thread::start(alloc, &program, 9)?;
+    assert_eq!(rt; thread.tag(), 9);
+    let Pause::Budget = thread.advance(1)? else {
+        return Err("the sum has ended after one step")?;
+    };
+    let Pause::Budget = thread.advance(1)? else {
+        return Err("the sum has ended after two steps")?;
+    };
+    assert_eq!(rt; thread.pending(), None);
+    let Pause::Ended = thread.advance(100)? else {
+        return Err("the sum has not ended")?;
+    };
+    assert_eq!(rt; thread.pending(), Some(Pending::Ended));
+    let outcome = thread.finish();
+    assert_eq!(rt; outcome.value(), 3);
+    assert_eq!(rt; outcome.name().forks().len(), 0);
+    Ok(())
+}
+
+/// The child that the thread forks next. It is given away.
+fn next_child<'p>(thread: &mut Thread<'p>) -> Result<Thread<'p>, Fail>
+    requires { thread.old.pending ≡ None }
+    ensures running { IfOk result (λ child. child.pending ≡ None) }
+    ensures program { IfOk result (λ child. child.program ≡ thread.old.program) }
+    ensures goes_on { OnOk result (thread.new.pending ≡ None) }
+    ensures same_program { thread.new.program ≡ thread.old.program }
+{
+    match thread.advance(100)? {
+        Pause::Forks(Class::Exclusive, child) => {
+            thread.forked();
+            Ok(child)
+        }
+        _ => Err("no exclusive fork")?,
+    }
+}
+
+/// The outcome of a thread that ends with no further fork or join.
+fn ended<'p>(mut thread: Thread<'p>) -> Result<Outcome<'p>, Fail>
+    requires { thread.pending ≡ None }
+    ensures { IfOk result (λ outcome. outcome.program ≡ thread.entry.program) }
+{
+    match thread.advance(100)? {
+        Pause::Ended => Ok(thread.finish()),
+        _ => Err("not ended")?,
+    }
+}
+
+/// Goes on to the next join.
+fn to_join<'p>(thread: &mut Thread<'p>) -> Result<(), Fail>
+    requires { thread.old.pending ≡ None }
+    ensures awaits { OnOk result (thread.new.pending ≡ Some pause.Joins) }
+    ensures same_program { thread.new.program ≡ thread.old.program }
+{
+    match thread.advance(100)? {
+        Pause::Joins => Ok(()),
+        _ => Err("no join")?,
+    }
+}
+
+#[test]
+fn foreign_outcome_comes_back(rt: HostRuntime) -> Result<(), Fail> {
+    let alloc = rt.alloc();
+    let program = one_fork(alloc)?;
+    let mut other = Thread::start(alloc, &program, 1)?;
+    let child = next_child(&mut other)?;
+    to_join(&mut other)?;
+    let outcome = ended(child)?;
+    other.joined(outcome)?;
+    let foreign = ended(other)?;
+
+    let mut thread = Thread::start(alloc, &program, 2)?;
+    let child = next_child(&mut thread)?;
+    to_join(&mut thread)?;
+    let Err(refused) = thread.joined(foreign) else {
+        return Err("the root's outcome was joined as its child's")?;
+    };
+    let NotJoined::Foreign(foreign) = refused else {
+        return Err("the outcome was refused for want of memory")?;
+    };
+    assert_eq!(rt; foreign.value(), 5);
+    assert_eq!(rt; thread.pending(), Some(Pending::Joins));
+    let outcome = ended(child)?;
+    thread.joined(outcome)?;
+    assert_eq!(rt; thread.pending(), None);
+    let outcome = ended(thread)?;
+    let parts = outcome.into_parts()?;
+    assert_eq!(rt; parts.value, 5);
+    let lines = parts.lines.into_vec();
+    assert_eq!(rt; lines.len(), 2);
+    assert_eq!(rt; lines[0].tag, 2);
+    assert!(rt; !lines[1].in_place);
+    Ok(())
+}
+
+/// Advances to a pause, and makes a call that was refused memory once more.
+fn advanced<'p>(thread: &mut Thread<'p>) -> Result<Pause<'p>, AllocError>
+    requires { thread.old.pending ≡ None }
+    ensures { IfOk result (λ pause. (mid : Suspended) × (mid.program ≡ thread.old.program) × Advanced 100 mid pause thread.new) }
+{
+    match thread.advance(100) {
+        Ok(pause) => Ok(pause),
+        Err(_) => thread.advance(100),
+    }
+}
+
+/// What a program with one fork gives where the first call that is refused memory is made once more.
+fn persistent(alloc: Global, program: &Program) -> Result<u64, Fail> {
+    let mut thread = match Thread::start(alloc, program, 0) {
+        Ok(thread) => thread,
+        Err(_) => Thread::start(alloc, program, 0)?,
+    };
+    let Pause::Forks(_, mut child) = advanced(&mut thread)? else {
+        return Err("no fork")?;
+    };
+    thread.forked();
+    let Pause::Ended = advanced(&mut child)? else {
+        return Err("the child has not ended")?;
+    };
+    let outcome = child.finish();
+    let Pause::Joins = advanced(&mut thread)? else {
+        return Err("no join")?;
+    };
+    if let Err(refused) = thread.joined(outcome) {
+        let NotJoined::Memory(outcome) = refused else {
+            return Err("foreign")?;
+        };
+        thread.joined(outcome)?;
+    }
+    let Pause::Ended = advanced(&mut thread)? else {
+        return Err("not ended")?;
+    };
+    Ok(thread.finish().value())
+}
+
+/// Run with each allocation refused in turn (`rt try --test --fail-alloc N`) this gives the same value.
+#[test]
+fn refused_calls_go_on(rt: HostRuntime) -> Result<(), Fail> {
+    let alloc = rt.alloc();
+    let program = one_fork(alloc)?;
+    assert_eq!(rt; persistent(alloc, &program)?, 5);
+    Ok(())
+}
