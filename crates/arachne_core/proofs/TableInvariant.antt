@@ -1,0 +1,142 @@
+-- What a table keeps beside its value, at first and after contexts swap places.
+use Rattle.std.proofs.Common.{◌≡◌, ℕ, ◌*◌, ◌<◌, ◌≤◌, false, inl, inr, List, [], length, get_or, set, map, replicate, refl, sym, ap, ◌∙◌, subst, arith}
+use Rattle.std.specs.List.{range_with_len}
+use Rattle.std.proofs.lemmas.Bool.{cases_eq}
+use Rattle.std.proofs.lemmas.Nat.{div-add-mod'}
+use Rattle.std.proofs.lemmas.List.{length-set, get_or-set_same, get_or-set_other, length-replicate, get_or-replicate}
+use Rattle.std.proofs.lemmas.List.FromFn.{length-range_with_len, get_or-range_with_len, length-map-range_with_len, get_or-map-range_with_len}
+use Rattle.arachne_core.specs.declared.place.Place.{Place}
+use Rattle.arachne_core.specs.declared.state.Context.{Context}
+use Rattle.arachne_core.specs.declared.layout.TheConstants.{LAST_GENERATION}
+use Rattle.arachne_core.specs.Place.{first_place, number_of}
+use Rattle.arachne_core.specs.Occupancy.{Occupancy, vacant}
+use Rattle.arachne_core.specs.Run.{IsOpening}
+use Rattle.arachne_core.specs.ContextTable.{no_context, no_core, world_of}
+use Rattle.arachne_core.specs.TableChanges.{IsTable, first_context}
+use Rattle.arachne_core.proofs.OccupancyWords.{vacant-length, vacant-flag, vacant-open}
+use Rattle.arachne_core.proofs.Runs.{first_in}
+
+-- ---- a swap of two contexts
+
+number-lt : (p : Place) (n : ℕ) → p.core < n → p.index < 56 → number_of 56 p < n * 56
+number-lt p n a b = omega (arith, a, b)
+
+pub swapped_table : (cs : List Context) (os : List Occupancy) (rs : List ℕ) (x y : ℕ) → IsTable cs os rs → x < length cs → y < length cs → (x ≡ y → ⊥)
+    → IsTable
+    (set (set cs x (record (get_or cs x no_context) { place = (get_or cs y no_context).place })) y (record (get_or cs y no_context) { place = (get_or cs x no_context).place }))
+    os
+    (set (set rs (number_of 56 (get_or cs y no_context).place) x) (number_of 56 (get_or cs x no_context).place) y)
+swapped_table cs os rs x y t x_in y_in apart =
+    let p : Place = (get_or cs x no_context).place in
+    let q : Place = (get_or cs y no_context).place in
+    let first : Context = record (get_or cs x no_context) { place = q } in
+    let second : Context = record (get_or cs y no_context) { place = p } in
+    let mid : List Context = set cs x first in
+    let new : List Context = set mid y second in
+    let nx : ℕ = number_of 56 p in
+    let ny : ℕ = number_of 56 q in
+    let rmid : List ℕ = set rs ny x in
+    let rnew : List ℕ = set rmid nx y in
+    let size : length new ≡ length cs = length-set mid y second ∙ length-set cs x first in
+    let y_mid : y < length mid = omega (arith, length-set cs x first, y_in) in
+    let at_y : get_or new y no_context ≡ second = get_or-set_same mid y second no_context y_mid in
+    let at_x : get_or new x no_context ≡ first = get_or-set_other mid y x second no_context apart ∙ get_or-set_same cs x first no_context x_in in
+    let at_z : (z : ℕ) → (z ≡ x → ⊥) → (z ≡ y → ⊥) → get_or new z no_context ≡ get_or cs z no_context =
+    λ z n m. get_or-set_other mid y z second no_context m ∙ get_or-set_other cs x z first no_context n in
+    let fx : get_or rs nx 0 ≡ x = t.found x x_in in
+    let fy : get_or rs ny 0 ≡ y = t.found y y_in in
+    let nx_in : nx < length rs = omega (arith, number-lt p (length os) (t.placed x x_in).0 (t.placed x x_in).1, t.contexts, t.residents) in
+    let ny_in : ny < length rs = omega (arith, number-lt q (length os) (t.placed y y_in).0 (t.placed y y_in).1, t.contexts, t.residents) in
+    let n_apart : ny ≡ nx → ⊥ = λ e. apart (sym fx ∙ ap (λ (n : ℕ). get_or rs n 0) (sym e) ∙ fy) in
+    let nx_mid : nx < length rmid = omega (arith, length-set rs ny x, nx_in) in
+    record {
+      few = t.few;
+      contexts = size ∙ t.contexts;
+      residents = length-set rmid nx y ∙ length-set rs ny x ∙ t.residents ∙ sym size;
+      indexes = t.indexes;
+      placed = λ z z_in. elim (cases_eq z x) [
+        | inl e ↦ subst (λ (c : Context). (c.place.core < length os) × (c.place.index < 56)) (sym (ap (λ (v : ℕ). get_or new v no_context) e ∙ at_x)) (t.placed y y_in)
+        | inr n ↦ elim (cases_eq z y) [
+          | inl f ↦ subst (λ (c : Context). (c.place.core < length os) × (c.place.index < 56)) (sym (ap (λ (v : ℕ). get_or new v no_context) f ∙ at_y)) (t.placed x x_in)
+          | inr m ↦ subst (λ (c : Context). (c.place.core < length os) × (c.place.index < 56)) (sym (at_z z n m)) (t.placed z (omega (arith, size, z_in)))
+        ]
+      ];
+      found = λ z z_in. elim (cases_eq z x) [
+        | inl e ↦ ap (λ (v : ℕ). get_or rnew (number_of 56 (get_or new v no_context).place) 0) e ∙ ap (λ (c : Context). get_or rnew (number_of 56 c.place) 0) at_x
+            ∙ get_or-set_other rmid nx ny y 0 n_apart ∙ get_or-set_same rs ny x 0 ny_in ∙ sym e
+        | inr n ↦ elim (cases_eq z y) [
+          | inl f ↦ ap (λ (v : ℕ). get_or rnew (number_of 56 (get_or new v no_context).place) 0) f ∙ ap (λ (c : Context). get_or rnew (number_of 56 c.place) 0) at_y
+              ∙ get_or-set_same rmid nx y 0 nx_mid ∙ sym f
+          | inr m ↦
+              let z_old : z < length cs = omega (arith, size, z_in) in
+              let nz : ℕ = number_of 56 (get_or cs z no_context).place in
+              let fz : get_or rs nz 0 ≡ z = t.found z z_old in
+              ap (λ (c : Context). get_or rnew (number_of 56 c.place) 0) (at_z z n m)
+              ∙ get_or-set_other rmid nx nz y 0 (λ e. n (sym fz ∙ ap (λ (v : ℕ). get_or rs v 0) e ∙ fx))
+              ∙ get_or-set_other rs ny nz x 0 (λ e. m (sym fz ∙ ap (λ (v : ℕ). get_or rs v 0) e ∙ fy)) ∙ fz
+        ]
+      ];
+      generations = λ z z_in. elim (cases_eq z x) [
+        | inl e ↦ subst (λ (c : Context). c.generation ≤ LAST_GENERATION) (sym (ap (λ (v : ℕ). get_or new v no_context) e ∙ at_x)) (t.generations x x_in)
+        | inr n ↦ elim (cases_eq z y) [
+          | inl f ↦ subst (λ (c : Context). c.generation ≤ LAST_GENERATION) (sym (ap (λ (v : ℕ). get_or new v no_context) f ∙ at_y)) (t.generations y y_in)
+          | inr m ↦ subst (λ (c : Context). c.generation ≤ LAST_GENERATION) (sym (at_z z n m)) (t.generations z (omega (arith, size, z_in)))
+        ]
+      ];
+    }
+
+pub swap_invariant : (cs : List Context) (os : List Occupancy) (rs : List ℕ) (x y : ℕ) (first second : Context) (nx ny : ℕ)
+    → IsTable cs os rs → x < length cs → y < length cs → (x ≡ y → ⊥) → first ≡ get_or cs x no_context → second ≡ get_or cs y no_context
+    → nx ≡ number_of 56 first.place → ny ≡ number_of 56 second.place
+    → IsTable (set (set cs x (record first { place = second.place })) y (record second { place = first.place })) os (set (set rs ny x) nx y)
+swap_invariant cs os rs x y first second nx ny t x_in y_in apart f g m n =
+    let T : Context × Context × ℕ × ℕ → Type 0 =
+    λ q. IsTable (set (set cs x (record q.0 { place = q.1.place })) y (record q.1 { place = q.0.place })) os (set (set rs q.3 x) q.2 y) in
+    let nx' : number_of 56 (get_or cs x no_context).place ≡ nx = sym (m ∙ ap (λ (c : Context). number_of 56 c.place) f) in
+    let ny' : number_of 56 (get_or cs y no_context).place ≡ ny = sym (n ∙ ap (λ (c : Context). number_of 56 c.place) g) in
+    subst T (λ i. (sym f i, sym g i, nx' i, ny' i)) (swapped_table cs os rs x y t x_in y_in apart)
+
+-- ---- the table at first
+
+first_at : (g n x : ℕ) → x < n → get_or (map (first_context g) (range_with_len 0 n)) x no_context ≡ first_context g x
+first_at g n x h = get_or-map-range_with_len (first_context g) 0 n x x no_context h (omega arith)
+
+pub first_table : (k g : ℕ) → k ≤ 16 → g ≤ LAST_GENERATION → IsTable (map (first_context g) (range_with_len 0 (k * 56))) (replicate k vacant) (range_with_len 0 (k * 56))
+first_table k g few last =
+    let n : ℕ = k * 56 in
+    let cs : List Context = map (first_context g) (range_with_len 0 n) in
+    let cores : length (replicate k vacant) ≡ k = length-replicate k vacant in
+    let size : length cs ≡ n = length-map-range_with_len (first_context g) 0 n in
+    record {
+      few = omega (arith, cores, few);
+      contexts = size ∙ ap (λ (m : ℕ). m * 56) (sym cores);
+      residents = length-range_with_len 0 n ∙ sym size;
+      indexes = λ c c_in. ap (λ (o : Occupancy). length o.occupied) (get_or-replicate k c vacant no_core (omega (arith, cores, c_in))) ∙ vacant-length;
+      placed = λ x x_in.
+          let x_n : x < n = omega (arith, size, x_in) in
+          let p = first_in k 56 x x_n in
+          subst (λ (c : Context). (c.place.core < length (replicate k vacant)) × (c.place.index < 56)) (sym (first_at g n x x_n)) (omega (arith, cores, p.0), p.1);
+      found = λ x x_in.
+          let x_n : x < n = omega (arith, size, x_in) in
+          let here : number_of 56 (first_place 56 x) ≡ x = div-add-mod' x 56 in
+          ap (λ (c : Context). get_or (range_with_len 0 n) (number_of 56 c.place) 0) (first_at g n x x_n)
+          ∙ ap (λ (m : ℕ). get_or (range_with_len 0 n) m 0) here ∙ get_or-range_with_len 0 n x 0 x_n ∙ omega arith;
+      generations = λ x x_in. subst (λ (c : Context). c.generation ≤ LAST_GENERATION) (sym (first_at g n x (omega (arith, size, x_in)))) last;
+    }
+
+pub first_world : (k g posts retires : ℕ)
+    → IsOpening (world_of (record { contexts = map (first_context g) (range_with_len 0 (k * 56)); cores = replicate k vacant; given = []; ended = []; posts = posts; retires = retires })) g
+first_world k g posts retires =
+    let n : ℕ = k * 56 in
+    let cores : length (replicate k vacant) ≡ k = length-replicate k vacant in
+    let within : (x : ℕ) → x < length (replicate k vacant) * 56 → x < n = λ x h. omega (arith, cores, h) in
+    record {
+      at = λ x h. ap (λ (c : Context). c.place) (first_at g n x (within x h));
+      generation = λ x h. ap (λ (c : Context). c.generation) (first_at g n x (within x h));
+      state = λ x h. ap (λ (c : Context). c.state) (first_at g n x (within x h));
+      occupied = λ p h. ap (λ (o : Occupancy). get_or o.occupied p.index false) (get_or-replicate k p.core vacant no_core (omega (arith, cores, h.0))) ∙ vacant-flag p.index;
+      closed = λ c h. ap (λ (o : Occupancy). o.closed) (get_or-replicate k c vacant no_core (omega (arith, cores, h))) ∙ vacant-open.0;
+      alone = λ c h. ap (λ (o : Occupancy). o.exclusive) (get_or-replicate k c vacant no_core (omega (arith, cores, h))) ∙ vacant-open.1;
+      given = λ t. refl;
+      ended = λ t. refl;
+    }

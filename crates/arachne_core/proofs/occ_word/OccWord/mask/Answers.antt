@@ -1,0 +1,8 @@
+use Rattle.std.proofs.Common.{ap, ◌∙◌}
+use Rattle.arachne_core.specs.Occupancy.{Occupancy, mask_of}
+use Rattle.std.proofs.lemmas.Nat.{and_mask}
+use Rattle.arachne_core.proofs.OccupancyWords.{read_mask}
+use Rattle.arachne_core.proofs.occ_word.OccWord.mask.Goals as goal
+
+pub returns : goal.returns
+returns c = and_mask c.self.inside.word 56 ∙ read_mask c.self.inside.word c.self.invariant ∙ ap (λ (o : Occupancy). mask_of o.occupied) c.self.view_is

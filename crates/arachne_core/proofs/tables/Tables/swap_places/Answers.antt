@@ -1,0 +1,18 @@
+use Rattle.arachne_core.specs.ContextTable.{ContextTable, world_of}
+use Rattle.std.proofs.Common.{sym, subst, arith}
+use Rattle.std.proofs.lemmas.List.{get_or_read}
+use Rattle.arachne_core.specs.World.{IsContext}
+use Rattle.arachne_core.specs.ContextTable.{no_context}
+use Rattle.arachne_core.proofs.TableInvariant.{swap_invariant}
+use Rattle.arachne_core.proofs.tables.Tables.swap_places.Goals as goal
+
+pub invariant_of-self : goal.invariant_of-self
+invariant_of-self c =
+    let a = c.self.inside in
+    let from_in = subst (λ (t : ContextTable). IsContext (world_of t) c.args.from) (sym c.self.view_is) c.requires.from in
+    let to_in = subst (λ (t : ContextTable). IsContext (world_of t) c.args.to) (sym c.self.view_is) c.requires.to in
+    swap_invariant a.contexts.items a.cores.items a.residents.items c.args.from c.args.to c.index-first.result.now c.index-second.result.now c.number-2.result c.number.result
+    c.self.invariant (omega (arith, from_in, c.self.invariant.contexts)) (omega (arith, to_in, c.self.invariant.contexts)) c.requires.apart
+    (get_or_read a.contexts.items c.args.from c.index-first.result.now (omega (arith, from_in, c.self.invariant.contexts)) c.index-first.ensures no_context)
+    (get_or_read a.contexts.items c.args.to c.index-second.result.now (omega (arith, to_in, c.self.invariant.contexts)) c.index-second.ensures no_context)
+    c.number-2.ensures c.number.ensures

@@ -1,0 +1,15 @@
+use Rattle.std.proofs.Common.{ap, ◌∙◌, arith}
+use Rattle.arachne_core.specs.declared.state.Context.{Context}
+use Rattle.arachne_core.specs.ContextTable.{ContextTable}
+use Rattle.arachne_core.specs.World.{woken}
+use Rattle.arachne_core.proofs.TableEvents.{state_makes}
+use Rattle.arachne_core.proofs.tables.Tables.wake.Goals as goal
+
+pub returns : goal.returns
+returns c =
+    let old = c.args.self.now in (
+      state_makes old c.set_context.new.self c.args.id.context c.context-found.result c.woken-state.result _ c.context-found.ensures.within c.context-found.ensures.value
+          (c.woken-state.ensures ∙ ap (λ (e : Context). woken e.state) c.context-found.ensures.value) c.set_context.ensures,
+      omega (arith, ap (λ (t : ContextTable). t.posts) c.set_context.ensures),
+      omega (arith, ap (λ (t : ContextTable). t.retires) c.set_context.ensures),
+    )

@@ -1,0 +1,115 @@
+-- What contracts see of the type World: its contexts and cores in lists by number, and the World that these stand for.
+use Rattle.std.specs.Prelude.{◌≡◌, ℕ, ◌+◌, ◌≤◌, Bool, true, false, ◌&&◌, List, [], length, count_by, slice_index_or, Result, Ok, Err}
+use Rattle.arachne_core.specs.declared.state.Context.{Context}
+use Rattle.arachne_core.specs.declared.state.State.{State}
+use Rattle.arachne_core.specs.declared.state.State.TheVariants as state
+use Rattle.arachne_core.specs.declared.event.Event.{Event}
+use Rattle.arachne_core.specs.declared.event.Event.TheVariants as event
+use Rattle.arachne_core.specs.declared.event.NotApplied.{NotApplied}
+use Rattle.arachne_core.specs.declared.event.NotApplied.TheVariants.{NotAllowed, Memory}
+use Rattle.arachne_core.specs.declared.mark.Mark.{Mark}
+use Rattle.arachne_core.specs.declared.mark.Mark.TheVariants as mark
+use Rattle.arachne_core.specs.declared.layout.TheConstants.{SLOTS, LAST_GENERATION}
+use Rattle.arachne_core.specs.Occupancy.{Occupancy}
+use Rattle.arachne_core.specs.Marked.{Marked}
+use Rattle.arachne_core.specs.World.{World, Thread, same_thread, core_of, Allowed, after}
+
+pub record ContextTable : Type 0 where
+  pub contexts : List Context
+  pub cores : List Occupancy
+  -- the threads that were posted, and those that have ended, in order
+  pub given : List Thread
+  pub ended : List Thread
+  -- for how many more of each there is room
+  pub posts : ℕ
+  pub retires : ℕ
+
+-- what stands for a context or a core that the table doesn't have
+abbrev pub no_context : Context
+no_context = record { place = record { core = 0; index = 0 }; generation = 0; state = state.Free }
+
+abbrev pub no_core : Occupancy
+no_core = record { occupied = []; closed = false; exclusive = false }
+
+abbrev pub context : ContextTable → ℕ → Context
+context k x = slice_index_or k.contexts x no_context
+
+abbrev pub core : ContextTable → ℕ → Occupancy
+core k c = slice_index_or k.cores c no_core
+
+-- how often the list has the thread
+abbrev pub times : List Thread → Thread → ℕ
+times ts t = count_by (same_thread t) ts
+
+-- the World that the table stands for
+abbrev pub world_of : ContextTable → World
+world_of k = record {
+  cores = length k.cores;
+  slots = SLOTS;
+  last = LAST_GENERATION;
+  at = λ x. (context k x).place;
+  occupied = λ p. slice_index_or (core k p.core).occupied p.index false;
+  generation = λ x. (context k x).generation;
+  state = λ x. (context k x).state;
+  closed = λ c. (core k c).closed;
+  alone = λ c. (core k c).exclusive;
+  given = times k.given;
+  ended = times k.ended;
+}
+
+-- ---- what a table answers
+
+-- the room for posts and for retires that an event uses
+abbrev pub posts_of : Event → ℕ
+posts_of (event.Post h x tag) = 1
+posts_of e = 0
+
+abbrev pub retires_of : Event → ℕ
+retires_of (event.Retire h x) = 1
+retires_of e = 0
+
+-- the event needs room, and none is left
+abbrev pub LacksRoom : ContextTable → Event → Type 0
+LacksRoom k (event.Post h x tag) = k.posts ≡ 0
+LacksRoom k (event.Retire h x) = k.retires ≡ 0
+LacksRoom k e = ⊥
+
+-- The answer to an event, with the table before and after: the event is made exactly where it is allowed, unless memory for
+-- it is refused; else nothing changes.
+abbrev pub Answers : Event → ContextTable → ContextTable → Result (Unit {0}) NotApplied → Type 0
+Answers e old new (Ok done) = Allowed (world_of old) e × (world_of new ≡ after (world_of old) e)
+    × (old.posts ≤ new.posts + posts_of e) × (old.retires ≤ new.retires + retires_of e)
+Answers e old new (Err NotAllowed) = (Allowed (world_of old) e → ⊥) × (new ≡ old)
+Answers e old new (Err Memory) = Allowed (world_of old) e × LacksRoom old e × (new ≡ old)
+
+-- ---- what the words show of the World
+
+-- a core's occupancy: an index is occupied where its place is
+pub record ShowsCore (w : World) (c : ℕ) (o : Occupancy) : Type 0 where
+  pub occupied : (i : ℕ) → slice_index_or o.occupied i false ≡ w.occupied (record { core = c; index = i })
+  pub closed : o.closed ≡ w.closed c
+  pub exclusive : o.exclusive ≡ w.alone c
+
+abbrev pub mark_of : State → Mark
+mark_of state.Free = mark.Free
+mark_of (state.Claimed h) = mark.Free
+mark_of (state.Ready tag) = mark.Ready
+mark_of (state.Blocked tag) = mark.Blocked
+mark_of (state.Held h false tag) = mark.Held
+mark_of (state.Held h true tag) = mark.Woken
+mark_of state.Spent = mark.Spent
+
+abbrev pub is_live_state : State → Bool
+is_live_state (state.Ready tag) = true
+is_live_state (state.Blocked tag) = true
+is_live_state (state.Held h woken tag) = true
+is_live_state s = false
+
+-- alone is shown for a live context on a core that is alone
+abbrev pub marked : World → ℕ → Marked
+marked w x = record {
+  mark = mark_of (w.state x);
+  alone = is_live_state (w.state x) && w.alone (core_of w x);
+  place = w.at x;
+  generation = w.generation x;
+}

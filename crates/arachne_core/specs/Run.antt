@@ -1,0 +1,52 @@
+-- Runs of the World, and what is true in each.
+use Rattle.std.specs.Prelude.{◌≡◌, ◌≢◌, ℕ, ◌<◌, Bool, false, List, [], ◌∷◌, IsTrue}
+use Rattle.arachne_core.specs.declared.place.Place.{Place}
+use Rattle.arachne_core.specs.declared.event.Event.{Event}
+use Rattle.arachne_core.specs.declared.event.Event.TheVariants as event
+use Rattle.arachne_core.specs.declared.state.State.TheVariants.{Free, Held}
+use Rattle.arachne_core.specs.Place.{first_place}
+use Rattle.arachne_core.specs.World.{World, Thread, IsContext, IsPlace, Allowed, after, IsEmptyCore}
+
+-- the World at first: each context at the place of its number, free and of one generation, each core open, nothing given
+pub record IsOpening (w : World) (first : ℕ) : Type 0 where
+  pub at : (x : ℕ) → IsContext w x → w.at x ≡ first_place w.slots x
+  pub generation : (x : ℕ) → IsContext w x → w.generation x ≡ first
+  pub state : (x : ℕ) → IsContext w x → w.state x ≡ Free
+  pub occupied : (p : Place) → IsPlace w p → w.occupied p ≡ false
+  pub closed : (c : ℕ) → c < w.cores → w.closed c ≡ false
+  pub alone : (c : ℕ) → c < w.cores → w.alone c ≡ false
+  pub given : (t : Thread) → w.given t ≡ 0
+  pub ended : (t : Thread) → w.ended t ≡ 0
+
+-- each event of the list is allowed where it stands
+abbrev pub IsRun : World → List Event → Type 0
+IsRun w [] = Unit {0}
+IsRun w (e ∷ es) = Allowed w e × IsRun (after w e) es
+
+-- the World after the events of the list
+abbrev pub after_all : World → List Event → World
+after_all w [] = w
+after_all w (e ∷ es) = after_all (after w e) es
+
+-- a thread that was posted and has not ended
+abbrev pub IsLive : World → Thread → Type 0
+IsLive w t = w.ended t < w.given t
+
+-- the carrier holds the thread
+abbrev pub Holds : World → ℕ → Thread → Type 0
+Holds w h t = IsLive w t × ((woken : Bool) × (w.state t.0.context ≡ Held h woken t.1))
+
+-- live threads that share a context or a place are one, and a held thread has one carrier
+pub record SharesNothing (w : World) : Type 0 where
+  pub contexts : (s t : Thread) → IsLive w s → IsLive w t → s.0.context ≡ t.0.context → s ≡ t
+  pub places : (s t : Thread) → IsLive w s → IsLive w t → w.at s.0.context ≡ w.at t.0.context → s ≡ t
+  pub holds : (h k : ℕ) (s t : Thread) → Holds w h s → Holds w k t → s.0.context ≡ t.0.context → (s ≡ t) × (h ≡ k)
+
+-- the core is closed, and no place of it is occupied
+abbrev pub IsDrained : World → ℕ → Type 0
+IsDrained w c = (c < w.cores) × IsTrue (w.closed c) × IsEmptyCore w c
+
+-- no event of the list opens the core
+abbrev pub NeverOpens : ℕ → List Event → Type 0
+NeverOpens c [] = Unit {0}
+NeverOpens c (e ∷ es) = (e ≢ event.OpenCore c) × NeverOpens c es

@@ -1,0 +1,193 @@
+-- The World of a context table: who stands where, what each context is at, and each event's guard and effect. No packed words and no
+-- order of steps: sets are tests, maps are functions, and a collection says how often each of its members is in it.
+use Rattle.std.specs.Prelude.{◌≡◌, ◌≢◌, ℕ, ◌+◌, ◌*◌, ◌<◌, Bool, true, false, ◌&&◌, if◌then◌else◌, ◌==◌, nat_lt}
+use Rattle.arachne_core.specs.declared.place.Place.{Place}
+use Rattle.arachne_core.specs.declared.thread_id.ThreadId.{ThreadId}
+use Rattle.arachne_core.specs.declared.state.State.{State}
+use Rattle.arachne_core.specs.declared.state.State.TheVariants.{Free, Claimed, Ready, Blocked, Held, Spent}
+use Rattle.arachne_core.specs.declared.state.Rest.{Rest}
+use Rattle.arachne_core.specs.declared.state.Rest.TheVariants as rest
+use Rattle.arachne_core.specs.declared.event.Event.{Event}
+use Rattle.arachne_core.specs.declared.event.Event.TheVariants as event
+use Rattle.arachne_core.specs.Place.{same_place}
+
+-- a thread as its poster knows it: its id and its tag
+abbrev pub Thread : Type 0
+Thread = ThreadId × ℕ
+
+pub record World : Type 0 where
+  -- how many cores there are, how many places each has, and the last generation
+  pub cores : ℕ
+  pub slots : ℕ
+  pub last : ℕ
+  -- the place of each context
+  pub at : ℕ → Place
+  -- the set of occupied places
+  pub occupied : Place → Bool
+  -- each context's generation and state
+  pub generation : ℕ → ℕ
+  pub state : ℕ → State
+  -- the sets of closed cores, and of cores that one thread has alone
+  pub closed : ℕ → Bool
+  pub alone : ℕ → Bool
+  -- the collections of the threads that were posted, and of those that have ended
+  pub given : Thread → ℕ
+  pub ended : Thread → ℕ
+
+-- ---- sets, maps and collections with one member changed
+
+-- the map with this value at x
+abbrev pub with_at : {A : Type 0} → (ℕ → A) → ℕ → A → ℕ → A
+with_at f x v y = if y == x then v else f y
+
+-- the set of places with p in it, or without it
+abbrev pub with_place : (Place → Bool) → Place → Bool → Place → Bool
+with_place s p b q = if same_place q p then b else s q
+
+abbrev pub same_thread : Thread → Thread → Bool
+same_thread s t = (s.0.context == t.0.context) && (s.0.generation == t.0.generation) && (s.1 == t.1)
+
+-- the collection with t once more
+abbrev pub with_thread : (Thread → ℕ) → Thread → Thread → ℕ
+with_thread f t s = if same_thread s t then f s + 1 else f s
+
+-- ---- the words of the guards
+
+-- the contexts are numbered from 0, as many as there are places
+abbrev pub IsContext : World → ℕ → Type 0
+IsContext w x = x < w.cores * w.slots
+
+abbrev pub IsPlace : World → Place → Type 0
+IsPlace w p = (p.core < w.cores) × (p.index < w.slots)
+
+abbrev pub core_of : World → ℕ → ℕ
+core_of w x = (w.at x).core
+
+-- the id of the thread that is in the context now, or comes next
+abbrev pub id_of : World → ℕ → ThreadId
+id_of w x = record { context = x; generation = w.generation x }
+
+-- new threads may come to the core
+abbrev pub TakesThreads : World → ℕ → Type 0
+TakesThreads w c = (w.closed c ≡ false) × (w.alone c ≡ false)
+
+abbrev pub IsEmptyCore : World → ℕ → Type 0
+IsEmptyCore w c = (i : ℕ) → i < w.slots → w.occupied (record { core = c; index = i }) ≡ false
+
+abbrev pub IsReady : State → Type 0
+IsReady (Ready tag) = Unit {0}
+IsReady s = ⊥
+
+-- ready or blocked
+abbrev pub IsAtRest : State → Type 0
+IsAtRest (Ready tag) = Unit {0}
+IsAtRest (Blocked tag) = Unit {0}
+IsAtRest s = ⊥
+
+-- held by h, woken or not
+abbrev pub IsHeldBy : ℕ → State → Type 0
+IsHeldBy h (Held k woken tag) = k ≡ h
+IsHeldBy h s = ⊥
+
+-- blocked, or held and not woken yet
+abbrev pub CanBeWoken : State → Type 0
+CanBeWoken (Blocked tag) = Unit {0}
+CanBeWoken (Held h false tag) = Unit {0}
+CanBeWoken s = ⊥
+
+-- ---- what becomes of a context's state
+
+-- h takes a ready thread
+abbrev pub taken : ℕ → State → State
+taken h (Ready tag) = Held h false tag
+taken h s = s
+
+-- a held thread is put back: blocked if so asked and if it wasn't woken meanwhile, else ready
+abbrev pub put_back : Rest → State → State
+put_back rest.Blocked (Held h false tag) = Blocked tag
+put_back r (Held h woken tag) = Ready tag
+put_back r s = s
+
+abbrev pub woken : State → State
+woken (Blocked tag) = Ready tag
+woken (Held h w tag) = Held h true tag
+woken s = s
+
+-- the tag of the thread that ends
+abbrev pub tag_of : State → ℕ
+tag_of (Ready tag) = tag
+tag_of (Blocked tag) = tag
+tag_of (Held h w tag) = tag
+tag_of s = 0
+
+-- ---- the events
+
+-- where an event is allowed, and the World after it
+pub record Rule : Type 1 where
+  pub allowed : Type 0
+  pub after : World
+
+abbrev pub rule : World → Event → Rule
+-- Claim: h claims a free context, whose core takes threads. Its place is occupied from then on.
+rule w (event.Claim h x) = record {
+  allowed = IsContext w x × (w.state x ≡ Free) × TakesThreads w (core_of w x);
+  after = record w { state = with_at w.state x (Claimed h); occupied = with_place w.occupied (w.at x) true };
+}
+-- Alone: the same at index 0 of a core that has no occupied place, and the core is alone from then on.
+rule w (event.Alone h x) = record {
+  allowed = IsContext w x × (w.state x ≡ Free) × TakesThreads w (core_of w x) × ((w.at x).index ≡ 0) × IsEmptyCore w (core_of w x);
+  after = record w { state = with_at w.state x (Claimed h); occupied = with_place w.occupied (w.at x) true; alone = with_at w.alone (core_of w x) true };
+}
+-- Post: a thread comes into a context that h has claimed. It is ready, and was given the context's id.
+rule w (event.Post h x tag) = record {
+  allowed = IsContext w x × (w.state x ≡ Claimed h);
+  after = record w { state = with_at w.state x (Ready tag); given = with_thread w.given (id_of w x, tag) };
+}
+-- Take: h holds a thread that was ready.
+rule w (event.Take h x) = record {
+  allowed = IsContext w x × IsReady (w.state x);
+  after = record w { state = with_at w.state x (taken h (w.state x)) };
+}
+-- Rest: h puts a thread back. It is blocked if so asked and if it wasn't woken meanwhile, else ready.
+rule w (event.Rest h x r) = record {
+  allowed = IsContext w x × IsHeldBy h (w.state x);
+  after = record w { state = with_at w.state x (put_back r (w.state x)) };
+}
+-- Wake: the thread of this id is ready if it was blocked, and woken if it was held and not woken yet.
+rule w (event.Wake id) = record {
+  allowed = IsContext w id.context × (w.generation id.context ≡ id.generation) × CanBeWoken (w.state id.context);
+  after = record w { state = with_at w.state id.context (woken (w.state id.context)) };
+}
+-- Retire: a thread that h holds has ended. Below the last generation the context goes on to the next one, claimed by h;
+-- at the last it is spent, and its place stays occupied.
+rule w (event.Retire h x) = record {
+  allowed = IsContext w x × IsHeldBy h (w.state x);
+  after = record w {
+    state = with_at w.state x (if nat_lt (w.generation x) w.last then Claimed h else Spent);
+    generation = with_at w.generation x (if nat_lt (w.generation x) w.last then w.generation x + 1 else w.generation x);
+    ended = with_thread w.ended (id_of w x, tag_of (w.state x));
+  };
+}
+-- Release: h gives up a context that it has claimed. Its place isn't occupied any more, and its core isn't alone.
+rule w (event.Release h x) = record {
+  allowed = IsContext w x × (w.state x ≡ Claimed h);
+  after = record w { state = with_at w.state x Free; occupied = with_place w.occupied (w.at x) false; alone = with_at w.alone (core_of w x) false };
+}
+-- CloseCore, OpenCore: a core of the table is closed, or not.
+rule w (event.CloseCore c) = record { allowed = c < w.cores; after = record w { closed = with_at w.closed c true } }
+rule w (event.OpenCore c) = record { allowed = c < w.cores; after = record w { closed = with_at w.closed c false } }
+-- Move: a thread at rest goes to the place of a context that h has claimed on another core, neither core being alone. The two
+-- contexts swap places.
+rule w (event.Move h x y) = record {
+  allowed = IsContext w x × IsContext w y × IsAtRest (w.state x) × (w.state y ≡ Claimed h) × (core_of w x ≢ core_of w y)
+      × (w.alone (core_of w x) ≡ false) × (w.alone (core_of w y) ≡ false);
+  after = record w { at = with_at (with_at w.at x (w.at y)) y (w.at x) };
+}
+-- Still: nothing changes.
+rule w event.Still = record { allowed = Unit {0}; after = w }
+
+abbrev pub Allowed : World → Event → Type 0
+Allowed w e = (rule w e).allowed
+
+abbrev pub after : World → Event → World
+after w e = (rule w e).after

@@ -1,0 +1,90 @@
+//! The events of a context table.
+
+use crate::state::Rest;
+use crate::thread_id::ThreadId;
+use std::error::Error;
+use std::fmt;
+
+/// One event of a context table. Each atomic step of a table is one of these; a step that changes
+/// nothing is `Still`.
+#[derive(Clone, Copy, Debug, PartialEq, Eq)]
+pub enum Event {
+    /// The carrier claims a free context on a core that is neither closed nor alone.
+    Claim {
+        carrier: u32,
+        context: u32,
+    },
+    /// The carrier claims the context at index 0 of an empty core, and has the core for it alone.
+    Alone {
+        carrier: u32,
+        context: u32,
+    },
+    /// The carrier puts a thread with this tag into a context that it has claimed.
+    Post {
+        carrier: u32,
+        context: u32,
+        tag: u64,
+    },
+    /// The carrier takes a ready thread, to run it.
+    Take {
+        carrier: u32,
+        context: u32,
+    },
+    /// The carrier puts back a thread that it holds.
+    Rest {
+        carrier: u32,
+        context: u32,
+        rest: Rest,
+    },
+    /// A thread is woken.
+    Wake {
+        id: ThreadId,
+    },
+    /// A thread that the carrier holds ends; the carrier keeps the context's place.
+    Retire {
+        carrier: u32,
+        context: u32,
+    },
+    /// The carrier gives up a context that it has claimed.
+    Release {
+        carrier: u32,
+        context: u32,
+    },
+    /// The core takes no more threads.
+    CloseCore {
+        core: u8,
+    },
+    /// The core takes threads again.
+    OpenCore {
+        core: u8,
+    },
+    /// The carrier moves a resting thread from `from` to the place of `to`, a context that it has
+    /// claimed on another core; the two contexts swap places.
+    Move {
+        carrier: u32,
+        from: u32,
+        to: u32,
+    },
+    /// Nothing changes.
+    Still,
+}
+
+/// Why an event wasn't made. Nothing has changed then.
+#[derive(Clone, Copy, Debug, PartialEq, Eq)]
+pub enum NotApplied {
+    /// The event isn't allowed where the World stands, or names a core or context that isn't there.
+    NotAllowed,
+    /// The event is allowed, and memory for its record was refused.
+    Memory,
+}
+
+impl fmt::Display for NotApplied {
+    fn fmt<W: fmt::Write>(&self, f: &mut fmt::Formatter<W>) -> fmt::Result {
+        match self {
+            NotApplied::NotAllowed => f.write_str("the event isn't allowed here"),
+            NotApplied::Memory => f.write_str("memory for the event was refused"),
+        }
+    }
+}
+
+impl Error for NotApplied {}

@@ -1,0 +1,90 @@
+//! Laws of the World's definitions and of the words. Each is a function with an empty body, whose contract is the law.
+
+ghost use Rattle.std.specs.Prelude.{◌≡◌, ℕ, ◌+◌, ◌-◌, ◌*◌, ◌%◌, ◌^◌, ◌<◌, List, length, slice_index_or, true, false, bit_and, bit_or};
+ghost use Rattle.arachne_core.specs.declared.mark.Mark.{Mark};
+ghost use Rattle.arachne_core.specs.declared.place.Place.{Place};
+ghost use Rattle.arachne_core.specs.declared.event.Event.{Event};
+ghost use Rattle.arachne_core.specs.Marked.{Marked, mark_word, marked_of, with_mark, with_place};
+ghost use Rattle.arachne_core.specs.Occupancy.{Occupancy, occupancy_word, occupancy_of, IsOccupancyWord, HasOneMore};
+ghost use Rattle.arachne_core.specs.World.{World, Allowed, after};
+ghost use Rattle.arachne_core.specs.OwnedOnce.{OwnedOnce};
+ghost use Rattle.arachne_core.specs.Run.{IsOpening, IsRun, after_all, SharesNothing, IsDrained, NeverOpens};
+
+/// The opening World is owned once.
+pub fn opening_is_owned_once()
+    ensures { (w : World) (first : ℕ) → IsOpening w first → OwnedOnce w }
+{}
+
+/// Every event keeps the World owned once.
+pub fn events_keep_owned_once()
+    ensures { (w : World) (e : Event) → OwnedOnce w → Allowed w e → OwnedOnce (after w e) }
+{}
+
+/// So does every run, whatever its events.
+pub fn runs_keep_owned_once()
+    ensures { (w : World) (es : List Event) → OwnedOnce w → IsRun w es → OwnedOnce (after_all w es) }
+{}
+
+/// In a World that is owned once no two live threads share a context, a place or a carrier's hold.
+pub fn owned_once_shares_nothing()
+    ensures { (w : World) → OwnedOnce w → SharesNothing w }
+{}
+
+/// A core that is closed with no place occupied stays so, in every run, until it is opened.
+pub fn drained_core_stays_drained()
+    ensures { (w : World) (es : List Event) (c : ℕ) → IsDrained w c → IsRun w es → NeverOpens c es → IsDrained (after_all w es) c }
+{}
+
+/// An occupancy word that is packed is read as it was, and one that is read is packed again as it was
+/// where its count is the number of set bits in its mask.
+pub fn occupancy_words_agree()
+    ensures { (c : Occupancy) → length c.occupied ≡ 56 → occupancy_of (occupancy_word c) ≡ c }
+{}
+
+/// Adding `2^i + 2^56` to a word in which index i is free sets bit i of the mask, raises the count by
+/// one and changes no other field.
+pub fn adding_an_index()
+    ensures { (word i : ℕ) → IsOccupancyWord word → i < 56 → slice_index_or (occupancy_of word).occupied i false ≡ false
+        → HasOneMore word i (word + (2 ^ i + 2 ^ 56)) }
+{}
+
+/// Taking `2^i + 2^56` away from a word in which index i is occupied undoes that.
+pub fn taking_an_index_away()
+    ensures { (word i : ℕ) → IsOccupancyWord word → i < 56 → slice_index_or (occupancy_of word).occupied i false ≡ true
+        → HasOneMore (word - (2 ^ i + 2 ^ 56)) i word }
+{}
+
+/// Setting bit 62 of a word closes the core, and clearing it opens the core; no other field changes.
+pub fn closing_and_opening()
+    ensures closing { (word : ℕ) → IsOccupancyWord word
+        → IsOccupancyWord (bit_or word (2 ^ 62)) × (occupancy_of (bit_or word (2 ^ 62)) ≡ record (occupancy_of word) { closed = true }) }
+    ensures opening { (word : ℕ) → IsOccupancyWord word
+        → IsOccupancyWord (bit_and word (2 ^ 64 - 1 - 2 ^ 62)) × (occupancy_of (bit_and word (2 ^ 64 - 1 - 2 ^ 62)) ≡ record (occupancy_of word) { closed = false }) }
+{}
+
+/// Taking `2^63` away from the word of an exclusive core ends that, and changes no other field.
+pub fn taking_exclusive_away()
+    ensures { (word : ℕ) → IsOccupancyWord word → (occupancy_of word).exclusive ≡ true
+        → IsOccupancyWord (word - 2 ^ 63) × (occupancy_of (word - 2 ^ 63) ≡ record (occupancy_of word) { exclusive = false }) }
+{}
+
+/// A mark word that is packed is read as it was, where its index and core fit.
+pub fn mark_words_read_as_packed()
+    ensures { (bits : ℕ) (m : Marked) → m.place.index < 2 ^ 6 → m.place.core < 2 ^ bits → marked_of bits (mark_word bits m) ≡ m }
+{}
+
+/// A mark word that is read is packed again as it was, where its mark is one of the six.
+pub fn mark_words_pack_as_read()
+    ensures { (bits word : ℕ) → word % 2 ^ 3 < 6 → mark_word bits (marked_of bits word) ≡ word }
+{}
+
+/// Setting the mark of a mark word keeps alone, place and generation.
+pub fn setting_a_mark()
+    ensures { (bits word : ℕ) (mark : Mark) → marked_of bits (with_mark word mark) ≡ record (marked_of bits word) { mark = mark } }
+{}
+
+/// Setting the place of a mark word keeps mark, alone and generation.
+pub fn setting_a_place()
+    ensures { (bits word : ℕ) (place : Place) → place.index < 2 ^ 6 → place.core < 2 ^ bits
+        → marked_of bits (with_place bits word place) ≡ record (marked_of bits word) { place = place } }
+{}

@@ -1,0 +1,45 @@
+//! The mark of a context.
+
+/// What a mark word says of its context.
+#[derive(Clone, Copy, Debug, PartialEq, Eq)]
+pub enum Mark {
+    /// No thread; the context may be claimed.
+    Free = 0,
+    /// The thread may be taken.
+    Ready = 1,
+    /// The thread waits to be woken.
+    Blocked = 2,
+    /// A carrier runs the thread.
+    Held = 3,
+    /// A carrier runs the thread, which was woken meanwhile.
+    Woken = 4,
+    /// The context's last thread has ended.
+    Spent = 5,
+}
+
+impl Mark {
+    ghost use Rattle.std.specs.Prelude.{◌≡◌, ◌<◌};
+    ghost use Rattle.arachne_core.specs.Marked.{mark_code, mark_named};
+
+    /// The code of the mark in a word.
+    pub fn code(self) -> u64
+        ensures { result ≡ mark_code self }
+    {
+        self as u64
+    }
+
+    /// The mark with this code.
+    pub fn from_code(code: u64) -> Self
+        requires { code < 6 }
+        ensures { result ≡ mark_named code }
+    {
+        match code {
+            0 => Mark::Free,
+            1 => Mark::Ready,
+            2 => Mark::Blocked,
+            3 => Mark::Held,
+            4 => Mark::Woken,
+            _ => Mark::Spent,
+        }
+    }
+}

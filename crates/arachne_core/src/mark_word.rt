@@ -1,0 +1,127 @@
+//! The mark word of a context.
+
+ghost use Rattle.std.specs.Prelude.{◌≡◌, ◌<◌, ◌≤◌, ◌↔◌, IsSome, IfSome, ◌^◌};
+ghost use Rattle.arachne_core.specs.Marked.{Marked, mark_word, marked_of, IsMarkWord, FitsWord};
+
+use crate::layout::{CORE_BITS, SLOTS};
+use crate::mark::Mark;
+use crate::place::Place;
+use std::marker::Model;
+
+const MARK_MASK: u64 = (1 << 3) - 1;
+
+const ALONE: u64 = 1 << 3;
+
+const INDEX_SHIFT: u32 = 4;
+
+const INDEX_MASK: u64 = (1 << 6) - 1;
+
+const CORE_SHIFT: u32 = 10;
+
+const CORE_MASK: u64 = (1 << CORE_BITS) - 1;
+
+const GENERATION_SHIFT: u32 = CORE_SHIFT + CORE_BITS;
+
+/// What a context is at, in one word: the mark in bits 0 to 2, alone in bit 3, the index in bits 4 to 9,
+/// the core in bits 10 to 13, and the generation above.
+#[derive(Clone, Copy, Debug, PartialEq, Eq)]
+pub struct MarkWord {
+    word: u64,
+}
+
+impl Model for MarkWord {
+    ghost use Rattle.std.specs.Prelude.{◌≡◌, ◌<◌, ◌^◌};
+    ghost use Rattle.arachne_core.specs.declared.layout.TheConstants.{CORE_BITS};
+    ghost use Rattle.arachne_core.specs.Marked.{Marked, mark_word, marked_of, IsMarkWord};
+
+    ghost Value = { Marked };
+
+    ghost view = { λ a. marked_of CORE_BITS a.word };
+
+    ghost invariant = { λ a. IsMarkWord CORE_BITS a.word };
+
+    ghost inverse = { λ m. record { word = mark_word CORE_BITS m } };
+
+    ghost inverse_ok = { λ a h. λ i. record { word = h.0 i } };
+}
+
+impl MarkWord {
+    /// The word of a context.
+    pub fn new(mark: Mark, alone: bool, place: Place, generation: u64) -> Self
+        requires { FitsWord CORE_BITS (record { mark = mark; alone = alone; place = place; generation = generation }) }
+        ensures { result ≡ record { mark = mark; alone = alone; place = place; generation = generation } }
+    {
+        let alone_bit = if alone { ALONE } else { 0 };
+        let index = u64::from(place.index) << INDEX_SHIFT;
+        let core = u64::from(place.core) << CORE_SHIFT;
+        MarkWord {
+            word: mark.code() + alone_bit + index + core + (generation << GENERATION_SHIFT),
+        }
+    }
+
+    /// Reads a word, whose mark must be one of the six and whose index one of a core's.
+    pub fn from_word(word: u64) -> Option<Self>
+        ensures some { IsSome result ↔ IsMarkWord CORE_BITS word }
+        ensures value { IfSome result (λ mark. mark ≡ marked_of CORE_BITS word) }
+    {
+        if word & MARK_MASK < 6 && (word >> INDEX_SHIFT) & INDEX_MASK < u64::from(SLOTS) {
+            Some(MarkWord { word })
+        } else {
+            None
+        }
+    }
+
+    /// The word itself.
+    pub fn word(self) -> u64
+        ensures { result ≡ mark_word CORE_BITS self }
+    {
+        self.word
+    }
+
+    pub fn mark(self) -> Mark
+        ensures { result ≡ self.mark }
+    {
+        Mark::from_code(self.word & MARK_MASK)
+    }
+
+    /// Whether the thread was posted on a core that it has alone.
+    pub fn is_alone(self) -> bool
+        ensures { result ≡ self.alone }
+    {
+        self.word & ALONE != 0
+    }
+
+    /// Where the context stands.
+    pub fn place(self) -> Place
+        ensures { result ≡ self.place }
+    {
+        Place {
+            core: ((self.word >> CORE_SHIFT) & CORE_MASK) as u8,
+            index: ((self.word >> INDEX_SHIFT) & INDEX_MASK) as u8,
+        }
+    }
+
+    pub fn generation(self) -> u64
+        ensures { result ≡ self.generation }
+    {
+        self.word >> GENERATION_SHIFT
+    }
+
+    /// The word with another mark.
+    pub fn with_mark(self, mark: Mark) -> Self
+        ensures { result ≡ record self { mark = mark } }
+    {
+        MarkWord {
+            word: (self.word & !MARK_MASK) + mark.code(),
+        }
+    }
+
+    /// The word with another place.
+    pub fn with_place(self, place: Place) -> Self
+        requires index { place.index < SLOTS }
+        requires core { place.core < 2 ^ CORE_BITS }
+        ensures { result ≡ record self { place = place } }
+    {
+        Self::new(self.mark(), self.is_alone(), place, self.generation())
+    }
+}

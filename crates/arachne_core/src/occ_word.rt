@@ -1,0 +1,189 @@
+//! The occupancy word of a core.
+
+ghost use Rattle.std.specs.Prelude.{◌≡◌, ◌≢◌, ◌<◌, ◌↔◌, ◌+◌, ◌^◌, ℕ, IsTrue, true, false, IsSome, IfSome, IfNone, EachIndex, slice_index_or, slice_set};
+ghost use Rattle.arachne_core.specs.Occupancy.{mask_of, count_of, flags, occupancy_word, occupancy_of, IsOccupancyWord, vacant};
+
+use std::marker::Model;
+
+/// The indexes that a word's mask has bits for.
+pub const MASK_BITS: u8 = 56;
+
+const MASK: u64 = (1 << 56) - 1;
+
+const COUNT_SHIFT: u32 = 56;
+
+const COUNT_ONE: u64 = 1 << 56;
+
+const COUNT_MASK: u64 = (1 << 6) - 1;
+
+const CLOSED: u64 = 1 << 62;
+
+const EXCLUSIVE: u64 = 1 << 63;
+
+/// Which indexes of a core are occupied, and how many, in one word: the mask in bits 0 to 55, the
+/// number of its set bits in bits 56 to 61, closed in bit 62 and exclusive in bit 63.
+#[derive(Clone, Copy, Debug, PartialEq, Eq)]
+pub struct OccWord {
+    word: u64,
+}
+
+impl Model for OccWord {
+    ghost use Rattle.std.specs.Prelude.{◌≡◌};
+    ghost use Rattle.arachne_core.specs.Occupancy.{Occupancy, occupancy_word, occupancy_of, IsOccupancyWord};
+
+    ghost Value = { Occupancy };
+
+    ghost view = { λ a. occupancy_of a.word };
+
+    ghost invariant = { λ a. IsOccupancyWord a.word };
+
+    ghost inverse = { λ c. record { word = occupancy_word c } };
+
+    ghost inverse_ok = { λ a h. λ i. record { word = h i } };
+}
+
+impl OccWord {
+    /// The word of an open core with no index occupied: 0.
+    pub fn empty() -> Self
+        ensures { result ≡ vacant }
+    {
+        OccWord { word: 0 }
+    }
+
+    /// The word with this mask, whose count is that of its set bits.
+    pub fn new(mask: u64, closed: bool, exclusive: bool) -> Self
+        requires { mask < 2 ^ 56 }
+        ensures { result ≡ record { occupied = flags 56 mask; closed = closed; exclusive = exclusive } }
+    {
+        let count = u64::from(mask.count_ones());
+        let closed = u64::from(closed);
+        let exclusive = u64::from(exclusive);
+        OccWord {
+            word: mask + count * COUNT_ONE + closed * CLOSED + exclusive * EXCLUSIVE,
+        }
+    }
+
+    /// Reads a word, whose count must be the number of set bits in its mask.
+    pub fn from_word(word: u64) -> Option<Self>
+        ensures some { IsSome result ↔ IsOccupancyWord word }
+        ensures value { IfSome result (λ occ. occ ≡ occupancy_of word) }
+    {
+        if u64::from((word & MASK).count_ones()) == (word >> COUNT_SHIFT) & COUNT_MASK {
+            Some(OccWord { word })
+        } else {
+            None
+        }
+    }
+
+    /// The word itself.
+    pub fn word(self) -> u64
+        ensures { result ≡ occupancy_word self }
+    {
+        self.word
+    }
+
+    /// Bit i is set where index i is occupied.
+    pub fn mask(self) -> u64
+        ensures { result ≡ mask_of self.occupied }
+    {
+        self.word & MASK
+    }
+
+    /// How many indexes are occupied.
+    pub fn count(self) -> u8
+        ensures { result ≡ count_of self.occupied }
+    {
+        ((self.word >> COUNT_SHIFT) & COUNT_MASK) as u8
+    }
+
+    pub fn is_closed(self) -> bool
+        ensures { result ≡ self.closed }
+    {
+        self.word & CLOSED != 0
+    }
+
+    pub fn is_exclusive(self) -> bool
+        ensures { result ≡ self.exclusive }
+    {
+        self.word & EXCLUSIVE != 0
+    }
+
+    /// Whether no index is occupied.
+    pub fn is_empty(self) -> bool
+        ensures { IsTrue result ↔ EachIndex self.occupied (λ i. slice_index_or self.occupied i false ≡ false) }
+    {
+        self.mask() == 0
+    }
+
+    pub fn is_occupied(self, index: u8) -> bool
+        requires { index < MASK_BITS }
+        ensures { result ≡ slice_index_or self.occupied index false }
+    {
+        (self.word >> u32::from(index)) & 1 == 1
+    }
+
+    /// The lowest index that isn't occupied.
+    pub fn lowest_free(self) -> Option<u8>
+        ensures within { IfSome result (λ free. free < MASK_BITS) }
+        ensures free { IfSome result (λ free. slice_index_or self.occupied free false ≡ false) }
+        ensures lowest { IfSome result (λ free. (i : ℕ) → i < free → slice_index_or self.occupied i false ≡ true) }
+        ensures none { IfNone result ((i : ℕ) → i < MASK_BITS → slice_index_or self.occupied i false ≡ true) }
+    {
+        let index = (self.word & MASK).trailing_ones();
+        if index < u32::from(MASK_BITS) {
+            Some(index as u8)
+        } else {
+            None
+        }
+    }
+
+    /// The word with this index occupied, count included.
+    pub fn with_bit(self, index: u8) -> Self
+        requires { index < MASK_BITS }
+        ensures { result ≡ record self { occupied = slice_set self.occupied index true } }
+    {
+        if self.is_occupied(index) {
+            self
+        } else {
+            OccWord {
+                word: self.word + ((1 << u32::from(index)) + COUNT_ONE),
+            }
+        }
+    }
+
+    /// The word with this index free, count included.
+    pub fn without_bit(self, index: u8) -> Self
+        requires { index < MASK_BITS }
+        ensures { result ≡ record self { occupied = slice_set self.occupied index false } }
+    {
+        if !self.is_occupied(index) {
+            self
+        } else {
+            OccWord {
+                word: self.word - ((1 << u32::from(index)) + COUNT_ONE),
+            }
+        }
+    }
+
+    /// The word of the core, closed or open.
+    pub fn with_closed(self, closed: bool) -> Self
+        ensures { result ≡ record self { closed = closed } }
+    {
+        let old = self.word;
+        let word = if closed { old | CLOSED } else { old & !CLOSED };
+        OccWord { word }
+    }
+
+    /// The word of the core, with one thread alone on it or not.
+    pub fn with_exclusive(self, exclusive: bool) -> Self
+        ensures { result ≡ record self { exclusive = exclusive } }
+    {
+        let old = self.word;
+        let word = if exclusive {
+            old | EXCLUSIVE
+        } else {
+            old & !EXCLUSIVE
+        };
+        OccWord { word }
+    }
+}

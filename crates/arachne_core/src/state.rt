@@ -1,0 +1,215 @@
+//! What a context is at.
+
+use crate::layout::LAST_GENERATION;
+use crate::mark::Mark;
+use crate::place::Place;
+
+/// The state of a context. A carrier is whoever holds or has claimed contexts, as a seat at the table;
+/// a tag is the number that came with the thread.
+#[derive(Clone, Copy, Debug, PartialEq, Eq)]
+pub enum State {
+    /// No thread, and nobody is about to post one.
+    Free,
+    /// No thread yet: the carrier may post one.
+    Claimed { carrier: u32 },
+    /// The thread may be taken.
+    Ready { tag: u64 },
+    /// The thread waits to be woken.
+    Blocked { tag: u64 },
+    /// The carrier runs the thread, which was woken meanwhile or not.
+    Held { carrier: u32, woken: bool, tag: u64 },
+    /// The thread of the last generation has ended: the context is never used again.
+    Spent,
+}
+
+/// How a carrier puts a thread back.
+#[derive(Clone, Copy, Debug, PartialEq, Eq)]
+pub enum Rest {
+    /// The thread may go on.
+    Ready,
+    /// The thread waits to be woken, unless it was woken while it was held.
+    Blocked,
+}
+
+/// One context of the table.
+#[derive(Clone, Copy, Debug, PartialEq, Eq)]
+pub struct Context {
+    /// Where the context stands.
+    pub place: Place,
+    /// How many threads have ended here, counted from the table's first generation.
+    pub generation: u64,
+    pub state: State,
+}
+
+impl State {
+    ghost use Rattle.std.specs.Prelude.{◌≡◌, ◌↔◌, IsTrue};
+    ghost use Rattle.arachne_core.specs.World.{IsReady, IsAtRest, IsHeldBy, CanBeWoken, taken, put_back, woken, tag_of};
+    ghost use Rattle.arachne_core.specs.ContextTable.{mark_of, is_live_state};
+
+    pub(crate) fn is_free(self) -> bool
+        ensures { IsTrue result ↔ (self ≡ State.Free) }
+    {
+        match self {
+            State::Free => true,
+            _ => false,
+        }
+    }
+
+    pub(crate) fn is_claimed_by(self, carrier: u32) -> bool
+        ensures { IsTrue result ↔ (self ≡ State.Claimed carrier) }
+    {
+        match self {
+            State::Claimed { carrier: claimer } => claimer == carrier,
+            _ => false,
+        }
+    }
+
+    pub(crate) fn is_ready(self) -> bool
+        ensures { IsTrue result ↔ IsReady self }
+    {
+        match self {
+            State::Ready { .. } => true,
+            _ => false,
+        }
+    }
+
+    /// Ready or blocked.
+    pub(crate) fn is_at_rest(self) -> bool
+        ensures { IsTrue result ↔ IsAtRest self }
+    {
+        match self {
+            State::Ready { .. } | State::Blocked { .. } => true,
+            _ => false,
+        }
+    }
+
+    pub(crate) fn is_held_by(self, carrier: u32) -> bool
+        ensures { IsTrue result ↔ IsHeldBy carrier self }
+    {
+        match self {
+            State::Held {
+                carrier: holder,
+                ..
+            } => holder == carrier,
+            _ => false,
+        }
+    }
+
+    /// Blocked, or held and not woken yet.
+    pub(crate) fn can_be_woken(self) -> bool
+        ensures { IsTrue result ↔ CanBeWoken self }
+    {
+        match self {
+            State::Blocked { .. } => true,
+            State::Held { woken, .. } => !woken,
+            _ => false,
+        }
+    }
+
+    /// At rest or held.
+    pub(crate) fn is_live(self) -> bool
+        ensures { result ≡ is_live_state self }
+    {
+        match self {
+            State::Ready { .. } | State::Blocked { .. } | State::Held { .. } => true,
+            _ => false,
+        }
+    }
+
+    /// The tag of the thread, or 0 where there is none.
+    pub(crate) fn tag(self) -> u64
+        ensures { result ≡ tag_of self }
+    {
+        match self {
+            State::Ready { tag } | State::Blocked { tag } | State::Held { tag, .. } => tag,
+            _ => 0,
+        }
+    }
+
+    /// The mark that stands for the state.
+    pub(crate) fn mark(self) -> Mark
+        ensures { result ≡ mark_of self }
+    {
+        match self {
+            State::Free | State::Claimed { .. } => Mark::Free,
+            State::Ready { .. } => Mark::Ready,
+            State::Blocked { .. } => Mark::Blocked,
+            State::Held { woken: false, .. } => Mark::Held,
+            State::Held { woken: true, .. } => Mark::Woken,
+            State::Spent => Mark::Spent,
+        }
+    }
+
+    /// The state once the carrier has taken the thread.
+    pub(crate) fn taken(self, carrier: u32) -> Self
+        ensures { result ≡ taken carrier self }
+    {
+        match self {
+            State::Ready { tag } => State::Held {
+                carrier,
+                woken: false,
+                tag,
+            },
+            other => other,
+        }
+    }
+
+    /// The state once the carrier has put the thread back.
+    pub(crate) fn put_back(self, rest: Rest) -> Self
+        ensures { result ≡ put_back rest self }
+    {
+        match (rest, self) {
+            (
+                Rest::Blocked,
+                State::Held {
+                    woken: false,
+                    tag,
+                    ..
+                },
+            ) => State::Blocked { tag },
+            (_, State::Held { tag, .. }) => State::Ready { tag },
+            (_, other) => other,
+        }
+    }
+
+    /// The state once the thread was woken.
+    pub(crate) fn woken(self) -> Self
+        ensures { result ≡ woken self }
+    {
+        match self {
+            State::Blocked { tag } => State::Ready { tag },
+            State::Held { carrier, tag, .. } => State::Held {
+                carrier,
+                woken: true,
+                tag,
+            },
+            other => other,
+        }
+    }
+}
+
+impl Context {
+    ghost use Rattle.std.specs.Prelude.{◌≡◌, ◌+◌, ◌<◌, ◌≤◌, nat_lt, if◌then◌else◌};
+
+    /// The context once the carrier's thread in it has ended.
+    pub(crate) fn retired(self, carrier: u32) -> Self
+        requires { self.generation ≤ LAST_GENERATION }
+        ensures state { result.state ≡ (if nat_lt self.generation LAST_GENERATION then State.Claimed carrier else State.Spent) }
+        ensures generation { result.generation ≡ (if nat_lt self.generation LAST_GENERATION then self.generation + 1 else self.generation) }
+        ensures place { result.place ≡ self.place }
+        ensures last { result.generation ≤ LAST_GENERATION }
+    {
+        if self.generation < LAST_GENERATION {
+            Context {
+                state: State::Claimed { carrier },
+                generation: self.generation + 1,
+                ..self
+            }
+        } else {
+            Context {
+                state: State::Spent,
+                ..self
+            }
+        }
+    }
+}

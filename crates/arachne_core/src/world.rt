@@ -1,0 +1,107 @@
+//! The World as a value: an exact copy of its definitions.
+
+use crate::event::{Event, NotApplied};
+use crate::layout::{CORES, LAST_GENERATION, SLOTS};
+use crate::mark_word::MarkWord;
+use crate::occ_word::OccWord;
+use crate::place::Place;
+use crate::tables::Tables;
+use std::alloc::{AllocError, Global};
+use std::marker::Model;
+
+/// A context table in which each event happens at once. It is owned once at every moment, and costs
+/// the same however many contexts it has.
+#[derive(Debug, Drop)]
+pub struct World {
+    tables: Tables,
+}
+
+impl Model for World {
+    ghost use Rattle.arachne_core.specs.ContextTable.{ContextTable, world_of};
+    ghost use Rattle.arachne_core.specs.OwnedOnce.{OwnedOnce};
+
+    ghost Value = { ContextTable };
+
+    ghost view = { λ a. a.tables };
+
+    ghost invariant = { λ a. OwnedOnce (world_of a.tables) };
+}
+
+impl World {
+    ghost use Rattle.std.specs.Prelude.{◌≡◌, ◌<◌, ◌≤◌, ℕ, IfOk, OnOk, IsOk};
+    ghost use Rattle.arachne_core.specs.World.{IsContext, IsPlace};
+    ghost use Rattle.arachne_core.specs.OwnedOnce.{OwnedOnce};
+    ghost use Rattle.arachne_core.specs.Run.{IsOpening};
+    ghost use Rattle.arachne_core.specs.ContextTable.{world_of, ShowsCore, marked, Answers};
+
+    /// A World with this many cores, whose contexts are free and of one generation.
+    pub fn new(alloc: Global, cores: u8, first_generation: u64) -> Result<Self, AllocError>
+        requires some { 1 ≤ cores }
+        requires cores { cores ≤ CORES }
+        requires generation { first_generation ≤ LAST_GENERATION }
+        ensures cores { IfOk result (λ world. (world_of world).cores ≡ cores) }
+        ensures opening { IfOk result (λ world. IsOpening (world_of world) first_generation) }
+        ensures owned_once { IfOk result (λ world. OwnedOnce (world_of world)) }
+    {
+        let tables = Tables::new(alloc, cores, first_generation)?;
+        Ok(World { tables })
+    }
+
+    /// Makes room for so many more posts and retires, which then take no memory.
+    pub fn reserve(&mut self, posts: usize, retires: usize) -> Result<(), AllocError>
+        ensures kept { self.new ≡ record self.old { posts = self.new.posts; retires = self.new.retires } }
+        ensures grown { (self.old.posts ≤ self.new.posts) × (self.old.retires ≤ self.new.retires) }
+        ensures ok { OnOk result ((posts ≤ self.new.posts) × (retires ≤ self.new.retires)) }
+        ensures succeeds { posts ≤ self.old.posts → retires ≤ self.old.retires → IsOk result }
+    {
+        self.tables.reserve(posts, retires)
+    }
+
+    /// Makes the event where it is allowed. Only a post and a retire may want memory, where no room was
+    /// reserved for them.
+    pub fn apply(&mut self, event: Event) -> Result<(), NotApplied>
+        ensures answer { Answers event self.old self.new result }
+        ensures owned_once { OwnedOnce (world_of self.new) }
+        ensures cores { (world_of self.new).cores ≡ (world_of self.old).cores }
+    {
+        if !self.tables.allows(event) {
+            return Err(NotApplied::NotAllowed);
+        }
+        self.tables.make(event)
+    }
+
+    /// The context that stands at a place.
+    pub fn context_at(&self, place: Place) -> u32
+        requires { IsPlace (world_of self.now) place }
+        ensures within { IsContext (world_of self.now) result }
+        ensures at { (world_of self.now).at result ≡ place }
+    {
+        self.tables.resident(place)
+    }
+
+    /// Where a context stands.
+    pub fn place_of(&self, context: u32) -> Place
+        requires { IsContext (world_of self.now) context }
+        ensures { result ≡ (world_of self.now).at context }
+    {
+        self.tables.context(context).place
+    }
+
+    /// The occupancy word of a core.
+    pub fn occ(&self, core: u8) -> OccWord
+        requires { core < (world_of self.now).cores }
+        ensures { ShowsCore (world_of self.now) core result }
+    {
+        self.tables.core(core)
+    }
+
+    /// The mark word of a context.
+    pub fn mark(&self, context: u32) -> MarkWord
+        requires { IsContext (world_of self.now) context }
+        ensures { result ≡ marked (world_of self.now) context }
+    {
+        let found = self.tables.context(context);
+        let alone = found.state.is_live() && self.tables.core(found.place.core).is_exclusive();
+        MarkWord::new(found.state.mark(), alone, found.place, found.generation)
+    }
+}

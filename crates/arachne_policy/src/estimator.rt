@@ -1,0 +1,102 @@
+ghost use Rattle.std.specs.Prelude.{◌≡◌, ◌≢◌, ◌+◌, ◌-◌, ◌≤◌, true, List, [], ◌∷◌, is_ok, IfOk, OnErr, Ok};
+ghost use Rattle.arachne_policy.specs.declared.samples.Sample.{Sample};
+ghost use Rattle.arachne_policy.specs.Sample.{utilisation_of, is_good};
+ghost use Rattle.arachne_policy.specs.Advice.{advice_by, advice, RecordStands};
+ghost use Rattle.arachne_policy.specs.State.{threshold_at, after, StandsFor};
+
+use crate::limits::MAX_CORES;
+use crate::samples::{Advice, BadSample, Sample};
+use std::marker::Model;
+
+/// Judges samples one after another: a core more by load, a core less by utilisation with hysteresis.
+///
+/// This is the form of Arachne's load estimator (Qin and others, OSDI 2018): a core is added where scans see too many
+/// runnable threads, and the utilisation at which that happened is remembered as the threshold for the new number of
+/// cores. A core is removed where the utilisation is below that threshold by more than the hysteresis.
+#[derive(Clone, Debug, Drop)]
+pub struct Estimator {
+    up: u64,
+    hysteresis: u64,
+    max: u8,
+    thresholds: [u64; MAX_CORES],
+}
+
+// Clauses see the settings and the thresholds: that of n cores stands at n - 1.
+impl Model for Estimator {
+    ghost use Rattle.std.specs.Prelude.{◌≤◌};
+    ghost use Rattle.arachne_policy.specs.State.{State};
+    ghost use Rattle.arachne_policy.specs.declared.limits.TheConstants.{MAX_CORES};
+
+    ghost Value = { State };
+
+    ghost view = { λ e. record { settings = record { up = e.up; hysteresis = e.hysteresis; max = e.max }; thresholds = e.thresholds } };
+
+    ghost invariant = { λ e. e.max ≤ MAX_CORES };
+}
+
+impl Estimator {
+    /// An estimator that has seen no sample. A load over `up` thousandths of a thread a scan asks for a core, up to `max`
+    /// cores; a utilisation under the threshold by more than `hysteresis` thousandths of a core gives one back.
+    pub fn new(up: u64, hysteresis: u64, max: u8) -> Self
+        requires { max ≤ MAX_CORES }
+        ensures settings { result.settings ≡ record { up = up; hysteresis = hysteresis; max = max } }
+        ensures empty { StandsFor result [] }
+    {
+        let mut thresholds = [0; MAX_CORES];
+        let mut threshold = 0;
+        for entry in thresholds.iter_mut() {
+            *entry = threshold;
+            threshold += 1000;
+        }
+        Estimator {
+            up,
+            hysteresis,
+            max,
+            thresholds,
+        }
+    }
+
+    /// Judges a sample, and remembers its utilisation if the answer is `Add`. A bad sample changes nothing.
+    pub fn estimate(&mut self, sample: Sample) -> Result<Advice, BadSample>
+        ensures good { is_ok result ≡ is_good self.old.settings.max sample }
+        ensures advice { IfOk result (λ a. a ≡ advice_by self.old.settings (threshold_at self.old) sample) }
+        ensures after { IfOk result (λ a. self.new ≡ after self.old sample a) }
+        ensures bad { OnErr result (self.new ≡ self.old) }
+
+        // If the thresholds are those of some past samples, so are they afterwards, with this sample among them.
+        ensures history { (past : List Sample) → StandsFor self.old past
+            → IfOk result (λ a. (a ≡ advice self.old.settings past sample) × StandsFor self.new (sample ∷ past)) }
+
+        // A core that was added is not given back while the utilisation has fallen by no more than the hysteresis.
+        ensures hysteresis { (past : List Sample) (added : Sample) → StandsFor self.old past
+            → RecordStands self.old.settings past added
+            → sample.cores ≡ added.cores + 1
+            → utilisation_of added - self.old.settings.hysteresis ≤ utilisation_of sample
+            → result ≢ Ok Advice.Remove }
+    {
+        if !sample.is_good(self.max) {
+            return Err(BadSample);
+        }
+        let advice = self.advise(&sample);
+        if advice == Advice::Add {
+            self.thresholds[sample.cores as usize] = sample.utilisation();
+        }
+        Ok(advice)
+    }
+
+    /// The advice on a good sample by the thresholds as they are.
+    fn advise(&self, sample: &Sample) -> Advice
+        requires { is_good self.now.settings.max sample.now ≡ true }
+        ensures { result ≡ advice_by self.now.settings (threshold_at self.now) sample.now }
+    {
+        if sample.load() > self.up && sample.cores < u64::from(self.max) {
+            return Advice::Add;
+        }
+        let threshold = self.thresholds[sample.cores as usize - 1];
+        if sample.cores > 1 && sample.utilisation() < threshold.saturating_sub(self.hysteresis) {
+            Advice::Remove
+        } else {
+            Advice::Stay
+        }
+    }
+}

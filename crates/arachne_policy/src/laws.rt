@@ -1,0 +1,36 @@
+//! Laws of the definitions that the contracts cite. These functions do nothing; their contracts are what is proved.
+
+ghost use Rattle.std.specs.Prelude.{◌≡◌, ℕ, ◌+◌, ◌*◌, ◌<◌, List, [], ◌∷◌, ◌++◌, length, reverse, take, slice_index_or};
+ghost use Rattle.arachne_policy.specs.declared.samples.Sample.{Sample};
+ghost use Rattle.arachne_policy.specs.declared.samples.Advice.{Advice};
+ghost use Rattle.arachne_policy.specs.Sample.{utilisation_of};
+ghost use Rattle.arachne_policy.specs.State.{State, after, StandsFor, HasJudged};
+ghost use Rattle.arachne_policy.specs.Advice.{Settings, threshold, advice, advices, NoneAdded, RecordStands};
+
+/// The threshold of one core more than `cores` is the utilisation of the last sample of `cores` cores that was answered
+/// `Add`; where there was none, it is that of `cores` busy cores.
+pub fn threshold_is_of_last_add()
+    ensures recorded { (settings : Settings) (past : List Sample) (added : Sample)
+        → RecordStands settings past added
+        → threshold settings past (added.cores + 1) ≡ utilisation_of added }
+    ensures unrecorded { (settings : Settings) (past : List Sample) (cores : ℕ)
+        → NoneAdded settings past [] cores
+        → threshold settings past (cores + 1) ≡ 1000 * cores }
+{}
+
+/// A list of samples gets as many answers, each the advice on its sample after those before it. An estimator that has
+/// judged a list, and then judges a sample by what its thresholds stand for, has judged the list with that sample.
+pub fn advices_are_in_turn()
+    ensures each_once { (settings : Settings) (samples : List Sample)
+        → length (advices settings samples) ≡ length samples }
+    ensures after_those_before { (settings : Settings) (samples : List Sample) (k : ℕ) (d : Sample) (a : Advice)
+        → k < length samples
+        → slice_index_or (advices settings samples) k a
+        ≡ advice settings (reverse (take k samples)) (slice_index_or samples k d) }
+    ensures one_more { (settings : Settings) (samples : List Sample) (answers : List Advice)
+        (old new : State) (s : Sample) (a : Advice)
+        → HasJudged settings samples answers old
+        → new ≡ after old s a
+        → (a ≡ advice old.settings (reverse samples) s) × StandsFor new (s ∷ reverse samples)
+        → HasJudged settings (samples ++ s ∷ []) (answers ++ a ∷ []) new }
+{}

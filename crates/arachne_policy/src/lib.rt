@@ -1,0 +1,21 @@
+//! Which of two cores gets a thread, when to ask for a core and when to give one back, and which lists of core orders
+//! are in order.
+//!
+//! Every call is a pure function over numbers: none takes memory, none waits, and none knows the table of contexts.
+#![tactic(auto)]
+
+mod choices;
+mod estimator;
+pub mod laws;
+mod limits;
+mod orders;
+mod samples;
+
+pub use choices::{CoreLoad, two_choices};
+pub use estimator::Estimator;
+pub use limits::{MAX_CORES, MAX_COUNT};
+pub use orders::{CoreOrder, OrderFault, OrderFaultKind, OrderKind, check_orders};
+pub use samples::{Advice, BadSample, Sample};
+
+#[cfg(test)]
+mod tests;

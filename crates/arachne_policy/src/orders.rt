@@ -1,0 +1,74 @@
+ghost use Rattle.std.specs.Prelude.{◌≡◌, ◌↔◌, IsOk, IfErr};
+ghost use Rattle.arachne_policy.specs.Orders.{order_fault, IsFirstFault, AreInOrder};
+
+use thiserror::Error;
+
+/// What happens to a core.
+#[derive(Clone, Copy, Debug, PartialEq, Eq)]
+pub enum OrderKind {
+    /// The core is given to the runtime.
+    Grant,
+    /// The core is taken back.
+    Release,
+}
+
+/// An arbiter's word on one core, which is due once `after` slices have ended on all cores together.
+#[derive(Clone, Copy, Debug, PartialEq, Eq)]
+pub struct CoreOrder {
+    pub after: u64,
+    pub kind: OrderKind,
+    pub core: u64,
+}
+
+/// What is wrong with an order.
+#[derive(Clone, Copy, Debug, PartialEq, Eq, Error)]
+pub enum OrderFaultKind {
+    #[error("no such core")]
+    NoSuchCore,
+    #[error("core 0 is never released")]
+    ReleasesCoreZero,
+    #[error("it is due before the order that precedes it")]
+    AfterFalls,
+}
+
+/// The first order at fault of a list, by its index from 0.
+#[derive(Clone, Copy, Debug, PartialEq, Eq, Error)]
+#[error("order {index}: {kind}")]
+pub struct OrderFault {
+    pub index: usize,
+    pub kind: OrderFaultKind,
+}
+
+impl CoreOrder {
+    /// What is wrong with the order on a machine of `cores` cores, after an order that is due after `previous` slices.
+    fn fault(&self, cores: u64, previous: u64) -> Option<OrderFaultKind>
+        ensures { result ≡ order_fault cores previous self.now }
+    {
+        if self.core >= cores {
+            Some(OrderFaultKind::NoSuchCore)
+        } else if self.kind == OrderKind::Release && self.core == 0 {
+            Some(OrderFaultKind::ReleasesCoreZero)
+        } else if self.after < previous {
+            Some(OrderFaultKind::AfterFalls)
+        } else {
+            None
+        }
+    }
+}
+
+/// Whether the orders are in order on a machine of `cores` cores: each names one of its cores, none releases core 0, and
+/// none is due before the one that precedes it. The first order at fault is answered; of several faults of one order the
+/// first in the order of `OrderFaultKind`.
+pub fn check_orders(orders: &[CoreOrder], cores: u64) -> Result<(), OrderFault>
+    ensures accepts { IsOk result ↔ AreInOrder cores orders.now }
+    ensures first { IfErr result (IsFirstFault cores orders.now) }
+{
+    let mut previous = 0;
+    for (index, order) in orders.iter().enumerate() {
+        if let Some(kind) = order.fault(cores, previous) {
+            return Err(OrderFault { index, kind });
+        }
+        previous = order.after;
+    }
+    Ok(())
+}

@@ -1,0 +1,87 @@
+ghost use Rattle.std.specs.Prelude.{◌≡◌, ◌<◌, ◌≤◌, Some};
+ghost use Rattle.arachne_policy.specs.Advice.{advice_text};
+ghost use Rattle.arachne_policy.specs.Sample.{load_of, utilisation_of, is_good};
+
+use crate::limits::MAX_COUNT;
+use std::fmt;
+use thiserror::Error;
+
+/// What was measured over one stretch of time on all cores together.
+#[derive(Clone, Copy, Debug, PartialEq, Eq)]
+pub struct Sample {
+    /// How many cores the runtime had.
+    pub cores: u64,
+    /// How many runnable threads the scans saw, added up.
+    pub runnable: u64,
+    /// How many times a core was scanned for runnable threads.
+    pub scans: u64,
+    /// The time in which cores ran threads, added up over the cores, in the unit of `elapsed`.
+    pub busy: u64,
+    /// The time that went by, in any unit.
+    pub elapsed: u64,
+}
+
+/// What to do about the number of cores.
+#[derive(Clone, Copy, Debug, PartialEq, Eq)]
+pub enum Advice {
+    /// Ask for one core more.
+    Add,
+    /// Keep the cores.
+    Stay,
+    /// Give one core back.
+    Remove,
+}
+
+impl fmt::Display for Advice {
+    ghost output = { λ a. Some (advice_text a) };
+
+    fn fmt<W: fmt::Write>(&self, f: &mut fmt::Formatter<W>) -> fmt::Result {
+        match self {
+            Advice::Add => write!(f, "add"),
+            Advice::Stay => write!(f, "stay"),
+            Advice::Remove => write!(f, "remove"),
+        }
+    }
+}
+
+/// A sample with no core or too many, with no time, busier than its cores could be, or with a count over `MAX_COUNT`.
+#[derive(Clone, Copy, Debug, PartialEq, Eq, Error)]
+#[error("the sample cannot have been measured")]
+pub struct BadSample;
+
+impl Sample {
+    /// Whether the sample can be judged where at most `max` cores may be had.
+    pub(crate) fn is_good(&self, max: u8) -> bool
+        ensures { result ≡ is_good max self.now }
+    {
+        1 <= self.cores
+            && self.cores <= u64::from(max)
+            && self.runnable <= MAX_COUNT
+            && self.scans <= MAX_COUNT
+            && self.busy <= MAX_COUNT
+            && 1 <= self.elapsed
+            && self.elapsed <= MAX_COUNT
+            && self.busy <= self.cores * self.elapsed
+    }
+
+    /// The runnable threads that a scan saw on average, in thousandths of a thread.
+    pub(crate) fn load(&self) -> u64
+        requires { self.now.runnable ≤ MAX_COUNT }
+        ensures { result ≡ load_of self.now }
+    {
+        if self.scans == 0 {
+            0
+        } else {
+            1000 * self.runnable / self.scans
+        }
+    }
+
+    /// The cores that were busy on average, in thousandths of a core.
+    pub(crate) fn utilisation(&self) -> u64
+        requires counted { self.now.busy ≤ MAX_COUNT }
+        requires timed { 0 < self.now.elapsed }
+        ensures { result ≡ utilisation_of self.now }
+    {
+        1000 * self.busy / self.elapsed
+    }
+}
