@@ -1,0 +1,4 @@
+pub mod States
+pub mod Views
+pub mod Rule
+pub mod Steps

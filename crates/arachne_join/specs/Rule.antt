@@ -1,0 +1,58 @@
+-- What holds of a cell between any two steps.
+use Rattle.std.specs.Prelude.{◌≡◌, ℕ, List, length, slice_index, Option, Some, None}
+use mathlib.Core.Option.{some}
+use mathlib.Core.Option as maybe
+use lib.ListN.{get_elem?}
+use Rattle.atomic_table.specs.Table as table
+use Rattle.arachne_join.specs.declared.view.Role.{Role}
+use Rattle.arachne_join.specs.declared.view.Role.TheVariants.{Maker, Sender, Left, PutBack, Fetched, Saw, Never}
+use Rattle.arachne_join.specs.declared.view.View.{View}
+
+-- at most one seat has such a role: that of the seat that the slot is out with, or that fetched the value
+abbrev pub IsExclusive : Role → Type 0
+IsExclusive Maker = Unit {0}
+IsExclusive Sender = Unit {0}
+IsExclusive Left = ⊥
+IsExclusive PutBack = ⊥
+IsExclusive Fetched = Unit {0}
+IsExclusive (Saw s) = ⊥
+IsExclusive Never = Unit {0}
+
+-- a seat with this role made the word what it is
+abbrev pub IsMadeBy : ℕ → Role → Type 0
+IsMadeBy word Maker = word ≡ 0
+IsMadeBy word Sender = word ≡ 0
+IsMadeBy word Left = word ≡ 1
+IsMadeBy word PutBack = word ≡ 3
+IsMadeBy word Fetched = word ≡ 2
+IsMadeBy word (Saw s) = ⊥
+IsMadeBy word Never = ⊥
+
+module _ {T : Type 0} where
+  -- what a seat with this role knows of the word and of the slot
+  abbrev pub Knows : ℕ → List (maybe.Option (Option T)) → Role → Type 0
+  Knows word homes Maker = (word ≡ 0) × (get_elem? homes 0 ≡ some (some None))
+  Knows word homes Sender = word ≡ 0
+  Knows word homes Left = Unit {0}
+  Knows word homes PutBack = Unit {0}
+  Knows word homes Fetched = word ≡ 2
+  Knows word homes (Saw s) = Unit {0}
+  Knows word homes Never = ⊥
+
+  -- the slot is at home, with a value of which this holds
+  abbrev pub IsHome : (T → Type 0) → List (maybe.Option (Option T)) → Type 0
+  IsHome P homes = (value : T) × (get_elem? homes 0 ≡ some (some (Some value))) × P value
+
+module _ {T K : Type 0} (fits may_wait : T → Type 0) where
+  -- Where the word is 1 the slot is at home with a value that fits, where it is 3 with one that may wait.
+  -- Some seat made the word what it is: the sending end 0, one that left the value 1, one that fetched it 2, one that put a value back 3
+  pub record IsLawful (word : ℕ) (homes : List (maybe.Option (Option T))) (views : List (View K)) : Type 0 where
+    pub full : word ≡ 1 → IsHome fits homes
+    pub waiting : word ≡ 3 → IsHome may_wait homes
+    pub made : (i : ℕ) × (v : View K) × (get_elem? views i ≡ some v) × IsMadeBy word v.role
+    pub known : (i : ℕ) (v : View K) → get_elem? views i ≡ some v → Knows word homes v.role
+    pub exclusive : (i j : ℕ) (v w : View K) → get_elem? views i ≡ some v → get_elem? views j ≡ some w → IsExclusive v.role → IsExclusive w.role → i ≡ j
+
+  -- the rule of a cell's table, which has one word
+  abbrev pub IsKept : table.State (Option T) (View K) → Type 0
+  IsKept s = (length s.words ≡ 1) × IsLawful (slice_index s.words 0) s.homes s.views

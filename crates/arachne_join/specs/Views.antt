@@ -1,0 +1,33 @@
+-- What clauses see of a cell, of its sending end and of a receipt, and what a seat knows.
+use Rattle.std.specs.Prelude.{Option, None, List, [], ◌∷◌}
+use Rattle.atomic_table.specs.Seated.{TableId}
+use Rattle.arachne_join.specs.declared.state.CellState.TheVariants.{Empty}
+use Rattle.arachne_join.specs.declared.view.Role.{Role}
+use Rattle.arachne_join.specs.declared.view.Role.TheVariants.{Saw, Never}
+use Rattle.arachne_join.specs.declared.view.View.{View}
+
+-- a cell: which table it is, and what it is for
+pub record Cell (K : Type 0) : Type 0 where
+  pub table : TableId
+  pub key : K
+
+-- a receipt: which cell's table, and what was done or seen there
+pub record Shown : Type 0 where
+  pub table : TableId
+  pub role : Role
+
+abbrev pub shown : TableId → Role → Shown
+shown table role = record { table = table; role = role }
+
+module _ {K : Type 0} where
+  abbrev pub view : Option K → Role → View K
+  view key role = record { role = role; key = key }
+
+  -- a seat that knows nothing
+  abbrev pub blank : View K
+  blank = view None (Saw Empty)
+
+  -- the role of the one seat that a badge stands for
+  abbrev pub role_of : List (View K) → Role
+  role_of [] = Never
+  role_of (v ∷ vs) = v.role

@@ -1,0 +1,22 @@
+//! A one-shot cell that a fork's parent and child share: the child's end leaves one value, and whoever shares the cell fetches it once.
+//!
+//! A cell is made for a key, which proofs alone know. Only a value that fits the key can be left, so what is fetched fits it.
+//! The cell is one word and one slot of an `atomic_table`: no call locks, waits, or compares what the value is for.
+#![tactic(auto)]
+
+mod cell;
+mod fits;
+mod receipt;
+mod sending_end;
+mod state;
+mod steps;
+#[cfg(test)]
+mod tests;
+mod view;
+
+pub use cell::{JoinCell, Missed};
+pub use fits::Fits;
+pub use receipt::Receipt;
+pub use sending_end::SendingEnd;
+pub use state::CellState;
+pub use view::Role;

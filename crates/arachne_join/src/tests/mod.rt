@@ -1,0 +1,69 @@
+//! Each public call once, refused memory, and values that pass between threads.
+ghost use Rattle.std.specs.Prelude.{◌≡◌, ◌<◌};
+
+mod fork;
+mod parcels;
+
+use crate::{CellState, Fits, JoinCell};
+use std::test::Fail;
+
+// A value that fits is the key itself, and one that may wait is below it.
+impl Fits<u64> for u64 {
+    ghost fits = { λ key value. value ≡ key };
+
+    ghost may_wait = { λ key value. value < key };
+}
+
+fn missed_at(cell: &JoinCell<u64, u64>) -> Option<CellState> {
+    match cell.fetch() {
+        Ok(_) => None,
+        Err(missed) => Some(missed.state),
+    }
+}
+
+#[test]
+fn a_value_that_was_left_is_fetched_once(rt: HostRuntime) -> Result<(), Fail> {
+    let (cell, end) = JoinCell::<u64, u64>::new(rt.alloc(), &7)?;
+    assert!(rt; missed_at(&cell) == Some(CellState::Empty));
+    let left = end.leave(&cell, 7);
+    let Ok((value, fetched)) = cell.fetch() else {
+        panic!(rt; "a value was left")
+    };
+    assert!(rt; value == 7 && missed_at(&cell) == Some(CellState::Taken));
+    cell.fetched_once(fetched, left);
+    Ok(())
+}
+
+#[test]
+fn a_value_that_was_put_back_is_taken_back_with_the_sending_end(
+    rt: HostRuntime,
+) -> Result<(), Fail> {
+    let (cell, end) = JoinCell::<u64, u64>::new(rt.alloc(), &7)?;
+    end.put_back(&cell, 3);
+    assert!(rt; missed_at(&cell) == Some(CellState::Waiting));
+    let Ok((value, end)) = cell.take_back() else {
+        panic!(rt; "a value waits")
+    };
+    assert!(rt; value == 3 && missed_at(&cell) == Some(CellState::Empty));
+    end.leave(&cell, 7);
+    let Err(missed) = cell.take_back() else {
+        panic!(rt; "no value waits")
+    };
+    assert!(rt; missed.state == CellState::Full);
+    Ok(())
+}
+
+// Under `rt try --test --fail-alloc N` the Nth allocation is refused: the first call answers it, and the second makes the cell.
+#[test]
+fn a_refused_cell_is_made_by_the_next_call(rt: HostRuntime) -> Result<(), Fail> {
+    let (cell, end) = match JoinCell::<u64, u64>::new(rt.alloc(), &7) {
+        Ok(made) => made,
+        Err(_) => JoinCell::new(rt.alloc(), &7)?,
+    };
+    end.leave(&cell, 7);
+    let Ok((value, _)) = cell.fetch() else {
+        panic!(rt; "a value was left")
+    };
+    assert!(rt; value == 7);
+    Ok(())
+}

@@ -1,0 +1,5 @@
+pub mod Sums
+pub mod Views
+pub mod Balance
+pub mod Seats
+pub mod Steps

@@ -1,0 +1,24 @@
+-- What `Ledgers` and `Share` keep of their table and seat.
+use Rattle.std.specs.Prelude.{◌≡◌, ℕ, ◌^◌, ◌<◌, [], length}
+use Rattle.atomic_table.specs.Seated.{TableId}
+use Rattle.atomic_table.specs.Table.{Me}
+use Rattle.arachne_weights.specs.declared.token.Token.{Token}
+use Rattle.arachne_weights.specs.Tokens.{held}
+use Rattle.arachne_ledger.specs.Sums.{Sums}
+use Rattle.arachne_ledger.specs.Balance.{word_of}
+
+-- a share's view, and the slots that its seat holds
+abbrev pub Mine : Type 0
+Mine = Me (Unit {0}) (Token Sums)
+
+-- a table with a word for each of so many ledgers, and no slot; their number is its key
+pub record IsLaidOut (table : TableId) (key count : ℕ) : Type 0 where
+  pub keyed : key ≡ count
+  pub sized : word_of count ≡ table.words
+  pub in_range : word_of count < 2 ^ 64
+  pub no_slots : table.slots ≡ 0
+
+-- a seat in use with this weight and no slot, and a sum for each ledger of its table
+pub record IsSeated (table : TableId) (weight : ℕ) (me : Mine) : Type 0 where
+  pub mine : me ≡ (held weight me.0.known, [])
+  pub sized : word_of (length me.0.known) ≡ table.words

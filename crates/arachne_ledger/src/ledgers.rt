@@ -1,0 +1,170 @@
+//! The ledgers of one run, and the calls on them.
+ghost use Rattle.std.specs.Prelude.{◌≡◌, ℕ, ◌+◌, ◌*◌, ◌%◌, ◌^◌, ◌<◌, [], map, length, replicate, vec_len, slice_index, IfOk, IfErr};
+ghost use Rattle.arachne_weights.specs.Weight.{whole, first_part, second_part, joined};
+ghost use Rattle.arachne_weights.specs.Tokens.{held};
+ghost use Rattle.arachne_ledger.specs.Sums.{raised, plus};
+ghost use Rattle.arachne_ledger.specs.Balance.{word_of, IsSumAmong};
+ghost use Rattle.arachne_ledger.specs.Views.{IsShareOf, IsWhole};
+
+use crate::share::{Share, View};
+use crate::steps::{Add, Balanced, Deal, Read};
+use arachne_weights::Weight;
+use atomic_table::Table;
+use std::alloc::{AllocError, Global};
+use std::marker::Model;
+
+// The words of two cache lines, since processors fetch lines in pairs.
+const SPACING: usize = 16;
+
+/// Some number of ledgers, each of which begins at 0.
+#[derive(Drop)]
+pub struct Ledgers {
+    table: Table<(), View, usize, Balanced, Global>,
+    count: usize,
+}
+
+impl Model for Ledgers {
+    ghost use Rattle.arachne_ledger.specs.Views.{LedgersView};
+    ghost use Rattle.arachne_ledger.specs.Seats.{IsLaidOut};
+
+    ghost Value = { LedgersView };
+
+    ghost view = { λ l. record { table = l.table.shared.table_id; count = l.count } };
+
+    ghost invariant = { λ l. IsLaidOut l.table.shared.table_id l.table.shared.key l.count };
+}
+
+// The word of a ledger.
+fn ledger_word(ledger: usize) -> usize
+    requires { word_of ledger < 2 ^ 64 }
+    ensures { result ≡ word_of ledger }
+{
+    SPACING * (ledger + 1)
+}
+
+// The words of so many ledgers, each 0.
+fn zeros(alloc: Global, count: usize) -> Result<Vec<u64>, AllocError>
+    ensures { IfOk result (λ v. (vec_len v ≡ word_of count) × ((i : ℕ) → slice_index v.items i ≡ 0)) }
+{
+    let words = SPACING.saturating_mul(count.saturating_add(1));
+    let mut zeros = Vec::with_capacity(alloc, words)?;
+    zeros.extend_from_slice(&[0; SPACING])?;
+    for _ in 0..count {
+        zeros.extend_from_slice(&[0; SPACING])?;
+    }
+    Ok(zeros)
+}
+
+impl Ledgers {
+    /// So many ledgers, of which there may be none, and the whole share.
+    pub fn new(alloc: Global, count: usize) -> Result<(Ledgers, Share), AllocError>
+        ensures ledgers { IfOk result (λ r. r.0.count ≡ count) }
+        ensures share { IfOk result (λ r. r.1 ≡ record { table = r.0.table; weight = whole; sums = replicate count 0 }) }
+    {
+        let words = zeros(alloc, count)?;
+        let (table, seat) = Table::of_words(alloc, words.as_slice(), &count)?;
+        let share = Share {
+            seat,
+            weight: Weight::whole(),
+        };
+        Ok((Ledgers { table, count }, share))
+    }
+
+    /// The number of ledgers.
+    pub fn count(&self) -> usize
+        ensures { result ≡ self.now.count }
+    {
+        self.count
+    }
+
+    /// Adds to the share's sum for one ledger, and so to its word, in one step.
+    pub fn add(&self, share: &mut Share, ledger: usize, amount: u64)
+        requires own { IsShareOf self.now share.old }
+        requires ledger { ledger < self.now.count }
+        ensures raised { share.new ≡ record share.old { sums = raised share.old.sums ledger amount } }
+        ensures counted { length share.new.sums ≡ self.now.count }
+    {
+        let shared = &self.table.shared;
+        shared.fetch_add::<Add>(&mut share.seat, ledger_word(ledger), amount);
+    }
+
+    /// The ledger's word: the sum of all shares at some moment of the call, modulo 2^64, and so a whole share's own sum.
+    pub fn read(&self, share: &mut Share, ledger: usize) -> u64
+        requires own { IsShareOf self.now share.old }
+        requires ledger { ledger < self.now.count }
+        ensures same { share.new ≡ share.old }
+        ensures sum { IsSumAmong (held share.old.weight share.old.sums) ledger result }
+        ensures whole { IsWhole share.old → result ≡ slice_index share.old.sums ledger % 2 ^ 64 }
+    {
+        let shared = &self.table.shared;
+        shared.load::<Read>(&mut share.seat, ledger_word(ledger))
+    }
+
+    /// Halves the weight, rounded up for the first share, which keeps the sums. At weight 1 or 0 neither gets any.
+    pub fn split(&self, share: Share) -> (Share, Share)
+        requires { IsShareOf self.now share }
+        ensures first { result.0 ≡ record share { weight = first_part share.weight } }
+        ensures second { result.1 ≡ record {
+          table = share.table;
+          weight = second_part share.weight;
+          sums = replicate (length share.sums) 0;
+        } }
+    {
+        let Share { mut seat, weight } = share;
+        let (first, second) = weight.split();
+        let other = self.table.shared.split_seat::<Deal>(&mut seat);
+        (
+            Share {
+                seat,
+                weight: first,
+            },
+            Share {
+                seat: other,
+                weight: second,
+            },
+        )
+    }
+
+    /// Adds up weights, to at most the whole, and the sums of each ledger.
+    pub fn join_shares(&self, share: Share, other: Share) -> Share
+        requires share { IsShareOf self.now share }
+        requires other { IsShareOf self.now other }
+        ensures { result ≡ record {
+          table = share.table;
+          weight = joined share.weight other.weight;
+          sums = plus share.sums other.sums;
+        } }
+    {
+        let Share { mut seat, weight } = share;
+        let Share {
+            seat: spent,
+            weight: added,
+        } = other;
+        self.table.shared.join_seat::<Deal>(&mut seat, spent);
+        Share {
+            seat,
+            weight: weight.join(added),
+        }
+    }
+
+    /// The sum of each ledger, modulo 2^64. Where there is no memory for them, the ledgers and the share come back.
+    pub fn close(self, alloc: Global, share: Share) -> Result<Vec<u64>, (Ledgers, Share)>
+        requires own { IsShareOf self share }
+        requires whole { IsWhole share }
+        ensures sums { IfOk result (λ v. v.items ≡ map (λ sum. sum % 2 ^ 64) share.sums) }
+        ensures counted { IfOk result (λ v. vec_len v ≡ self.count) }
+        ensures err { IfErr result (λ r. (r.0 ≡ self) × (r.1 ≡ share)) }
+    {
+        let Ok(mut totals) = Vec::with_capacity(alloc, self.count) else {
+            return Err((self, share));
+        };
+        let Ledgers { table, count } = self;
+        let Share { seat, weight: _ } = share;
+        let closed = table.close_with(seat);
+        for ledger in 0..count {
+            totals.push(closed.word(ledger_word(ledger))).unwrap();
+        }
+        closed.free();
+        Ok(totals)
+    }
+}

@@ -1,0 +1,41 @@
+//! What one thread has added.
+ghost use Rattle.std.specs.Prelude.{◌≡◌, ◌↔◌, IsTrue};
+ghost use Rattle.arachne_ledger.specs.Views.{IsWhole};
+
+use arachne_weights::{Token, Weight};
+use atomic_table::Seat;
+use std::collections::LinkedList;
+use std::marker::Model;
+
+/// What the table's rule sees of a share: its own sums, one for each ledger, which are not reduced. No value of it is made.
+pub type View = Token<LinkedList<u64>>;
+
+/// A part of the right to all ledgers of one table, with the sums of what was added through it.
+///
+/// It is used and joined with the ledgers that it came from. A share that is dropped takes its weight with it, so
+/// that no share is whole any more.
+#[derive(Drop)]
+pub struct Share {
+    pub(crate) seat: Seat<(), View>,
+    pub(crate) weight: Weight,
+}
+
+impl Model for Share {
+    ghost use Rattle.arachne_ledger.specs.Views.{ShareView};
+    ghost use Rattle.arachne_ledger.specs.Seats.{IsSeated};
+
+    ghost Value = { ShareView };
+
+    ghost view = { λ s. record { table = s.seat.table_id; weight = s.weight; sums = s.seat.me.0.known } };
+
+    ghost invariant = { λ s. IsSeated s.seat.table_id s.weight s.seat.me };
+}
+
+impl Share {
+    /// Whether all other shares were joined into this one.
+    pub fn is_whole(&self) -> bool
+        ensures { IsTrue result ↔ IsWhole self.now }
+    {
+        self.weight.is_whole()
+    }
+}

@@ -1,0 +1,50 @@
+//! The rule of the table, and the kinds of step on it.
+use crate::share::View;
+use atomic_table::{Join, Play, Split, TableRule};
+
+/// Each word is the sum of all shares for it. The table is told how many ledgers there are.
+pub struct Balanced;
+
+impl TableRule<(), View, usize> for Balanced {
+    ghost use Rattle.arachne_ledger.specs.Balance.{IsBalanced, opening_share};
+
+    ghost holds = { IsBalanced };
+
+    ghost first = { opening_share };
+}
+
+pub(crate) struct Add;
+
+impl Play<(), View> for Add {
+    ghost use Rattle.arachne_ledger.specs.Steps.{Adds};
+
+    ghost then = { Adds };
+}
+
+pub(crate) struct Read;
+
+impl Play<(), View> for Read {
+    ghost use Rattle.arachne_ledger.specs.Steps.{Reads};
+
+    ghost then = { Reads };
+}
+
+pub(crate) struct Deal;
+
+impl Split<View> for Deal {
+    ghost use Rattle.arachne_ledger.specs.Balance.{first_share, second_share};
+
+    ghost left = { first_share };
+
+    ghost right = { second_share };
+}
+
+impl Join<View> for Deal {
+    ghost use Rattle.std.specs.Prelude.{[]};
+    ghost use Rattle.arachne_weights.specs.Tokens.{spent};
+    ghost use Rattle.arachne_ledger.specs.Balance.{joined_share};
+
+    ghost both = { joined_share };
+
+    ghost spent = { spent [] };
+}

@@ -1,0 +1,5 @@
+pub mod Consistency
+pub mod Histories
+pub mod OneHolderLaw
+pub mod Threads
+mod WorkedHistories

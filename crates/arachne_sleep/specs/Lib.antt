@@ -1,0 +1,6 @@
+pub mod Holding
+pub mod History
+pub mod OneHolder
+pub mod Lock
+pub mod WaitQueue
+pub mod Inside

@@ -1,0 +1,13 @@
+//! Weights: how the holders of a shared object know that one of them is the last.
+//!
+//! An object that threads share gives each of them a token. The first token has the whole weight, a split
+//! deals it out, and a join adds it up again. So whoever has the whole weight is alone with the object.
+#![tactic(auto)]
+
+mod laws;
+mod token;
+mod weight;
+
+pub use laws::{tokens_within_the_whole, whole_is_alone};
+pub use token::Token;
+pub use weight::Weight;

@@ -1,0 +1,87 @@
+//! The weight that a token carries at run time.
+ghost use Rattle.std.specs.Prelude.{◌≡◌, ◌↔◌, IsTrue};
+ghost use Rattle.arachne_weights.specs.Weight.{whole, first_part, second_part, joined};
+
+use std::marker::Model;
+
+const WHOLE: u128 = 1 << 127;
+
+/// A part of the whole weight, 2^127. A contract sees it as a number.
+#[derive(Clone, Copy, Debug, PartialEq, Eq)]
+pub struct Weight {
+    amount: u128,
+}
+
+impl Model for Weight {
+    ghost use Rattle.std.specs.Prelude.{ℕ, ◌≤◌};
+    ghost use Rattle.arachne_weights.specs.Weight.{whole};
+
+    ghost Value = { ℕ };
+
+    ghost view = { λ w. w.amount };
+
+    ghost invariant = { λ w. w.amount ≤ whole };
+
+    ghost inverse = { λ n. record { amount = n } };
+}
+
+impl Weight {
+    /// What the first token has.
+    pub fn whole() -> Weight
+        ensures { result ≡ whole }
+    {
+        Weight { amount: WHOLE }
+    }
+
+    /// Half, rounded up, and the rest. A weight of 1 or 0 can't be halved, and gives two of 0.
+    pub fn split(self) -> (Weight, Weight)
+        ensures first { result.0 ≡ first_part self }
+        ensures second { result.1 ≡ second_part self }
+    {
+        if self.amount <= 1 {
+            return (Weight { amount: 0 }, Weight { amount: 0 });
+        }
+        let second = self.amount / 2;
+        let first = self.amount - second;
+        (Weight { amount: first }, Weight { amount: second })
+    }
+
+    /// The sum, and at most the whole.
+    pub fn join(self, other: Weight) -> Weight
+        ensures { result ≡ joined self other }
+    {
+        Weight {
+            amount: self.amount.saturating_add(other.amount).min(WHOLE),
+        }
+    }
+
+    pub fn is_whole(self) -> bool
+        ensures { IsTrue result ↔ (self ≡ whole) }
+    {
+        self.amount == WHOLE
+    }
+}
+
+#[cfg(test)]
+mod tests {
+    use super::*;
+
+    #[test]
+    fn a_split_rounds_up_and_stops_at_one(rt: HostRuntime) {
+        for (amount, first, second) in [(0, 0, 0), (1, 0, 0), (2, 1, 1), (3, 2, 1), (7, 4, 3)] {
+            let (a, b) = Weight { amount }.split();
+            assert!(rt; a.amount == first && b.amount == second, "at {amount}");
+        }
+    }
+
+    #[test]
+    fn parts_of_the_whole_join_to_the_whole(rt: HostRuntime) {
+        let (first, second) = Weight::whole().split();
+        let (second, third) = second.split();
+        assert_eq!(rt; first.amount, 1 << 126);
+        assert_eq!(rt; third.amount, 1 << 125);
+        assert!(rt; !first.join(second).is_whole());
+        assert!(rt; first.join(second).join(third).is_whole());
+        assert!(rt; Weight::whole().join(Weight::whole()).is_whole());
+    }
+}
