@@ -153,7 +153,7 @@ fn nesting_ends_at_level_64(rt: HostRuntime) -> Result<(), Fail> {
         Some(TextFault::Nesting { at: 852 })
     );
     assert_eq!(rt;
-        fault_of_many(alloc, b"(add (num 0) ", 64, b"x")?,
+        fault_of_many(alloc, b"(add (num 0) ", 63, b"(add x")?,
         Some(TextFault::Syntax { at: 852 })
     );
     Ok(())
