@@ -1,23 +1,29 @@
 -- What the words of the command line ask for, as the parser of command lines reads them.
-use Rattle.std.specs.Prelude.{ℕ, ◌&&◌, ◌||◌, Bool, true, false, List, [], ◌∷◌, Option, Some, None, option_and_then, option_map, is_some, if◌then◌else◌, codes, unwrap_or}
+use Rattle.std.specs.Prelude.{Bool, true, false, List, Option, Some, None, option_and_then, if◌then◌else◌, codes}
 use Rattle.std.specs.Option.{option_map_or}
 use Rattle.std.specs.Str.{bytes_eq}
 use Rattle.clap.specs.Words.{App, Rule, Row, Text, new_app, new_rule, with_rule, with_subcommand, first_of, subcommand_of, takes}
 use Rattle.clap.specs.declared.builder.action.ArgAction.TheVariants.{SetTrue}
 use Rattle.arachne.specs.declared.command_line.Request.{Request}
-use Rattle.arachne.specs.declared.command_line.Request.TheVariants.{Eval}
+use Rattle.arachne.specs.declared.command_line.Request.TheVariants.{Eval, Check}
 
 -- the flag that asks for the names of threads
 abbrev pub names_flag : Rule
 names_flag = record (new_rule (codes "names")) { long = Some (codes "names"); action = Some SetTrue }
 
 -- the commands
-abbrev pub eval_command : App
-eval_command = with_rule (new_app (codes "eval")) names_flag
+abbrev pub eval_app : App
+eval_app = with_rule (new_app (codes "eval")) names_flag
+
+abbrev pub check_app : App
+check_app = new_app (codes "check")
 
 -- the program, which wants one of them
 unfoldable pub program : App
-program = with_subcommand (record (new_app (codes "arachne")) { top = record (new_app (codes "arachne")).top { subcommand_required = true } }) eval_command.top
+program =
+    with_subcommand
+    (with_subcommand (record (new_app (codes "arachne")) { top = record (new_app (codes "arachne")).top { subcommand_required = true } }) eval_app.top)
+    check_app.top
 
 -- a flag is set where its text is "true"
 abbrev pub is_set : Text → List Row → Bool
@@ -25,7 +31,10 @@ is_set flag rows = option_map_or (λ text. bytes_eq text (codes "true")) (first_
 
 -- what a subcommand and its entries ask for
 abbrev pub request_of : Text → List Row → Option Request
-request_of name rows = if bytes_eq name (codes "eval") then Some (Eval (is_set (codes "names") rows)) else None
+request_of name rows =
+    if bytes_eq name (codes "eval") then Some (Eval (is_set (codes "names") rows))
+    else if bytes_eq name (codes "check") then Some Check
+    else None
 
 -- what the subcommand that was met asks for, with its entries
 abbrev pub request_met : Option (Text × List Row) → Option Request

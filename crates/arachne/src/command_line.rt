@@ -1,5 +1,6 @@
-ghost use Rattle.std.specs.Prelude.{◌≡◌, IfOk, IfErr, IsSome, map, Some, true};
-ghost use Rattle.arachne.specs.CommandLine.{asked_by, is_taken, is_set, program, request_met};
+ghost use Rattle.std.specs.Prelude.{◌≡◌, IfOk, IfErr, IsSome, map, Some, true, false};
+ghost use Rattle.arachne.specs.CommandLine.{asked_by, is_taken, is_set, eval_app, check_app, program, request_met};
+ghost use Rattle.clap.specs.declared.builder.command.Command.TheViews.{out-Command};
 ghost use Rattle.clap.specs.Words.{app_of, kind_of, rows_of, found_of, subcommand_rows_of};
 
 use clap::error::ErrorKind;
@@ -10,14 +11,15 @@ use std::convert::AsStr;
 /// What the words of the command line ask for.
 #[derive(Clone, Copy, Debug, PartialEq, Eq)]
 pub enum Request {
-    /// To evaluate a program, and to print the names of its threads where the flag says so.
-    Eval(bool),
+    /// To evaluate a program, and to print a line for each of its threads where their names are wanted.
+    Eval { names: bool },
+    /// To say whether a program may run.
+    Check,
 }
 
-/// The command line of the program.
-#[tactic(auto, unfolding(crate::specs::CommandLine::program))]
-fn command<'a>(alloc: Global) -> Result<Command<'a>, AllocError>
-    ensures { IfOk result (λ command. app_of command ≡ program) }
+/// The command that evaluates.
+fn eval_command<'a>(alloc: Global) -> Result<Command<'a>, AllocError>
+    ensures { IfOk result (λ command. (app_of command ≡ eval_app) × ((out-Command command).has_globals ≡ false)) }
 {
     let names = Arg::new(alloc, "names")
         .long("names")
@@ -26,10 +28,28 @@ fn command<'a>(alloc: Global) -> Result<Command<'a>, AllocError>
     let eval = Command::new(alloc, "eval")
         .about("Evaluate the task text on the input, on one thread")
         .arg(names)?;
+    Ok(eval)
+}
+
+/// The command that checks.
+fn check_command<'a>(alloc: Global) -> Command<'a>
+    ensures { (app_of result ≡ check_app) × ((out-Command result).has_globals ≡ false) }
+{
+    Command::new(alloc, "check").about(
+        "Say whether the program of the task text on the input may run",
+    )
+}
+
+/// The command line of the program.
+#[tactic(auto, unfolding(crate::specs::CommandLine::program))]
+fn command<'a>(alloc: Global) -> Result<Command<'a>, AllocError>
+    ensures { IfOk result (λ command. app_of command ≡ program) }
+{
     let arachne = Command::new(alloc, "arachne")
         .about("Evaluate programs of the task language")
         .subcommand_required(true)
-        .subcommand(eval)?;
+        .subcommand(eval_command(alloc)?)?
+        .subcommand(check_command(alloc))?;
     Ok(arachne)
 }
 
@@ -48,10 +68,12 @@ fn request_in(matches: &ArgMatches<'_>) -> Option<Request>
     ensures { result ≡ request_met (subcommand_rows_of matches.now) }
 {
     let (name, entries) = matches.subcommand()?;
-    if name == "eval" {
-        Some(Request::Eval(is_flag_set(entries, "names")))
-    } else {
-        None
+    match name {
+        "eval" => Some(Request::Eval {
+            names: is_flag_set(entries, "names"),
+        }),
+        "check" => Some(Request::Check),
+        _ => None,
     }
 }
 

@@ -1,20 +1,24 @@
-ghost use Rattle.std.specs.Prelude.{◌≡◌, ◌≢◌, ◌≤◌, length, IfOk, IfErr, IfSome, OnOk, OnErr, IsSome, ◌+◌, List, ℕ, map, Some, None, true, string_bytes};
+ghost use Rattle.std.specs.Prelude.{◌≡◌, ◌⊎◌, ◌≢◌, ◌≤◌, length, IfOk, IfErr, IfSome, OnOk, OnErr, IsSome, ◌+◌, List, ℕ, map, Some, None, true, string_bytes};
 ghost use Rattle.std.specs.Io.KnownBytes.{Appends, Consumes, Keeps};
+ghost use Rattle.arachne_lang.specs.Program.{source_of};
+ghost use Rattle.arachne_lang.specs.Checked.{IsChecked};
+ghost use Rattle.arachne_lang.specs.Meaning.{meaning_of};
+ghost use Rattle.arachne.specs.Output.{output_of};
 ghost use Rattle.arachne.specs.CommandLine.{asked_by, is_taken};
 ghost use Rattle.arachne.specs.Fault.{fault_line};
-ghost use Rattle.arachne.specs.Drive.{AppendsFront, IsAnswer, IsCause, input_limit};
+ghost use Rattle.arachne.specs.Drive.{AppendsFront, IsAnswer, IsCause, IsProgramOf, input_limit};
 
 use crate::command_line::{Request, read_words};
 use crate::fault::Fault;
 use crate::output::render;
 use crate::stream::{read_input, write_bytes};
-use arachne_lang::{check, eval, parse};
+use arachne_lang::{Program, check, eval, parse};
 use arrayvec::ArrayString;
 use clap::error::ErrorKind;
 use std::alloc::Global;
 use std::convert::AsStr;
 use std::fmt::Write as _;
-use std::io::{Read, Write};
+use std::io::{self, Read, Write};
 
 /// The status where all went well, where there was a fault, and where the words were not understood.
 pub const DONE: u8 = 0;
@@ -29,34 +33,38 @@ const LINE: usize = 64;
 /// What is to be written for an input.
 fn answer<R: Read>(alloc: Global, request: Request, input: &mut R) -> Result<String, Fault>
     ensures answers { IfOk result (λ text. IfSome (R.remaining input.old) (λ known. IsAnswer request known (string_bytes text))) }
-    ensures cause { IfErr result (λ fault. IfSome (R.remaining input.old) (λ known. IsCause known fault)) }
+    ensures cause { IfErr result (λ fault. (fault ≢ Fault.Write) × IfSome (R.remaining input.old) (λ known. IsCause known fault)) }
     ensures reads { (bytes : List ℕ) × Consumes (R.remaining input.old) (R.remaining input.new) bytes × (length bytes ≤ input_limit + 1) }
 {
     let text = read_input(alloc, input)?;
-    let Request::Eval(names) = request;
-    evaluation(alloc, text.as_slice(), names)
+    let program = checked_program(alloc, text.as_slice())?;
+    let output = match request {
+        Request::Eval { names } => evaluation(alloc, &program, names)?,
+        Request::Check => String::from_str(alloc, "ok\n")?,
+    };
+    Ok(output)
 }
 
-/// What is to be written for a text that is evaluated.
-fn evaluation(alloc: Global, text: &[u8], names: bool) -> Result<String, Fault>
+/// The program that a text spells, if it may run.
+fn checked_program(alloc: Global, text: &[u8]) -> Result<Program, Fault>
     requires { length text.now ≤ input_limit }
-    ensures answers { IfOk result (λ output. IsAnswer (Request.Eval names) text.now (string_bytes output)) }
-    ensures cause { IfErr result (λ fault. IsCause text.now fault) }
+    ensures program { IfOk result (λ program. IsProgramOf text.now (source_of program)) }
+    ensures cause { IfErr result (λ fault. (fault ≢ Fault.Write) × IsCause text.now fault) }
 {
-    let program = match parse(alloc, text) {
-        Ok(program) => program,
-        Err(fault) => return Err(Fault::InText(fault)),
-    };
-    if let Err(fault) = check(&program) {
-        return Err(Fault::InProgram(fault));
-    }
-    let Ok(meaning) = eval(alloc, &program) else {
-        return Err(Fault::Memory);
-    };
-    match render(alloc, &meaning, names) {
-        Ok(output) => Ok(output),
-        Err(_) => Err(Fault::Memory),
-    }
+    let program = parse(alloc, text)?;
+    check(&program)?;
+    Ok(program)
+}
+
+/// What is to be written of a program's meaning.
+fn evaluation(alloc: Global, program: &Program, names: bool) -> Result<String, Fault>
+    requires { IsChecked (source_of program.now) }
+    ensures output { IfOk result (λ text. string_bytes text ≡ output_of names (meaning_of (source_of program.now))) }
+    ensures memory { IfErr result (λ fault. fault ≡ Fault.Memory) }
+{
+    let meaning = eval(alloc, program)?;
+    let output = render(alloc, &meaning, names)?;
+    Ok(output)
 }
 
 /// Writes all of the output, and flushes it once.
@@ -72,15 +80,27 @@ fn finish<W: Write>(output: &mut W, text: &str) -> Result<(), Fault>
     }
 }
 
-/// Writes the line of a fault, as far as the writer takes it. It takes no memory.
-fn report<W: Write>(faults: &mut W, fault: Fault)
-    ensures { AppendsFront (W.contents faults.old) (W.contents faults.new) (fault_line fault) }
+/// Writes the line of a fault, as far as the writer takes it, and answers the status of a fault. It takes no memory.
+pub fn refuse<W: Write>(faults: &mut W, fault: Fault) -> u8
+    ensures status { result ≡ 1 }
+    ensures line { AppendsFront (W.contents faults.old) (W.contents faults.new) (fault_line fault) }
 {
     let mut line = ArrayString::<LINE>::new();
-    let Ok(()) = writeln!(line, "{fault}") else {
-        return;
-    };
-    let _ = write_bytes(faults, line.as_bytes());
+    if let Ok(()) = writeln!(line, "{fault}") {
+        let _ = write_bytes(faults, line.as_bytes());
+    }
+    FAULT
+}
+
+/// Says why the words of the command line could not be had, and answers the status: that of a fault where memory was refused.
+pub fn refuse_words<W: Write>(faults: &mut W, error: &io::Error) -> u8
+    ensures { ((result ≡ 1) × AppendsFront (W.contents faults.old) (W.contents faults.new) (fault_line Fault.Memory)) ⊎ (result ≡ 2) }
+{
+    if error.kind() == io::ErrorKind::OutOfMemory {
+        return refuse(faults, Fault::Memory);
+    }
+    let _ = writeln!(faults, "error: {error}");
+    WORDS
 }
 
 /// Runs the program on the words of the command line, the first being its own name, and on these streams. The answer is the status:
@@ -98,10 +118,14 @@ pub fn drive<S: AsStr, R: Read, W: Write, E: Write>(
         (request : Request) × (asked_by (map S.text words.entry.now) ≡ Some request)
         × (text : List ℕ) × IsAnswer request known text × Appends (W.contents output.old) (W.contents output.new) text) }
     ensures quiet { result ≡ 0 → Keeps (E.contents faults.old) (E.contents faults.new) }
-    // A fault has a cause, and its line is on the faults stream, as far as that took it.
+    // A fault has a cause, and its line is on the faults stream, as far as that took it. Only where writing failed is there
+    // something on the output, and that is a front of what was to be written.
     ensures fault { result ≡ 1 → (fault : Fault) × IfSome (R.remaining input.old) (λ known. IsCause known fault)
         × AppendsFront (E.contents faults.old) (E.contents faults.new) (fault_line fault)
         × ((fault ≢ Fault.Write) → Keeps (W.contents output.old) (W.contents output.new))
+        × (fault ≡ Fault.Write → IfSome (R.remaining input.old) (λ known.
+        (request : Request) × (asked_by (map S.text words.entry.now) ≡ Some request)
+        × (text : List ℕ) × IsAnswer request known text × AppendsFront (W.contents output.old) (W.contents output.new) text))
         × ((fault ≢ Fault.Memory) → IsSome (asked_by (map S.text words.entry.now))) }
     ensures reads { (bytes : List ℕ) × Consumes (R.remaining input.old) (R.remaining input.new) bytes × (length bytes ≤ input_limit + 1) }
     ensures unread { result ≡ 2 → Keeps (R.remaining input.old) (R.remaining input.new) }
@@ -113,23 +137,19 @@ pub fn drive<S: AsStr, R: Read, W: Write, E: Write>(
     let request = match read_words(alloc, words) {
         Ok(request) => request,
         Err(error) if error.kind() == ErrorKind::OutOfMemory => {
-            report(faults, Fault::Memory);
-            return FAULT;
+            return refuse(faults, Fault::Memory);
         }
         Err(error) => {
             let _ = write!(faults, "{error}");
             return WORDS;
         }
     };
-    let written = match answer(alloc, request, input) {
-        Ok(text) => finish(output, text.as_str()),
-        Err(fault) => Err(fault),
+    let text = match answer(alloc, request, input) {
+        Ok(text) => text,
+        Err(fault) => return refuse(faults, fault),
     };
-    match written {
+    match finish(output, text.as_str()) {
         Ok(()) => DONE,
-        Err(fault) => {
-            report(faults, fault);
-            FAULT
-        }
+        Err(fault) => refuse(faults, fault),
     }
 }

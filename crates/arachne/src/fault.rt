@@ -1,4 +1,8 @@
+ghost use Rattle.std.specs.Prelude.{◌≡◌};
+ghost use Rattle.arachne.specs.declared.fault.Fault.TheVariants.{InText, InProgram, Memory};
+
 use arachne_lang::{CheckFault, TextFault};
+use std::alloc::AllocError;
 use std::fmt;
 
 /// Why the program ends with status 1.
@@ -16,6 +20,30 @@ pub enum Fault {
     Read,
     /// The output could not be written.
     Write,
+}
+
+impl From<TextFault> for Fault {
+    ghost from_gives = { λ inner fault. fault ≡ InText inner };
+
+    fn from(fault: TextFault) -> Fault {
+        Fault::InText(fault)
+    }
+}
+
+impl From<CheckFault> for Fault {
+    ghost from_gives = { λ inner fault. fault ≡ InProgram inner };
+
+    fn from(fault: CheckFault) -> Fault {
+        Fault::InProgram(fault)
+    }
+}
+
+impl From<AllocError> for Fault {
+    ghost from_gives = { λ _ fault. fault ≡ Memory };
+
+    fn from(_error: AllocError) -> Fault {
+        Fault::Memory
+    }
 }
 
 impl fmt::Display for Fault {

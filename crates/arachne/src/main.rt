@@ -9,17 +9,26 @@ mod stream;
 #[cfg(test)]
 mod tests;
 
+use fault::Fault;
 use std::process::ExitCode;
 use std::{env, io};
 
-fn main(rt: HostRuntime) -> io::Result<ExitCode> {
-    let words: Vec<String> = env::args(&rt)?.collect(rt.alloc())?;
+fn main(rt: HostRuntime) -> ExitCode {
+    let mut faults = rt.stderr();
+    let words = match env::args(&rt) {
+        Ok(words) => words,
+        Err(error) => return ExitCode::from(drive::refuse_words(&mut faults, &error)),
+    };
+    let words: Vec<String> = match words.collect(rt.alloc()) {
+        Ok(words) => words,
+        Err(_) => return ExitCode::from(drive::refuse(&mut faults, Fault::Memory)),
+    };
     let status = drive::drive(
         rt.alloc(),
         words.as_slice(),
         &mut rt.reader(),
         &mut io::writer(&rt),
-        &mut rt.stderr(),
+        &mut faults,
     );
-    Ok(ExitCode::from(status))
+    ExitCode::from(status)
 }

@@ -1,4 +1,4 @@
-use crate::drive::drive;
+use crate::drive::{drive, refuse_words};
 use crate::stream::INPUT_LIMIT;
 use std::alloc::Global;
 use std::io;
@@ -60,10 +60,36 @@ fn values_are_printed(rt: HostRuntime) -> Result<(), Fail> {
 
 /// The input has this fault, and nothing is printed on the output.
 fn assert_fault(rt: &impl Abort, alloc: Global, input: &[u8], line: &str) {
-    let run = run(alloc, &["arachne", "eval"], input);
-    assert_eq!(rt; run.status, 1, "{line}");
-    assert!(rt; run.output.is_empty(), "{line}");
-    assert_eq!(rt; run.faults.as_slice(), line.as_bytes(), "{line}");
+    for command in ["eval", "check"] {
+        let run = run(alloc, &["arachne", command], input);
+        assert_eq!(rt; run.status, 1, "{line}");
+        assert!(rt; run.output.is_empty(), "{line}");
+        assert_eq!(rt; run.faults.as_slice(), line.as_bytes(), "{line}");
+    }
+}
+
+#[test]
+fn programs_that_may_run_are_told(rt: HostRuntime) -> Result<(), Fail> {
+    for expr in ["(num 7)", "(fork n (num 2) (num 3) (add (var 0) (var 1)))"] {
+        let text = text_of(rt.alloc(), expr)?;
+        let run = run(rt.alloc(), &["arachne", "check"], text.as_bytes());
+        assert_eq!(rt; run.status, 0, "{expr}");
+        assert_eq!(rt; run.output.as_slice(), b"ok\n".as_slice(), "{expr}");
+        assert!(rt; run.faults.is_empty(), "{expr}");
+    }
+    Ok(())
+}
+
+#[test]
+fn words_that_cannot_be_had(rt: HostRuntime) {
+    let mut faults = Vec::new(rt.alloc());
+    let status = refuse_words(&mut faults, &io::Error::from(ErrorKind::OutOfMemory));
+    assert_eq!(rt; status, 1);
+    assert_eq!(rt; faults.as_slice(), b"fault 30\n".as_slice());
+    faults.clear();
+    let status = refuse_words(&mut faults, &io::Error::from(ErrorKind::InvalidData));
+    assert_eq!(rt; status, 2);
+    assert!(rt; faults.starts_with(b"error: "));
 }
 
 #[test]
@@ -125,6 +151,7 @@ fn words_that_are_not_understood(rt: HostRuntime) {
         ["arachne"].as_slice(),
         ["arachne", "--help"].as_slice(),
         ["arachne", "eval", "more"].as_slice(),
+        ["arachne", "check", "--names"].as_slice(),
     ] {
         let run = run(rt.alloc(), words, b"");
         assert_eq!(rt; run.status, 2, "{words:?}");

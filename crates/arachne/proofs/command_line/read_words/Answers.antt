@@ -1,4 +1,4 @@
-use Rattle.std.proofs.Common.{sym, ◌∙◌, map, Some, None, ◌≡◌, subst, Option, Bool, false, true}
+use Rattle.std.proofs.Common.{sym, ◌∙◌, map, ◌≡◌, subst, Option, false, true}
 use Rattle.std.specs.Option.{IsSome}
 use Rattle.std.proofs.lemmas.Result.{err_from_is_err_and}
 use Rattle.arachne.specs.declared.command_line.Request.{Request}

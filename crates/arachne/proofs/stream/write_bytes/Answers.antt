@@ -1,6 +1,4 @@
-use Rattle.std.proofs.Common.{◌≡◌, ◌+◌, ◌-◌, ◌≤◌, length, take, drop, arith, sym, ap, ◌∙◌, subst, List, ℕ}
-use Rattle.std.proofs.lemmas.List.{length-drop}
-use Rattle.std.proofs.Math.Seq.{take-add}
+use Rattle.std.proofs.Common.{arith, sym, subst, List, ℕ}
 use Rattle.std.specs.Io.KnownBytes.{Appends}
 use Rattle.arachne.proofs.KnownBytes.{appends_both, take_rest}
 use Rattle.arachne.proofs.stream.write_bytes.Goals as goal

@@ -3,10 +3,10 @@ use Rattle.std.proofs.lemmas.Fmt.{contents_after_writes}
 use Rattle.arachne.specs.Drive.{AppendsFront}
 use Rattle.arachne.specs.Fault.{fault_line}
 use Rattle.arachne.proofs.KnownBytes.{front_either}
-use Rattle.arachne.proofs.drive.report.Goals as goal
+use Rattle.arachne.proofs.drive.refuse.Goals as goal
 
-pub returns : goal.returns
-returns g c =
+pub returns-in-Ok-clause-line : goal.returns-in-Ok-clause-line
+returns-in-Ok-clause-line g c =
     let wrote = contents_after_writes _ (λ line. line.bytes) (λ line bytes later written. written) _ _ _ c.in-Ok.ensures.writes in
     let empty : c.new-line.result.bytes ≡ [] = search rules in
     let line : c.as_bytes.result.now ≡ fault_line c.args.fault =
