@@ -12,11 +12,11 @@ use arachne_lang::{Line, Meaning, Program, Sequence};
 use std::alloc::{AllocError, Global};
 
 /// What a program means, found by its threads in turn on this one kernel thread: all are in one list, of
-/// which the newest goes on, for so many steps at a time.
+/// which the newest goes on, for so many steps at a time, one at least.
 pub fn run_alone(alloc: Global, program: &Program, budget: u32) -> Result<Meaning, AllocError>
-    requires { 1 ≤ budget }
     ensures { IfOk result (λ meaning. meaning ≡ meaning_of (source_of program.now)) }
 {
+    let budget = budget.max(1);
     let mut threads = Vec::new(alloc);
     let mut outcomes: Vec<Outcome> = Vec::new(alloc);
     threads.push(Thread::start(alloc, program, 0)?)?;

@@ -57,7 +57,7 @@ fn expect_meaning(
     value: u64,
     names: &[u64],
 ) -> Result<(), Fail> {
-    for budget in [1, 7, 100] {
+    for budget in [0, 1, 7, 100] {
         let meaning = run_alone(alloc, program, budget)?;
         let mut found = Vec::new(alloc);
         for thread in meaning.threads.as_slice() {
@@ -90,20 +90,31 @@ fn worked_rows(rt: HostRuntime) -> Result<(), Fail> {
     )
 }
 
+/// A step of a thread, which is then not at its end.
+fn cut(thread: &mut Thread<'_>) -> Result<(), Fail>
+    requires { thread.old.pending ≡ None }
+    ensures { OnOk result (thread.new.pending ≡ None) }
+{
+    let Pause::Budget = thread.advance(1)? else {
+        return Err("a pause in place of a cut")?;
+    };
+    Ok(())
+}
+
+/// It begins the sum, begins and hands over each number: five steps.
 #[test]
 fn sum_in_single_steps(rt: HostRuntime) -> Result<(), Fail> {
     let alloc = rt.alloc();
     let program = plain(alloc, sum(alloc, Expr::Num(1), Expr::Num(2))?);
     let mut thread = Thread::start(alloc, &program, 9)?;
     assert_eq!(rt; thread.tag(), 9);
-    let Pause::Budget = thread.advance(1)? else {
-        return Err("the sum has ended after one step")?;
-    };
-    let Pause::Budget = thread.advance(1)? else {
-        return Err("the sum has ended after two steps")?;
-    };
+    cut(&mut thread)?;
+    cut(&mut thread)?;
+    cut(&mut thread)?;
+    cut(&mut thread)?;
+    cut(&mut thread)?;
     assert_eq!(rt; thread.pending(), None);
-    let Pause::Ended = thread.advance(100)? else {
+    let Pause::Ended = thread.advance(1)? else {
         return Err("the sum has not ended")?;
     };
     assert_eq!(rt; thread.pending(), Some(Pending::Ended));
