@@ -6,3 +6,5 @@ pub mod MarkWords
 pub mod TableWorlds
 pub mod TableEvents
 pub mod TableInvariant
+mod WorkedWords
+mod WorkedWorlds

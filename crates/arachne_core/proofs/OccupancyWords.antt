@@ -1,5 +1,5 @@
 -- Occupancy words: packing what was read, reading what was packed, and one index more or less.
-use Rattle.std.proofs.Common.{◌≡◌, ℕ, zero, suc, ◌+◌, ◌-◌, ◌*◌, ◌/◌, ◌%◌, ◌^◌, ◌<◌, ◌≤◌, Bool, true, false, eqb, not, List, [], ◌∷◌, length, get_or, set, replicate, inl, inr, refl, sym, ap, ◌∙◌, subst, arith}
+use Rattle.std.proofs.Common.{◌≡◌, ℕ, zero, suc, ◌+◌, ◌-◌, ◌*◌, ◌/◌, ◌%◌, ◌^◌, ◌<◌, ◌≤◌, Bool, true, false, eqb, not, List, [], ◌∷◌, length, get_or, set, replicate, ◌↔◌, inl, inr, refl, sym, ap, ◌∙◌, subst, arith}
 use Rattle.std.specs.Int.{bit_at, w64, trailing_ones, from_bool}
 use Rattle.std.specs.Int.RustNames.{count_ones, bit_and, bit_or}
 use Rattle.std.specs.Int.Count.{ones_step, ones-ones}
@@ -10,7 +10,7 @@ use Rattle.std.proofs.lemmas.Nat.{mod-pow-add, or_disjoint, and-not, and_comm, a
 use Rattle.std.proofs.lemmas.List.{set-get_or, set-set, length-set, get_or-set_same}
 use Rattle.std.proofs.lemmas.Nat.{pow_pos, pow_below, one_shl}
 use Rattle.std.proofs.Math.Nat.{pow-suc, mul_comm}
-use Rattle.arachne_core.specs.Occupancy.{Occupancy, bit, mask_of, count_of, occupancy_word, flags, occupancy_of, IsOccupancyWord, vacant, HasOneMore}
+use Rattle.arachne_core.specs.Occupancy.{Occupancy, bit, mask_of, count_of, occupancy_word, flags, occupancy_of, count_field, IsOccupancyWord, vacant, HasOneMore}
 
 pub bit-le : (b : Bool) → bit b ≤ 1
 bit-le true = omega arith
@@ -348,7 +348,8 @@ has_one_more w i h i_in free =
       new_word = word;
       was_free = free;
       occupied = ap (λ (o : Occupancy). o.occupied) read;
-      count = ap (λ (o : Occupancy). count_of o.occupied) read ∙ count_of-set c.occupied i (omega (arith, length-flags 56 w)) free;
+      count = read_count _ word ∙ ap (λ (o : Occupancy). count_of o.occupied) read ∙ count_of-set c.occupied i (omega (arith, length-flags 56 w)) free
+          ∙ ap (λ (n : ℕ). n + 1) (sym (read_count w h));
       closed = ap (λ (o : Occupancy). o.closed) read;
       exclusive = ap (λ (o : Occupancy). o.exclusive) read;
     }
@@ -368,7 +369,8 @@ has_one_less w i h i_in taken =
       new_word = h;
       was_free = ap (λ (o : Occupancy). get_or o.occupied i false) read ∙ free;
       occupied = sym (ap (λ (o : Occupancy). set o.occupied i true) read ∙ set-set c.occupied i false true ∙ same_flag c.occupied i true taken);
-      count = sym (ap (λ (o : Occupancy). count_of o.occupied + 1) read ∙ count_of-clear c.occupied i taken);
+      count = read_count w h ∙ sym (ap (λ (o : Occupancy). count_of o.occupied + 1) read ∙ count_of-clear c.occupied i taken)
+          ∙ ap (λ (n : ℕ). n + 1) (sym (read_count _ word));
       closed = sym (ap (λ (o : Occupancy). o.closed) read);
       exclusive = sym (ap (λ (o : Occupancy). o.exclusive) read);
     }
@@ -384,3 +386,16 @@ pub not_exclusive : (w : ℕ) → IsOccupancyWord w → (occupancy_of w).exclusi
 not_exclusive w h e =
     let d : Occupancy = record (occupancy_of w) { exclusive = false } in
     packs (w - 2 ^ 63) d (length-flags 56 w) (omega (arith, h, ap bit e))
+
+pub now_exclusive : (w : ℕ) → IsOccupancyWord w → (occupancy_of w).exclusive ≡ false
+    → IsOccupancyWord (w + 2 ^ 63) × (occupancy_of (w + 2 ^ 63) ≡ record (occupancy_of w) { exclusive = true })
+now_exclusive w h e =
+    let d : Occupancy = record (occupancy_of w) { exclusive = true } in
+    packs (w + 2 ^ 63) d (length-flags 56 w) (omega (arith, h, ap bit e))
+
+-- the count of a word is that of its mask
+pub word_has_its_count : (w : ℕ) → IsOccupancyWord w ↔ ((w < 2 ^ 64) × (count_field w ≡ count_of (occupancy_of w).occupied))
+word_has_its_count w = (
+  λ h. (occupancy_word-of w h, read_count w h),
+  λ h. omega (arith, h.1, mask_of-flags 56 w, bit-eqb (w / 2 ^ 62 % 2) (omega arith), bit-eqb (w / 2 ^ 63 % 2) (omega arith), h.0),
+)

@@ -5,13 +5,13 @@ use Rattle.std.proofs.lemmas.Nat.{div_below, mod_below, div-add-mod', div-mul-ad
 use Rattle.std.proofs.Math.Nat.{mul_comm}
 use Rattle.arachne_core.specs.declared.place.Place.{Place}
 use Rattle.arachne_core.specs.declared.state.State.{State}
-use Rattle.arachne_core.specs.declared.state.State.TheVariants.{Free, Held}
+use Rattle.arachne_core.specs.declared.state.State.TheVariants.{Free, Claimed, Ready, Blocked, Held, Spent}
 use Rattle.arachne_core.specs.declared.event.Event.{Event}
 use Rattle.arachne_core.specs.declared.event.Event.TheVariants as event
 use Rattle.arachne_core.specs.Place.{first_place, number_of}
-use Rattle.arachne_core.specs.World.{World, Thread, with_at, with_place, IsContext, IsPlace, IsEmptyCore, Allowed, after}
+use Rattle.arachne_core.specs.World.{World, Thread, with_at, with_place, IsContext, IsPlace, IsEmptyCore, IsReady, IsHeldBy, woken, Allowed, after}
 use Rattle.arachne_core.specs.OwnedOnce.{OwnedOnce, has_thread, is_live}
-use Rattle.arachne_core.specs.Run.{IsOpening, IsRun, after_all, IsLive, SharesNothing, IsDrained, NeverOpens}
+use Rattle.arachne_core.specs.Run.{IsOpening, IsRun, after_all, IsLive, SharesNothing, IsDrained, NeverOpens, LetsGo, NeverLetsGo}
 use Rattle.arachne_core.proofs.Changes.{with_at-same, with_at-other, with_place-same, with_place-other, cases_place, same_id}
 use Rattle.arachne_core.proofs.KeepsOwnedOnce.{keeps_owned_once}
 
@@ -132,3 +132,63 @@ stays w event.Still c d a n = d
 pub stays_drained : (w : World) (es : List Event) (c : ℕ) → IsDrained w c → IsRun w es → NeverOpens c es → IsDrained (after_all w es) c
 stays_drained w [] c d r n = d
 stays_drained w (e ∷ es) c d r n = stays_drained (after w e) es c (stays w e c d r.0 n.0) r.1 n.1
+
+-- ---- a held thread stays with its carrier until that lets go of it
+
+held_not_free : (h : ℕ) (s : State) → IsHeldBy h s → s ≡ Free → ⊥
+held_not_free h s d e = subst (IsHeldBy h) e d
+
+held_not_claimed : (h k : ℕ) (s : State) → IsHeldBy h s → s ≡ Claimed k → ⊥
+held_not_claimed h k s d e = subst (IsHeldBy h) e d
+
+held_not_ready : (h : ℕ) (s : State) → IsHeldBy h s → IsReady s → ⊥
+held_not_ready h Free d r = r
+held_not_ready h (Claimed k) d r = r
+held_not_ready h (Ready t) d r = d
+held_not_ready h (Blocked t) d r = r
+held_not_ready h (Held k v t) d r = r
+held_not_ready h Spent d r = r
+
+one_carrier : (h k : ℕ) (s : State) → IsHeldBy h s → IsHeldBy k s → k ≡ h
+one_carrier h k Free d e = absurd d
+one_carrier h k (Claimed l) d e = absurd d
+one_carrier h k (Ready t) d e = absurd d
+one_carrier h k (Blocked t) d e = absurd d
+one_carrier h k (Held l v t) d e = sym e ∙ d
+one_carrier h k Spent d e = absurd d
+
+held_woken : (h : ℕ) (s : State) → IsHeldBy h s → IsHeldBy h (woken s)
+held_woken h Free d = d
+held_woken h (Claimed k) d = d
+held_woken h (Ready t) d = d
+held_woken h (Blocked t) d = absurd d
+held_woken h (Held k v t) d = d
+held_woken h Spent d = d
+
+-- another context's state changes
+other : (h : ℕ) (f : ℕ → State) (x y : ℕ) (s : State) → IsHeldBy h (f x) → (x ≡ y → ⊥) → IsHeldBy h (with_at f y s x)
+other h f x y s d n = subst (IsHeldBy h) (sym (with_at-other f y s x n)) d
+
+held_after : (w : World) (e : Event) (h x : ℕ) → IsHeldBy h (w.state x) → Allowed w e → (LetsGo h x e → ⊥) → IsHeldBy h ((after w e).state x)
+held_after w (event.Claim k y) h x d a n = other h w.state x y _ d (λ e. held_not_free h (w.state x) d (ap w.state e ∙ a.1))
+held_after w (event.Alone k y) h x d a n = other h w.state x y _ d (λ e. held_not_free h (w.state x) d (ap w.state e ∙ a.1))
+held_after w (event.Post k y tag) h x d a n = other h w.state x y _ d (λ e. held_not_claimed h k (w.state x) d (ap w.state e ∙ a.1))
+held_after w (event.Take k y) h x d a n = other h w.state x y _ d (λ e. held_not_ready h (w.state x) d (subst (λ (z : ℕ). IsReady (w.state z)) (sym e) a.1))
+held_after w (event.Rest k y r) h x d a n =
+    other h w.state x y _ d (λ e. n (one_carrier h k (w.state x) d (subst (λ (z : ℕ). IsHeldBy k (w.state z)) (sym e) a.1), sym e))
+held_after w (event.Wake id) h x d a n = elim (cases_eq x id.context) [
+  | inl e ↦ subst (IsHeldBy h) (sym (ap (with_at w.state id.context (woken (w.state id.context))) e ∙ with_at-same w.state id.context (woken (w.state id.context))))
+      (subst (λ (z : ℕ). IsHeldBy h (woken (w.state z))) e (held_woken h (w.state x) d))
+  | inr m ↦ other h w.state x id.context _ d m
+]
+held_after w (event.Retire k y) h x d a n =
+    other h w.state x y _ d (λ e. n (one_carrier h k (w.state x) d (subst (λ (z : ℕ). IsHeldBy k (w.state z)) (sym e) a.1), sym e))
+held_after w (event.Release k y) h x d a n = other h w.state x y _ d (λ e. held_not_claimed h k (w.state x) d (ap w.state e ∙ a.1))
+held_after w (event.CloseCore c) h x d a n = d
+held_after w (event.OpenCore c) h x d a n = d
+held_after w (event.Move k y z) h x d a n = d
+held_after w event.Still h x d a n = d
+
+pub stays_held : (w : World) (es : List Event) (h x : ℕ) → IsHeldBy h (w.state x) → IsRun w es → NeverLetsGo h x es → IsHeldBy h ((after_all w es).state x)
+stays_held w [] h x d r n = d
+stays_held w (e ∷ es) h x d r n = stays_held (after w e) es h x (held_after w e h x d r.0 n.0) r.1 n.1

@@ -1,5 +1,5 @@
 -- What contracts see of the type World: its contexts and cores in lists by number, and the World that these stand for.
-use Rattle.std.specs.Prelude.{◌≡◌, ℕ, ◌+◌, ◌≤◌, Bool, true, false, ◌&&◌, List, [], length, count_by, slice_index_or, Result, Ok, Err}
+use Rattle.std.specs.Prelude.{◌≡◌, ℕ, ◌+◌, ◌≤◌, Bool, true, false, ◌&&◌, List, [], length, count_by, slice_index_or, Result, Ok, Err, codes}
 use Rattle.arachne_core.specs.declared.state.Context.{Context}
 use Rattle.arachne_core.specs.declared.state.State.{State}
 use Rattle.arachne_core.specs.declared.state.State.TheVariants as state
@@ -81,6 +81,11 @@ Answers e old new (Ok done) = Allowed (world_of old) e × (world_of new ≡ afte
     × (old.posts ≤ new.posts + posts_of e) × (old.retires ≤ new.retires + retires_of e)
 Answers e old new (Err NotAllowed) = (Allowed (world_of old) e → ⊥) × (new ≡ old)
 Answers e old new (Err Memory) = Allowed (world_of old) e × LacksRoom old e × (new ≡ old)
+
+-- how a refusal is written
+abbrev pub refusal_text : NotApplied → List ℕ
+refusal_text NotAllowed = codes "the event isn't allowed here"
+refusal_text Memory = codes "memory for the event was refused"
 
 -- ---- what the words show of the World
 

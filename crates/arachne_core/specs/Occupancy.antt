@@ -34,7 +34,11 @@ flags (suc n) w = (w % 2 == 1) ∷ flags n (w / 2)
 abbrev pub occupancy_of : ℕ → Occupancy
 occupancy_of w = record { occupied = flags 56 w; closed = bit_at w 62 == 1; exclusive = bit_at w 63 == 1 }
 
--- its count is that of its mask, and it has 64 bits
+-- the number in the bits of the count
+abbrev pub count_field : ℕ → ℕ
+count_field w = w / 2 ^ 56 % 2 ^ 6
+
+-- it is the word of what it says: its count is that of its mask, and it has 64 bits
 abbrev pub IsOccupancyWord : ℕ → Type 0
 IsOccupancyWord w = occupancy_word (occupancy_of w) ≡ w
 
@@ -48,6 +52,6 @@ pub record HasOneMore (old i new : ℕ) : Type 0 where
   pub new_word : IsOccupancyWord new
   pub was_free : slice_index_or (occupancy_of old).occupied i false ≡ false
   pub occupied : (occupancy_of new).occupied ≡ slice_set (occupancy_of old).occupied i true
-  pub count : count_of (occupancy_of new).occupied ≡ count_of (occupancy_of old).occupied + 1
+  pub count : count_field new ≡ count_field old + 1
   pub closed : (occupancy_of new).closed ≡ (occupancy_of old).closed
   pub exclusive : (occupancy_of new).exclusive ≡ (occupancy_of old).exclusive

@@ -42,6 +42,17 @@ pub record SharesNothing (w : World) : Type 0 where
   pub places : (s t : Thread) → IsLive w s → IsLive w t → w.at s.0.context ≡ w.at t.0.context → s ≡ t
   pub holds : (h k : ℕ) (s t : Thread) → Holds w h s → Holds w k t → s.0.context ≡ t.0.context → (s ≡ t) × (h ≡ k)
 
+-- h puts back or ends the thread that it holds in x
+abbrev pub LetsGo : ℕ → ℕ → Event → Type 0
+LetsGo h x (event.Rest k y r) = (k ≡ h) × (y ≡ x)
+LetsGo h x (event.Retire k y) = (k ≡ h) × (y ≡ x)
+LetsGo h x e = ⊥
+
+-- no event of the list does
+abbrev pub NeverLetsGo : ℕ → ℕ → List Event → Type 0
+NeverLetsGo h x [] = Unit {0}
+NeverLetsGo h x (e ∷ es) = (LetsGo h x e → ⊥) × NeverLetsGo h x es
+
 -- the core is closed, and no place of it is occupied
 abbrev pub IsDrained : World → ℕ → Type 0
 IsDrained w c = (c < w.cores) × IsTrue (w.closed c) × IsEmptyCore w c

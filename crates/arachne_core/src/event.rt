@@ -1,5 +1,8 @@
 //! The events of a context table.
 
+ghost use Rattle.std.specs.Prelude.{Some};
+ghost use Rattle.arachne_core.specs.ContextTable.{refusal_text};
+
 use crate::state::Rest;
 use crate::thread_id::ThreadId;
 use std::error::Error;
@@ -79,10 +82,12 @@ pub enum NotApplied {
 }
 
 impl fmt::Display for NotApplied {
+    ghost output = { λ a. Some (refusal_text a) };
+
     fn fmt<W: fmt::Write>(&self, f: &mut fmt::Formatter<W>) -> fmt::Result {
         match self {
-            NotApplied::NotAllowed => f.write_str("the event isn't allowed here"),
-            NotApplied::Memory => f.write_str("memory for the event was refused"),
+            NotApplied::NotAllowed => write!(f, "the event isn't allowed here"),
+            NotApplied::Memory => write!(f, "memory for the event was refused"),
         }
     }
 }

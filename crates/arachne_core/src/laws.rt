@@ -1,14 +1,17 @@
 //! Laws of the World's definitions and of the words. Each is a function with an empty body, whose contract is the law.
 
-ghost use Rattle.std.specs.Prelude.{◌≡◌, ℕ, ◌+◌, ◌-◌, ◌*◌, ◌%◌, ◌^◌, ◌<◌, List, length, slice_index_or, true, false, bit_and, bit_or};
+ghost use Rattle.std.specs.Prelude.{◌≡◌, ℕ, ◌+◌, ◌-◌, ◌*◌, ◌%◌, ◌^◌, ◌<◌, ◌↔◌, List, length, slice_index_or, true, false, bit_and, bit_or};
 ghost use Rattle.arachne_core.specs.declared.mark.Mark.{Mark};
 ghost use Rattle.arachne_core.specs.declared.place.Place.{Place};
 ghost use Rattle.arachne_core.specs.declared.event.Event.{Event};
 ghost use Rattle.arachne_core.specs.Marked.{Marked, mark_word, marked_of, with_mark, with_place};
-ghost use Rattle.arachne_core.specs.Occupancy.{Occupancy, occupancy_word, occupancy_of, IsOccupancyWord, HasOneMore};
-ghost use Rattle.arachne_core.specs.World.{World, Allowed, after};
+ghost use Rattle.arachne_core.specs.Occupancy.{Occupancy, count_of, occupancy_word, occupancy_of, count_field, IsOccupancyWord, HasOneMore};
+ghost use Rattle.arachne_core.specs.World.{World, IsHeldBy, Allowed, after};
 ghost use Rattle.arachne_core.specs.OwnedOnce.{OwnedOnce};
-ghost use Rattle.arachne_core.specs.Run.{IsOpening, IsRun, after_all, SharesNothing, IsDrained, NeverOpens};
+ghost use Rattle.arachne_core.specs.Run.{IsOpening, IsRun, after_all, SharesNothing, IsDrained, NeverOpens, NeverLetsGo};
+
+use crate::layout::{CORE_BITS, CORES, GENERATION_BITS, LAST_GENERATION, SLOTS};
+use crate::occ_word::MASK_BITS;
 
 /// The opening World is owned once.
 pub fn opening_is_owned_once()
@@ -30,15 +33,34 @@ pub fn owned_once_shares_nothing()
     ensures { (w : World) → OwnedOnce w → SharesNothing w }
 {}
 
+/// A thread that a carrier holds is held by that carrier in every run, until the carrier puts it back or ends it. So
+/// no thread has two carriers, and between two takes of a context its first carrier has let go of it.
+pub fn holder_keeps_its_thread()
+    ensures { (w : World) (es : List Event) (h x : ℕ) → IsHeldBy h (w.state x) → IsRun w es → NeverLetsGo h x es → IsHeldBy h ((after_all w es).state x) }
+{}
+
 /// A core that is closed with no place occupied stays so, in every run, until it is opened.
 pub fn drained_core_stays_drained()
     ensures { (w : World) (es : List Event) (c : ℕ) → IsDrained w c → IsRun w es → NeverOpens c es → IsDrained (after_all w es) c }
 {}
 
-/// An occupancy word that is packed is read as it was, and one that is read is packed again as it was
-/// where its count is the number of set bits in its mask.
-pub fn occupancy_words_agree()
+/// The machine has up to 16 cores of 56 places, and the last generation has 50 bits. The fields of the words have
+/// room for just these.
+pub fn sizes()
+    ensures cores { (CORES ≡ 16) × (CORES ≡ 2 ^ CORE_BITS) }
+    ensures slots { (SLOTS ≡ 56) × (MASK_BITS ≡ SLOTS) }
+    ensures generations { (LAST_GENERATION + 1 ≡ 2 ^ 50) × (10 + CORE_BITS + GENERATION_BITS ≡ 64) }
+{}
+
+/// A core's occupancy that is packed into a word is read from it as it was.
+pub fn occupancy_words_read_as_packed()
     ensures { (c : Occupancy) → length c.occupied ≡ 56 → occupancy_of (occupancy_word c) ≡ c }
+{}
+
+/// What is read from a number of 64 bits is packed into the same number, exactly where the field of its count says how
+/// many bits of its mask are set.
+pub fn occupancy_words_pack_as_read()
+    ensures { (word : ℕ) → IsOccupancyWord word ↔ ((word < 2 ^ 64) × (count_field word ≡ count_of (occupancy_of word).occupied)) }
 {}
 
 /// Adding `2^i + 2^56` to a word in which index i is free sets bit i of the mask, raises the count by
@@ -60,6 +82,12 @@ pub fn closing_and_opening()
         → IsOccupancyWord (bit_or word (2 ^ 62)) × (occupancy_of (bit_or word (2 ^ 62)) ≡ record (occupancy_of word) { closed = true }) }
     ensures opening { (word : ℕ) → IsOccupancyWord word
         → IsOccupancyWord (bit_and word (2 ^ 64 - 1 - 2 ^ 62)) × (occupancy_of (bit_and word (2 ^ 64 - 1 - 2 ^ 62)) ≡ record (occupancy_of word) { closed = false }) }
+{}
+
+/// Adding `2^63` to the word of a core that isn't exclusive makes it so, and changes no other field.
+pub fn adding_exclusive()
+    ensures { (word : ℕ) → IsOccupancyWord word → (occupancy_of word).exclusive ≡ false
+        → IsOccupancyWord (word + 2 ^ 63) × (occupancy_of (word + 2 ^ 63) ≡ record (occupancy_of word) { exclusive = true }) }
 {}
 
 /// Taking `2^63` away from the word of an exclusive core ends that, and changes no other field.

@@ -3,7 +3,7 @@
 ghost use Rattle.std.specs.Prelude.{◌≡◌, ◌<◌, ◌≤◌, ◌↔◌, IsSome, IfSome, ◌^◌};
 ghost use Rattle.arachne_core.specs.Marked.{Marked, mark_word, marked_of, IsMarkWord, FitsWord};
 
-use crate::layout::{CORE_BITS, SLOTS};
+use crate::layout::{CORE_BITS, CORES, LAST_GENERATION, SLOTS};
 use crate::mark::Mark;
 use crate::place::Place;
 use std::marker::Model;
@@ -73,7 +73,8 @@ impl MarkWord {
 
     /// The word itself.
     pub fn word(self) -> u64
-        ensures { result ≡ mark_word CORE_BITS self }
+        ensures packed { result ≡ mark_word CORE_BITS self }
+        ensures read { IsMarkWord CORE_BITS result × (marked_of CORE_BITS result ≡ self) }
     {
         self.word
     }
@@ -93,7 +94,8 @@ impl MarkWord {
 
     /// Where the context stands.
     pub fn place(self) -> Place
-        ensures { result ≡ self.place }
+        ensures value { result ≡ self.place }
+        ensures within { (result.core < CORES) × (result.index < SLOTS) }
     {
         Place {
             core: ((self.word >> CORE_SHIFT) & CORE_MASK) as u8,
@@ -102,7 +104,8 @@ impl MarkWord {
     }
 
     pub fn generation(self) -> u64
-        ensures { result ≡ self.generation }
+        ensures value { result ≡ self.generation }
+        ensures within { result ≤ LAST_GENERATION }
     {
         self.word >> GENERATION_SHIFT
     }

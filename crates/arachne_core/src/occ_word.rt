@@ -1,6 +1,6 @@
 //! The occupancy word of a core.
 
-ghost use Rattle.std.specs.Prelude.{◌≡◌, ◌≢◌, ◌<◌, ◌↔◌, ◌+◌, ◌^◌, ℕ, IsTrue, true, false, IsSome, IfSome, IfNone, EachIndex, slice_index_or, slice_set};
+ghost use Rattle.std.specs.Prelude.{◌≡◌, ◌≢◌, ◌<◌, ◌≤◌, ◌↔◌, ◌+◌, ◌^◌, ℕ, IsTrue, true, false, IsSome, IfSome, IfNone, EachIndex, slice_index_or, slice_set};
 ghost use Rattle.arachne_core.specs.Occupancy.{mask_of, count_of, flags, occupancy_word, occupancy_of, IsOccupancyWord, vacant};
 
 use std::marker::Model;
@@ -77,21 +77,24 @@ impl OccWord {
 
     /// The word itself.
     pub fn word(self) -> u64
-        ensures { result ≡ occupancy_word self }
+        ensures packed { result ≡ occupancy_word self }
+        ensures read { IsOccupancyWord result × (occupancy_of result ≡ self) }
     {
         self.word
     }
 
     /// Bit i is set where index i is occupied.
     pub fn mask(self) -> u64
-        ensures { result ≡ mask_of self.occupied }
+        ensures bits { result ≡ mask_of self.occupied }
+        ensures within { result < 2 ^ 56 }
     {
         self.word & MASK
     }
 
     /// How many indexes are occupied.
     pub fn count(self) -> u8
-        ensures { result ≡ count_of self.occupied }
+        ensures bits { result ≡ count_of self.occupied }
+        ensures within { result ≤ MASK_BITS }
     {
         ((self.word >> COUNT_SHIFT) & COUNT_MASK) as u8
     }

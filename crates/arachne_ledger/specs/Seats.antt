@@ -4,12 +4,12 @@ use Rattle.atomic_table.specs.Seated.{TableId}
 use Rattle.atomic_table.specs.Table.{Me}
 use Rattle.arachne_weights.specs.declared.token.Token.{Token}
 use Rattle.arachne_weights.specs.Tokens.{held}
-use Rattle.arachne_ledger.specs.Sums.{Sums}
+use Rattle.arachne_ledger.specs.declared.share.Known.{Known}
 use Rattle.arachne_ledger.specs.Balance.{word_of}
 
 -- a share's view, and the slots that its seat holds
 abbrev pub Mine : Type 0
-Mine = Me (Unit {0}) (Token Sums)
+Mine = Me (Unit {0}) (Token Known)
 
 -- a table with a word for each of so many ledgers, and no slot; their number is its key
 pub record IsLaidOut (table : TableId) (key count : ℕ) : Type 0 where
@@ -21,4 +21,4 @@ pub record IsLaidOut (table : TableId) (key count : ℕ) : Type 0 where
 -- a seat in use with this weight and no slot, and a sum for each ledger of its table
 pub record IsSeated (table : TableId) (weight : ℕ) (me : Mine) : Type 0 where
   pub mine : me ≡ (held weight me.0.known, [])
-  pub sized : word_of (length me.0.known) ≡ table.words
+  pub sized : word_of (length me.0.known.sums) ≡ table.words

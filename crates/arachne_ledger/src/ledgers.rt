@@ -1,9 +1,8 @@
 //! The ledgers of one run, and the calls on them.
-ghost use Rattle.std.specs.Prelude.{◌≡◌, ℕ, ◌+◌, ◌*◌, ◌%◌, ◌^◌, ◌<◌, [], map, length, replicate, vec_len, slice_index, IfOk, IfErr};
+ghost use Rattle.std.specs.Prelude.{◌≡◌, ℕ, ◌+◌, ◌*◌, ◌%◌, ◌^◌, ◌<◌, [], map, length, replicate, vec_len, slice_index, Some, None, IfOk, IfErr};
 ghost use Rattle.arachne_weights.specs.Weight.{whole, first_part, second_part, joined};
-ghost use Rattle.arachne_weights.specs.Tokens.{held};
 ghost use Rattle.arachne_ledger.specs.Sums.{raised, plus};
-ghost use Rattle.arachne_ledger.specs.Balance.{word_of, IsSumAmong};
+ghost use Rattle.arachne_ledger.specs.Balance.{word_of};
 ghost use Rattle.arachne_ledger.specs.Views.{IsShareOf, IsWhole};
 
 use crate::share::{Share, View};
@@ -59,7 +58,7 @@ impl Ledgers {
     /// So many ledgers, of which there may be none, and the whole share.
     pub fn new(alloc: Global, count: usize) -> Result<(Ledgers, Share), AllocError>
         ensures ledgers { IfOk result (λ r. r.0.count ≡ count) }
-        ensures share { IfOk result (λ r. r.1 ≡ record { table = r.0.table; weight = whole; sums = replicate count 0 }) }
+        ensures share { IfOk result (λ r. r.1 ≡ record { table = r.0.table; weight = whole; sums = replicate count 0; last_read = None }) }
     {
         let words = zeros(alloc, count)?;
         let (table, seat) = Table::of_words(alloc, words.as_slice(), &count)?;
@@ -88,12 +87,11 @@ impl Ledgers {
         shared.fetch_add::<Add>(&mut share.seat, ledger_word(ledger), amount);
     }
 
-    /// The ledger's word: the sum of all shares at some moment of the call, modulo 2^64, and so a whole share's own sum.
+    /// The ledger's word, which at each moment is the sum of all shares then, modulo 2^64. A whole share finds its own sum.
     pub fn read(&self, share: &mut Share, ledger: usize) -> u64
         requires own { IsShareOf self.now share.old }
         requires ledger { ledger < self.now.count }
-        ensures same { share.new ≡ share.old }
-        ensures sum { IsSumAmong (held share.old.weight share.old.sums) ledger result }
+        ensures found { share.new ≡ record share.old { last_read = Some (record { ledger = ledger; number = result }) } }
         ensures whole { IsWhole share.old → result ≡ slice_index share.old.sums ledger % 2 ^ 64 }
     {
         let shared = &self.table.shared;
@@ -108,6 +106,7 @@ impl Ledgers {
           table = share.table;
           weight = second_part share.weight;
           sums = replicate (length share.sums) 0;
+          last_read = None;
         } }
     {
         let Share { mut seat, weight } = share;
@@ -129,8 +128,7 @@ impl Ledgers {
     pub fn join_shares(&self, share: Share, other: Share) -> Share
         requires share { IsShareOf self.now share }
         requires other { IsShareOf self.now other }
-        ensures { result ≡ record {
-          table = share.table;
+        ensures { result ≡ record share {
           weight = joined share.weight other.weight;
           sums = plus share.sums other.sums;
         } }

@@ -14,4 +14,4 @@ mod tests;
 
 pub use laws::words_stay_the_sums;
 pub use ledgers::Ledgers;
-pub use share::Share;
+pub use share::{Reading, Share};

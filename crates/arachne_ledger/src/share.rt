@@ -7,8 +7,20 @@ use atomic_table::Seat;
 use std::collections::LinkedList;
 use std::marker::Model;
 
-/// What the table's rule sees of a share: its own sums, one for each ledger, which are not reduced. No value of it is made.
-pub type View = Token<LinkedList<u64>>;
+/// A number that was found in the word of a ledger.
+pub struct Reading {
+    pub ledger: usize,
+    pub number: u64,
+}
+
+/// What a share knows: its own sums, one for each ledger, which are not reduced, and its last reading.
+pub struct Known {
+    pub sums: LinkedList<u64>,
+    pub last_read: Option<Reading>,
+}
+
+/// What the table's rule sees of a share. No value of it is made.
+pub type View = Token<Known>;
 
 /// A part of the right to all ledgers of one table, with the sums of what was added through it.
 ///
@@ -26,7 +38,7 @@ impl Model for Share {
 
     ghost Value = { ShareView };
 
-    ghost view = { λ s. record { table = s.seat.table_id; weight = s.weight; sums = s.seat.me.0.known } };
+    ghost view = { λ s. record { table = s.seat.table_id; weight = s.weight; sums = s.seat.me.0.known.sums; last_read = s.seat.me.0.known.last_read } };
 
     ghost invariant = { λ s. IsSeated s.seat.table_id s.weight s.seat.me };
 }

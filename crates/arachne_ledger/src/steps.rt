@@ -40,11 +40,11 @@ impl Split<View> for Deal {
 }
 
 impl Join<View> for Deal {
-    ghost use Rattle.std.specs.Prelude.{[]};
     ghost use Rattle.arachne_weights.specs.Tokens.{spent};
+    ghost use Rattle.arachne_ledger.specs.Sums.{blank};
     ghost use Rattle.arachne_ledger.specs.Balance.{joined_share};
 
     ghost both = { joined_share };
 
-    ghost spent = { spent [] };
+    ghost spent = { spent (blank 0) };
 }

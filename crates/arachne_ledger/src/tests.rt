@@ -75,6 +75,18 @@ fn add_in_four_threads<R: Threads + Wait>(
     )
 }
 
+// Under `rt try --test --fail-alloc N` the Nth allocation is refused. A call that answers so is made once more.
+fn make_ledgers(alloc: Global, count: usize) -> Result<(Ledgers, Share), AllocError>
+    ensures ledgers { IfOk result (λ r. r.0.count ≡ count) }
+    ensures share { IfOk result (λ r. IsShareOf r.0 r.1) }
+    ensures whole { IfOk result (λ r. IsWhole r.1) }
+{
+    match Ledgers::new(alloc, count) {
+        Ok(made) => Ok(made),
+        Err(_) => Ledgers::new(alloc, count),
+    }
+}
+
 // After a refusal the ledgers and the share are as before, so it tries once more.
 fn sums(alloc: Global, ledgers: Ledgers, share: Share) -> Option<Vec<u64>>
     requires share { IsShareOf ledgers share }
@@ -88,7 +100,7 @@ fn sums(alloc: Global, ledgers: Ledgers, share: Share) -> Option<Vec<u64>>
 
 #[test]
 fn four_threads_add_up(rt: HostRuntime) -> Result<(), Fail> {
-    let (ledgers, share) = Ledgers::new(rt.alloc(), 1)?;
+    let (ledgers, share) = make_ledgers(rt.alloc(), 1)?;
     let share = add_in_four_threads(&rt, &ledgers, share)?;
     assert!(rt; share.is_whole());
     let sums = sums(rt.alloc(), ledgers, share).ok_or("no memory")?;
@@ -98,13 +110,15 @@ fn four_threads_add_up(rt: HostRuntime) -> Result<(), Fail> {
 
 #[test]
 fn each_call_on_two_ledgers(rt: HostRuntime) -> Result<(), Fail> {
-    let (ledgers, mut share) = Ledgers::new(rt.alloc(), 2)?;
+    let (ledgers, mut share) = make_ledgers(rt.alloc(), 2)?;
     assert_eq!(rt; ledgers.count(), 2);
     ledgers.add(&mut share, 0, u64::MAX);
     let (mut share, mut other) = ledgers.split(share);
     assert!(rt; !share.is_whole() && !other.is_whole());
     ledgers.add(&mut share, 1, 5);
     ledgers.add(&mut other, 0, 3);
+    assert_eq!(rt; ledgers.read(&mut share, 0), 2);
+    assert_eq!(rt; ledgers.read(&mut other, 1), 5);
     let mut share = ledgers.join_shares(other, share);
     assert_eq!(rt; ledgers.read(&mut share, 0), 2);
     assert_eq!(rt; ledgers.read(&mut share, 1), 5);
@@ -116,7 +130,7 @@ fn each_call_on_two_ledgers(rt: HostRuntime) -> Result<(), Fail> {
 
 #[test]
 fn there_may_be_no_ledger(rt: HostRuntime) -> Result<(), Fail> {
-    let (ledgers, share) = Ledgers::new(rt.alloc(), 0)?;
+    let (ledgers, share) = make_ledgers(rt.alloc(), 0)?;
     let sums = sums(rt.alloc(), ledgers, share).ok_or("no memory")?;
     assert!(rt; sums.is_empty());
     Ok(())

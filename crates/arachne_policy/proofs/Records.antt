@@ -5,10 +5,9 @@ use Rattle.std.proofs.lemmas.List.{append-nil}
 use Rattle.arachne_policy.specs.declared.samples.Sample.{Sample}
 use Rattle.arachne_policy.specs.declared.samples.Advice.{Advice}
 use Rattle.arachne_policy.specs.declared.samples.Advice.TheVariants.{Add, Stay, Remove}
-use Rattle.arachne_policy.specs.declared.limits.TheConstants.{MAX_CORES}
 use Rattle.arachne_policy.specs.Sample.{utilisation_of, is_good}
 use Rattle.arachne_policy.specs.Advice.{Settings, is_add, advice, advice_by, threshold, NoneAdded, RecordStands}
-use Rattle.arachne_policy.specs.State.{State, StandsFor, threshold_at}
+use Rattle.arachne_policy.specs.State.{State, StandsFor, most_cores, threshold_at}
 
 -- another answer than Add is none
 is_add-other : (a : Advice) → a ≢ Add → is_add a ≡ false
@@ -83,7 +82,7 @@ cores-good max s h = grind (arith, common_steps, h)
 
 -- while a record stands, a sample of one core more is not answered Remove, unless the utilisation has fallen by more than
 -- the hysteresis
-pub keeps-added : (state : State) (past : List Sample) (added s : Sample) → state.settings.max ≤ MAX_CORES → is_good state.settings.max s ≡ true
+pub keeps-added : (state : State) (past : List Sample) (added s : Sample) → state.settings.max ≤ most_cores → is_good state.settings.max s ≡ true
     → StandsFor state past → RecordStands state.settings past added → s.cores ≡ added.cores + 1
     → utilisation_of added - state.settings.hysteresis ≤ utilisation_of s
     → advice_by state.settings (threshold_at state) s ≢ Remove

@@ -1,11 +1,14 @@
 -- What callers see of an estimator.
 use Rattle.std.specs.Prelude.{◌≡◌, ℕ, ◌-◌, ◌<◌, ◌≤◌, List, reverse, slice_index, slice_set}
 use Rattle.arachne_policy.specs.declared.samples.Sample.{Sample}
-use Rattle.arachne_policy.specs.declared.limits.TheConstants.{MAX_CORES}
 use Rattle.arachne_policy.specs.declared.samples.Advice.{Advice}
 use Rattle.arachne_policy.specs.declared.samples.Advice.TheVariants.{Add, Stay, Remove}
 use Rattle.arachne_policy.specs.Sample.{utilisation_of}
 use Rattle.arachne_policy.specs.Advice.{Settings, threshold, advices}
+
+-- the most cores that an estimator may advise
+abbrev pub most_cores : ℕ
+most_cores = 64
 
 -- the settings, and the threshold of each number of cores from 1 on
 pub record State : Type 0 where
@@ -24,7 +27,7 @@ after state s Remove = state
 
 -- the thresholds are those of these past samples, of which the newest stands first
 abbrev pub StandsFor : State → List Sample → Type 0
-StandsFor state past = (n : ℕ) → 0 < n → n ≤ MAX_CORES → threshold_at state n ≡ threshold state.settings past n
+StandsFor state past = (n : ℕ) → 0 < n → n ≤ most_cores → threshold_at state n ≡ threshold state.settings past n
 
 -- an estimator of these settings judged these samples, the oldest first, answered so, and is now in this state
 pub record HasJudged (settings : Settings) (samples : List Sample) (answers : List Advice) (state : State) : Type 0 where

@@ -2,7 +2,7 @@ ghost use Rattle.std.specs.Prelude.{◌≡◌, ◌≢◌, ◌+◌, ◌-◌, ◌�
 ghost use Rattle.arachne_policy.specs.declared.samples.Sample.{Sample};
 ghost use Rattle.arachne_policy.specs.Sample.{utilisation_of, is_good};
 ghost use Rattle.arachne_policy.specs.Advice.{advice_by, advice, RecordStands};
-ghost use Rattle.arachne_policy.specs.State.{threshold_at, after, StandsFor};
+ghost use Rattle.arachne_policy.specs.State.{most_cores, threshold_at, after, StandsFor};
 
 use crate::limits::MAX_CORES;
 use crate::samples::{Advice, BadSample, Sample};
@@ -24,21 +24,20 @@ pub struct Estimator {
 // Clauses see the settings and the thresholds: that of n cores stands at n - 1.
 impl Model for Estimator {
     ghost use Rattle.std.specs.Prelude.{◌≤◌};
-    ghost use Rattle.arachne_policy.specs.State.{State};
-    ghost use Rattle.arachne_policy.specs.declared.limits.TheConstants.{MAX_CORES};
+    ghost use Rattle.arachne_policy.specs.State.{State, most_cores};
 
     ghost Value = { State };
 
     ghost view = { λ e. record { settings = record { up = e.up; hysteresis = e.hysteresis; max = e.max }; thresholds = e.thresholds } };
 
-    ghost invariant = { λ e. e.max ≤ MAX_CORES };
+    ghost invariant = { λ e. e.max ≤ most_cores };
 }
 
 impl Estimator {
     /// An estimator that has seen no sample. A load over `up` thousandths of a thread a scan asks for a core, up to `max`
     /// cores; a utilisation under the threshold by more than `hysteresis` thousandths of a core gives one back.
     pub fn new(up: u64, hysteresis: u64, max: u8) -> Self
-        requires { max ≤ MAX_CORES }
+        requires { max ≤ most_cores }
         ensures settings { result.settings ≡ record { up = up; hysteresis = hysteresis; max = max } }
         ensures empty { StandsFor result [] }
     {

@@ -1,6 +1,6 @@
 ghost use Rattle.std.specs.Prelude.{◌≡◌, ◌<◌, ◌≤◌, Some};
 ghost use Rattle.arachne_policy.specs.Advice.{advice_text};
-ghost use Rattle.arachne_policy.specs.Sample.{load_of, utilisation_of, is_good};
+ghost use Rattle.arachne_policy.specs.Sample.{most_counted, load_of, utilisation_of, is_good};
 
 use crate::limits::MAX_COUNT;
 use std::fmt;
@@ -66,7 +66,7 @@ impl Sample {
 
     /// The runnable threads that a scan saw on average, in thousandths of a thread.
     pub(crate) fn load(&self) -> u64
-        requires { self.now.runnable ≤ MAX_COUNT }
+        requires { self.now.runnable ≤ most_counted }
         ensures { result ≡ load_of self.now }
     {
         if self.scans == 0 {
@@ -78,7 +78,7 @@ impl Sample {
 
     /// The cores that were busy on average, in thousandths of a core.
     pub(crate) fn utilisation(&self) -> u64
-        requires counted { self.now.busy ≤ MAX_COUNT }
+        requires counted { self.now.busy ≤ most_counted }
         requires timed { 0 < self.now.elapsed }
         ensures { result ≡ utilisation_of self.now }
     {

@@ -1,10 +1,11 @@
 //! Each public call once, refused memory, and values that pass between threads.
-ghost use Rattle.std.specs.Prelude.{◌≡◌, ◌<◌};
+ghost use Rattle.std.specs.Prelude.{◌≡◌, ◌<◌, IfOk};
 
 mod fork;
 mod parcels;
 
-use crate::{CellState, Fits, JoinCell};
+use crate::{CellState, Fits, JoinCell, SendingEnd};
+use std::alloc::{AllocError, Global};
 use std::test::Fail;
 
 // A value that fits is the key itself, and one that may wait is below it.
@@ -12,6 +13,19 @@ impl Fits<u64> for u64 {
     ghost fits = { λ key value. value ≡ key };
 
     ghost may_wait = { λ key value. value < key };
+}
+
+// Under `rt try --test --fail-alloc N` the Nth allocation is refused: the first call answers it, and the second makes the cell.
+fn make_cell(
+    alloc: Global,
+    key: u64,
+) -> Result<(JoinCell<u64, u64>, SendingEnd<u64, u64>), AllocError>
+    ensures { IfOk result (λ made. (made.0.key ≡ key) × (made.1 ≡ made.0.table)) }
+{
+    match JoinCell::new(alloc, &key) {
+        Ok(made) => Ok(made),
+        Err(_) => JoinCell::new(alloc, &key),
+    }
 }
 
 fn missed_at(cell: &JoinCell<u64, u64>) -> Option<CellState> {
@@ -23,7 +37,7 @@ fn missed_at(cell: &JoinCell<u64, u64>) -> Option<CellState> {
 
 #[test]
 fn a_value_that_was_left_is_fetched_once(rt: HostRuntime) -> Result<(), Fail> {
-    let (cell, end) = JoinCell::<u64, u64>::new(rt.alloc(), &7)?;
+    let (cell, end) = make_cell(rt.alloc(), 7)?;
     assert!(rt; missed_at(&cell) == Some(CellState::Empty));
     let left = end.leave(&cell, 7);
     let Ok((value, fetched)) = cell.fetch() else {
@@ -38,7 +52,7 @@ fn a_value_that_was_left_is_fetched_once(rt: HostRuntime) -> Result<(), Fail> {
 fn a_value_that_was_put_back_is_taken_back_with_the_sending_end(
     rt: HostRuntime,
 ) -> Result<(), Fail> {
-    let (cell, end) = JoinCell::<u64, u64>::new(rt.alloc(), &7)?;
+    let (cell, end) = make_cell(rt.alloc(), 7)?;
     end.put_back(&cell, 3);
     assert!(rt; missed_at(&cell) == Some(CellState::Waiting));
     let Ok((value, end)) = cell.take_back() else {
@@ -50,20 +64,5 @@ fn a_value_that_was_put_back_is_taken_back_with_the_sending_end(
         panic!(rt; "no value waits")
     };
     assert!(rt; missed.state == CellState::Full);
-    Ok(())
-}
-
-// Under `rt try --test --fail-alloc N` the Nth allocation is refused: the first call answers it, and the second makes the cell.
-#[test]
-fn a_refused_cell_is_made_by_the_next_call(rt: HostRuntime) -> Result<(), Fail> {
-    let (cell, end) = match JoinCell::<u64, u64>::new(rt.alloc(), &7) {
-        Ok(made) => made,
-        Err(_) => JoinCell::new(rt.alloc(), &7)?,
-    };
-    end.leave(&cell, 7);
-    let Ok((value, _)) = cell.fetch() else {
-        panic!(rt; "a value was left")
-    };
-    assert!(rt; value == 7);
     Ok(())
 }

@@ -77,9 +77,7 @@ fn count_right(parcels: &[Awaited]) -> usize {
         .count()
 }
 
-#[test]
-fn two_threads_pass_100_000_values(rt: HostRuntime) -> Result<(), Fail> {
-    let alloc = rt.alloc();
+fn make_parcels(alloc: Global) -> Result<(Vec<Sent>, Vec<Awaited>), AllocError> {
     let mut sent = Vec::new(alloc);
     let mut awaited = Vec::new(alloc);
     for number in 0..PARCELS {
@@ -87,6 +85,15 @@ fn two_threads_pass_100_000_values(rt: HostRuntime) -> Result<(), Fail> {
         sent.push(one)?;
         awaited.push(other)?;
     }
+    Ok((sent, awaited))
+}
+
+#[test]
+fn two_threads_pass_100_000_values(rt: HostRuntime) -> Result<(), Fail> {
+    let (sent, awaited) = match make_parcels(rt.alloc()) {
+        Ok(made) => made,
+        Err(_) => make_parcels(rt.alloc())?,
+    };
     let parcels = awaited.as_slice();
     let ((), right) = thread::join(&rt, move || leave_all(sent), || count_right(parcels));
     assert!(rt; right == 100_000);

@@ -13,7 +13,7 @@ loop-ledger-preserved c =
     let found = settled _ _ _ c.self.invariant _ _ _ same c.share.invariant all _ _ _ c.close_with-closed.ensures.values.2 _ _ _ c.ledger_word.ensures inside c.word.ensures in
     record {
       so_far = subst (λ xs. c.push.new.self.items ≡ map (λ sum. sum % 2 ^ 64) (take (c.loop-ledger.ledger + 1) xs)) sums
-          (reduced-more c.share.inside.seat.me.0.known _ _ _ _ (omega (arith, counted, c.self.invariant.keyed)) (subst (λ xs. c.loop-ledger.totals.items ≡ map (λ sum. sum % 2 ^ 64) (take c.loop-ledger.ledger xs)) (sym sums) c.loop-ledger.invariant.so_far) found (rw c.unwrap.ensures at c.push.ensures.items));
+          (reduced-more c.share.inside.seat.me.0.known.sums _ _ _ _ (omega (arith, counted, c.self.invariant.keyed)) (subst (λ xs. c.loop-ledger.totals.items ≡ map (λ sum. sum % 2 ^ 64) (take c.loop-ledger.ledger xs)) (sym sums) c.loop-ledger.invariant.so_far) found (rw c.unwrap.ensures at c.push.ensures.items));
       counted = search rules;
       room = search rules;
     }
