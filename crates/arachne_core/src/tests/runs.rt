@@ -491,43 +491,6 @@ fn an_event_names_what_is_not_there(rt: HostRuntime) -> Result<(), Fail> {
     Ok(())
 }
 
-/// Each context of core 15 is claimed, and then the core is closed.
-#[test]
-fn the_last_core_is_full(rt: HostRuntime) -> Result<(), Fail> {
-    let mut world = World::new(rt.alloc(), 16, 0)?;
-    for context in 840..896 {
-        assert_eq!(rt; world.apply(claim(0, context)), Ok(()));
-    }
-    assert_eq!(rt; world.occ(15).word(), 0x38ff_ffff_ffff_ffff);
-    assert_eq!(rt; world.apply(Event::CloseCore { core: 15 }), Ok(()));
-    assert_eq!(rt; world.occ(15).word(), 0x78ff_ffff_ffff_ffff);
-    let last = Place {
-        core: 15,
-        index: 55,
-    };
-    assert_eq!(rt; world.mark(895).word(), 0x3f70);
-    assert_eq!(rt; world.place_of(895), last);
-    assert_eq!(rt; world.context_at(last), 895);
-    Ok(())
-}
-
-/// Each context of one core is spent.
-#[test]
-fn a_core_is_full_of_spent_contexts(rt: HostRuntime) -> Result<(), Fail> {
-    let mut world = World::new(rt.alloc(), 1, LAST_GENERATION)?;
-    world.reserve(56, 56)?;
-    for context in 0..56 {
-        assert_eq!(rt; world.apply(claim(0, context)), Ok(()));
-        assert_eq!(rt; world.apply(post(0, context, 7)), Ok(()));
-        assert_eq!(rt; world.apply(take(0, context)), Ok(()));
-        assert_eq!(rt; world.apply(retire(0, context)), Ok(()));
-    }
-    assert_eq!(rt; world.occ(0).word(), 0x38ff_ffff_ffff_ffff);
-    assert_eq!(rt; world.apply(Event::CloseCore { core: 0 }), Ok(()));
-    assert_eq!(rt; world.occ(0).word(), 0x78ff_ffff_ffff_ffff);
-    Ok(())
-}
-
 /// Where no room was reserved a post may be refused for memory. It then stays possible.
 #[test]
 fn a_post_without_room(rt: HostRuntime) -> Result<(), Fail> {
