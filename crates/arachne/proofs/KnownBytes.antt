@@ -1,5 +1,5 @@
 -- What writes and reads one after the other do to known bytes.
-use Rattle.std.proofs.Common.{◌≡◌, ℕ, ◌+◌, ◌-◌, ◌≤◌, List, ◌++◌, length, length-append, take, drop, ap, sym, ◌∙◌, append_assoc, Option, None, Some, arith}
+use Rattle.std.proofs.Common.{◌≡◌, refl, ℕ, ◌+◌, ◌-◌, ◌≤◌, List, ◌++◌, length, length-append, take, drop, ap, sym, ◌∙◌, append_assoc, Option, None, Some, arith}
 use Rattle.std.proofs.lemmas.List.{length-drop, length-take}
 use Rattle.std.proofs.Math.Seq.{take-add, take-length}
 use Rattle.std.specs.Prelude.{Result, Ok, Err, OnOk, OnErr}
@@ -51,3 +51,8 @@ front_kept None b c bytes p q = tt
 front_kept (Some a) None c bytes p q = absurd p
 front_kept (Some a) (Some b) None bytes p q = absurd q
 front_kept (Some a) (Some b) (Some c) bytes p q = (length bytes, ap (λ all. Some all) (q ∙ p ∙ ap (λ all. a ++ all) (sym (take-length bytes))))
+
+-- known bytes that nothing touched are kept
+pub keeps_same : (known : Option (List ℕ)) → Keeps known known
+keeps_same None = tt
+keeps_same (Some bytes) = refl

@@ -1,3 +1,10 @@
 pub mod Lines
 pub mod KnownBytes
 pub mod CommandLines
+pub mod Figures
+pub mod OrderWords
+pub mod SampleLines
+pub mod SampleTexts
+pub mod JudgedInTurn
+pub mod Options
+pub mod Causes

@@ -5,7 +5,7 @@ use Rattle.arachne_lang.specs.declared.text_fault.TextFault.TheVariants as text
 use Rattle.arachne_lang.specs.declared.check_fault.CheckFault.{CheckFault}
 use Rattle.arachne_lang.specs.declared.check_fault.CheckFault.TheVariants as check
 use Rattle.arachne.specs.declared.fault.Fault.{Fault}
-use Rattle.arachne.specs.declared.fault.Fault.TheVariants.{InText, InProgram, Memory, TooLong, Read, Write}
+use Rattle.arachne.specs.declared.fault.Fault.TheVariants.{InText, InProgram, BadSample, Memory, TooLong, Read, Write}
 
 abbrev pub text_fault_words : TextFault → List ℕ
 text_fault_words text.Memory = codes "fault 30"
@@ -27,6 +27,7 @@ check_fault_words (check.NoGrain node) = codes "fault 11 node " ++ decimal node
 abbrev pub fault_words : Fault → List ℕ
 fault_words (InText fault) = text_fault_words fault
 fault_words (InProgram fault) = check_fault_words fault
+fault_words (BadSample line) = codes "fault 12 line " ++ decimal line
 fault_words Memory = codes "fault 30"
 fault_words TooLong = codes "fault 36"
 fault_words Read = codes "fault 37"

@@ -1,15 +1,13 @@
-ghost use Rattle.std.specs.Prelude.{◌≡◌, ◌⊎◌, ◌≢◌, ◌≤◌, length, IfOk, IfErr, IfSome, OnOk, OnErr, IsSome, ◌+◌, List, ℕ, map, Some, None, true, string_bytes};
+ghost use Rattle.std.specs.Prelude.{◌≡◌, ◌⊎◌, ◌≢◌, ◌≤◌, length, IfOk, IfErr, IfSome, OnOk, OnErr, IsSome, ◌+◌, Bool, List, ℕ, map, Some, None, true, string_bytes};
 ghost use Rattle.std.specs.Io.KnownBytes.{Appends, Consumes, Keeps};
 ghost use Rattle.arachne_lang.specs.Program.{source_of};
-ghost use Rattle.arachne_lang.specs.Checked.{IsChecked};
-ghost use Rattle.arachne_lang.specs.Meaning.{meaning_of};
-ghost use Rattle.arachne.specs.Output.{output_of};
-ghost use Rattle.arachne.specs.CommandLine.{asked_by, is_taken};
+ghost use Rattle.arachne.specs.CommandLine.{IsAllowed, asked_by, is_taken};
 ghost use Rattle.arachne.specs.Fault.{fault_line};
-ghost use Rattle.arachne.specs.Drive.{AppendsFront, IsAnswer, IsCause, IsProgramOf, input_limit};
+ghost use Rattle.arachne.specs.Drive.{AppendsFront, IsAnswer, IsCause, IsCauseFor, IsProgramOf, input_limit};
 
 use crate::command_line::{Request, read_words};
 use crate::fault::Fault;
+use crate::judging::judgement;
 use crate::output::render;
 use crate::stream::{read_input, write_bytes};
 use arachne_lang::{Program, check, eval, parse};
@@ -32,16 +30,39 @@ const LINE: usize = 64;
 
 /// What is to be written for an input.
 fn answer<R: Read>(alloc: Global, request: Request, input: &mut R) -> Result<String, Fault>
+    requires { IsAllowed request }
     ensures answers { IfOk result (λ text. IfSome (R.remaining input.old) (λ known. IsAnswer request known (string_bytes text))) }
-    ensures cause { IfErr result (λ fault. (fault ≢ Fault.Write) × IfSome (R.remaining input.old) (λ known. IsCause known fault)) }
+    ensures cause { IfErr result (λ fault. (fault ≢ Fault.Write) × IfSome (R.remaining input.old) (λ known. IsCause request known fault)) }
     ensures reads { (bytes : List ℕ) × Consumes (R.remaining input.old) (R.remaining input.new) bytes × (length bytes ≤ input_limit + 1) }
 {
     let text = read_input(alloc, input)?;
-    let program = checked_program(alloc, text.as_slice())?;
-    let output = match request {
-        Request::Eval { names } => evaluation(alloc, &program, names)?,
-        Request::Check => String::from_str(alloc, "ok\n")?,
-    };
+    match request {
+        Request::Eval { names } => evaluation(alloc, text.as_slice(), names),
+        Request::Check => verdict(alloc, text.as_slice()),
+        Request::Policy(settings) => judgement(alloc, text.as_slice(), settings),
+    }
+}
+
+/// What is to be written for a text that is evaluated.
+fn evaluation(alloc: Global, text: &[u8], names: bool) -> Result<String, Fault>
+    requires { length text.now ≤ input_limit }
+    ensures answers { IfOk result (λ output. IsAnswer (Request.Eval names) text.now (string_bytes output)) }
+    ensures cause { IfErr result (λ fault. (fault ≢ Fault.Write) × IsCause (Request.Eval names) text.now fault) }
+{
+    let program = checked_program(alloc, text)?;
+    let meaning = eval(alloc, &program)?;
+    let output = render(alloc, &meaning, names)?;
+    Ok(output)
+}
+
+/// What is to be written for a text that is checked.
+fn verdict(alloc: Global, text: &[u8]) -> Result<String, Fault>
+    requires { length text.now ≤ input_limit }
+    ensures answers { IfOk result (λ output. IsAnswer Request.Check text.now (string_bytes output)) }
+    ensures cause { IfErr result (λ fault. (fault ≢ Fault.Write) × IsCause Request.Check text.now fault) }
+{
+    let _program = checked_program(alloc, text)?;
+    let output = String::from_str(alloc, "ok\n")?;
     Ok(output)
 }
 
@@ -49,22 +70,12 @@ fn answer<R: Read>(alloc: Global, request: Request, input: &mut R) -> Result<Str
 fn checked_program(alloc: Global, text: &[u8]) -> Result<Program, Fault>
     requires { length text.now ≤ input_limit }
     ensures program { IfOk result (λ program. IsProgramOf text.now (source_of program)) }
-    ensures cause { IfErr result (λ fault. (fault ≢ Fault.Write) × IsCause text.now fault) }
+    ensures check { IfErr result (λ fault. (fault ≢ Fault.Write) × IsCause Request.Check text.now fault) }
+    ensures eval { (names : Bool) → IfErr result (λ fault. IsCause (Request.Eval names) text.now fault) }
 {
     let program = parse(alloc, text)?;
     check(&program)?;
     Ok(program)
-}
-
-/// What is to be written of a program's meaning.
-fn evaluation(alloc: Global, program: &Program, names: bool) -> Result<String, Fault>
-    requires { IsChecked (source_of program.now) }
-    ensures output { IfOk result (λ text. string_bytes text ≡ output_of names (meaning_of (source_of program.now))) }
-    ensures memory { IfErr result (λ fault. fault ≡ Fault.Memory) }
-{
-    let meaning = eval(alloc, program)?;
-    let output = render(alloc, &meaning, names)?;
-    Ok(output)
 }
 
 /// Writes all of the output, and flushes it once.
@@ -120,7 +131,7 @@ pub fn drive<S: AsStr, R: Read, W: Write, E: Write>(
     ensures quiet { result ≡ 0 → Keeps (E.contents faults.old) (E.contents faults.new) }
     // A fault has a cause, and its line is on the faults stream, as far as that took it. Only where writing failed is there
     // something on the output, and that is a front of what was to be written.
-    ensures fault { result ≡ 1 → (fault : Fault) × IfSome (R.remaining input.old) (λ known. IsCause known fault)
+    ensures fault { result ≡ 1 → (fault : Fault) × IfSome (R.remaining input.old) (λ known. IsCauseFor (asked_by (map S.text words.entry.now)) known fault)
         × AppendsFront (E.contents faults.old) (E.contents faults.new) (fault_line fault)
         × ((fault ≢ Fault.Write) → Keeps (W.contents output.old) (W.contents output.new))
         × (fault ≡ Fault.Write → IfSome (R.remaining input.old) (λ known.

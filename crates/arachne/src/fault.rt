@@ -12,6 +12,8 @@ pub enum Fault {
     InText(TextFault),
     /// The program of the text was refused.
     InProgram(CheckFault),
+    /// The first sample that cannot be judged is on this line.
+    BadSample { line: usize },
     /// Memory was refused.
     Memory,
     /// The input has more than 33,554,432 bytes.
@@ -67,6 +69,7 @@ impl fmt::Display for Fault {
             Fault::InProgram(CheckFault::WithinHold(node)) => write!(f, "fault 9 node {node}"),
             Fault::InProgram(CheckFault::OverLimit) => write!(f, "fault 10"),
             Fault::InProgram(CheckFault::NoGrain(node)) => write!(f, "fault 11 node {node}"),
+            Fault::BadSample { line } => write!(f, "fault 12 line {line}"),
             Fault::Memory => write!(f, "fault 30"),
             Fault::TooLong => write!(f, "fault 36"),
             Fault::Read => write!(f, "fault 37"),

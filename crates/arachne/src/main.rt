@@ -4,7 +4,13 @@
 mod command_line;
 mod drive;
 mod fault;
+mod judging;
+mod numbers;
+mod orders;
 mod output;
+#[cfg(test)]
+mod policy_tests;
+mod samples;
 mod stream;
 #[cfg(test)]
 mod tests;

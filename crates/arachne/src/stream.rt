@@ -1,5 +1,6 @@
 ghost use Rattle.std.specs.Prelude.{◌≡◌, ◌≢◌, ◌≤◌, ◌+◌, List, ℕ, length, OnOk, OnErr, IfOk, IfErr, IfSome};
 ghost use Rattle.std.specs.Io.KnownBytes.{Appends, Consumes};
+ghost use Rattle.arachne.specs.declared.command_line.Request.{Request};
 ghost use Rattle.arachne.specs.Drive.{AppendsFront, IsCause, input_limit};
 
 use crate::fault::Fault;
@@ -16,7 +17,7 @@ const CHUNK: usize = 65_536;
 pub fn read_input<R: Read>(alloc: Global, input: &mut R) -> Result<Vec<u8>, Fault>
     ensures whole { IfOk result (λ bytes. IfSome (R.remaining input.old) (λ text. bytes.items ≡ text)) }
     ensures within { IfOk result (λ bytes. length bytes.items ≤ input_limit) }
-    ensures cause { IfErr result (λ fault. (fault ≢ Fault.Write) × IfSome (R.remaining input.old) (λ text. IsCause text fault)) }
+    ensures cause { (request : Request) → IfErr result (λ fault. (fault ≢ Fault.Write) × IfSome (R.remaining input.old) (λ text. IsCause request text fault)) }
     ensures no_more { (bytes : List ℕ) × Consumes (R.remaining input.old) (R.remaining input.new) bytes × (length bytes ≤ input_limit + 1) }
 {
     let mut bytes = Vec::new(alloc);

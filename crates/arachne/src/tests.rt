@@ -6,6 +6,8 @@ use std::io::{ErrorKind, Read, Write};
 use std::process::Abort;
 use std::test::Fail;
 
+mod language;
+
 /// What a run of the program left: its status, its output and its faults.
 #[derive(Drop)]
 struct Ended {
@@ -96,8 +98,6 @@ fn words_that_cannot_be_had(rt: HostRuntime) {
 fn expressions_at_fault(rt: HostRuntime) -> Result<(), Fail> {
     for (expr, line) in [
         ("(add (var 0) (num 1))", "fault 8 node 1\n"),
-        ("(sub (num 1) (num 1))", "fault 2 at 29\n"),
-        ("(fork x (num 1) (num 1) (num 1))", "fault 2 at 34\n"),
         ("(num 18446744073709551616)", "fault 3 at 52\n"),
         ("(num 00)", "fault 2 at 34\n"),
         ("(add  (num 1) (num 1))", "fault 2 at 33\n"),
@@ -118,10 +118,6 @@ fn texts_at_fault(rt: HostRuntime) {
         (
             "arachne 1\nledgers 0\nlocks 0\n(add (num 1)",
             "fault 2 at 40\n",
-        ),
-        (
-            "arachne 1\nledgers 1\nlocks 0\n(num 7)\n",
-            "fault 2 at 18\n",
         ),
         (
             "arachne 1\nledgers 0\nlocks 0\n(num \0)\n",

@@ -1,127 +1,110 @@
 -- An expression is read exactly: each fault is at its byte.
-use Rattle.std.proofs.Common.{◌≡◌, ℕ, zero, suc, List, [], ◌∷◌, ◌++◌, Some, Err, refl, sym, ap, subst, ◌∙◌, inl, inr, lit<}
+use Rattle.std.proofs.Common.{◌≡◌, ℕ, zero, suc, List, [], ◌∷◌, ◌++◌, Some, Err, refl, sym, ap, subst, ◌∙◌, lit<}
 use Rattle.std.specs.Prelude.{◌==◌, if◌then◌else◌, Bool, true, false, codes}
 use Rattle.std.proofs.lemmas.Bool.{eqb-true, eqb-false}
-use Rattle.arachne_lang.specs.declared.program.Class.TheVariants.{Normal}
-use Rattle.arachne_lang.specs.Tree.{Tree, Number, Variable, Binary, Add, Fork}
+use Rattle.std.proofs.lemmas.List.{append_cancel_left}
+use Rattle.arachne_lang.specs.declared.reading.heads.Head.{Head}
+use Rattle.arachne_lang.specs.declared.reading.heads.Head.TheVariants as head
+use Rattle.arachne_lang.specs.Tree.{Tree, Number}
 use Rattle.arachne_lang.specs.Spelling.{spelling}
 use Rattle.arachne_lang.specs.Text.{NumbersFit}
-use Rattle.arachne_lang.specs.Reading.{Departs, TooDeep, Reading, constant_at, variable_at, sum_at, fork_at, form_at, expression_at}
-use Rattle.arachne_lang.proofs.Languages.{first, Departure, Deepening, Exact, Residual, Exact-residual, byte_residual, after}
-use Rattle.arachne_lang.proofs.ExpressionTexts.{Built, number, variable, sum, fork, number_text, variable_text, sum_text, fork_text, expression, is_number, is_variable, is_sum, is_fork, opens, IsLetter, letter_of}
-use Rattle.arachne_lang.proofs.ExactForms.{Exactly, forms, FormOfNumber, exact_form_of_number, Values, FormOfParts, exact_form_of_parts}
+use Rattle.arachne_lang.specs.Reading.{Departs, TooDeep, Reading, ◌>>=◌, words_at, form_words, behind_word_at, form_at, expression_at}
+use Rattle.arachne_lang.proofs.Languages.{Language, first, Departure, Deepening, Exact, Residual, Exact-residual, byte_residual, same_residual, sequence, exact_sequence, after}
+use Rattle.arachne_lang.proofs.ExactWords.{vocabulary}
+use Rattle.arachne_lang.proofs.Forms.{contents_text, kind_of, made, word_of, formed, made-text, made-fits, fits-made}
+use Rattle.arachne_lang.proofs.HeadWords.{heads, exact_head, spelled, word_spelled}
+use Rattle.arachne_lang.proofs.ExpressionTexts.{expression, opens}
+use Rattle.arachne_lang.proofs.ExactForms.{Exactly, contents, contents_at, exact_contents, contents_shown, contents_of_shown, range_contents_shown, range_of_contents_shown}
 
--- ---- each form
+-- ---- a form
 
-constants : FormOfNumber 110 (codes "um ") Number
-constants = record {
-  letter_levels = λ n. refl;
-  word_levels = λ n. refl;
-  built = number;
-  fits = λ n lt. lt;
-  number_fits = λ n lt. lt;
-  text = number_text;
-  only = is_number;
-}
+-- how each is read behind its word
+form_is : (h : Head) (tree_at : List ℕ → Reading Tree) (bytes : List ℕ) → contents_at (kind_of h) (made h) tree_at bytes ≡ behind_word_at tree_at h bytes
+unfolding behind_word_at
+form_is head.Num tree_at bytes = refl
+form_is head.Var tree_at bytes = refl
+form_is head.Len tree_at bytes = refl
+form_is head.Item tree_at bytes = refl
+form_is (head.Binary operation) tree_at bytes = refl
+form_is head.If tree_at bytes = refl
+form_is head.Let tree_at bytes = refl
+form_is head.Tally tree_at bytes = refl
+form_is head.Hold tree_at bytes = refl
+form_is (head.Fork class) tree_at bytes = refl
+form_is head.Fold tree_at bytes = refl
+form_is (head.Sweep reduction) tree_at bytes = refl
 
-variables : FormOfNumber 118 (codes "ar ") Variable
-variables = record {
-  letter_levels = λ n. refl;
-  word_levels = λ n. refl;
-  built = variable;
-  fits = λ k lt. lt;
-  number_fits = λ k lt. lt;
-  text = variable_text;
-  only = is_variable;
-}
+-- behind the opening bracket
+unfoldable forms : Language Tree
+unfolding expression
+forms = after (codes "(") expression (Number 0) (codes "num 0)") (lit< tt, refl)
 
-abbrev sum_of : Values 1 → Tree
-sum_of v = Binary Add v.0 v.1
+-- a word, and what goes with it
+abbrev Spelled : Language Tree
+Spelled = sequence heads (λ h. contents (kind_of h) (made h))
 
-sums : FormOfParts 97 (codes "dd ") 1 sum_of
-sums = record {
-  letter_levels = λ n. refl;
-  word_levels = λ n. refl;
-  built = λ v each. sum v.0 v.1 each.0 each.1;
-  fits = λ v each. (each.0, each.1);
-  parts_fit = λ v fits. (fits.0, fits.1);
-  text = λ v. sum_text v.0 v.1;
-  only = is_sum;
-}
+spelled_form : (h : Head) (tree : Tree) (front back t text : List ℕ) → t ≡ front ++ back → front ≡ word_of h → back ≡ text → spelling tree ≡ 40 ∷ (word_of h ++ text) → 40 ∷ t ≡ spelling tree
+spelled_form h tree front back t text e f g is =
+    ap (λ (u : List ℕ). 40 ∷ u) (e ∙ ap (λ (u : List ℕ). u ++ back) f ∙ ap (λ (u : List ℕ). word_of h ++ u) g) ∙ sym is
 
-abbrev fork_of : Values 2 → Tree
-fork_of v = Fork Normal v.0 v.1.0 v.1.1
+to_shape : (tree : Tree) (t : List ℕ) → Spelled.shape tree t → 40 ∷ t ≡ spelling tree
+unfolding sequence heads vocabulary
+to_shape tree t h =
+    let shown = contents_shown (kind_of h.value) (made h.value) tree h.back h.back_text in
+    spelled_form h.value tree h.front h.back t (contents_text (kind_of h.value) shown.values) h.split (word_spelled h.value h.front h.front_text) shown.text
+    (ap spelling shown.is ∙ made-text h.value shown.values)
 
-forks : FormOfParts 102 (codes "ork n ") 2 fork_of
-forks = record {
-  letter_levels = λ n. refl;
-  word_levels = λ n. refl;
-  built = λ v each. fork v.0 v.1.0 v.1.1 each.0 each.1.0 each.1.1;
-  fits = λ v each. (each.0, each.1.0, each.1.1);
-  parts_fit = λ v fits. (fits.0, (fits.1, fits.2));
-  text = λ v. fork_text v.0 v.1.0 v.1.1;
-  only = is_fork;
-}
+to_range : (tree : Tree) (t : List ℕ) → Spelled.range tree t → NumbersFit tree × (40 ∷ t ≡ spelling tree)
+unfolding sequence heads vocabulary
+to_range tree t h =
+    let shown = range_contents_shown (kind_of h.value) (made h.value) tree h.back h.back_text in (
+      subst NumbersFit (sym shown.is) (made-fits h.value shown.values shown.fit),
+      spelled_form h.value tree h.front h.back t (contents_text (kind_of h.value) shown.values) h.split (word_spelled h.value h.front h.front_text) shown.text
+          (ap spelling shown.is ∙ made-text h.value shown.values),
+    )
 
-exact_constant : (levels : ℕ) (bytes : List ℕ) → Exact forms levels (suc levels) (110 ∷ bytes) (constant_at (110 ∷ bytes))
-unfolding constant_at
-exact_constant levels bytes = exact_form_of_number 110 (codes "um ") Number constants levels bytes
+from_shape : (tree : Tree) (t : List ℕ) → 40 ∷ t ≡ spelling tree → Spelled.shape tree t
+unfolding sequence heads vocabulary
+from_shape tree t e =
+    let f = formed tree in
+    record {
+      value = f.form;
+      front = word_of f.form;
+      back = contents_text (kind_of f.form) f.contents;
+      front_text = spelled f.form;
+      back_text = contents_of_shown (kind_of f.form) (made f.form) tree f.contents f.is;
+      split = append_cancel_left (40 ∷ []) t (word_of f.form ++ contents_text (kind_of f.form) f.contents) (e ∙ ap spelling f.is ∙ made-text f.form f.contents);
+    }
 
-exact_variable : (levels : ℕ) (bytes : List ℕ) → Exact forms levels (suc levels) (118 ∷ bytes) (variable_at (118 ∷ bytes))
-unfolding variable_at
-exact_variable levels bytes = exact_form_of_number 118 (codes "ar ") Variable variables levels bytes
-
-exact_sum : (levels : ℕ) (tree_at : List ℕ → Reading Tree) → Exactly levels tree_at → (bytes : List ℕ) → Exact forms levels (suc levels) (97 ∷ bytes) (sum_at tree_at (97 ∷ bytes))
-unfolding sum_at
-exact_sum levels tree_at tree bytes = exact_form_of_parts 97 (codes "dd ") 1 sum_of sums levels tree_at tree bytes
-
-exact_fork : (levels : ℕ) (tree_at : List ℕ → Reading Tree) → Exactly levels tree_at → (bytes : List ℕ) → Exact forms levels (suc levels) (102 ∷ bytes) (fork_at tree_at (102 ∷ bytes))
-unfolding fork_at
-exact_fork levels tree_at tree bytes = exact_form_of_parts 102 (codes "ork n ") 2 fork_of forks levels tree_at tree bytes
-
--- ---- a form by its first letter
-
-no_form : (levels : ℕ) (bytes : List ℕ) → ((byte : ℕ) → first bytes ≡ Some byte → IsLetter byte → ⊥) → Departure forms levels bytes bytes
-unfolding forms expression after
-no_form levels bytes no_letter = record {
-  front = [];
-  split = refl;
-  left = levels;
-  levels = refl;
-  alive = record { value = Number 0; more = codes "num 0)"; text = (number 0, lit< tt, refl) };
-  dead = λ tree x t y agrees h e.
-      let is = letter_of tree t h.0 h.1 in
-      no_letter is.0 (sym agrees ∙ ap first e ∙ ap (λ (u : List ℕ). first (u ++ y)) is.2) is.3;
-}
-
-another_letter : (byte : ℕ) → (byte == 110) ≡ false → (byte == 118) ≡ false → (byte == 97) ≡ false → (byte == 102) ≡ false → IsLetter byte → ⊥
-another_letter byte n v a f (inl is) = eqb-false byte 110 n is
-another_letter byte n v a f (inr (inl is)) = eqb-false byte 118 v is
-another_letter byte n v a f (inr (inr (inl is))) = eqb-false byte 97 a is
-another_letter byte n v a f (inr (inr (inr is))) = eqb-false byte 102 f is
+from_range : (tree : Tree) (t : List ℕ) → NumbersFit tree × (40 ∷ t ≡ spelling tree) → Spelled.range tree t
+unfolding sequence heads vocabulary
+from_range tree t h =
+    let f = formed tree in
+    record {
+      value = f.form;
+      front = word_of f.form;
+      back = contents_text (kind_of f.form) f.contents;
+      front_text = spelled f.form;
+      back_text = range_of_contents_shown (kind_of f.form) (made f.form) tree f.contents (fits-made f.form f.contents (subst NumbersFit f.is h.0)) f.is;
+      split = append_cancel_left (40 ∷ []) t (word_of f.form ++ contents_text (kind_of f.form) f.contents) (h.1 ∙ ap spelling f.is ∙ made-text f.form f.contents);
+    }
 
 exact_form : (levels : ℕ) (tree_at : List ℕ → Reading Tree) → Exactly levels tree_at → (bytes : List ℕ) → Exact forms levels (suc levels) bytes (form_at tree_at bytes)
-exact_form levels tree_at tree [] = no_form levels [] (λ byte e letter. absurd (cc))
-exact_form levels tree_at tree (byte ∷ bytes) = at_byte (byte == 110) refl (byte == 118) refl (byte == 97) refl (byte == 102) refl
-  where
-    at_byte : (n : Bool) → (byte == 110) ≡ n → (v : Bool) → (byte == 118) ≡ v → (a : Bool) → (byte == 97) ≡ a → (f : Bool) → (byte == 102) ≡ f
-        → Exact forms levels (suc levels) (byte ∷ bytes)
-        (if n then constant_at (byte ∷ bytes) else if v then variable_at (byte ∷ bytes) else if a then sum_at tree_at (byte ∷ bytes) else if f then fork_at tree_at (byte ∷ bytes) else Err (Departs (byte ∷ bytes)))
-    at_byte true e v ve a ae f fe =
-        subst (λ (b : ℕ). Exact forms levels (suc levels) (b ∷ bytes) (constant_at (b ∷ bytes))) (sym (eqb-true byte 110 e)) (exact_constant levels bytes)
-    at_byte false ne true e a ae f fe =
-        subst (λ (b : ℕ). Exact forms levels (suc levels) (b ∷ bytes) (variable_at (b ∷ bytes))) (sym (eqb-true byte 118 e)) (exact_variable levels bytes)
-    at_byte false ne false ve true e f fe =
-        subst (λ (b : ℕ). Exact forms levels (suc levels) (b ∷ bytes) (sum_at tree_at (b ∷ bytes))) (sym (eqb-true byte 97 e)) (exact_sum levels tree_at tree bytes)
-    at_byte false ne false ve false ae true e =
-        subst (λ (b : ℕ). Exact forms levels (suc levels) (b ∷ bytes) (fork_at tree_at (b ∷ bytes))) (sym (eqb-true byte 102 e)) (exact_fork levels tree_at tree bytes)
-    at_byte false ne false ve false ae false fe =
-        no_form levels (byte ∷ bytes) (λ b is letter. let same : b ≡ byte = cc in another_letter byte ne ve ae fe (subst IsLetter same letter))
+unfolding form_at forms expression after
+exact_form levels tree_at tree bytes =
+    Exact-residual Spelled forms levels levels (suc levels) [] bytes refl
+    (same_residual Spelled.shape (λ tree t. 40 ∷ t ≡ spelling tree) to_shape from_shape)
+    (same_residual Spelled.range (λ tree t. NumbersFit tree × (40 ∷ t ≡ spelling tree)) to_range from_range)
+    (form_at tree_at bytes)
+    (exact_sequence heads (λ h. contents (kind_of h) (made h)) levels levels (suc levels) bytes (words_at form_words bytes) (λ head. behind_word_at tree_at head.0 head.1)
+    (exact_head levels bytes)
+    (λ head. subst (Exact (contents (kind_of head.0) (made head.0)) levels (suc levels) head.1) (form_is head.0 tree_at head.1)
+    (exact_contents (kind_of head.0) (made head.0) levels tree_at tree head.1)))
 
 -- ---- expressions
 
-not_empty : (tree : Tree) → Built tree → [] ≡ spelling tree → ⊥
-not_empty tree is e = let at = opens tree is in absurd (none at.0 (e ∙ at.1))
+not_empty : (tree : Tree) → [] ≡ spelling tree → ⊥
+not_empty tree e = let at = opens tree in absurd (none at.0 (e ∙ at.1))
   where
     none : (rest : List ℕ) → [] ≡ 40 ∷ rest → ⊥
     none rest e = cc
@@ -130,14 +113,13 @@ not_empty tree is e = let at = opens tree is in absurd (none at.0 (e ∙ at.1))
 bracket_shape : Residual (40 ∷ []) forms.shape expression.shape
 unfolding forms expression after
 bracket_shape =
-    byte_residual 40 (λ tree t. Built tree × (40 ∷ t ≡ spelling tree)) (λ tree t. Built tree × (t ≡ spelling tree))
-    (λ tree h. not_empty tree h.0 h.1) (λ tree t h. h) (λ tree t h. h)
+    byte_residual 40 (λ tree t. 40 ∷ t ≡ spelling tree) (λ tree t. t ≡ spelling tree) (λ tree h. not_empty tree h) (λ tree t h. h) (λ tree t h. h)
 
 bracket_range : Residual (40 ∷ []) forms.range expression.range
 unfolding forms expression after
 bracket_range =
-    byte_residual 40 (λ tree t. Built tree × NumbersFit tree × (40 ∷ t ≡ spelling tree)) (λ tree t. Built tree × NumbersFit tree × (t ≡ spelling tree))
-    (λ tree h. not_empty tree h.0 h.2) (λ tree t h. h) (λ tree t h. h)
+    byte_residual 40 (λ tree t. NumbersFit tree × (40 ∷ t ≡ spelling tree)) (λ tree t. NumbersFit tree × (t ≡ spelling tree))
+    (λ tree h. not_empty tree h.1) (λ tree t h. h) (λ tree t h. h)
 
 no_expression : (levels : ℕ) (bytes : List ℕ) → (first bytes ≡ Some 40 → ⊥) → Departure expression levels bytes bytes
 unfolding expression
@@ -146,10 +128,10 @@ no_expression levels bytes no_bracket = record {
   split = refl;
   left = levels;
   levels = refl;
-  alive = record { value = Number 0; more = codes "(num 0)"; text = (number 0, lit< tt, refl) };
+  alive = record { value = Number 0; more = codes "(num 0)"; text = (lit< tt, refl) };
   dead = λ tree x t y agrees h e.
-      let at = opens tree h.0 in
-      no_bracket (sym agrees ∙ ap first e ∙ ap (λ (u : List ℕ). first (u ++ y)) (h.1 ∙ at.1));
+      let at = opens tree in
+      no_bracket (sym agrees ∙ ap first e ∙ ap (λ (u : List ℕ). first (u ++ y)) (h ∙ at.1));
 }
 
 too_deep : (bytes : List ℕ) → Deepening expression 0 (40 ∷ bytes) (40 ∷ bytes)
@@ -160,7 +142,7 @@ too_deep bytes = record {
   levels = refl;
   others = bytes;
   head = refl;
-  alive = record { value = Number 0; more = codes "num 0)"; text = (number 0, lit< tt, refl) };
+  alive = record { value = Number 0; more = codes "num 0)"; text = (lit< tt, refl) };
 }
 
 bracketed : (levels byte : ℕ) (bytes : List ℕ) (tree_at : List ℕ → Reading Tree) → Exactly levels tree_at → (test : Bool) → (byte == 40) ≡ test

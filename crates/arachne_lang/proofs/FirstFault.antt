@@ -12,7 +12,7 @@ use Rattle.arachne_lang.specs.declared.reading.stop.Stop.TheVariants as stop
 use Rattle.arachne_lang.specs.Tree.{Source}
 use Rattle.arachne_lang.specs.Program.{source_of}
 use Rattle.arachne_lang.specs.Spelling.{header, text_of}
-use Rattle.arachne_lang.specs.Text.{IsOfShape, IsInRange, IsAccepted, Begins, StartsWith, level, HasFault, byte_of, IsFirstFault}
+use Rattle.arachne_lang.specs.Text.{IsInRange, IsAccepted, Begins, BeginsInRange, StartsWith, level, HasFault, byte_of, IsFirstFault}
 use Rattle.arachne_lang.specs.Reading.{Fails, fault_within, Halt, Departs, Overflows, TooDeep, ◌>>=◌, word_at, source_at, ended, program_at}
 use Rattle.arachne_lang.proofs.Languages.{levels_behind, Alive, first, Exact}
 use Rattle.arachne_lang.proofs.Levels.{level_within, level_left, level_more}
@@ -21,20 +21,23 @@ use Rattle.arachne_lang.proofs.ExactProgram.{texts, exact_text, text_of-unique, 
 -- ---- fronts of texts
 
 -- what begins a text of the shape, or in range
-begins : (P : Source → Type 0) (front : List ℕ) → Alive (λ s t. P s × (t ≡ text_of s)) front → Begins P front
-begins P front alive = (alive.value, alive.more, alive.text.0, sym alive.text.1)
+begins : (front : List ℕ) → Alive (λ s t. t ≡ text_of s) front → Begins front
+begins front alive = (alive.value, alive.more, sym alive.text)
 
-begins_shape : (front : List ℕ) → Begins IsInRange front → Begins IsOfShape front
-begins_shape front h = (h.0, h.1, h.2.shape, h.3)
+begins_in_range : (front : List ℕ) → Alive (λ s t. IsInRange s × (t ≡ text_of s)) front → BeginsInRange front
+begins_in_range front alive = (alive.value, alive.more, alive.text.0, sym alive.text.1)
 
-begins_append : (P : Source → Type 0) (a b : List ℕ) → Begins P (a ++ b) → Begins P a
-begins_append P a b h = (h.0, b ++ h.1, h.2, h.3 ∙ append_assoc a b h.1)
+begins_shape : (front : List ℕ) → BeginsInRange front → Begins front
+begins_shape front h = (h.0, h.1, h.3)
+
+begins_append : (a b : List ℕ) → BeginsInRange (a ++ b) → BeginsInRange a
+begins_append a b h = (h.0, b ++ h.1, h.2, h.3 ∙ append_assoc a b h.1)
 
 -- a shorter front of bytes whose front begins a text
-begins_shorter : (P : Source → Type 0) (front rest : List ℕ) (k : ℕ) → k ≤ length front → Begins P front → Begins P (take k (front ++ rest))
-begins_shorter P front rest k le h =
+begins_shorter : (front rest : List ℕ) (k : ℕ) → k ≤ length front → BeginsInRange front → BeginsInRange (take k (front ++ rest))
+begins_shorter front rest k le h =
     let same : take k front ++ drop k front ≡ front = take-append-drop k front in
-    rw (take-append-le k front rest le) (begins_append P (take k front) (drop k front) (subst (λ (u : List ℕ). Begins P u) (sym same) h))
+    rw (take-append-le k front rest le) (begins_append (take k front) (drop k front) (subst BeginsInRange (sym same) h))
 
 front_of : (front rest : List ℕ) → take (length front) (front ++ rest) ≡ front
 front_of front rest = take-append_seam front rest
@@ -54,10 +57,10 @@ first_of_take (byte ∷ rest) more (suc k) pos le = refl
 pub record Ends (front rest : List ℕ) : Type 0 where
   pub left : ℕ
   pub levels : levels_behind 64 front ≡ Some left
-  pub alive : Begins IsInRange front
-  pub no_text : (s : Source) (x : List ℕ) → first x ≡ first rest → IsOfShape s → text_of s ≡ front ++ x → ⊥
+  pub alive : BeginsInRange front
+  pub no_text : (s : Source) (x : List ℕ) → first x ≡ first rest → text_of s ≡ front ++ x → ⊥
 
-longest : (front rest : List ℕ) → Ends front rest → (longer : ℕ) → longer ≤ length (front ++ rest) → Begins IsOfShape (take longer (front ++ rest)) → longer ≤ length front
+longest : (front rest : List ℕ) → Ends front rest → (longer : ℕ) → longer ≤ length (front ++ rest) → Begins (take longer (front ++ rest)) → longer ≤ length front
 longest front rest ends longer le begun =
     elim (cases_lt (length front) longer) [
       | inr short ↦ short
@@ -66,9 +69,9 @@ longest front rest ends longer le begun =
           let cut : take longer (front ++ rest) ≡ front ++ take (longer - length front) rest =
           ap (λ (n : ℕ). take n (front ++ rest)) (sym is) ∙ take-append-add front rest (longer - length front) in
           let text : text_of begun.0 ≡ front ++ (take (longer - length front) rest ++ begun.1) =
-          begun.3 ∙ ap (λ (u : List ℕ). u ++ begun.1) cut ∙ append_assoc front (take (longer - length front) rest) begun.1 in
+          begun.2 ∙ ap (λ (u : List ℕ). u ++ begun.1) cut ∙ append_assoc front (take (longer - length front) rest) begun.1 in
           absurd (ends.no_text begun.0 (take (longer - length front) rest ++ begun.1)
-          (first_of_take rest begun.1 (longer - length front) (omega arith) (omega (arith, le, length-append front rest))) begun.2 text)
+          (first_of_take rest begun.1 (longer - length front) (omega arith) (omega (arith, le, length-append front rest))) text)
     ]
 
 -- ---- what the other faults would need
@@ -88,7 +91,7 @@ pub syntax_fault : (front rest : List ℕ) → StartsWith header (front ++ rest)
 syntax_fault front rest starts ends = record {
   has = (
     starts,
-    (λ text. ends.no_text text.0 rest refl text.1 text.2),
+    (λ text. ends.no_text text.0 rest refl text.1),
     omega (arith, length-append front rest),
     rw (front_of front rest) (begins_shape front ends.alive),
     longest front rest ends,
@@ -106,7 +109,7 @@ syntax_fault front rest starts ends = record {
         inr (ap (λ (n : ℕ). fault.Syntax n) same)
     others (fault.Number b) h =
         let within : b + 1 ≤ length front = longest front rest ends (b + 1) (omega (arith, h.1)) h.2 in
-        absurd (h.4 (begins_shorter IsInRange front rest (b + 1) within ends.alive))
+        absurd (h.4 (begins_shorter front rest (b + 1) within ends.alive))
     others (fault.Nesting b) h =
         let within : b + 1 ≤ length front = longest front rest ends (b + 1) (omega (arith, h.1)) h.2 in
         absurd (no_deep_bracket front rest ends.left b ends.levels (omega (arith, within)) h.1 h.3 h.4)
@@ -120,9 +123,9 @@ within_bytes front others byte = omega (arith, length-append front (byte ∷ oth
 pub record Overflowing (front : List ℕ) (digit : ℕ) : Type 0 where
   pub left : ℕ
   pub levels : levels_behind 64 front ≡ Some left
-  pub alive : Begins IsInRange front
-  pub shaped : Begins IsOfShape (front ++ digit ∷ [])
-  pub no_range : Begins IsInRange (front ++ digit ∷ []) → ⊥
+  pub alive : BeginsInRange front
+  pub shaped : Begins (front ++ digit ∷ [])
+  pub no_range : BeginsInRange (front ++ digit ∷ []) → ⊥
   pub is_no_bracket : digit ≡ 40 → ⊥
 
 pub number_fault : (front others : List ℕ) (digit : ℕ) → StartsWith header (front ++ digit ∷ others) → Overflowing front digit → IsFirstFault (front ++ digit ∷ others) (fault.Number (length front))
@@ -132,12 +135,12 @@ number_fault front others digit starts ends = record {
     within_bytes front others digit,
     shaped,
     rw (front_of front (digit ∷ others)) ends.alive,
-    (λ h. ends.no_range (subst (λ (u : List ℕ). Begins IsInRange u) (front_and_byte front others digit) h)),
+    (λ h. ends.no_range (subst BeginsInRange (front_and_byte front others digit) h)),
   );
   first = rest;
 }
   where
-    shaped : Begins IsOfShape (take (length front + 1) (front ++ digit ∷ others))
+    shaped : Begins (take (length front + 1) (front ++ digit ∷ others))
     shaped = rw (front_and_byte front others digit) ends.shaped
 
     rest : At (front ++ digit ∷ others) (fault.Number (length front))
@@ -148,7 +151,7 @@ number_fault front others digit starts ends = record {
         elim (cases_order b (length front)) [
           | inl same ↦ inr (ap (λ (n : ℕ). fault.Number n) same)
           | inr differ ↦ elim differ [
-            | inl before ↦ absurd (h.4 (begins_shorter IsInRange front (digit ∷ others) (b + 1) (omega (arith, before)) ends.alive))
+            | inl before ↦ absurd (h.4 (begins_shorter front (digit ∷ others) (b + 1) (omega (arith, before)) ends.alive))
             | inr behind ↦ inl behind
           ]
         ]
@@ -161,7 +164,7 @@ number_fault front others digit starts ends = record {
           ]
         ]
 
-pub nesting_fault : (front others : List ℕ) → StartsWith header (front ++ 40 ∷ others) → levels_behind 64 front ≡ Some 0 → Begins IsInRange (front ++ 40 ∷ [])
+pub nesting_fault : (front others : List ℕ) → StartsWith header (front ++ 40 ∷ others) → levels_behind 64 front ≡ Some 0 → BeginsInRange (front ++ 40 ∷ [])
     → IsFirstFault (front ++ 40 ∷ others) (fault.Nesting (length front))
 nesting_fault front others starts levels alive = record {
   has = (
@@ -175,14 +178,14 @@ nesting_fault front others starts levels alive = record {
   first = rest;
 }
   where
-    shaped : Begins IsOfShape (take (length front + 1) (front ++ 40 ∷ others))
+    shaped : Begins (take (length front + 1) (front ++ 40 ∷ others))
     shaped = rw (front_and_byte front others 40) (begins_shape (front ++ 40 ∷ []) alive)
 
     -- every front up to the bracket begins a text in range
-    in_range : (b : ℕ) → b ≤ length front → Begins IsInRange (take (b + 1) (front ++ 40 ∷ others))
+    in_range : (b : ℕ) → b ≤ length front → BeginsInRange (take (b + 1) (front ++ 40 ∷ others))
     in_range b le =
-        subst (λ (u : List ℕ). Begins IsInRange (take (b + 1) u)) (append_assoc front (40 ∷ []) others)
-        (begins_shorter IsInRange (front ++ 40 ∷ []) others (b + 1) (omega (arith, le, length-append front (40 ∷ []))) alive)
+        subst (λ (u : List ℕ). BeginsInRange (take (b + 1) u)) (append_assoc front (40 ∷ []) others)
+        (begins_shorter (front ++ 40 ∷ []) others (b + 1) (omega (arith, le, length-append front (40 ∷ []))) alive)
 
     rest : At (front ++ 40 ∷ others) (fault.Nesting (length front))
     rest fault.Memory h = absurd h
@@ -244,8 +247,8 @@ judge_end bytes starts s t (byte ∷ rest) range is e levels =
       left = 64;
       levels = levels;
       alive = (s, [], range, sym is ∙ sym (append-nil t));
-      no_text = λ other x agrees shape text.
-          let same : other ≡ s = text_of-unique other s [] x shape range.shape (append-nil (text_of other) ∙ text ∙ ap (λ (u : List ℕ). u ++ x) is) in
+      no_text = λ other x agrees text.
+          let same : other ≡ s = text_of-unique other s [] x (append-nil (text_of other) ∙ text ∙ ap (λ (u : List ℕ). u ++ x) is) in
           trailing_is_none t x byte agrees (sym text ∙ ap text_of same ∙ sym is);
     })
 
@@ -257,8 +260,8 @@ judge bytes starts (Err (Departs rest)) h =
     (syntax_fault h.front rest (subst (λ (u : List ℕ). StartsWith header u) h.split starts) record {
       left = h.left;
       levels = h.levels;
-      alive = begins IsInRange h.front h.alive;
-      no_text = λ s x agrees shape text. h.dead s x (h.front ++ x) [] agrees (shape, sym text) (sym (append-nil (h.front ++ x)));
+      alive = begins_in_range h.front h.alive;
+      no_text = λ s x agrees text. h.dead s x (h.front ++ x) [] agrees (sym text) (sym (append-nil (h.front ++ x)));
     })
 judge bytes starts (Err (Overflows rest)) h =
     let e : bytes ≡ h.front ++ h.digit ∷ h.others = h.split ∙ ap (λ (u : List ℕ). h.front ++ u) h.head in
@@ -266,8 +269,8 @@ judge bytes starts (Err (Overflows rest)) h =
     (number_fault h.front h.others h.digit (subst (λ (u : List ℕ). StartsWith header u) e starts) record {
       left = h.left;
       levels = h.levels;
-      alive = begins IsInRange h.front h.alive;
-      shaped = begins IsOfShape (h.front ++ h.digit ∷ []) h.shaped;
+      alive = begins_in_range h.front h.alive;
+      shaped = begins (h.front ++ h.digit ∷ []) h.shaped;
       no_range = λ b.
           let text : text_of b.0 ≡ h.front ++ h.digit ∷ b.1 = b.3 ∙ append_assoc h.front (h.digit ∷ []) b.1 in
           h.dead b.0 (h.digit ∷ b.1) (h.front ++ h.digit ∷ b.1) [] (ap first (sym h.head)) (b.2, sym text) (sym (append-nil (h.front ++ h.digit ∷ b.1)));
@@ -277,7 +280,7 @@ judge bytes starts (Err (Overflows rest)) h =
 judge bytes starts (Err (TooDeep rest)) h =
     let e : bytes ≡ h.front ++ 40 ∷ h.others = h.split ∙ ap (λ (u : List ℕ). h.front ++ u) h.head in
     let one = moved bytes h.front (40 ∷ h.others) (λ n. fault.Nesting n) e
-    (nesting_fault h.front h.others (subst (λ (u : List ℕ). StartsWith header u) e starts) h.levels (begins IsInRange (h.front ++ 40 ∷ []) h.alive)) in
+    (nesting_fault h.front h.others (subst (λ (u : List ℕ). StartsWith header u) e starts) h.levels (begins_in_range (h.front ++ 40 ∷ []) h.alive)) in
     subst (λ (u : List ℕ). IsFirstFault bytes (fault.Nesting (length bytes - length u))) (sym h.head) one
 
 -- ---- the header
@@ -319,8 +322,8 @@ Said bytes (Err f) = (f ≡ fault.Memory) ⊎ IsFirstFault bytes f
 -- the text of an accepted program has no fault
 accepted_has_no_fault : (bytes : List ℕ) (s : Source) → IsAccepted s → text_of s ≡ bytes → (f : TextFault) → HasFault bytes f → ⊥
 accepted_has_no_fault bytes s accepted text fault.Memory h = h
-accepted_has_no_fault bytes s accepted text (fault.Header b) h = h.1 (header_of s bytes accepted.in_range.shape text)
-accepted_has_no_fault bytes s accepted text (fault.Syntax b) h = h.1 (s, accepted.in_range.shape, text)
+accepted_has_no_fault bytes s accepted text (fault.Header b) h = h.1 (header_of s bytes text)
+accepted_has_no_fault bytes s accepted text (fault.Syntax b) h = h.1 (s, text)
 accepted_has_no_fault bytes s accepted text (fault.Number b) h =
     h.4 (s, drop (b + 1) bytes, accepted.in_range, text ∙ sym (take-append-drop (b + 1) bytes))
 accepted_has_no_fault bytes s accepted text (fault.Nesting b) h =
@@ -332,7 +335,7 @@ accepted_has_no_fault bytes s accepted text (fault.Nesting b) h =
 pub said_every_text : (bytes : List ℕ) (r : Result Program TextFault) → Said bytes r → (source : Source) → IsAccepted source → text_of source ≡ bytes
     → MatchResult r (λ p. source_of p ≡ source) (λ f. f ≡ fault.Memory)
 said_every_text bytes (Ok p) said source accepted text =
-    text_of-unique (source_of p) source [] [] said.0.in_range.shape accepted.in_range.shape (ap (λ (u : List ℕ). u ++ []) (said.1 ∙ sym text))
+    text_of-unique (source_of p) source [] [] (ap (λ (u : List ℕ). u ++ []) (said.1 ∙ sym text))
 said_every_text bytes (Err f) said source accepted text =
     elim said [
       | inl memory ↦ memory

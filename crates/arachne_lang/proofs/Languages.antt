@@ -1,5 +1,5 @@
 -- Languages of texts, and what it is to read one exactly.
-use Rattle.std.proofs.Common.{◌≡◌, ℕ, zero, suc, List, [], ◌∷◌, ◌++◌, Option, Some, None, Result, Ok, Err, refl, sym, ap, subst, ◌∙◌, append_assoc}
+use Rattle.std.proofs.Common.{◌≡◌, ℕ, zero, suc, List, [], ◌∷◌, ◌++◌, Option, Some, None, Result, Ok, Err, refl, sym, ap, subst, ◌∙◌, append_assoc, inl, inr}
 use Rattle.std.specs.Prelude.{◌==◌, if◌then◌else◌, Bool, true, false}
 use Rattle.std.proofs.lemmas.Bool.{eqb-true, eqb-false}
 use Rattle.std.proofs.lemmas.List.{append-nil, append_cancel_left}
@@ -286,12 +286,17 @@ exact_second L K n m k a before bytes read levels (Ok x) h = (
 exact_second L K n m k a before bytes read levels (Err h) halts =
     Halts-lift (K a) (sequence L K) n m before bytes levels (second_shape L K a before read) (second_range L K a before read) h halts
 
+-- the second is read exactly behind what was read
+pub exact_sequence_on : {A B : Type 0} (L : Language A) (K : A → Language B) (n m k : ℕ) (bytes : List ℕ) (r : Result (A × List ℕ) Halt) (f : A × List ℕ → Result (B × List ℕ) Halt)
+    → Exact L n m bytes r → ((x : A × List ℕ) → r ≡ Ok x → Exact (K x.0) m k x.1 (f x)) → Exact (sequence L K) n k bytes (r >>= f)
+exact_sequence_on L K n m k bytes (Ok x) f h behind =
+    rw h.2 (exact_second L K n m k x.0 h.0 x.1 h.1 h.3 (f x) (behind x refl))
+exact_sequence_on L K n m k bytes (Err e) f halts behind =
+    Halts-lift L (sequence L K) n n [] bytes refl (first_shape L K) (first_range L K) e halts
+
 pub exact_sequence : {A B : Type 0} (L : Language A) (K : A → Language B) (n m k : ℕ) (bytes : List ℕ) (r : Result (A × List ℕ) Halt) (f : A × List ℕ → Result (B × List ℕ) Halt)
     → Exact L n m bytes r → ((x : A × List ℕ) → Exact (K x.0) m k x.1 (f x)) → Exact (sequence L K) n k bytes (r >>= f)
-exact_sequence L K n m k bytes (Ok x) f h behind =
-    rw h.2 (exact_second L K n m k x.0 h.0 x.1 h.1 h.3 (f x) (behind x))
-exact_sequence L K n m k bytes (Err e) f halts behind =
-    Halts-lift L (sequence L K) n n [] bytes refl (first_shape L K) (first_range L K) e halts
+exact_sequence L K n m k bytes r f h behind = exact_sequence_on L K n m k bytes r f h (λ x e. behind x)
 
 -- nothing more: the value is known
 unfoldable pub nothing_more : {A : Type 0} → A → Language A
@@ -399,4 +404,51 @@ after before L sample text is = record {
       let whole : (before ++ s) ++ x ≡ (before ++ t) ++ y = append_assoc before s x ∙ ap (λ (u : List ℕ). before ++ u) e ∙ sym (append_assoc before t y) in
       let same = L.unique a b (before ++ s) (before ++ t) x y h k whole in
       (same.0, append_cancel_left before s t same.1);
+}
+
+-- ---- among other texts
+
+first_agrees : (front x rest : List ℕ) → first x ≡ first rest → first (front ++ x) ≡ first (front ++ rest)
+first_agrees [] x rest e = e
+first_agrees (byte ∷ front) x rest e = refl
+
+-- texts that go on from a front as the bytes do begin as the bytes do
+begins_alike : (front rest bytes x t y : List ℕ) → bytes ≡ front ++ rest → first x ≡ first rest → front ++ x ≡ t ++ y → first (t ++ y) ≡ first bytes
+begins_alike front rest bytes x t y split agrees e = sym (ap first e) ∙ first_agrees front x rest agrees ∙ sym (ap first split)
+
+-- Where the second language has the texts of the first, and others only that do not begin as these bytes do, both are read alike.
+pub Exact-among : {A : Type 0} (L M : Language A) (n k : ℕ) (bytes : List ℕ)
+    → ((a : A) (t : List ℕ) → L.shape a t → M.shape a t) → ((a : A) (t : List ℕ) → L.range a t → M.range a t)
+    → ((a : A) (t y : List ℕ) → M.shape a t → first (t ++ y) ≡ first bytes → L.shape a t)
+    → ((a : A) (t y : List ℕ) → M.range a t → first (t ++ y) ≡ first bytes → L.range a t)
+    → (r : Result (A × List ℕ) Halt) → Exact L n k bytes r → Exact M n k bytes r
+Exact-among L M n k bytes shape range only_shape only_range (Ok x) h = (h.0, range x.0 h.0 h.1, h.2, h.3)
+Exact-among L M n k bytes shape range only_shape only_range (Err (Departs rest)) h = record {
+  front = h.front;
+  split = h.split;
+  left = h.left;
+  levels = h.levels;
+  alive = record { value = h.alive.value; more = h.alive.more; text = range h.alive.value (h.front ++ h.alive.more) h.alive.text };
+  dead = λ a x t y agrees q e. h.dead a x t y agrees (only_shape a t y q (begins_alike h.front rest bytes x t y h.split agrees e)) e;
+}
+Exact-among L M n k bytes shape range only_shape only_range (Err (Overflows rest)) h = record {
+  front = h.front;
+  split = h.split;
+  left = h.left;
+  levels = h.levels;
+  alive = record { value = h.alive.value; more = h.alive.more; text = range h.alive.value (h.front ++ h.alive.more) h.alive.text };
+  digit = h.digit;
+  others = h.others;
+  head = h.head;
+  is_no_bracket = h.is_no_bracket;
+  shaped = record { value = h.shaped.value; more = h.shaped.more; text = shape h.shaped.value ((h.front ++ h.digit ∷ []) ++ h.shaped.more) h.shaped.text };
+  dead = λ a x t y agrees q e. h.dead a x t y agrees (only_range a t y q (begins_alike h.front rest bytes x t y h.split agrees e)) e;
+}
+Exact-among L M n k bytes shape range only_shape only_range (Err (TooDeep rest)) h = record {
+  front = h.front;
+  split = h.split;
+  levels = h.levels;
+  others = h.others;
+  head = h.head;
+  alive = record { value = h.alive.value; more = h.alive.more; text = range h.alive.value ((h.front ++ 40 ∷ []) ++ h.alive.more) h.alive.text };
 }

@@ -1,16 +1,19 @@
 -- Levels: what the counts of brackets say, and how deep the text of an expression goes.
-use Rattle.std.proofs.Common.{◌≡◌, ℕ, zero, suc, ◌+◌, ◌≤◌, ◌<◌, cond, List, [], ◌∷◌, ◌++◌, length, take, drop, Option, Some, None, refl, sym, ap, ◌∙◌, arith}
-use Rattle.std.specs.Prelude.{◌==◌, if◌then◌else◌, Bool, true, false, count_by, slice_index}
+use Rattle.std.proofs.Common.{◌≡◌, ℕ, zero, suc, ◌+◌, ◌≤◌, ◌<◌, cond, List, [], ◌∷◌, ◌++◌, length, take, drop, Option, Some, None, refl, sym, ap, ◌∙◌, append_assoc, arith}
+use Rattle.std.specs.Prelude.{◌==◌, if◌then◌else◌, Bool, true, false, count_by, slice_index, codes}
 use Rattle.std.proofs.lemmas.Bool.{eqb-true, ne_eqb, eq-eqb}
 use Rattle.std.proofs.lemmas.List.{take-append-le, take-append-drop}
 use Rattle.std.proofs.lemmas.List.Sums.{sum_by-cons, count_by_more_no, count_by_more_yes}
+use Rattle.arachne_lang.specs.declared.reading.heads.Head.{Head}
 use Rattle.arachne_lang.specs.Tree.{Tree}
 use Rattle.arachne_lang.specs.Spelling.{numeral, spelling}
 use Rattle.arachne_lang.specs.Text.{nesting, level}
 use Rattle.arachne_lang.proofs.Numerals.{AreDigits, numeral-AreDigits}
 use Rattle.arachne_lang.proofs.Languages.{level_behind, levels_then, levels_behind, levels_behind-append, levels_between}
 use Rattle.arachne_lang.proofs.ExactNumber.{level_behind_digit}
-use Rattle.arachne_lang.proofs.ExpressionTexts.{Built, number, variable, sum, fork, number_whole, variable_whole, sum_whole, fork_whole}
+use Rattle.arachne_lang.proofs.Forms.{Values, Each, joined, deepest, Kind, Numeral, Parts, Both, Contents, contents_text, EachPart, depth, kind_of, made, word_of, by_forms, made-nesting}
+use Rattle.arachne_lang.proofs.HeadWords.{word-levels}
+use Rattle.arachne_lang.proofs.ExpressionTexts.{made-whole}
 
 -- ---- counts
 
@@ -72,40 +75,63 @@ levels_digits [] are n x = refl
 levels_digits (digit ∷ digits) are n x =
     ap (λ (left : Option ℕ). levels_then left (λ m. levels_behind m (digits ++ x))) (level_behind_digit n digit are.0) ∙ levels_digits digits are.1 n x
 
--- the text of a tree that nests no deeper than the levels that are left leaves as many behind it
-pub levels_of_tree : (tree : Tree) → Built tree → (n : ℕ) → nesting tree ≤ n → (x : List ℕ) → levels_behind n (spelling tree ++ x) ≡ levels_behind n x
-levels_of_tree _ (number k) zero le x = absurd (omega arith)
-levels_of_tree _ (number k) (suc n) le x = ap (levels_behind (suc n)) (number_whole k x) ∙ levels_digits (numeral k) (numeral-AreDigits k) n (41 ∷ x)
-levels_of_tree _ (variable k) zero le x = absurd (omega arith)
-levels_of_tree _ (variable k) (suc n) le x = ap (levels_behind (suc n)) (variable_whole k x) ∙ levels_digits (numeral k) (numeral-AreDigits k) n (41 ∷ x)
-levels_of_tree _ (sum a b p q) zero le x = absurd (omega arith)
-levels_of_tree _ (sum a b p q) (suc n) le x =
-    ap (levels_behind (suc n)) (sum_whole a b x)
-    ∙ levels_of_tree a p n (omega arith) (32 ∷ (spelling b ++ 41 ∷ x))
-    ∙ levels_of_tree b q n (omega arith) (41 ∷ x)
-levels_of_tree _ (fork a b c p q r) zero le x = absurd (omega arith)
-levels_of_tree _ (fork a b c p q r) (suc n) le x =
-    ap (levels_behind (suc n)) (fork_whole a b c x)
-    ∙ levels_of_tree a p n (omega arith) (32 ∷ (spelling b ++ 32 ∷ (spelling c ++ 41 ∷ x)))
-    ∙ levels_of_tree b q n (omega arith) (32 ∷ (spelling c ++ 41 ∷ x))
-    ∙ levels_of_tree c r n (omega arith) (41 ∷ x)
+-- the word of a form has no bracket
+levels_word : (h : Head) (n : ℕ) (x : List ℕ) → levels_behind n (word_of h ++ x) ≡ levels_behind n x
+levels_word h n x = levels_behind-append n (word_of h) x ∙ ap (λ (left : Option ℕ). levels_then left (λ m. levels_behind m x)) (word-levels n h)
 
--- and where no bracket of it is too deep, it nests no deeper
-pub nesting_within : (tree : Tree) → Built tree → (n j : ℕ) (x : List ℕ) → levels_behind n (spelling tree ++ x) ≡ Some j → (nesting tree ≤ n) × (levels_behind n x ≡ Some j)
-nesting_within _ (number k) zero j x e = let h : None ≡ Some j = sym (ap (levels_behind 0) (number_whole k x)) ∙ e in absurd (cc)
-nesting_within _ (number k) (suc n) j x e =
-    (omega arith, sym (levels_digits (numeral k) (numeral-AreDigits k) n (41 ∷ x)) ∙ sym (ap (levels_behind (suc n)) (number_whole k x)) ∙ e)
-nesting_within _ (variable k) zero j x e = let h : None ≡ Some j = sym (ap (levels_behind 0) (variable_whole k x)) ∙ e in absurd (cc)
-nesting_within _ (variable k) (suc n) j x e =
-    (omega arith, sym (levels_digits (numeral k) (numeral-AreDigits k) n (41 ∷ x)) ∙ sym (ap (levels_behind (suc n)) (variable_whole k x)) ∙ e)
-nesting_within _ (sum a b p q) zero j x e = let h : None ≡ Some j = sym (ap (levels_behind 0) (sum_whole a b x)) ∙ e in absurd (cc)
-nesting_within _ (sum a b p q) (suc n) j x e =
-    let one = nesting_within a p n j (32 ∷ (spelling b ++ 41 ∷ x)) (sym (ap (levels_behind (suc n)) (sum_whole a b x)) ∙ e) in
-    let two = nesting_within b q n j (41 ∷ x) one.1 in
-    (omega (arith, one.0, two.0), two.1)
-nesting_within _ (fork a b c p q r) zero j x e = let h : None ≡ Some j = sym (ap (levels_behind 0) (fork_whole a b c x)) ∙ e in absurd (cc)
-nesting_within _ (fork a b c p q r) (suc n) j x e =
-    let one = nesting_within a p n j (32 ∷ (spelling b ++ 32 ∷ (spelling c ++ 41 ∷ x))) (sym (ap (levels_behind (suc n)) (fork_whole a b c x)) ∙ e) in
-    let two = nesting_within b q n j (32 ∷ (spelling c ++ 41 ∷ x)) one.1 in
-    let three = nesting_within c r n j (41 ∷ x) two.1 in
-    (omega (arith, one.0, two.0, three.0), three.1)
+pub levels_numeral : (k n : ℕ) (x : List ℕ) → levels_behind n (numeral k ++ x) ≡ levels_behind n x
+levels_numeral k n x = levels_digits (numeral k) (numeral-AreDigits k) n x
+
+-- The text of a tree that nests no deeper than the levels that are left leaves as many behind it.
+abbrev Leaves : Tree → Type 0
+Leaves tree = (n : ℕ) → nesting tree ≤ n → (x : List ℕ) → levels_behind n (spelling tree ++ x) ≡ levels_behind n x
+
+values_leave : (k : ℕ) (v : Values k) → Each Leaves k v → (n : ℕ) → deepest k v ≤ n → (x : List ℕ) → levels_behind n (joined k v ++ x) ≡ levels_behind (suc n) x
+values_leave zero v each n le x = ap (levels_behind n) (append_assoc (spelling v) (codes ")") x) ∙ each n le (41 ∷ x)
+values_leave (suc k) v each n le x =
+    ap (levels_behind n) (append_assoc (spelling v.0) (32 ∷ joined k v.1) x)
+    ∙ each.0 n (omega (arith, le)) (32 ∷ (joined k v.1 ++ x))
+    ∙ values_leave k v.1 each.1 n (omega (arith, le)) x
+
+contents_leave : (k : Kind) (c : Contents k) → EachPart Leaves k c → (n : ℕ) → depth k c ≤ n → (x : List ℕ) → levels_behind n (contents_text k c ++ x) ≡ levels_behind (suc n) x
+contents_leave Numeral c each n le x = ap (levels_behind n) (append_assoc (numeral c) (codes ")") x) ∙ levels_numeral c n (41 ∷ x)
+contents_leave (Parts k) c each n le x = values_leave k c each n le x
+contents_leave (Both k) c each n le x =
+    ap (levels_behind n) (append_assoc (numeral c.0) (32 ∷ joined k c.1) x) ∙ levels_numeral c.0 n (32 ∷ (joined k c.1 ++ x)) ∙ values_leave k c.1 each n le x
+
+leaves : (h : Head) (c : Contents (kind_of h)) → EachPart Leaves (kind_of h) c → Leaves (made h c)
+leaves h c each zero le x = absurd (omega (arith, le, made-nesting h c))
+leaves h c each (suc n) le x =
+    ap (levels_behind (suc n)) (made-whole h c x)
+    ∙ levels_word h n (contents_text (kind_of h) c ++ x)
+    ∙ contents_leave (kind_of h) c each n (omega (arith, le, made-nesting h c)) x
+
+pub levels_of_tree : (tree : Tree) (n : ℕ) → nesting tree ≤ n → (x : List ℕ) → levels_behind n (spelling tree ++ x) ≡ levels_behind n x
+levels_of_tree tree n le x = by_forms Leaves leaves tree n le x
+
+-- And where no bracket of it is too deep, it nests no deeper.
+abbrev Nests : Tree → Type 0
+Nests tree = (n j : ℕ) (x : List ℕ) → levels_behind n (spelling tree ++ x) ≡ Some j → (nesting tree ≤ n) × (levels_behind n x ≡ Some j)
+
+values_nest : (k : ℕ) (v : Values k) → Each Nests k v → (n j : ℕ) (x : List ℕ) → levels_behind n (joined k v ++ x) ≡ Some j → (deepest k v ≤ n) × (levels_behind (suc n) x ≡ Some j)
+values_nest zero v each n j x e = each n j (41 ∷ x) (sym (ap (levels_behind n) (append_assoc (spelling v) (codes ")") x)) ∙ e)
+values_nest (suc k) v each n j x e =
+    let one = each.0 n j (32 ∷ (joined k v.1 ++ x)) (sym (ap (levels_behind n) (append_assoc (spelling v.0) (32 ∷ joined k v.1) x)) ∙ e) in
+    let others = values_nest k v.1 each.1 n j x one.1 in
+    (omega (arith, one.0, others.0), others.1)
+
+contents_nest : (k : Kind) (c : Contents k) → EachPart Nests k c → (n j : ℕ) (x : List ℕ) → levels_behind n (contents_text k c ++ x) ≡ Some j
+    → (depth k c ≤ n) × (levels_behind (suc n) x ≡ Some j)
+contents_nest Numeral c each n j x e = (omega arith, sym (levels_numeral c n (41 ∷ x)) ∙ sym (ap (levels_behind n) (append_assoc (numeral c) (codes ")") x)) ∙ e)
+contents_nest (Parts k) c each n j x e = values_nest k c each n j x e
+contents_nest (Both k) c each n j x e =
+    values_nest k c.1 each n j x (sym (levels_numeral c.0 n (32 ∷ (joined k c.1 ++ x))) ∙ sym (ap (levels_behind n) (append_assoc (numeral c.0) (32 ∷ joined k c.1) x)) ∙ e)
+
+nests : (h : Head) (c : Contents (kind_of h)) → EachPart Nests (kind_of h) c → Nests (made h c)
+nests h c each zero j x e = let none : None ≡ Some j = sym (ap (levels_behind 0) (made-whole h c x)) ∙ e in absurd (cc)
+nests h c each (suc n) j x e =
+    let behind = contents_nest (kind_of h) c each n j x (sym (levels_word h n (contents_text (kind_of h) c ++ x)) ∙ sym (ap (levels_behind (suc n)) (made-whole h c x)) ∙ e) in
+    (omega (arith, behind.0, made-nesting h c), behind.1)
+
+pub nesting_within : (tree : Tree) (n j : ℕ) (x : List ℕ) → levels_behind n (spelling tree ++ x) ≡ Some j → (nesting tree ≤ n) × (levels_behind n x ≡ Some j)
+nesting_within tree n j x e = by_forms Nests nests tree n j x e

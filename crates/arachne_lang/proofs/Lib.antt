@@ -13,3 +13,13 @@ pub mod ExactForms
 pub mod ExactExpression
 pub mod ExactProgram
 pub mod FirstFault
+pub mod Accounts
+pub mod Reductions
+pub mod PrintedNumbers
+pub mod PrintedForms
+pub mod ArraySteps
+pub mod ExactItems
+pub mod ExactWords
+pub mod Forms
+pub mod HeadWords
+pub mod WordSteps

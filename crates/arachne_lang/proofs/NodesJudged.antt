@@ -1,16 +1,15 @@
 -- The nodes of an expression are judged part by part.
-use Rattle.std.proofs.Common.{◌≡◌, ℕ, ◌+◌, ◌<◌, ◌≤◌, List, [], ◌∷◌, ◌++◌, length, refl, ap, sym, ◌∙◌, arith, length-append, Bool, true, false, Vec, Global, map, sum_by}
+use Rattle.std.proofs.Common.{◌≡◌, ℕ, ◌+◌, ◌<◌, ◌≤◌, List, [], ◌∷◌, ◌++◌, length, take, drop, refl, ap, sym, ◌∙◌, arith, length-append, Bool, true, false, Vec, Global, map, sum_by}
 use Rattle.std.specs.List.{fold}
 use Rattle.std.proofs.lemmas.List.{length-map}
 use Rattle.std.proofs.lemmas.Bool.Decides.{nat_tests}
 use Rattle.std.specs.Prelude.{nat_lt, Option, None, Some, Result, Ok, Err}
 use Rattle.arachne_lang.specs.declared.check_fault.CheckFault.{CheckFault}
-use Rattle.arachne_lang.specs.Tree.{Operation, Tree, Number, Variable, Length, Item, Binary, Choose, Bind, Tally, Hold, Fork, Fold, Sweep, Source}
+use Rattle.arachne_lang.specs.Tree.{Tree, Number, Variable, Length, Item, Binary, Choose, Bind, Tally, Hold, Fork, Fold, Sweep, Source}
 use Rattle.arachne_lang.specs.Text.{nesting}
 use Rattle.arachne_lang.specs.Checked.{NodeFault, node_faults, first_fault, is_within_limits, verdict_of}
 use Rattle.arachne_lang.specs.Program.{tree_of, source_of}
 use Rattle.arachne_lang.specs.declared.check_fault.CheckFault.TheVariants as fault
-use Rattle.arachne_lang.specs.declared.program.Class.{Class}
 use Rattle.arachne_lang.specs.declared.program.Program.{Program}
 use Rattle.arachne_lang.specs.Judgement.{node_count, judged, KeepsLimits}
 
@@ -63,15 +62,16 @@ length-node_faults program within bound (Fold from to first body) =
 length-node_faults program within bound (Sweep reduction grain from to body) =
     simp (length-append, length-node_faults program within bound from, length-node_faults program within bound to, length-node_faults program within (bound + 1) body) (omega arith)
 
-pub judged-append-ok : (node next : ℕ) (xs ys : List (Option NodeFault)) → judged node xs ≡ Ok next → judged node (xs ++ ys) ≡ judged next ys
-judged-append-ok node next [] ys is = let same : node ≡ next = cc in ap (λ n. judged n ys) same
-judged-append-ok node next (None ∷ xs) ys is = judged-append-ok (node + 1) next xs ys is
-judged-append-ok node next (Some fault ∷ xs) ys is = cc
+-- nodes that follow others are judged where these have no fault
+pub judged_more : (node next : ℕ) (xs ys : List (Option NodeFault)) (answer : Result ℕ CheckFault) → Ok next ≡ judged node xs → answer ≡ judged next ys → answer ≡ judged node (xs ++ ys)
+judged_more node next [] ys answer is more = let same : next ≡ node = cc in more ∙ ap (λ n. judged n ys) same
+judged_more node next (None ∷ xs) ys answer is more = judged_more (node + 1) next xs ys answer is more
+judged_more node next (Some fault ∷ xs) ys answer is more = cc
 
-pub judged-append-err : (node : ℕ) (fault : CheckFault) (xs ys : List (Option NodeFault)) → judged node xs ≡ Err fault → judged node (xs ++ ys) ≡ Err fault
-judged-append-err node fault [] ys is = cc
-judged-append-err node fault (None ∷ xs) ys is = judged-append-err (node + 1) fault xs ys is
-judged-append-err node fault (Some found ∷ xs) ys is = is
+pub judged_front : (node : ℕ) (fault : CheckFault) (xs ys : List (Option NodeFault)) → Err fault ≡ judged node xs → Err fault ≡ judged node (xs ++ ys)
+judged_front node fault [] ys is = cc
+judged_front node fault (None ∷ xs) ys is = judged_front (node + 1) fault xs ys is
+judged_front node fault (Some found ∷ xs) ys is = is
 
 first_fault-ok : (node next : ℕ) (xs : List (Option NodeFault)) → judged node xs ≡ Ok next → first_fault node xs ≡ Ok tt
 first_fault-ok node next [] is = refl
@@ -83,44 +83,20 @@ first_fault-err node fault [] is = cc
 first_fault-err node fault (None ∷ xs) is = first_fault-err (node + 1) fault xs is
 first_fault-err node fault (Some found ∷ xs) is = cc
 
--- An expression of two parts, or of three, is at fault where its first part at fault is.
-module _ (program : Source) (bound node : ℕ) where
-  pub judged-Binary-first : (operation : Operation) (a b : Tree) (fault : CheckFault)
-      → Err fault ≡ judged (node + 1) (node_faults program false bound a)
-      → Err fault ≡ judged node (node_faults program false bound (Binary operation a b))
-  judged-Binary-first operation a b fault is =
-      sym (judged-append-err (node + 1) fault (node_faults program false bound a) (node_faults program false bound b) (sym is))
+-- The node at the top is judged first, and then its parts.
+pub judged_parts : (node : ℕ) (xs : List (Option NodeFault)) (answer : Result ℕ CheckFault) → 0 < length xs
+    → Ok tt ≡ first_fault node (take 1 xs) → answer ≡ judged (node + 1) (drop 1 xs) → answer ≡ judged node xs
+judged_parts node [] answer some top parts = absurd (omega arith)
+judged_parts node (None ∷ xs) answer some top parts = parts
+judged_parts node (Some fault ∷ xs) answer some top parts = cc
 
-  pub judged-Binary-second : (operation : Operation) (a b : Tree) (second : ℕ) (answer : Result ℕ CheckFault)
-      → Ok second ≡ judged (node + 1) (node_faults program false bound a)
-      → answer ≡ judged second (node_faults program false bound b)
-      → answer ≡ judged node (node_faults program false bound (Binary operation a b))
-  judged-Binary-second operation a b second answer first is =
-      is ∙ sym (judged-append-ok (node + 1) second (node_faults program false bound a) (node_faults program false bound b) (sym first))
+pub judged_top : (node : ℕ) (xs : List (Option NodeFault)) (fault : CheckFault) → Err fault ≡ first_fault node (take 1 xs) → Err fault ≡ judged node xs
+judged_top node [] fault top = cc
+judged_top node (None ∷ xs) fault top = cc
+judged_top node (Some found ∷ xs) fault top = let same : fault ≡ found node = cc in ap Err same
 
-  pub judged-Fork-first : (class : Class) (child during after : Tree) (fault : CheckFault)
-      → Err fault ≡ judged (node + 1) (node_faults program false bound child)
-      → Err fault ≡ judged node (node_faults program false bound (Fork class child during after))
-  judged-Fork-first class child during after fault is =
-      sym (judged-append-err (node + 1) fault (node_faults program false bound child ++ node_faults program false bound during) (node_faults program false (bound + 2) after)
-      (judged-append-err (node + 1) fault (node_faults program false bound child) (node_faults program false bound during) (sym is)))
-
-  pub judged-Fork-second : (class : Class) (child during after : Tree) (second : ℕ) (fault : CheckFault)
-      → Ok second ≡ judged (node + 1) (node_faults program false bound child)
-      → Err fault ≡ judged second (node_faults program false bound during)
-      → Err fault ≡ judged node (node_faults program false bound (Fork class child during after))
-  judged-Fork-second class child during after second fault first is =
-      sym (judged-append-err (node + 1) fault (node_faults program false bound child ++ node_faults program false bound during) (node_faults program false (bound + 2) after)
-      (judged-append-ok (node + 1) second (node_faults program false bound child) (node_faults program false bound during) (sym first) ∙ sym is))
-
-  pub judged-Fork-third : (class : Class) (child during after : Tree) (second third : ℕ) (answer : Result ℕ CheckFault)
-      → Ok second ≡ judged (node + 1) (node_faults program false bound child)
-      → Ok third ≡ judged second (node_faults program false bound during)
-      → answer ≡ judged third (node_faults program false (bound + 2) after)
-      → answer ≡ judged node (node_faults program false bound (Fork class child during after))
-  judged-Fork-third class child during after second third answer first between is =
-      is ∙ sym (judged-append-ok (node + 1) third (node_faults program false bound child ++ node_faults program false bound during) (node_faults program false (bound + 2) after)
-      (judged-append-ok (node + 1) second (node_faults program false bound child) (node_faults program false bound during) (sym first) ∙ sym between))
+pub some_faults : (program : Source) (within : Bool) (bound : ℕ) (tree : Tree) → 0 < length (node_faults program within bound tree)
+some_faults program within bound tree = rw (length-node_faults program within bound tree) (node_count_positive tree)
 
 -- the limits one by one, and as a test
 items-of-arrays : (before : ℕ) (arrays : List (Vec ℕ Global)) → fold (λ so_far array. so_far + length array) before (map (λ array. array.items) arrays)

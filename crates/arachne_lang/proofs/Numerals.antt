@@ -146,3 +146,9 @@ numeral-not_empty n e =
     let zero : n ≡ 0 = sym (worth-numeral n) ∙ ap (worth 0) e in
     let none : numeral 0 ≡ [] = ap numeral (sym zero) ∙ e in
     absurd (cc)
+
+pub space_is_no_digit : NoDigit 32
+space_is_no_digit h = omega (arith, h.0)
+
+pub newline_is_no_digit : NoDigit 10
+newline_is_no_digit h = omega (arith, h.0)

@@ -1,14 +1,14 @@
 -- What the definitions give on programs that were worked out by hand.
 use Rattle.std.proofs.Common.{◌≡◌, ℕ, ◌-◌, ◌^◌, List, [], ◌∷◌, refl}
-use Rattle.std.specs.Prelude.{map, ◌++◌, length, codes, Result, Ok, Err}
+use Rattle.std.specs.Prelude.{map, ◌++◌, length, codes, Ok, Err}
 use Rattle.arachne_lang.specs.declared.check_fault.CheckFault.TheVariants as fault
 use Rattle.arachne_lang.specs.Spelling.{header, text_of}
 use Rattle.arachne_lang.specs.Checked.{verdict_of}
-use Rattle.arachne_lang.specs.declared.program.Class.{Class}
 use Rattle.arachne_lang.specs.declared.program.Class.TheVariants.{Normal}
-use Rattle.arachne_lang.specs.declared.meaning.Meaning.{Meaning}
 use Rattle.arachne_lang.specs.declared.meaning.Line.{Line}
-use Rattle.arachne_lang.specs.Tree.{Operation, Add, Sub, Reduction, Sum, Product, Least, Tree, Number, Variable, Length, Item, Binary, Tally, Hold, Fork, Fold, Sweep, Source}
+use Rattle.arachne_lang.specs.declared.program.Operation.TheVariants.{Add, Sub}
+use Rattle.arachne_lang.specs.declared.program.Reduction.TheVariants.{Sum, Product, Least}
+use Rattle.arachne_lang.specs.Tree.{Tree, Number, Variable, Length, Item, Binary, Tally, Hold, Fork, Fold, Sweep, Source}
 use Rattle.arachne_lang.specs.Meaning.{meaning_of}
 
 -- a program with no arrays

@@ -2,10 +2,14 @@
 use Rattle.std.specs.Prelude.{ℕ, zero, suc, ◌≡◌, ◌+◌, ◌-◌, ◌*◌, ◌^◌, nat_lt, nat_le, ◌==◌, ◌&&◌, if◌then◌else◌, List, [], ◌∷◌, ◌++◌, length, Result, Ok, Err, codes}
 use Rattle.arachne_lang.specs.declared.reading.stop.Stop.{Stop}
 use Rattle.arachne_lang.specs.declared.reading.stop.Stop.TheVariants as stop
-use Rattle.arachne_lang.specs.declared.program.Class.TheVariants.{Normal}
+use Rattle.arachne_lang.specs.declared.program.Class.TheVariants as class
 use Rattle.arachne_lang.specs.declared.text_fault.TextFault.{TextFault}
 use Rattle.arachne_lang.specs.declared.text_fault.TextFault.TheVariants as fault
-use Rattle.arachne_lang.specs.Tree.{Tree, Number, Variable, Binary, Add, Fork, Source}
+use Rattle.arachne_lang.specs.declared.program.Operation.TheVariants as operation
+use Rattle.arachne_lang.specs.declared.program.Reduction.TheVariants as reduction
+use Rattle.arachne_lang.specs.declared.reading.heads.Head.{Head}
+use Rattle.arachne_lang.specs.declared.reading.heads.Head.TheVariants as head
+use Rattle.arachne_lang.specs.Tree.{Tree, Number, Variable, Length, Item, Binary, Choose, Bind, Tally, Hold, Fork, Fold, Sweep, Source}
 
 -- why reading stops, with the bytes that are left there
 pub data Halt : Type 0 where
@@ -76,43 +80,147 @@ part_at tree_at end bytes = do
   rest ← word_at end part.1
   Ok (part.0, rest)
 
--- each form behind its opening bracket, with the closing one
-unfoldable pub constant_at : List ℕ → Reading Tree
-constant_at bytes = do
-  rest ← word_at (codes "num ") bytes
-  number ← number_at (2 ^ 64) (codes ")") rest
+-- ---- the words of the forms
+
+-- Words by their letters, each with its value: the end of one; those that go on with these letters; or those that go on with this letter,
+-- behind it, and the others.
+pub data Words (A : Type 0) : Type 0 where
+  End : A → Words A
+  Behind : List ℕ → Words A → Words A
+  Letter : ℕ → Words A → Words A → Words A
+
+-- the value of the word at the front
+abbrev pub words_at : {A : Type 0} → Words A → List ℕ → Reading A
+words_at (End value) bytes = Ok (value, bytes)
+words_at (Behind letters words) bytes = word_at letters bytes >>= λ rest. words_at words rest
+words_at (Letter letter words others) [] = words_at others []
+words_at (Letter letter words others) (byte ∷ bytes) = if byte == letter then words_at words bytes else words_at others (byte ∷ bytes)
+
+-- one word
+abbrev pub ending : {A : Type 0} → List ℕ → A → Words A
+ending letters value = Behind letters (End value)
+
+-- behind i: item, if
+unfoldable pub words_in_i : Words Head
+words_in_i = Letter 116 (ending (codes "em ") head.Item) (ending (codes "f ") head.If)
+
+-- behind l: let, len, lt
+unfoldable pub words_in_l : Words Head
+words_in_l =
+    Letter 101 (Letter 116 (ending (codes " ") head.Let) (ending (codes "n ") head.Len))
+    (ending (codes "t ") (head.Binary operation.Lt))
+
+-- behind m: mul, min, max
+unfoldable pub words_in_m : Words Head
+words_in_m =
+    Letter 117 (ending (codes "l ") (head.Binary operation.Mul))
+    (Letter 105 (ending (codes "n ") (head.Binary operation.Min))
+    (ending (codes "ax ") (head.Binary operation.Max)))
+
+-- behind sweep and m: mul, min, max
+unfoldable pub sweeps_in_m : Words Head
+sweeps_in_m =
+    Letter 117 (ending (codes "l ") (head.Sweep reduction.Product))
+    (Letter 105 (ending (codes "n ") (head.Sweep reduction.Least))
+    (ending (codes "ax ") (head.Sweep reduction.Greatest)))
+
+-- behind sweep: add, xor, mul, min, max
+unfoldable pub words_of_sweeps : Words Head
+words_of_sweeps =
+    Letter 97 (ending (codes "dd ") (head.Sweep reduction.Sum))
+    (Letter 120 (ending (codes "or ") (head.Sweep reduction.Parity))
+    (Behind (codes "m") sweeps_in_m))
+
+-- behind s: sub, sweep
+unfoldable pub words_in_s : Words Head
+words_in_s = Letter 117 (ending (codes "b ") (head.Binary operation.Sub)) (Behind (codes "weep ") words_of_sweeps)
+
+-- behind f: fold, fork
+unfoldable pub words_in_f : Words Head
+words_in_f =
+    Behind (codes "o")
+    (Letter 108 (ending (codes "d ") head.Fold)
+    (Behind (codes "rk ")
+    (Letter 110 (ending (codes " ") (head.Fork class.Normal)) (ending (codes "x ") (head.Fork class.Exclusive)))))
+
+-- all of them, by their first letters: a, e, f, h, i, l, m, n, s, t, v, x
+unfoldable pub form_words : Words Head
+form_words =
+    Letter 97 (ending (codes "dd ") (head.Binary operation.Add))
+    (Letter 101 (ending (codes "q ") (head.Binary operation.Eq))
+    (Letter 102 words_in_f
+    (Letter 104 (ending (codes "old ") head.Hold)
+    (Letter 105 words_in_i
+    (Letter 108 words_in_l
+    (Letter 109 words_in_m
+    (Letter 110 (ending (codes "um ") head.Num)
+    (Letter 115 words_in_s
+    (Letter 116 (ending (codes "ally ") head.Tally)
+    (Letter 118 (ending (codes "ar ") head.Var)
+    (ending (codes "xor ") (head.Binary operation.Xor))))))))))))
+
+-- ---- expressions
+
+-- what stands behind the word of a form, with the closing bracket
+unfoldable pub behind_word_at : (List ℕ → Reading Tree) → Head → List ℕ → Reading Tree
+behind_word_at tree_at head.Num bytes = do
+  number ← number_at (2 ^ 64) (codes ")") bytes
   Ok (Number number.0, number.1)
-
-unfoldable pub variable_at : List ℕ → Reading Tree
-variable_at bytes = do
-  rest ← word_at (codes "var ") bytes
-  place ← number_at (2 ^ 64) (codes ")") rest
+behind_word_at tree_at head.Var bytes = do
+  place ← number_at (2 ^ 64) (codes ")") bytes
   Ok (Variable place.0, place.1)
-
-unfoldable pub sum_at : (List ℕ → Reading Tree) → List ℕ → Reading Tree
-sum_at tree_at bytes = do
-  rest ← word_at (codes "add ") bytes
-  a ← part_at tree_at (codes " ") rest
+behind_word_at tree_at head.Len bytes = do
+  array ← number_at (2 ^ 64) (codes ")") bytes
+  Ok (Length array.0, array.1)
+behind_word_at tree_at head.Item bytes = do
+  array ← number_at (2 ^ 64) (codes " ") bytes
+  index ← part_at tree_at (codes ")") array.1
+  Ok (Item array.0 index.0, index.1)
+behind_word_at tree_at (head.Binary operation) bytes = do
+  a ← part_at tree_at (codes " ") bytes
   b ← part_at tree_at (codes ")") a.1
-  Ok (Binary Add a.0 b.0, b.1)
-
-unfoldable pub fork_at : (List ℕ → Reading Tree) → List ℕ → Reading Tree
-fork_at tree_at bytes = do
-  rest ← word_at (codes "fork n ") bytes
-  child ← part_at tree_at (codes " ") rest
+  Ok (Binary operation a.0 b.0, b.1)
+behind_word_at tree_at head.If bytes = do
+  condition ← part_at tree_at (codes " ") bytes
+  first ← part_at tree_at (codes " ") condition.1
+  second ← part_at tree_at (codes ")") first.1
+  Ok (Choose condition.0 first.0 second.0, second.1)
+behind_word_at tree_at head.Let bytes = do
+  bound ← part_at tree_at (codes " ") bytes
+  body ← part_at tree_at (codes ")") bound.1
+  Ok (Bind bound.0 body.0, body.1)
+behind_word_at tree_at head.Tally bytes = do
+  ledger ← number_at (2 ^ 64) (codes " ") bytes
+  amount ← part_at tree_at (codes " ") ledger.1
+  body ← part_at tree_at (codes ")") amount.1
+  Ok (Tally ledger.0 amount.0 body.0, body.1)
+behind_word_at tree_at head.Hold bytes = do
+  lock ← number_at (2 ^ 64) (codes " ") bytes
+  body ← part_at tree_at (codes ")") lock.1
+  Ok (Hold lock.0 body.0, body.1)
+behind_word_at tree_at (head.Fork class) bytes = do
+  child ← part_at tree_at (codes " ") bytes
   during ← part_at tree_at (codes " ") child.1
   after ← part_at tree_at (codes ")") during.1
-  Ok (Fork Normal child.0 during.0 after.0, after.1)
+  Ok (Fork class child.0 during.0 after.0, after.1)
+behind_word_at tree_at head.Fold bytes = do
+  from ← part_at tree_at (codes " ") bytes
+  to ← part_at tree_at (codes " ") from.1
+  first ← part_at tree_at (codes " ") to.1
+  body ← part_at tree_at (codes ")") first.1
+  Ok (Fold from.0 to.0 first.0 body.0, body.1)
+behind_word_at tree_at (head.Sweep reduction) bytes = do
+  grain ← number_at (2 ^ 64) (codes " ") bytes
+  from ← part_at tree_at (codes " ") grain.1
+  to ← part_at tree_at (codes " ") from.1
+  body ← part_at tree_at (codes ")") to.1
+  Ok (Sweep reduction grain.0 from.0 to.0 body.0, body.1)
 
--- a form by its first letter
-abbrev pub form_at : (List ℕ → Reading Tree) → List ℕ → Reading Tree
-form_at tree_at [] = Err (Departs [])
-form_at tree_at (byte ∷ bytes) =
-    if byte == 110 then constant_at (byte ∷ bytes)
-    else if byte == 118 then variable_at (byte ∷ bytes)
-    else if byte == 97 then sum_at tree_at (byte ∷ bytes)
-    else if byte == 102 then fork_at tree_at (byte ∷ bytes)
-    else Err (Departs (byte ∷ bytes))
+-- a form behind its opening bracket, with the closing one
+unfoldable pub form_at : (List ℕ → Reading Tree) → List ℕ → Reading Tree
+form_at tree_at bytes = do
+  head ← words_at form_words bytes
+  behind_word_at tree_at head.0 head.1
 
 -- what stands behind an opening bracket
 abbrev pub opened : (List ℕ → Reading Tree) → List ℕ → Reading Tree
@@ -124,18 +232,48 @@ unfoldable pub expression_at : ℕ → List ℕ → Reading Tree
 expression_at zero = opened (λ bytes. Err (TooDeep (40 ∷ bytes)))
 expression_at (suc levels) = opened (form_at (expression_at levels))
 
--- a program with no array, ledger or lock
-abbrev pub plain : Tree → Source
-plain root = record { arrays = []; ledgers = 0; locks = 0; root = root }
+-- ---- lines
+
+-- The items of an array behind its word, and the newline. These items stand before. There are no more turns than bytes.
+abbrev pub items_within : ℕ → List ℕ → List ℕ → Reading (List ℕ)
+items_within zero items bytes = Err (Departs bytes)
+items_within (suc turns) items [] = Err (Departs [])
+items_within (suc turns) items (byte ∷ bytes) =
+    if byte == 32 then (figures_at (2 ^ 64) bytes >>= λ item. items_within turns (items ++ item.0 ∷ []) item.1)
+    else if byte == 10 then Ok (items, bytes)
+    else Err (Departs (byte ∷ bytes))
+
+unfoldable pub items_at : List ℕ → List ℕ → Reading (List ℕ)
+items_at items bytes = items_within (suc (length bytes)) items bytes
+
+-- The array lines, where these arrays stand before.
+abbrev pub arrays_within : ℕ → List (List ℕ) → List ℕ → Reading (List (List ℕ))
+arrays_within zero arrays bytes = Err (Departs bytes)
+arrays_within (suc turns) arrays [] = Ok (arrays, [])
+arrays_within (suc turns) arrays (byte ∷ bytes) =
+    if byte == 97
+    then (word_at (codes "array") (byte ∷ bytes) >>= λ rest. items_at [] rest >>= λ items. arrays_within turns (arrays ++ items.0 ∷ []) items.1)
+    else Ok (arrays, byte ∷ bytes)
+
+unfoldable pub arrays_at : List (List ℕ) → List ℕ → Reading (List (List ℕ))
+arrays_at arrays bytes = arrays_within (suc (length bytes)) arrays bytes
+
+-- what stands behind the array lines
+unfoldable pub lines_at : List (List ℕ) → List ℕ → Reading Source
+lines_at arrays bytes = do
+  rest ← word_at (codes "ledgers ") bytes
+  ledgers ← number_at 256 (10 ∷ []) rest
+  rest ← word_at (codes "locks ") ledgers.1
+  locks ← number_at 256 (10 ∷ []) rest
+  root ← expression_at 64 locks.1
+  rest ← word_at (10 ∷ []) root.1
+  Ok (record { arrays = arrays; ledgers = ledgers.0; locks = locks.0; root = root.0 }, rest)
 
 -- the program that stands behind the header, with its last newline
 unfoldable pub source_at : List ℕ → Reading Source
 source_at bytes = do
-  rest ← word_at (codes "ledgers 0" ++ 10 ∷ []) bytes
-  rest ← word_at (codes "locks 0" ++ 10 ∷ []) rest
-  root ← expression_at 64 rest
-  rest ← word_at (10 ∷ []) root.1
-  Ok (plain root.0, rest)
+  arrays ← arrays_at [] bytes
+  lines_at arrays.0 arrays.1
 
 -- nothing is left
 abbrev pub ended : Source → List ℕ → Result Source Halt

@@ -7,7 +7,11 @@ use Rattle.std.proofs.lemmas.Slice.Eq.{slice_eq-Decides}
 use lib.Pointwise.{pointwise}
 use Rattle.arachne_lang.specs.declared.program.Class.{Class}
 use Rattle.arachne_lang.specs.declared.program.Class.TheVariants.{Normal, Exclusive}
-use Rattle.arachne_lang.specs.Tree.{Operation, Add, Sub, Mul, Min, Max, Xor, Lt, Eq, Reduction, Sum, Product, Parity, Least, Greatest, Tree, Number, Variable, Length, Item, Binary, Choose, Bind, Tally, Hold, Fork, Fold, Sweep, Source}
+use Rattle.arachne_lang.specs.declared.program.Operation.{Operation}
+use Rattle.arachne_lang.specs.declared.program.Operation.TheVariants.{Add, Sub, Mul, Min, Max, Xor, Lt, Eq}
+use Rattle.arachne_lang.specs.declared.program.Reduction.{Reduction}
+use Rattle.arachne_lang.specs.declared.program.Reduction.TheVariants.{Sum, Product, Parity, Least, Greatest}
+use Rattle.arachne_lang.specs.Tree.{Tree, Number, Variable, Length, Item, Binary, Choose, Bind, Tally, Hold, Fork, Fold, Sweep, Source}
 use Rattle.arachne_lang.specs.Same.{same_class, same_operation, same_reduction, same_tree, same_source}
 
 both : (a b : Bool) → (a && b) ≡ true → (a ≡ true) × (b ≡ true)

@@ -3,7 +3,11 @@ use Rattle.std.specs.Prelude.{ℕ, zero, suc, ◌+◌, ◌/◌, ◌%◌, nat_lt,
 use Rattle.std.specs.List.{flat_map}
 use Rattle.arachne_lang.specs.declared.program.Class.{Class}
 use Rattle.arachne_lang.specs.declared.program.Class.TheVariants.{Normal, Exclusive}
-use Rattle.arachne_lang.specs.Tree.{Operation, Add, Sub, Mul, Min, Max, Xor, Lt, Eq, Reduction, Sum, Product, Parity, Least, Greatest, Tree, Number, Variable, Length, Item, Binary, Choose, Bind, Tally, Hold, Fork, Fold, Sweep, Source}
+use Rattle.arachne_lang.specs.declared.program.Operation.{Operation}
+use Rattle.arachne_lang.specs.declared.program.Operation.TheVariants.{Add, Sub, Mul, Min, Max, Xor, Lt, Eq}
+use Rattle.arachne_lang.specs.declared.program.Reduction.{Reduction}
+use Rattle.arachne_lang.specs.declared.program.Reduction.TheVariants.{Sum, Product, Parity, Least, Greatest}
+use Rattle.arachne_lang.specs.Tree.{Tree, Number, Variable, Length, Item, Binary, Choose, Bind, Tally, Hold, Fork, Fold, Sweep, Source}
 
 -- The digits of a number, with no needless zero at the front. A fuel above the number is enough.
 abbrev pub digits_within : ℕ → ℕ → List ℕ

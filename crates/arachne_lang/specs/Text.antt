@@ -1,27 +1,10 @@
 -- Which texts are accepted, and the faults of the others.
-use Rattle.std.specs.Prelude.{ℕ, ◌≡◌, ◌+◌, ◌-◌, ◌*◌, ◌^◌, ◌<◌, ◌≤◌, ◌==◌, max, List, [], ◌∷◌, ◌++◌, length, take, count_by, slice_index, ◌⊎◌, codes}
+use Rattle.std.specs.Prelude.{ℕ, ◌≡◌, ◌+◌, ◌-◌, ◌*◌, ◌^◌, ◌<◌, ◌≤◌, ◌==◌, max, List, [], ◌∷◌, ◌++◌, length, take, count_by, slice_index, ◌⊎◌}
 use Rattle.std.specs.List.{AllByRecursion}
-use Rattle.arachne_lang.specs.declared.program.Class.{Class}
-use Rattle.arachne_lang.specs.declared.program.Class.TheVariants.{Normal, Exclusive}
 use Rattle.arachne_lang.specs.declared.text_fault.TextFault.{TextFault}
 use Rattle.arachne_lang.specs.declared.text_fault.TextFault.TheVariants.{Memory, Header, Syntax, Number as Overflow, Nesting}
-use Rattle.arachne_lang.specs.Tree.{Operation, Add, Sub, Mul, Min, Max, Xor, Lt, Eq, Tree, Number, Variable, Length, Item, Binary, Choose, Bind, Tally, Hold, Fork, Fold, Sweep, Source}
+use Rattle.arachne_lang.specs.Tree.{Tree, Number, Variable, Length, Item, Binary, Choose, Bind, Tally, Hold, Fork, Fold, Sweep, Source}
 use Rattle.arachne_lang.specs.Spelling.{header, text_of}
-
--- the forms that are built so far: numbers, variables, sums and normal forks
-abbrev pub IsBuilt : Tree → Type 0
-IsBuilt (Number n) = Unit {0}
-IsBuilt (Variable k) = Unit {0}
-IsBuilt (Binary Add a b) = IsBuilt a × IsBuilt b
-IsBuilt (Fork Normal child during after) = IsBuilt child × IsBuilt during × IsBuilt after
-IsBuilt _ = ⊥
-
--- The shape: the texts of all programs, with numbers of any size and any nesting. So far with no array, no ledger and no lock.
-pub record IsOfShape (program : Source) : Type 0 where
-  pub arrays : program.arrays ≡ []
-  pub ledgers : program.ledgers ≡ 0
-  pub locks : program.locks ≡ 0
-  pub root : IsBuilt program.root
 
 -- each number of an expression is in range
 abbrev pub NumbersFit : Tree → Type 0
@@ -38,9 +21,8 @@ NumbersFit (Fork class child during after) = NumbersFit child × NumbersFit duri
 NumbersFit (Fold from to first body) = NumbersFit from × NumbersFit to × NumbersFit first × NumbersFit body
 NumbersFit (Sweep reduction grain from to body) = (grain < 2 ^ 64) × NumbersFit from × NumbersFit to × NumbersFit body
 
--- of the shape, and each number in range
+-- each number of a program is in range
 pub record IsInRange (program : Source) : Type 0 where
-  pub shape : IsOfShape program
   pub arrays : AllByRecursion (AllByRecursion (λ n. n < 2 ^ 64)) program.arrays
   pub ledgers : program.ledgers < 256
   pub locks : program.locks < 256
@@ -66,13 +48,17 @@ pub record IsAccepted (program : Source) : Type 0 where
   pub in_range : IsInRange program
   pub nesting : nesting program.root ≤ 64
 
--- The bytes begin the text of a program of which P holds.
-abbrev pub Begins : (Source → Type 0) → List ℕ → Type 0
-Begins P bytes = (program : Source) × (rest : List ℕ) × P program × (text_of program ≡ bytes ++ rest)
+-- The shape: the texts of all programs, with numbers of any size and any nesting. The bytes are such a text.
+abbrev pub IsText : List ℕ → Type 0
+IsText bytes = (program : Source) × (text_of program ≡ bytes)
 
--- The bytes are the text of a program of which P holds.
-abbrev pub IsText : (Source → Type 0) → List ℕ → Type 0
-IsText P bytes = (program : Source) × P program × (text_of program ≡ bytes)
+-- The bytes begin such a text.
+abbrev pub Begins : List ℕ → Type 0
+Begins bytes = (program : Source) × (rest : List ℕ) × (text_of program ≡ bytes ++ rest)
+
+-- The bytes begin such a text in which each number is in range.
+abbrev pub BeginsInRange : List ℕ → Type 0
+BeginsInRange bytes = (program : Source) × (rest : List ℕ) × IsInRange program × (text_of program ≡ bytes ++ rest)
 
 abbrev pub StartsWith : List ℕ → List ℕ → Type 0
 StartsWith front bytes = (rest : List ℕ) × (bytes ≡ front ++ rest)
@@ -88,16 +74,16 @@ HasFault bytes Memory = ⊥
 HasFault bytes (Header at) = (at ≡ 0) × ¬ StartsWith header bytes
 -- it is no text of the shape, and its longest front that begins one has this length
 HasFault bytes (Syntax at) =
-    StartsWith header bytes × ¬ IsText IsOfShape bytes
-    × (at ≤ length bytes) × Begins IsOfShape (take at bytes)
-    × ((longer : ℕ) → longer ≤ length bytes → Begins IsOfShape (take longer bytes) → longer ≤ at)
+    StartsWith header bytes × ¬ IsText bytes
+    × (at ≤ length bytes) × Begins (take at bytes)
+    × ((longer : ℕ) → longer ≤ length bytes → Begins (take longer bytes) → longer ≤ at)
 -- this byte is the first digit that brings a number over its range
 HasFault bytes (Overflow at) =
-    StartsWith header bytes × (at < length bytes) × Begins IsOfShape (take (at + 1) bytes)
-    × Begins IsInRange (take at bytes) × ¬ Begins IsInRange (take (at + 1) bytes)
+    StartsWith header bytes × (at < length bytes) × Begins (take (at + 1) bytes)
+    × BeginsInRange (take at bytes) × ¬ BeginsInRange (take (at + 1) bytes)
 -- this byte is the first opening bracket at level 65
 HasFault bytes (Nesting at) =
-    StartsWith header bytes × (at < length bytes) × Begins IsOfShape (take (at + 1) bytes)
+    StartsWith header bytes × (at < length bytes) × Begins (take (at + 1) bytes)
     × (slice_index bytes at ≡ 40) × (level (take at bytes) ≡ 64)
     × ((shorter : ℕ) → shorter ≤ at → level (take shorter bytes) ≤ 64)
 

@@ -1,25 +1,8 @@
 -- Programs as plain trees: what two programs that lie apart in memory have in common.
 use Rattle.std.specs.Prelude.{ℕ, List}
 use Rattle.arachne_lang.specs.declared.program.Class.{Class}
-
--- the operations of two numbers
-pub data Operation : Type 0 where
-  Add : Operation
-  Sub : Operation
-  Mul : Operation
-  Min : Operation
-  Max : Operation
-  Xor : Operation
-  Lt : Operation
-  Eq : Operation
-
--- the operations that a sweep reduces by
-pub data Reduction : Type 0 where
-  Sum : Reduction
-  Product : Reduction
-  Parity : Reduction
-  Least : Reduction
-  Greatest : Reduction
+use Rattle.arachne_lang.specs.declared.program.Operation.{Operation}
+use Rattle.arachne_lang.specs.declared.program.Reduction.{Reduction}
 
 -- an expression; numbers, and places in it, may be of any size
 pub data Tree : Type 0 where

@@ -1,8 +1,7 @@
-ghost use Rattle.std.specs.Prelude.{◌≡◌, ◌+◌, ◌-◌, ◌*◌, ◌≤◌, ◌↔◌, false, IsTrue, IfOk, SomeIff, length, sum_by};
+ghost use Rattle.std.specs.Prelude.{◌≡◌, ◌+◌, ◌-◌, ◌*◌, ◌^◌, ◌<◌, ◌≤◌, ◌↔◌, ◌++◌, IsTrue, IfOk, SomeIff, length, sum_by, take};
 ghost use Rattle.arachne_lang.specs.Program.{tree_of, source_of};
 ghost use Rattle.arachne_lang.specs.Text.{nesting};
-ghost use Rattle.arachne_lang.specs.Tree.{Source};
-ghost use Rattle.arachne_lang.specs.Checked.{node_faults, verdict_of};
+ghost use Rattle.arachne_lang.specs.Checked.{node_faults, first_fault, verdict_of};
 ghost use Rattle.arachne_lang.specs.Judgement.{node_count, judged, KeepsLimits};
 
 use crate::check_fault::CheckFault;
@@ -33,7 +32,12 @@ pub fn check(program: &Program) -> Result<(), CheckFault>
     if !is_within_limits(program) {
         return Err(CheckFault::OverLimit);
     }
-    check_nodes(&program.root, 0, 0)?;
+    let scope = Scope {
+        program,
+        within: false,
+        bound: 0,
+    };
+    scope.check(&program.root, 0)?;
     Ok(())
 }
 
@@ -47,11 +51,20 @@ fn nests_within(expr: &Expr, levels: u32) -> bool
     }
     let below = levels - 1;
     match expr {
-        Expr::Num(_) | Expr::Var(_) => true,
-        Expr::Add(a, b) => nests_within(a, below) && nests_within(b, below),
-        Expr::Fork(_, child, during, after) => nests_within(child, below)
-            && nests_within(during, below)
-            && nests_within(after, below),
+        Expr::Num(_) | Expr::Var(_) | Expr::Len(_) => true,
+        Expr::Item(_, a) | Expr::Hold(_, a) => nests_within(a, below),
+        Expr::Binary(_, a, b) | Expr::Let(a, b) | Expr::Tally(_, a, b) => {
+            nests_within(a, below) && nests_within(b, below)
+        }
+        Expr::If(a, b, c) | Expr::Fork(_, a, b, c) | Expr::Sweep(_, _, a, b, c) => {
+            nests_within(a, below) && nests_within(b, below) && nests_within(c, below)
+        }
+        Expr::Fold(a, b, c, d) => {
+            nests_within(a, below)
+                && nests_within(b, below)
+                && nests_within(c, below)
+                && nests_within(d, below)
+        }
     }
 }
 
@@ -89,37 +102,162 @@ fn nodes_left(expr: &Expr, nodes: u64) -> Option<u64>
 {
     let left = nodes.checked_sub(1)?;
     match expr {
-        Expr::Num(_) | Expr::Var(_) => Some(left),
-        Expr::Add(a, b) => nodes_left(b, nodes_left(a, left)?),
-        Expr::Fork(_, child, during, after) => nodes_left(
-            after,
-            nodes_left(during, nodes_left(child, left)?)?,
-        ),
+        Expr::Num(_) | Expr::Var(_) | Expr::Len(_) => Some(left),
+        Expr::Item(_, a) | Expr::Hold(_, a) => nodes_left(a, left),
+        Expr::Binary(_, a, b) | Expr::Let(a, b) | Expr::Tally(_, a, b) => {
+            nodes_left(b, nodes_left(a, left)?)
+        }
+        Expr::If(a, b, c) | Expr::Fork(_, a, b, c) | Expr::Sweep(_, _, a, b, c) => {
+            nodes_left(c, nodes_left(b, nodes_left(a, left)?)?)
+        }
+        Expr::Fold(a, b, c, d) => {
+            nodes_left(d, nodes_left(c, nodes_left(b, nodes_left(a, left)?)?)?)
+        }
     }
 }
 
-/// Judges the nodes of an expression, where so many variables are bound and its first node has this number.
-/// Answers the number of the node that follows.
-fn check_nodes(expr: &Expr, bound: u64, node: u64) -> Result<u64, CheckFault>
-    requires nodes { node + node_count (tree_of expr.now) ≤ MOST_NODES }
-    requires bound { bound + 2 * nesting (tree_of expr.now) ≤ 2 * MOST_LEVELS }
-    ensures judged { (program : Source) → result ≡ judged node (node_faults program false bound (tree_of expr.now)) }
-    ensures next { IfOk result (λ next. next ≡ node + node_count (tree_of expr.now)) }
-{
-    match expr {
-        Expr::Num(_) => Ok(node + 1),
-        Expr::Var(k) if *k < bound => Ok(node + 1),
-        Expr::Var(_) => Err(CheckFault::Unbound(node)),
-        Expr::Add(a, b) => {
-            let second = check_nodes(a, bound, node + 1)?;
-            let next = check_nodes(b, bound, second)?;
-            Ok(next)
+/// Where an expression stands.
+#[derive(Clone, Copy)]
+struct Scope<'p> {
+    program: &'p Program,
+    /// Within a hold.
+    within: bool,
+    /// How many variables are bound.
+    bound: u64,
+}
+
+impl<'p> Scope<'p> {
+    /// The scope with so many variables more.
+    fn binding(self, variables: u64) -> Scope<'p>
+        requires { self.bound + variables < 2 ^ 64 }
+        ensures { result ≡ record self.entry { bound = self.entry.bound + variables } }
+    {
+        Scope {
+            bound: self.bound + variables,
+            ..self
         }
-        Expr::Fork(_, child, during, after) => {
-            let second = check_nodes(child, bound, node + 1)?;
-            let third = check_nodes(during, bound, second)?;
-            let next = check_nodes(after, bound + 2, third)?;
-            Ok(next)
+    }
+
+    fn has_array(self, array: u64) -> bool
+        ensures { IsTrue result ↔ (array < length self.entry.program.now.arrays.items) }
+    {
+        array < self.program.arrays.len() as u64
+    }
+
+    /// Judges the node of this number at the top of an expression, and none of its parts.
+    fn judge(self, expr: &Expr, node: u64) -> Result<(), CheckFault>
+        ensures { result ≡ first_fault node (take 1
+            (node_faults (source_of self.entry.program.now) self.entry.within self.entry.bound (tree_of expr.now))) }
+    {
+        match expr {
+            Expr::Var(k) if *k >= self.bound => Err(CheckFault::Unbound(node)),
+            Expr::Len(array) | Expr::Item(array, _) if !self.has_array(*array) => {
+                Err(CheckFault::NoArray(node))
+            }
+            Expr::Tally(ledger, _, _) if *ledger >= u64::from(self.program.ledgers) => {
+                Err(CheckFault::NoLedger(node))
+            }
+            Expr::Hold(_, _) | Expr::Fork(_, _, _, _) | Expr::Sweep(_, _, _, _, _) if self.within =>
+                { Err(CheckFault::WithinHold(node)) }
+            Expr::Hold(lock, _) if *lock >= u64::from(self.program.locks) => {
+                Err(CheckFault::NoLock(node))
+            }
+            Expr::Sweep(_, 0, _, _, _) => Err(CheckFault::NoGrain(node)),
+            _ => Ok(()),
         }
+    }
+
+    /// Judges the nodes of an expression, of which the first has this number. Answers the number of the node that
+    /// follows them.
+    #[cycle(judging)]
+    #[tactic(auto, using(crate::proofs::NodesJudged::judged_parts, crate::proofs::NodesJudged::some_faults))]
+    fn check(self, expr: &Expr, node: u64) -> Result<u64, CheckFault>
+        requires nodes { node + node_count (tree_of expr.now) ≤ MOST_NODES }
+        requires bound { self.bound + 2 * nesting (tree_of expr.now) ≤ 2 * MOST_LEVELS }
+        ensures judged { result ≡ judged node
+            (node_faults (source_of self.entry.program.now) self.entry.within self.entry.bound (tree_of expr.now)) }
+        ensures next { IfOk result (λ next. next ≡ node + node_count (tree_of expr.now)) }
+    {
+        self.judge(expr, node)?;
+        let first = node + 1;
+        match expr {
+            Expr::Num(_) | Expr::Var(_) | Expr::Len(_) => Ok(first),
+            Expr::Item(_, a) => self.check(a, first),
+            Expr::Hold(_, a) => {
+                let within = Scope {
+                    within: true,
+                    ..self
+                };
+                within.check(a, first)
+            }
+            Expr::Binary(_, a, b) | Expr::Tally(_, a, b) => self.two(a, self, b, first),
+            Expr::Let(a, b) => self.two(a, self.binding(1), b, first),
+            Expr::If(a, b, c) => self.three(a, b, self, c, first),
+            Expr::Sweep(_, _, a, b, c) => self.three(a, b, self.binding(1), c, first),
+            Expr::Fork(_, a, b, c) => self.three(a, b, self.binding(2), c, first),
+            Expr::Fold(a, b, c, d) => self.four(a, b, c, self.binding(2), d, first),
+        }
+    }
+
+    /// The same for two parts, of which the last stands in a scope of its own.
+    #[cycle(judging)]
+    fn two(self, a: &Expr, last: Scope, b: &Expr, node: u64) -> Result<u64, CheckFault>
+        requires nodes { node + node_count (tree_of a.now) + node_count (tree_of b.now) ≤ MOST_NODES }
+        requires bound { self.bound + 2 * nesting (tree_of a.now) ≤ 2 * MOST_LEVELS }
+        requires last { last.bound + 2 * nesting (tree_of b.now) ≤ 2 * MOST_LEVELS }
+        ensures judged { result ≡ judged node
+            (node_faults (source_of self.entry.program.now) self.entry.within self.entry.bound (tree_of a.now)
+            ++ node_faults (source_of last.entry.program.now) last.entry.within last.entry.bound (tree_of b.now)) }
+        ensures next { IfOk result (λ next. next ≡ node + node_count (tree_of a.now) + node_count (tree_of b.now)) }
+    {
+        let second = self.check(a, node)?;
+        last.check(b, second)
+    }
+
+    /// The same for three parts.
+    #[cycle(judging)]
+    fn three(self, a: &Expr, b: &Expr, last: Scope, c: &Expr, node: u64) -> Result<u64, CheckFault>
+        requires nodes { node + node_count (tree_of a.now) + node_count (tree_of b.now) + node_count (tree_of c.now) ≤ MOST_NODES }
+        requires first { self.bound + 2 * nesting (tree_of a.now) ≤ 2 * MOST_LEVELS }
+        requires second { self.bound + 2 * nesting (tree_of b.now) ≤ 2 * MOST_LEVELS }
+        requires last { last.bound + 2 * nesting (tree_of c.now) ≤ 2 * MOST_LEVELS }
+        ensures judged { result ≡ judged node
+            (node_faults (source_of self.entry.program.now) self.entry.within self.entry.bound (tree_of a.now)
+            ++ node_faults (source_of self.entry.program.now) self.entry.within self.entry.bound (tree_of b.now)
+            ++ node_faults (source_of last.entry.program.now) last.entry.within last.entry.bound (tree_of c.now)) }
+        ensures next { IfOk result (λ next.
+            next ≡ node + node_count (tree_of a.now) + node_count (tree_of b.now) + node_count (tree_of c.now)) }
+    {
+        let second = self.two(a, self, b, node)?;
+        last.check(c, second)
+    }
+
+    /// The same for four parts.
+    #[cycle(judging)]
+    fn four(
+        self,
+        a: &Expr,
+        b: &Expr,
+        c: &Expr,
+        last: Scope,
+        d: &Expr,
+        node: u64,
+    ) -> Result<u64, CheckFault>
+        requires nodes { node + node_count (tree_of a.now) + node_count (tree_of b.now) + node_count (tree_of c.now)
+            + node_count (tree_of d.now) ≤ MOST_NODES }
+        requires first { self.bound + 2 * nesting (tree_of a.now) ≤ 2 * MOST_LEVELS }
+        requires second { self.bound + 2 * nesting (tree_of b.now) ≤ 2 * MOST_LEVELS }
+        requires third { self.bound + 2 * nesting (tree_of c.now) ≤ 2 * MOST_LEVELS }
+        requires last { last.bound + 2 * nesting (tree_of d.now) ≤ 2 * MOST_LEVELS }
+        ensures judged { result ≡ judged node
+            (node_faults (source_of self.entry.program.now) self.entry.within self.entry.bound (tree_of a.now)
+            ++ node_faults (source_of self.entry.program.now) self.entry.within self.entry.bound (tree_of b.now)
+            ++ node_faults (source_of self.entry.program.now) self.entry.within self.entry.bound (tree_of c.now)
+            ++ node_faults (source_of last.entry.program.now) last.entry.within last.entry.bound (tree_of d.now)) }
+        ensures next { IfOk result (λ next. next ≡ node + node_count (tree_of a.now) + node_count (tree_of b.now)
+            + node_count (tree_of c.now) + node_count (tree_of d.now)) }
+    {
+        let second = self.three(a, b, self, c, node)?;
+        last.check(d, second)
     }
 }

@@ -1,16 +1,17 @@
-ghost use Rattle.std.specs.Prelude.{◌≡◌, IfOk};
+ghost use Rattle.std.specs.Prelude.{◌≡◌, ◌+◌, ◌^◌, ◌<◌, [], ◌∷◌, ◌++◌, IfOk, length, slice_index};
 ghost use Rattle.arachne_lang.specs.declared.program.Class.{Class};
 ghost use Rattle.arachne_lang.specs.declared.program.Class.TheVariants.{Normal};
-ghost use Rattle.arachne_lang.specs.Tree.{Binary, Add, Fork};
+ghost use Rattle.arachne_lang.specs.Tree.{Binary, Choose, Bind, Tally, Hold, Fork, Fold, Sweep};
 ghost use Rattle.arachne_lang.specs.Program.{tree_of, source_of};
-ghost use Rattle.arachne_lang.specs.Value.{with_newest};
+ghost use Rattle.arachne_lang.specs.Value.{array_at, with_newest};
+ghost use Rattle.arachne_lang.specs.Effects.{tallied};
 ghost use Rattle.arachne_lang.specs.Checked.{IsChecked};
 ghost use Rattle.arachne_lang.specs.Meaning.{meaning_of};
-ghost use Rattle.arachne_lang.specs.Evaluation.{MayFork, HasLines, IsEvaluated, IsRun};
+ghost use Rattle.arachne_lang.specs.Evaluation.{Gains, IsFresh, MayFork, MaySplit, HasLines, IsEvaluated, IsFolded, IsReduced, IsHalved, IsRun, IsHalfRun};
 
 use crate::meaning::{Line, Meaning};
 use crate::name::Name;
-use crate::program::{Expr, Program};
+use crate::program::{Expr, Operation, Program, Reduction};
 use crate::sequence::Sequence;
 use std::alloc::{AllocError, Global};
 
@@ -27,6 +28,47 @@ struct Own {
     forks: u64,
 }
 
+impl Own {
+    /// A thread that has done nothing yet.
+    fn new(alloc: Global, name: Name, locks: u8) -> Result<Own, AllocError>
+        ensures { IfOk result (IsFresh locks name) }
+    {
+        Ok(Own {
+            name,
+            holds: vec![in alloc; 0; usize::from(locks)]?,
+            forks: 0,
+        })
+    }
+
+    /// The name of the next thread that this one forks.
+    fn fork(&mut self, alloc: Global) -> Result<Name, AllocError>
+        requires { self.old.forks + 1 < 2 ^ 64 }
+        ensures name { IfOk result (λ name. name ≡ self.old.name ++ self.old.forks ∷ []) }
+        ensures counted { IfOk result (λ _. self.new ≡ record self.old { forks = self.old.forks + 1 }) }
+    {
+        let name = self.name.child(alloc, self.forks)?;
+        self.forks += 1;
+        Ok(name)
+    }
+
+    fn into_line(self) -> Line
+        ensures { result ≡ record { name = self.name; holds = self.holds.items } }
+    {
+        Line {
+            name: self.name,
+            holds: Sequence::from(self.holds),
+        }
+    }
+}
+
+/// The line of a thread that has not ended.
+fn unwritten_line(alloc: Global) -> Line {
+    Line {
+        name: Name::root(alloc),
+        holds: Sequence::from(Vec::new(alloc)),
+    }
+}
+
 /// What all threads share.
 #[derive(Drop)]
 struct Shared {
@@ -38,6 +80,25 @@ struct Shared {
     lines: Vec<Line>,
 }
 
+/// What a sweep makes of a range.
+#[derive(Clone, Copy)]
+struct Reducer<'p> {
+    reduction: Reduction,
+    grain: u64,
+    body: &'p Expr,
+}
+
+/// Adds to one of the numbers, if it is there.
+fn add_at(numbers: &mut [u64], place: u64, amount: u64)
+    ensures { Gains (tallied place amount).sums numbers.old numbers.new }
+{
+    if place >= numbers.len() as u64 {
+        return;
+    }
+    let place = place as usize;
+    numbers[place] = numbers[place].wrapping_add(amount);
+}
+
 /// Evaluates the expressions of a program, by plain recursion in one thread. An error is want of memory, and
 /// what is left of the accounts is then of no use.
 #[derive(Clone, Copy)]
@@ -47,28 +108,64 @@ struct Evaluator<'p> {
 }
 
 impl Evaluator<'_> {
+    /// An item of an array, and 0 outside.
+    fn item(&self, array: u64, index: u64) -> u64
+        ensures { result ≡ slice_index (array_at (source_of self.now.program.now).arrays array) index }
+    {
+        match self.program.arrays.get(array as usize) {
+            Some(items) => items.get(index as usize).copied().unwrap_or(0),
+            None => 0,
+        }
+    }
+
+    /// How many items an array has.
+    fn length(&self, array: u64) -> u64
+        ensures { result ≡ length (array_at (source_of self.now.program.now).arrays array) }
+    {
+        match self.program.arrays.get(array as usize) {
+            Some(items) => items.len() as u64,
+            None => 0,
+        }
+    }
+
     /// Evaluates an expression in a thread of its own: its line is the next one, and those of the threads below it follow.
     #[cycle(evaluation)]
     fn run(&self, shared: &mut Shared, name: Name, expr: &Expr) -> Result<u64, AllocError>
         requires { MayFork (tree_of expr.now) 0 shared.old.lines.items }
-        ensures { IfOk result (λ value.
+        ensures value { IfOk result (λ value.
             IsRun (source_of self.now.program.now) (tree_of expr.now) name shared.old value shared.new) }
+        ensures lines { IfOk result (λ _. length shared.old.lines.items < length shared.new.lines.items) }
     {
         let place = shared.lines.len();
-        shared.lines.push(Line {
-            name: Name::root(self.alloc),
-            holds: Sequence::from(Vec::new(self.alloc)),
-        })?;
-        let mut own = Own {
-            name,
-            holds: vec![in self.alloc; 0; usize::from(self.program.locks)]?,
-            forks: 0,
-        };
+        shared.lines.push(unwritten_line(self.alloc))?;
+        let mut own = Own::new(self.alloc, name, self.program.locks)?;
         let value = self.value(shared, &mut own, expr)?;
-        shared.lines[place] = Line {
-            name: own.name,
-            holds: Sequence::from(own.holds),
-        };
+        shared.lines[place] = own.into_line();
+        Ok(value)
+    }
+
+    /// Reduces a range of so many numbers in a thread of its own, in the same way.
+    #[cycle(evaluation)]
+    fn run_half(
+        &self,
+        shared: &mut Shared,
+        name: Name,
+        reducer: Reducer,
+        first: u64,
+        n: u64,
+    ) -> Result<u64, AllocError>
+        requires numbers { first + n < 2 ^ 64 }
+        requires forks { MaySplit (tree_of reducer.body.now) n 0 shared.old.lines.items }
+        ensures value { IfOk result (λ value.
+            IsHalfRun (source_of self.now.program.now) reducer.entry.reduction reducer.entry.grain (tree_of reducer.entry.body.now) first n
+            name shared.old value shared.new) }
+        ensures lines { IfOk result (λ _. length shared.old.lines.items < length shared.new.lines.items) }
+    {
+        let place = shared.lines.len();
+        shared.lines.push(unwritten_line(self.alloc))?;
+        let mut own = Own::new(self.alloc, name, self.program.locks)?;
+        let value = self.halves(shared, &mut own, reducer, first, n)?;
+        shared.lines[place] = own.into_line();
         Ok(value)
     }
 
@@ -84,29 +181,176 @@ impl Evaluator<'_> {
         match expr {
             Expr::Num(n) => Ok(*n),
             Expr::Var(k) => Ok(shared.environment.get(*k as usize).copied().unwrap_or(0)),
-            Expr::Add(a, b) => {
-                let value = self.sum(shared, own, a, b)?;
+            Expr::Len(array) => Ok(self.length(*array)),
+            Expr::Item(array, index) => {
+                let index = self.value(shared, own, index)?;
+                Ok(self.item(*array, index))
+            }
+            Expr::Binary(operation, a, b) => {
+                let value = self.binary(shared, own, *operation, a, b)?;
+                Ok(value)
+            }
+            Expr::If(condition, first, second) => {
+                let value = self.choose(shared, own, condition, first, second)?;
+                Ok(value)
+            }
+            Expr::Let(bound, body) => {
+                let value = self.bind(shared, own, bound, body)?;
+                Ok(value)
+            }
+            Expr::Tally(ledger, amount, body) => {
+                let value = self.tally(shared, own, *ledger, amount, body)?;
+                Ok(value)
+            }
+            Expr::Hold(lock, body) => {
+                let value = self.hold(shared, own, *lock, body)?;
                 Ok(value)
             }
             Expr::Fork(_, child, during, after) => {
                 let value = self.fork(shared, own, child, during, after)?;
                 Ok(value)
             }
+            Expr::Fold(from, to, first, body) => {
+                let value = self.fold(shared, own, from, to, first, body)?;
+                Ok(value)
+            }
+            Expr::Sweep(reduction, grain, from, to, body) => {
+                let reducer = Reducer {
+                    reduction: *reduction,
+                    grain: *grain,
+                    body,
+                };
+                let value = self.sweep(shared, own, reducer, from, to)?;
+                Ok(value)
+            }
         }
     }
 
     #[cycle(evaluation)]
-    fn sum(&self, shared: &mut Shared, own: &mut Own, a: &Expr, b: &Expr) -> Result<u64, AllocError>
-        requires { MayFork (Binary Add (tree_of a.now) (tree_of b.now))
-            own.old.forks shared.old.lines.items }
+    fn binary(
+        &self,
+        shared: &mut Shared,
+        own: &mut Own,
+        operation: Operation,
+        a: &Expr,
+        b: &Expr,
+    ) -> Result<u64, AllocError>
+        requires { MayFork (Binary operation (tree_of a.now) (tree_of b.now)) own.old.forks shared.old.lines.items }
         ensures value { IfOk result (λ value.
-            IsEvaluated (source_of self.now.program.now) (Binary Add (tree_of a.now) (tree_of b.now))
+            IsEvaluated (source_of self.now.program.now) (Binary operation (tree_of a.now) (tree_of b.now))
             shared.old.environment.items own.old shared.old value own.new shared.new) }
         ensures lines { IfOk result (λ _. HasLines own.old shared.old own.new shared.new) }
     {
         let x = self.value(shared, own, a)?;
         let y = self.value(shared, own, b)?;
-        Ok(x.wrapping_add(y))
+        Ok(operation.apply(x, y))
+    }
+
+    #[cycle(evaluation)]
+    fn choose(
+        &self,
+        shared: &mut Shared,
+        own: &mut Own,
+        condition: &Expr,
+        first: &Expr,
+        second: &Expr,
+    ) -> Result<u64, AllocError>
+        requires { MayFork (Choose (tree_of condition.now) (tree_of first.now) (tree_of second.now))
+            own.old.forks shared.old.lines.items }
+        ensures value { IfOk result (λ value.
+            IsEvaluated (source_of self.now.program.now)
+            (Choose (tree_of condition.now) (tree_of first.now) (tree_of second.now))
+            shared.old.environment.items own.old shared.old value own.new shared.new) }
+        ensures lines { IfOk result (λ _. HasLines own.old shared.old own.new shared.new) }
+    {
+        let choice = self.value(shared, own, condition)?;
+        if choice == 0 {
+            let value = self.value(shared, own, second)?;
+            return Ok(value);
+        }
+        let value = self.value(shared, own, first)?;
+        Ok(value)
+    }
+
+    #[cycle(evaluation)]
+    fn bind(
+        &self,
+        shared: &mut Shared,
+        own: &mut Own,
+        bound: &Expr,
+        body: &Expr,
+    ) -> Result<u64, AllocError>
+        requires { MayFork (Bind (tree_of bound.now) (tree_of body.now)) own.old.forks shared.old.lines.items }
+        ensures value { IfOk result (λ value.
+            IsEvaluated (source_of self.now.program.now) (Bind (tree_of bound.now) (tree_of body.now))
+            shared.old.environment.items own.old shared.old value own.new shared.new) }
+        ensures lines { IfOk result (λ _. HasLines own.old shared.old own.new shared.new) }
+    {
+        let newest = self.value(shared, own, bound)?;
+        let value = self.body(shared, own, newest, body)?;
+        Ok(value)
+    }
+
+    /// Evaluates an expression with a newest variable.
+    #[cycle(evaluation)]
+    fn body(
+        &self,
+        shared: &mut Shared,
+        own: &mut Own,
+        newest: u64,
+        expr: &Expr,
+    ) -> Result<u64, AllocError>
+        requires { MayFork (tree_of expr.now) own.old.forks shared.old.lines.items }
+        ensures value { IfOk result (λ value.
+            IsEvaluated (source_of self.now.program.now) (tree_of expr.now)
+            (with_newest shared.old.environment.items newest) own.old shared.old value own.new shared.new) }
+        ensures lines { IfOk result (λ _. HasLines own.old shared.old own.new shared.new) }
+    {
+        let variables = shared.environment.len();
+        shared.environment.push(newest)?;
+        let value = self.value(shared, own, expr)?;
+        shared.environment.truncate(variables);
+        Ok(value)
+    }
+
+    #[cycle(evaluation)]
+    fn tally(
+        &self,
+        shared: &mut Shared,
+        own: &mut Own,
+        ledger: u64,
+        amount: &Expr,
+        body: &Expr,
+    ) -> Result<u64, AllocError>
+        requires { MayFork (Tally ledger (tree_of amount.now) (tree_of body.now)) own.old.forks shared.old.lines.items }
+        ensures value { IfOk result (λ value.
+            IsEvaluated (source_of self.now.program.now) (Tally ledger (tree_of amount.now) (tree_of body.now))
+            shared.old.environment.items own.old shared.old value own.new shared.new) }
+        ensures lines { IfOk result (λ _. HasLines own.old shared.old own.new shared.new) }
+    {
+        let amount = self.value(shared, own, amount)?;
+        add_at(shared.sums.as_mut_slice(), ledger, amount);
+        let value = self.value(shared, own, body)?;
+        Ok(value)
+    }
+
+    #[cycle(evaluation)]
+    fn hold(
+        &self,
+        shared: &mut Shared,
+        own: &mut Own,
+        lock: u64,
+        body: &Expr,
+    ) -> Result<u64, AllocError>
+        requires { MayFork (Hold lock (tree_of body.now)) own.old.forks shared.old.lines.items }
+        ensures value { IfOk result (λ value.
+            IsEvaluated (source_of self.now.program.now) (Hold lock (tree_of body.now))
+            shared.old.environment.items own.old shared.old value own.new shared.new) }
+        ensures lines { IfOk result (λ _. HasLines own.old shared.old own.new shared.new) }
+    {
+        add_at(own.holds.as_mut_slice(), lock, 1);
+        let value = self.value(shared, own, body)?;
+        Ok(value)
     }
 
     /// The child is evaluated after what is done during its life, so that each line is pushed where it stays.
@@ -127,8 +371,7 @@ impl Evaluator<'_> {
             shared.old.environment.items own.old shared.old value own.new shared.new) }
         ensures lines { IfOk result (λ _. HasLines own.old shared.old own.new shared.new) }
     {
-        let name = own.name.child(self.alloc, own.forks)?;
-        own.forks += 1;
+        let name = own.fork(self.alloc)?;
         let own_value = self.value(shared, own, during)?;
         let child_value = self.run(shared, name, child)?;
         let value = self.after(shared, own, child_value, own_value, after)?;
@@ -152,17 +395,157 @@ impl Evaluator<'_> {
             own.old shared.old value own.new shared.new) }
         ensures lines { IfOk result (λ _. HasLines own.old shared.old own.new shared.new) }
     {
-        let bound = shared.environment.len();
+        let variables = shared.environment.len();
         shared.environment.push(first)?;
         shared.environment.push(second)?;
         let value = self.value(shared, own, expr)?;
-        shared.environment.truncate(bound);
+        shared.environment.truncate(variables);
         Ok(value)
+    }
+
+    #[cycle(evaluation)]
+    fn fold(
+        &self,
+        shared: &mut Shared,
+        own: &mut Own,
+        from: &Expr,
+        to: &Expr,
+        first: &Expr,
+        body: &Expr,
+    ) -> Result<u64, AllocError>
+        requires { MayFork (Fold (tree_of from.now) (tree_of to.now) (tree_of first.now) (tree_of body.now))
+            own.old.forks shared.old.lines.items }
+        ensures value { IfOk result (λ value.
+            IsEvaluated (source_of self.now.program.now)
+            (Fold (tree_of from.now) (tree_of to.now) (tree_of first.now) (tree_of body.now))
+            shared.old.environment.items own.old shared.old value own.new shared.new) }
+        ensures lines { IfOk result (λ _. HasLines own.old shared.old own.new shared.new) }
+    {
+        let low = self.value(shared, own, from)?;
+        let high = self.value(shared, own, to)?;
+        let start = self.value(shared, own, first)?;
+        let value = self.turns(shared, own, low, high.saturating_sub(low), start, body)?;
+        Ok(value)
+    }
+
+    /// Takes so many turns of a fold. The number and the value so far are the two newest variables, and each turn
+    /// puts its own in the place of those before.
+    #[cycle(evaluation)]
+    fn turns(
+        &self,
+        shared: &mut Shared,
+        own: &mut Own,
+        from: u64,
+        n: u64,
+        first: u64,
+        body: &Expr,
+    ) -> Result<u64, AllocError>
+        requires numbers { from + n < 2 ^ 64 }
+        requires forks { MayFork (tree_of body.now) own.old.forks shared.old.lines.items }
+        ensures value { IfOk result (λ value.
+            IsFolded (source_of self.now.program.now) (tree_of body.now) shared.old.environment.items from first n
+            own.old shared.old value own.new shared.new) }
+        ensures environment { IfOk result (λ _. shared.new.environment.items ≡ shared.old.environment.items) }
+        ensures lines { IfOk result (λ _. HasLines own.old shared.old own.new shared.new) }
+    {
+        let variables = shared.environment.len();
+        shared.environment.push(from)?;
+        shared.environment.push(first)?;
+        let mut so_far = first;
+        for turn in 0..n {
+            shared.environment[variables] = from + turn;
+            shared.environment[variables + 1] = so_far;
+            so_far = self.value(shared, own, body)?;
+        }
+        shared.environment.truncate(variables);
+        Ok(so_far)
+    }
+
+    #[cycle(evaluation)]
+    fn sweep(
+        &self,
+        shared: &mut Shared,
+        own: &mut Own,
+        reducer: Reducer,
+        from: &Expr,
+        to: &Expr,
+    ) -> Result<u64, AllocError>
+        requires { MayFork (Sweep reducer.reduction reducer.grain (tree_of from.now) (tree_of to.now) (tree_of reducer.body.now))
+            own.old.forks shared.old.lines.items }
+        ensures value { IfOk result (λ value.
+            IsEvaluated (source_of self.now.program.now)
+            (Sweep reducer.entry.reduction reducer.entry.grain (tree_of from.now) (tree_of to.now) (tree_of reducer.entry.body.now))
+            shared.old.environment.items own.old shared.old value own.new shared.new) }
+        ensures lines { IfOk result (λ _. HasLines own.old shared.old own.new shared.new) }
+    {
+        let low = self.value(shared, own, from)?;
+        let high = self.value(shared, own, to)?;
+        let value = self.halves(shared, own, reducer, low, high.saturating_sub(low))?;
+        Ok(value)
+    }
+
+    /// Reduces a range of so many numbers. The left half of one that is longer than the grain is a child thread, which
+    /// is run after the right half, so that each line is pushed where it stays.
+    #[cycle(evaluation)]
+    fn halves(
+        &self,
+        shared: &mut Shared,
+        own: &mut Own,
+        reducer: Reducer,
+        first: u64,
+        n: u64,
+    ) -> Result<u64, AllocError>
+        requires numbers { first + n < 2 ^ 64 }
+        requires forks { MaySplit (tree_of reducer.body.now) n own.old.forks shared.old.lines.items }
+        ensures value { IfOk result (λ value.
+            IsHalved (source_of self.now.program.now) reducer.entry.reduction reducer.entry.grain (tree_of reducer.entry.body.now)
+            shared.old.environment.items first n own.old shared.old value own.new shared.new) }
+        ensures lines { IfOk result (λ _. HasLines own.old shared.old own.new shared.new) }
+    {
+        if n <= 1 || n <= reducer.grain {
+            let value = self.reduce(shared, own, reducer, first, n)?;
+            return Ok(value);
+        }
+        let name = own.fork(self.alloc)?;
+        let left = n / 2;
+        let right_value = self.halves(shared, own, reducer, first + left, n - left)?;
+        let left_value = self.run_half(shared, name, reducer, first, left)?;
+        Ok(reducer.reduction.operation().apply(left_value, right_value))
+    }
+
+    /// Reduces a range of so many numbers in the thread that is being evaluated. The number is the newest variable.
+    #[cycle(evaluation)]
+    fn reduce(
+        &self,
+        shared: &mut Shared,
+        own: &mut Own,
+        reducer: Reducer,
+        first: u64,
+        n: u64,
+    ) -> Result<u64, AllocError>
+        requires numbers { first + n < 2 ^ 64 }
+        requires forks { MayFork (tree_of reducer.body.now) own.old.forks shared.old.lines.items }
+        ensures value { IfOk result (λ value.
+            IsReduced (source_of self.now.program.now) reducer.entry.reduction (tree_of reducer.entry.body.now)
+            shared.old.environment.items first n own.old shared.old value own.new shared.new) }
+        ensures environment { IfOk result (λ _. shared.new.environment.items ≡ shared.old.environment.items) }
+        ensures lines { IfOk result (λ _. HasLines own.old shared.old own.new shared.new) }
+    {
+        let variables = shared.environment.len();
+        shared.environment.push(first)?;
+        let mut so_far = reducer.reduction.unit();
+        for turn in 0..n {
+            shared.environment[variables] = first + turn;
+            let value = self.value(shared, own, reducer.body)?;
+            so_far = reducer.reduction.operation().apply(so_far, value);
+        }
+        shared.environment.truncate(variables);
+        Ok(so_far)
     }
 }
 
 /// Evaluates a checked program on one thread, by plain recursion that goes no deeper than the program's 64
-/// levels. The only error is want of memory.
+/// levels and the 64 halvings of each sweep. The only error is want of memory.
 pub fn eval(alloc: Global, program: &Program) -> Result<Meaning, AllocError>
     requires { IsChecked (source_of program.now) }
     ensures { IfOk result (λ meaning. meaning ≡ meaning_of (source_of program.now)) }

@@ -2,14 +2,14 @@ use crate::name::Name;
 use crate::sequence::Sequence;
 
 /// A thread, and how often it held each lock, modulo 2^64.
-#[derive(Debug, Drop)]
+#[derive(Debug, PartialEq, Eq, Drop)]
 pub struct Line {
     pub name: Name,
     pub holds: Sequence<u64>,
 }
 
 /// What a program means.
-#[derive(Debug, Drop)]
+#[derive(Debug, PartialEq, Eq, Drop)]
 pub struct Meaning {
     /// The value of its expression.
     pub value: u64,

@@ -4,6 +4,7 @@ ghost use Rattle.std.specs.Cmp.{decided, partial_equiv_from_equiv};
 ghost use Rattle.std.proofs.lemmas.Cmp.{on_equiv};
 ghost use Rattle.arachne_lang.specs.Program.{tree_of, source_of};
 ghost use Rattle.arachne_lang.specs.Same.{same_tree, same_source};
+ghost use Rattle.arachne_lang.specs.Value.{apply, operation_of, unit_of};
 ghost use Rattle.arachne_lang.specs.SameDecides.{same_tree-Decides, same_source-Decides};
 
 /// Where a forked thread may run.
@@ -15,6 +16,83 @@ pub enum Class {
     Exclusive,
 }
 
+/// An operation of two numbers, unsigned and modulo 2^64.
+#[derive(Clone, Copy, Debug, PartialEq, Eq)]
+pub enum Operation {
+    Add,
+    Sub,
+    Mul,
+    Min,
+    Max,
+    Xor,
+    /// 1 where the first is less, else 0.
+    Lt,
+    /// 1 where both are the same, else 0.
+    Eq,
+}
+
+impl Operation {
+    /// What it makes of two numbers.
+    #[inline(always)]
+    pub fn apply(self, x: u64, y: u64) -> u64
+        ensures { result ≡ apply self x y }
+    {
+        match self {
+            Operation::Add => x.wrapping_add(y),
+            Operation::Sub => x.wrapping_sub(y),
+            Operation::Mul => x.wrapping_mul(y),
+            Operation::Min => x.min(y),
+            Operation::Max => x.max(y),
+            Operation::Xor => x ^ y,
+            Operation::Lt => u64::from(x < y),
+            Operation::Eq => u64::from(x == y),
+        }
+    }
+}
+
+/// What a sweep reduces its values by.
+#[derive(Clone, Copy, Debug, PartialEq, Eq)]
+pub enum Reduction {
+    /// Their sum, from 0.
+    Sum,
+    /// Their product, from 1.
+    Product,
+    /// Their exclusive or, from 0.
+    Parity,
+    /// The least of them, from 2^64 - 1.
+    Least,
+    /// The greatest of them, from 0.
+    Greatest,
+}
+
+impl Reduction {
+    /// The operation that joins two values.
+    #[inline(always)]
+    pub fn operation(self) -> Operation
+        ensures { result ≡ operation_of self }
+    {
+        match self {
+            Reduction::Sum => Operation::Add,
+            Reduction::Product => Operation::Mul,
+            Reduction::Parity => Operation::Xor,
+            Reduction::Least => Operation::Min,
+            Reduction::Greatest => Operation::Max,
+        }
+    }
+
+    /// The value that a sweep starts from: joined to another value it leaves that as it is.
+    #[inline(always)]
+    pub fn unit(self) -> u64
+        ensures { result ≡ unit_of self }
+    {
+        match self {
+            Reduction::Sum | Reduction::Parity | Reduction::Greatest => 0,
+            Reduction::Product => 1,
+            Reduction::Least => u64::MAX,
+        }
+    }
+}
+
 /// An expression of the task language.
 #[derive(Debug, Drop)]
 pub enum Expr {
@@ -22,11 +100,29 @@ pub enum Expr {
     Num(u64),
     /// A variable, by its place in the environment, the oldest being 0.
     Var(u64),
-    /// The sum of two expressions, modulo 2^64.
-    Add(Box<Expr>, Box<Expr>),
+    /// How many items an array has.
+    Len(u64),
+    /// An item of an array, from 0; 0 outside the array.
+    Item(u64, Box<Expr>),
+    /// An operation of two expressions.
+    Binary(Operation, Box<Expr>, Box<Expr>),
+    /// The second where the first is not 0, else the third; the other is not evaluated.
+    If(Box<Expr>, Box<Expr>, Box<Expr>),
+    /// The second, where the value of the first is the newest variable.
+    Let(Box<Expr>, Box<Expr>),
+    /// The value of the second, after that of the first was added to a ledger.
+    Tally(u64, Box<Expr>, Box<Expr>),
+    /// An expression that is evaluated while the thread holds a lock.
+    Hold(u64, Box<Expr>),
     /// A child thread, what the own thread evaluates meanwhile, and what it goes on with once the child
     /// is joined: there the child's value and then that of the second are the newest variables.
     Fork(Class, Box<Expr>, Box<Expr>, Box<Expr>),
+    /// A range, from the first to below the second; a value to start from; and the body, where the number
+    /// and then the value so far are the newest variables.
+    Fold(Box<Expr>, Box<Expr>, Box<Expr>, Box<Expr>),
+    /// A grain; a range, from the first expression to below the second; and the body, where the number is the
+    /// newest variable. A range that is longer than the grain is halved, and the left half is a child thread.
+    Sweep(Reduction, u64, Box<Expr>, Box<Expr>, Box<Expr>),
 }
 
 /// A program: read-only arrays, how many ledgers and locks it has, and its expression.
@@ -52,17 +148,56 @@ impl Expr {
                 Expr::Var(j) => k == j,
                 _ => false,
             },
-            Expr::Add(a, b) => match other {
-                Expr::Add(x, y) => a.is_same(x) && b.is_same(y),
+            Expr::Len(array) => match other {
+                Expr::Len(other) => array == other,
+                _ => false,
+            },
+            Expr::Item(array, index) => match other {
+                Expr::Item(other, place) => array == other && index.is_same(place),
+                _ => false,
+            },
+            Expr::Binary(operation, a, b) => match other {
+                Expr::Binary(other, x, y) => operation == other && a.is_same(x) && b.is_same(y),
+                _ => false,
+            },
+            Expr::If(condition, a, b) => match other {
+                Expr::If(other, x, y) => condition.is_same(other) && a.is_same(x) && b.is_same(y),
+                _ => false,
+            },
+            Expr::Let(bound, body) => match other {
+                Expr::Let(value, other) => bound.is_same(value) && body.is_same(other),
+                _ => false,
+            },
+            Expr::Tally(ledger, amount, body) => match other {
+                Expr::Tally(number, value, other) => ledger == number
+                    && amount.is_same(value)
+                    && body.is_same(other),
+                _ => false,
+            },
+            Expr::Hold(lock, body) => match other {
+                Expr::Hold(number, other) => lock == number && body.is_same(other),
                 _ => false,
             },
             Expr::Fork(class, child, during, after) => match other {
-                Expr::Fork(kind, first, second, third) => {
-                    class == kind
-                        && child.is_same(first)
-                        && during.is_same(second)
-                        && after.is_same(third)
-                }
+                Expr::Fork(kind, first, second, third) => class == kind
+                    && child.is_same(first)
+                    && during.is_same(second)
+                    && after.is_same(third),
+                _ => false,
+            },
+            Expr::Fold(from, to, first, body) => match other {
+                Expr::Fold(low, high, start, other) => from.is_same(low)
+                    && to.is_same(high)
+                    && first.is_same(start)
+                    && body.is_same(other),
+                _ => false,
+            },
+            Expr::Sweep(reduction, grain, from, to, body) => match other {
+                Expr::Sweep(kind, size, low, high, other) => reduction == kind
+                    && grain == size
+                    && from.is_same(low)
+                    && to.is_same(high)
+                    && body.is_same(other),
                 _ => false,
             },
         }
@@ -86,8 +221,8 @@ impl Eq for Expr {
     ghost laws = { on_equiv tree_of (decided same_tree same_tree-Decides) };
 }
 
-fn are_same_arrays(some: &Vec<Vec<u64>>, others: &Vec<Vec<u64>>) -> bool
-    ensures { IsTrue result ↔ (map (λ array. array.items) some.now.items ≡ map (λ array. array.items) others.now.items) }
+fn are_same_arrays(some: &[Vec<u64>], others: &[Vec<u64>]) -> bool
+    ensures { IsTrue result ↔ (map (λ array. array.items) some.now ≡ map (λ array. array.items) others.now) }
 {
     some == others
 }
@@ -100,7 +235,8 @@ impl Program {
         if self.ledgers != other.ledgers || self.locks != other.locks {
             return false;
         }
-        are_same_arrays(&self.arrays, &other.arrays) && self.root.is_same(&other.root)
+        are_same_arrays(self.arrays.as_slice(), other.arrays.as_slice())
+            && self.root.is_same(&other.root)
     }
 }
 

@@ -8,14 +8,18 @@ ghost use Rattle.arachne_lang.specs.Spelling.{text_of};
 ghost use Rattle.arachne_lang.specs.Text.{IsAccepted, IsFirstFault};
 ghost use Rattle.arachne_lang.specs.Reading.{Gives, program_at};
 
+mod arrays;
 mod expressions;
+mod heads;
 mod numbers;
 mod stop;
 mod words;
 
 use crate::program::Program;
 use crate::text_fault::TextFault;
+use arrays::array_lines;
 use expressions::expression;
+use numbers::small_number;
 use std::alloc::Global;
 use stop::Stop;
 use words::word;
@@ -24,7 +28,7 @@ use words::word;
 const NESTING: u8 = 64;
 
 /// The program that the text spells, all of the text. Linear in the bytes, with no copy of them; memory is
-/// taken for the boxes of the program alone.
+/// taken for the boxes and the arrays of the program alone.
 pub fn parse(alloc: Global, text: &[u8]) -> Result<Program, TextFault>
     // What is read is accepted, and the text is its spelling.
     ensures accepted { IfOk result (λ program. IsAccepted (source_of program) × (text_of (source_of program) ≡ text.now)) }
@@ -47,21 +51,24 @@ pub fn parse(alloc: Global, text: &[u8]) -> Result<Program, TextFault>
 }
 
 /// The program that stands behind the header.
-#[tactic(auto, unfolding(crate::specs::Reading::program_at, crate::specs::Reading::source_at))]
+#[tactic(auto, unfolding(crate::specs::Reading::program_at, crate::specs::Reading::source_at, crate::specs::Reading::lines_at))]
 fn program(alloc: Global, text: &[u8]) -> Result<Program, Stop<'_>>
     ensures { Gives source_of result (program_at text.now) }
 {
-    let rest = word(text, b"ledgers 0\n")?;
-    let rest = word(rest, b"locks 0\n")?;
+    let (arrays, rest) = array_lines(alloc, text)?;
+    let rest = word(rest, b"ledgers ")?;
+    let (ledgers, rest) = small_number(rest, b"\n")?;
+    let rest = word(rest, b"locks ")?;
+    let (locks, rest) = small_number(rest, b"\n")?;
     let (root, rest) = expression(alloc, NESTING, rest)?;
     let rest = word(rest, b"\n")?;
     if !rest.is_empty() {
         return Err(Stop::Departs(rest));
     }
     Ok(Program {
-        arrays: Vec::new(alloc),
-        ledgers: 0,
-        locks: 0,
+        arrays,
+        ledgers,
+        locks,
         root,
     })
 }

@@ -2,38 +2,41 @@
 use Rattle.std.proofs.Common.{◌≡◌, ◌≤◌, length-append, ℕ, ◌+◌, List, [], ◌∷◌, ◌++◌, length, refl, ap, sym, ◌∙◌, arith, append_assoc}
 use Rattle.std.proofs.lemmas.List.{append-nil}
 use Rattle.arachne_lang.specs.Tree.{Source}
-use Rattle.arachne_lang.specs.Effects.{Task, effects_of}
+use Rattle.arachne_lang.specs.Effects.{Task, Effects, effects_of, tallied, task_effects}
 use Rattle.arachne_machine.specs.declared.frame.Frame.{Frame}
-use Rattle.arachne_machine.specs.declared.frame.Frame.TheVariants.{AddRight, AddTo, Join, Restore}
+use Rattle.arachne_machine.specs.declared.frame.Frame.TheVariants.{Index, Right, Apply, Branch, Extend, Amount, Release, Join, Merge, FoldTo, FoldFirst, FoldStart, FoldTurn, SweepTo, SweepStart, SweepTurn, Restore}
 use Rattle.arachne_machine.specs.Account.{Account, after, with_fork, with_join}
-use Rattle.arachne_machine.specs.Ending.{Status, unwind, accounted, frame_work, resume, resume_account, resume_work, joined_env, fork_of, forks_of}
+use Rattle.arachne_machine.specs.Ending.{Status, unwind, accounted, account_joined, child_task, frame_work, resume, resume_account, resume_work, joined_env, fork_of, forks_of, lock_of, releases}
 use Rattle.arachne_lang.specs.Program.{tree_of}
 
-pub resume-newest : (source : Source) (name : List ℕ) (frames : List Frame) (f : Frame) (s : Status) →
-    resume source name (frames ++ f ∷ []) s ≡ resume source name frames (unwind source name f s)
-resume-newest source name [] f s = refl
-resume-newest source name (frame ∷ frames) f s = ap (unwind source name frame) (resume-newest source name frames f s)
+pub resume-append : (source : Source) (name : List ℕ) (fs gs : List Frame) (s : Status) →
+    resume source name (fs ++ gs) s ≡ resume source name fs (resume source name gs s)
+resume-append source name [] gs s = refl
+resume-append source name (f ∷ fs) gs s = ap (unwind source name f) (resume-append source name fs gs s)
 
-pub resume_account-newest : (source : Source) (name : List ℕ) (frames : List Frame) (f : Frame) (s : Status) (a : Account) →
-    resume_account source name (frames ++ f ∷ []) s a ≡ resume_account source name frames (unwind source name f s) (accounted source name f s a)
-resume_account-newest source name [] f s a = refl
-resume_account-newest source name (frame ∷ frames) f s a =
-    ap (λ s'. accounted source name frame s' (resume_account source name (frames ++ f ∷ []) s a)) (resume-newest source name frames f s)
-    ∙ ap (accounted source name frame (resume source name frames (unwind source name f s))) (resume_account-newest source name frames f s a)
+pub resume_account-append : (source : Source) (name : List ℕ) (fs gs : List Frame) (s : Status) (a : Account) →
+    resume_account source name (fs ++ gs) s a ≡ resume_account source name fs (resume source name gs s) (resume_account source name gs s a)
+resume_account-append source name [] gs s a = refl
+resume_account-append source name (f ∷ fs) gs s a =
+    ap (λ s'. accounted source name f s' (resume_account source name (fs ++ gs) s a)) (resume-append source name fs gs s)
+    ∙ ap (accounted source name f (resume source name fs (resume source name gs s))) (resume_account-append source name fs gs s a)
 
-pub resume_work-newest : (source : Source) (name : List ℕ) (frames : List Frame) (f : Frame) (s : Status) →
-    resume_work source name (frames ++ f ∷ []) s ≡ frame_work source name f s + resume_work source name frames (unwind source name f s)
-resume_work-newest source name [] f s = refl
-resume_work-newest source name (frame ∷ frames) f s =
-    let e : frame_work source name frame (resume source name (frames ++ f ∷ []) s) ≡ frame_work source name frame (resume source name frames (unwind source name f s)) =
-    ap (frame_work source name frame) (resume-newest source name frames f s) in
-    let h = resume_work-newest source name frames f s in
+pub resume_work-append : (source : Source) (name : List ℕ) (fs gs : List Frame) (s : Status) →
+    resume_work source name (fs ++ gs) s ≡ resume_work source name gs s + resume_work source name fs (resume source name gs s)
+resume_work-append source name [] gs s = omega arith
+resume_work-append source name (f ∷ fs) gs s =
+    let e : frame_work source name f (resume source name (fs ++ gs) s) ≡ frame_work source name f (resume source name fs (resume source name gs s)) =
+    ap (frame_work source name f) (resume-append source name fs gs s) in
+    let h = resume_work-append source name fs gs s in
     omega (arith, e, h)
 
-pub forks_of-newest : (frames : List Frame) (f : Frame) → forks_of (frames ++ f ∷ []) ≡ fork_of f ++ forks_of frames
-forks_of-newest [] f = sym (append-nil (fork_of f))
-forks_of-newest (frame ∷ frames) f =
-    ap (λ xs. xs ++ fork_of frame) (forks_of-newest frames f) ∙ append_assoc (fork_of f) (forks_of frames) (fork_of frame)
+pub forks_of-append : (fs gs : List Frame) → forks_of (fs ++ gs) ≡ forks_of gs ++ forks_of fs
+forks_of-append [] gs = sym (append-nil (forks_of gs))
+forks_of-append (f ∷ fs) gs = ap (λ l. l ++ fork_of f) (forks_of-append fs gs) ∙ append_assoc (forks_of gs) (forks_of fs) (fork_of f)
+
+pub releases-append : (fs gs : List Frame) → releases (fs ++ gs) ≡ releases gs ++ releases fs
+releases-append [] gs = sym (append-nil (releases gs))
+releases-append (f ∷ fs) gs = ap (λ l. l ++ lock_of f) (releases-append fs gs) ∙ append_assoc (releases gs) (releases fs) (lock_of f)
 
 -- No frame takes away a child that was made.
 pub record Grows (old new : List Task) : Type 0 where
@@ -43,20 +46,47 @@ pub record Grows (old new : List Task) : Type 0 where
 pub grows_on : (xs ys zs : List Task) → Grows xs ys → Grows ys zs → Grows xs zs
 grows_on xs ys zs p q = record { more = p.more ++ q.more; is = q.is ∙ ap (λ l. l ++ q.more) p.is ∙ append_assoc xs p.more q.more }
 
-pub grows_none : (xs ys : List Task) → ys ≡ xs ++ [] → Grows xs ys
-grows_none xs ys e = record { more = []; is = e }
+grows_none : (xs : List Task) → Grows xs xs
+grows_none xs = record { more = []; is = sym (append-nil xs) }
+
+grows_after : (name : List ℕ) (e : Effects) (a : Account) → Grows a.children (after name e a).children
+unfolding after
+grows_after name e a = record { more = e.children; is = refl }
+
+grows_twice : (name : List ℕ) (d e : Effects) (a : Account) → Grows a.children (after name e (after name d a)).children
+grows_twice name d e a =
+    grows_on a.children (after name d a).children (after name e (after name d a)).children (grows_after name d a) (grows_after name e (after name d a))
+
+grows_joined : (source : Source) (name : List ℕ) (number : ℕ) (a : Account) → Grows a.children (account_joined source name number a).children
+unfolding with_join
+grows_joined source name number a = grows_none a.children
 
 Grows-frame : (source : Source) (name : List ℕ) (f : Frame) (s : Status) (a : Account) → Grows a.children (accounted source name f s a).children
-unfolding after with_join
-Grows-frame source name (AddRight right) s a = record { more = (effects_of source.arrays source.locks (tree_of right.now) s.env).children; is = refl }
-Grows-frame source name (AddTo left) s a = grows_none a.children a.children (sym (append-nil a.children))
+Grows-frame source name (Index array) s a = grows_none a.children
+Grows-frame source name (Right operation right) s a = grows_after name _ a
+Grows-frame source name (Apply operation left) s a = grows_none a.children
+Grows-frame source name (Branch first second) s a = grows_after name _ a
+Grows-frame source name (Extend body) s a = grows_after name _ a
+Grows-frame source name (Amount ledger body) s a = grows_twice name _ _ a
+Grows-frame source name (Release lock) s a = grows_none a.children
 Grows-frame source name (Join number next) s a =
-    record { more = (effects_of source.arrays source.locks (tree_of next.now) (joined_env source name number s)).children; is = refl }
-Grows-frame source name (Restore n) s a = grows_none a.children a.children (sym (append-nil a.children))
+    let joined = account_joined source name number a in
+    grows_on a.children joined.children (accounted source name (Join number next) s a).children (grows_joined source name number a) (grows_after name _ joined)
+Grows-frame source name (Merge number reduction) s a = grows_joined source name number a
+Grows-frame source name (FoldTo to first body) s a =
+    let once = after name (effects_of source.arrays source.locks (tree_of to.now) s.env) a in
+    grows_on a.children once.children (accounted source name (FoldTo to first body) s a).children (grows_after name _ a) (grows_twice name _ _ once)
+Grows-frame source name (FoldFirst from first body) s a = grows_twice name _ _ a
+Grows-frame source name (FoldStart from to body) s a = grows_after name _ a
+Grows-frame source name (FoldTurn next end body) s a = grows_after name _ a
+Grows-frame source name (SweepTo reduction grain to body) s a = grows_twice name _ _ a
+Grows-frame source name (SweepStart reduction grain from body) s a = grows_after name _ a
+Grows-frame source name (SweepTurn reduction next end so_far body) s a = grows_after name _ a
+Grows-frame source name (Restore n) s a = grows_none a.children
 
 pub Grows-frames : (source : Source) (name : List ℕ) (frames : List Frame) (s : Status) (a : Account) →
     Grows a.children (resume_account source name frames s a).children
-Grows-frames source name [] s a = grows_none a.children a.children (sym (append-nil a.children))
+Grows-frames source name [] s a = grows_none a.children
 Grows-frames source name (frame ∷ frames) s a =
     grows_on a.children (resume_account source name frames s a).children
     (accounted source name frame (resume source name frames s) (resume_account source name frames s a)).children
@@ -64,10 +94,9 @@ Grows-frames source name (frame ∷ frames) s a =
     (Grows-frame source name frame (resume source name frames s) (resume_account source name frames s a))
 
 at_most_one : (f : Frame) → length (fork_of f) ≤ 1
-at_most_one (AddRight right) = omega arith
-at_most_one (AddTo left) = omega arith
 at_most_one (Join number next) = omega arith
-at_most_one (Restore n) = omega arith
+at_most_one (Merge number reduction) = omega arith
+at_most_one _ = omega arith
 
 -- there are no more forks than frames
 pub length-forks_of : (frames : List Frame) → length (forks_of frames) ≤ length frames

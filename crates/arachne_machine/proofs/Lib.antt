@@ -1,8 +1,14 @@
 pub mod Accounts
-pub mod Frames
-pub mod Tables
+pub mod Tabulated
 pub mod Names
+pub mod Ranges
+pub mod Halves
+pub mod Frames
 pub mod Outlooks
+pub mod Openings
+pub mod Handings
+pub mod Splitting
+pub mod Joining
 pub mod Soundness
 pub mod Advancing
 pub mod Waiting

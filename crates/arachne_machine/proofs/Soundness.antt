@@ -1,7 +1,7 @@
 -- A sound thread stays sound, and ends in the outcome of its name.
 use Rattle.std.proofs.Common.{◌≡◌, ◌≤◌, ℕ, ◌+◌, List, [], ◌∷◌, ◌++◌, length, map, Option, None, Some, refl, ap, sym, ◌∙◌, subst, arith, rules, length-append}
 use Rattle.std.specs.Prelude.{option_map, slice_get, IsSome, OnOk, OnErr, Result, Ok, Err}
-use Rattle.std.proofs.lemmas.List.{map-append, length-map}
+use Rattle.std.proofs.lemmas.List.{append-nil, map-append, length-map}
 use Rattle.arachne_lang.specs.declared.program.Program.{Program}
 use Rattle.arachne_lang.specs.declared.meaning.Meaning.{Meaning}
 use Rattle.arachne_lang.specs.declared.meaning.Line.{Line}
@@ -10,7 +10,7 @@ use Rattle.arachne_lang.specs.Program.{source_of}
 use Rattle.arachne_lang.specs.Effects.{Task, Evaluate, Effects, task_value, task_effects, line_of, tabulated}
 use Rattle.arachne_lang.specs.Meaning.{task_of}
 use Rattle.arachne_machine.specs.declared.frame.Control.{Control}
-use Rattle.arachne_machine.specs.declared.frame.Control.TheVariants.{Begin, Give, Forked as Forks, Awaits, Ended}
+use Rattle.arachne_machine.specs.declared.frame.Control.TheVariants.{Begin, Give, Cover, Forked as Forks, Halved, Awaits, AwaitsHalf, Asks, Frees, Tallies, Ended}
 use Rattle.arachne_machine.specs.declared.pause.Pending.{Pending}
 use Rattle.arachne_machine.specs.declared.pause.Pending.TheVariants as pause
 use Rattle.arachne_machine.specs.Suspended.{Suspended, SameThread, Forked, Joined, awaited}
@@ -19,13 +19,14 @@ use Rattle.arachne_machine.specs.declared.state.Stop.{Stop}
 use Rattle.arachne_machine.specs.declared.state.Stop.TheVariants as stop
 use Rattle.arachne_machine.specs.Outcome.{Finished, named_holds, meaning_as, meaning_in, outcome_of, IsOfItsName}
 use Rattle.arachne_machine.specs.Account.{Account, untouched, after, with_fork, with_join}
-use Rattle.arachne_machine.specs.Ending.{Status, child_task, ending, account_at_end, work_left, unjoined_of, resume, resume_account, frames_left, begun, begun_account, fork_awaited, forks_of}
-use Rattle.arachne_machine.specs.Steps.{Goes, GoesToFork, KeepsOverFork, IsNew, Joins, KeepsOverJoin, StopsAt, IsUnchanged, pending_of, suspended, IsNumbered}
+use Rattle.arachne_machine.specs.Ending.{Status, child_task, ending, account_at_end, work_left, unjoined_of, locks_of, resume, resume_account, frames_left, begun, begun_account, fork_awaited, forks_of, lock_freed, releases}
+use Rattle.arachne_machine.specs.Steps.{Goes, GoesToFork, KeepsOverFork, IsNew, Joins, KeepsOverJoin, Counts, StopsAt, IsUnchanged, pending_of, suspended, own_line, IsNumbered}
 use Rattle.arachne_machine.specs.Sound.{IsSound}
 use Rattle.arachne_machine.proofs.Accounts.{after-children}
 use Rattle.arachne_machine.proofs.Names.{task_below-child, slice_get-seam}
-use Rattle.arachne_machine.proofs.Outlooks.{child_task-found, goes_by, SameOutlook}
-use Rattle.arachne_machine.proofs.Tables.{tabulated-same, length-tabulated}
+use Rattle.arachne_machine.proofs.Outlooks.{IsAt, at_of, ending_at, account_at, work_at}
+use Rattle.arachne_machine.proofs.Splitting.{child_task-found}
+use Rattle.arachne_machine.proofs.Tabulated.{tabulated-same, length-tabulated}
 
 -- steps after steps
 pub goes_on : (m n k : ℕ) (a b c : State) → Goes m a b → Goes n b c → k ≤ m + n → Goes k a c
@@ -41,8 +42,8 @@ goes_on m n k a b c p q le = record {
   work = omega (arith, p.work, q.work);
 }
 
-forks_after : (m : ℕ) (a b c child : State) (task : Task) → Goes m a b → GoesToFork b c child task → GoesToFork a c child task
-forks_after m a b c child task p q =
+forks_after : (m : ℕ) (a b c child : State) (task : Task) → Goes m a b → locks_of b ≡ locks_of a → GoesToFork b c child task → GoesToFork a c child task
+forks_after m a b c child task p locks q =
     let source_is = ap (λ g. source_of g.now) p.program in
     let name_is = ap (λ o. o.name) p.own in
     let named : (task_of (source_of a.program.now) (a.own.name ++ a.forks ∷ []) ≡ Some task) → task_of (source_of b.program.now) (b.own.name ++ b.forks ∷ []) ≡ Some task =
@@ -58,6 +59,7 @@ forks_after m a b c child task p q =
       sums = q.sums ∙ p.sums;
       forks = q.forks ∙ ap (λ k. k + 1) p.forks;
       unjoined = q.unjoined ∙ ap (λ k. k ∷ unjoined_of b) p.forks ∙ ap (λ l. a.forks ∷ l) p.unjoined;
+      locks = q.locks ∙ locks;
       pending = q.pending;
       fresh = new3;
       next_child = λ account. let next = q.next_child account in (next.0, ap (λ x. x.children) (sym (p.account account)) ∙ next.1);
@@ -68,10 +70,13 @@ forks_after m a b c child task p q =
       };
     }
 
-pub goes_then_stops : (m n : ℕ) (a b c : State) (s : Stop) → Goes m a b → StopsAt 1 b (Some s) c → StopsAt n a (Some s) c
-goes_then_stops m n a b c (stop.Forks class child) p q = forks_after m a b c child.value _ p q
-goes_then_stops m n a b c stop.Joins p q = (goes_on m 1 1 a b c p q.0 (omega arith), q.1)
-goes_then_stops m n a b c stop.Ended p q = (goes_on m 0 0 a b c p q.0 (omega arith), q.1, q.2)
+pub goes_then_stops : (m n : ℕ) (a b c : State) (s : Stop) → Goes m a b → locks_of b ≡ locks_of a → StopsAt 1 b (Some s) c → StopsAt n a (Some s) c
+goes_then_stops m n a b c (stop.Forks class child) p l q = forks_after m a b c child.value _ p l q
+goes_then_stops m n a b c stop.Joins p l q = (goes_on m 1 1 a b c p q.0 (omega arith), q.1, q.2 ∙ l)
+goes_then_stops m n a b c (stop.Asks lock) p l q = (goes_on m 1 1 a b c p q.0 (omega arith), q.1, q.2 ∙ ap (λ x. lock ∷ x) l)
+goes_then_stops m n a b c (stop.Frees lock) p l q = (goes_on m 1 1 a b c p q.0 (omega arith), q.1, q.2 ∙ l, q.3)
+goes_then_stops m n a b c (stop.Tallies ledger amount) p l q = (goes_on m 1 1 a b c p q.0 (omega arith), q.1, q.2 ∙ l)
+goes_then_stops m n a b c stop.Ended p l q = (goes_on m 0 0 a b c p q.0 (omega arith), q.1, q.2, q.3 ∙ l, q.4)
 
 -- a new thread of the task of its name is sound
 pub sound_new : (program : Program) (name : List ℕ) (tag : ℕ) (task : Task) (t : State) →
@@ -84,7 +89,7 @@ sound_new program name tag task t new has =
       has_task = subst (λ x. task_of (source_of t.program.now) x ≡ Some task) name_is (subst (λ x. task_of (source_of x) name ≡ Some task) program_is has);
       account = untouched;
       sums = subst (λ x. t.sums.items ≡ tabulated (source_of x).ledgers (λ ledger. 0)) program_is new.sums;
-      holds = subst (λ x. t.own.holds ≡ tabulated (source_of x).locks (λ lock. 0)) program_is new.holds;
+      holds = subst (λ x. t.own.holds.items ≡ tabulated (source_of x).locks (λ lock. 0)) program_is new.holds;
       lines = ap (map named_holds) new.below;
       forks = new.forks;
       value = subst (λ x. (ending t).value ≡ task_value (source_of x).arrays task) program_is new.value;
@@ -102,7 +107,7 @@ sound_goes n old new s g =
       has_task = subst (λ x. task_of (source_of new.program.now) x.name ≡ Some s.task) own_is (subst (λ x. task_of x old.own.name ≡ Some s.task) program_is s.has_task);
       account = s.account;
       sums = g.sums ∙ subst (λ x. old.sums.items ≡ tabulated x.ledgers s.account.sums) program_is s.sums;
-      holds = subst (λ x. x.holds ≡ tabulated (source_of new.program.now).locks s.account.holds) own_is (subst (λ x. old.own.holds ≡ tabulated x.locks s.account.holds) program_is s.holds);
+      holds = subst (λ x. x.holds.items ≡ tabulated (source_of new.program.now).locks s.account.holds) own_is (subst (λ x. old.own.holds.items ≡ tabulated x.locks s.account.holds) program_is s.holds);
       lines = ap (map named_holds) g.below ∙ s.lines;
       forks = g.forks ∙ s.forks;
       value = ap (λ x. x.value) g.ending ∙ subst (λ x. (ending old).value ≡ task_value x.arrays s.task) program_is s.value;
@@ -158,7 +163,7 @@ sound_fork old new child task s g =
       has_task = subst (λ x. task_of (source_of new.program.now) x.name ≡ Some s.task) own_is (subst (λ x. task_of x old.own.name ≡ Some s.task) program_is s.has_task);
       account = with_fork task s.account;
       sums = g.sums ∙ subst (λ x. old.sums.items ≡ tabulated x.ledgers s.account.sums) program_is s.sums ∙ ap (tabulated (source_of new.program.now).ledgers) (sym (with_fork-sums task s.account));
-      holds = subst (λ x. x.holds ≡ tabulated (source_of new.program.now).locks s.account.holds) own_is (subst (λ x. old.own.holds ≡ tabulated x.locks s.account.holds) program_is s.holds)
+      holds = subst (λ x. x.holds.items ≡ tabulated (source_of new.program.now).locks s.account.holds) own_is (subst (λ x. old.own.holds.items ≡ tabulated x.locks s.account.holds) program_is s.holds)
           ∙ ap (tabulated (source_of new.program.now).locks) (sym (with_fork-holds task s.account));
       lines = ap (map named_holds) g.below ∙ s.lines ∙ sym (with_fork-lines task s.account);
       forks = omega (arith, g.forks, s.forks, length-append s.account.children (task ∷ []), ap length (with_fork-children task s.account));
@@ -237,8 +242,8 @@ sound_join old new outcome s of_name same_source j =
       account = account;
       sums = subst (λ x. new.sums.items ≡ tabulated x.ledgers account.sums) program_is
           (j.sums source.ledgers s.account.sums effects.sums s.sums childs ∙ ap (tabulated source.ledgers) (sym (with_join-sums source.locks name n effects s.account)));
-      holds = subst (λ x. x.holds ≡ tabulated (source_of new.program.now).locks account.holds) own_is
-          (subst (λ x. old.own.holds ≡ tabulated x.locks account.holds) program_is (s.holds ∙ ap (tabulated source.locks) (sym (with_join-holds source.locks name n effects s.account))));
+      holds = subst (λ x. x.holds.items ≡ tabulated (source_of new.program.now).locks account.holds) own_is
+          (subst (λ x. old.own.holds.items ≡ tabulated x.locks account.holds) program_is (s.holds ∙ ap (tabulated source.locks) (sym (with_join-holds source.locks name n effects s.account))));
       lines = ap (map named_holds) j.below ∙ map-append named_holds old.below.items outcome.lines ∙ ap (λ l. l ++ map named_holds outcome.lines) s.lines
           ∙ ap (λ l. s.account.lines ++ l) lines ∙ sym (with_join-lines source.locks name n effects s.account);
       forks = j.forks ∙ s.forks ∙ ap length (sym (with_join-children source.locks name n effects s.account));
@@ -270,7 +275,7 @@ same_meaning v v' t t' l l' p q r =
 
 -- A sound thread that has ended has the outcome of its name.
 pub sound_end : (t : State) (v : ℕ) → IsSound t → t.control ≡ Ended v →
-    IsOfItsName (record { program = t.program.now; name = t.own.name; value = v; sums = t.sums.items; lines = t.own ∷ t.below.items })
+    IsOfItsName (record { program = t.program.now; name = t.own.name; value = v; sums = t.sums.items; lines = own_line t.own ∷ t.below.items })
 sound_end t v s ended =
     let source = source_of t.program.now in
     let name = t.own.name in
@@ -283,16 +288,49 @@ sound_end t v s ended =
     let sums : t.sums.items ≡ tabulated source.ledgers effects.sums =
     s.sums ∙ ap (λ a. tabulated source.ledgers a.sums) whole ∙ ap (tabulated source.ledgers) (after-sums name effects untouched)
     ∙ tabulated-same source.ledgers (λ l. 0 + effects.sums l) effects.sums (λ k. omega arith) in
-    let holds : t.own.holds ≡ tabulated source.locks effects.holds =
+    let holds : t.own.holds.items ≡ tabulated source.locks effects.holds =
     s.holds ∙ ap (λ a. tabulated source.locks a.holds) whole ∙ ap (tabulated source.locks) (after-holds name effects untouched)
     ∙ tabulated-same source.locks (λ l. 0 + effects.holds l) effects.holds (λ k. omega arith) in
     let below : map named_holds t.below.items ≡ effects.lines name 0 = s.lines ∙ ap (λ a. a.lines) whole ∙ after-lines name effects untouched in
     let line : List ℕ → Line = λ h. record { name = name; holds = h } in
     ap (option_map (meaning_as source name)) s.has_task
     ∙ ap (λ m. Some m) (same_meaning (task_value source.arrays s.task) v (tabulated source.ledgers effects.sums) t.sums.items
-    (line_of source.locks name effects ∷ effects.lines name 0) (map named_holds (t.own ∷ t.below.items))
+    (line_of source.locks name effects ∷ effects.lines name 0) (map named_holds (own_line t.own ∷ t.below.items))
     (sym value) (sym sums)
-    (ap (λ h. line h ∷ effects.lines name 0) (sym holds) ∙ ap (λ l. line t.own.holds ∷ l) (sym below)))
+    (ap (λ h. line h ∷ effects.lines name 0) (sym holds) ∙ ap (λ l. line t.own.holds.items ∷ l) (sym below)))
+
+-- A sound thread that counts effects of its own stays sound.
+pub sound_counts : (old new : State) (effects : Effects) → IsSound old → effects.children ≡ [] → ((name : List ℕ) (next : ℕ) → effects.lines name next ≡ []) → Counts effects old new → IsSound new
+sound_counts old new effects s no_children no_lines g =
+    let program_is = sym (ap (λ x. source_of x.now) g.program) in
+    let name_is = sym g.name in
+    let name = old.own.name in
+    let account = after name effects s.account in
+    record {
+      task = s.task;
+      has_task = subst (λ x. task_of (source_of new.program.now) x ≡ Some s.task) name_is (subst (λ x. task_of x old.own.name ≡ Some s.task) program_is s.has_task);
+      account = account;
+      sums = subst (λ x. new.sums.items ≡ tabulated x.ledgers account.sums) program_is
+          (g.sums (source_of old.program.now).ledgers s.account.sums s.sums ∙ ap (tabulated (source_of old.program.now).ledgers) (sym (after-sums name effects s.account)));
+      holds = subst (λ x. new.own.holds.items ≡ tabulated x.locks account.holds) program_is
+          (g.holds (source_of old.program.now).locks s.account.holds s.holds ∙ ap (tabulated (source_of old.program.now).locks) (sym (after-holds name effects s.account)));
+      lines = ap (map named_holds) g.below ∙ s.lines ∙ sym (after-lines name effects s.account ∙ ap (λ l. s.account.lines ++ l) (no_lines name (length s.account.children)) ∙ append-nil s.account.lines);
+      forks = g.forks ∙ s.forks ∙ sym (ap length (after-children name effects s.account ∙ ap (λ l. s.account.children ++ l) no_children ∙ append-nil s.account.children));
+      value = ap (λ x. x.value) g.ending ∙ subst (λ x. (ending old).value ≡ task_value x.arrays s.task) program_is s.value;
+      whole = g.account s.account ∙ subst (λ x. account_at_end old s.account ≡ after x (task_effects (source_of new.program.now).arrays (source_of new.program.now).locks s.task) untouched) name_is
+          (subst (λ x. account_at_end old s.account ≡ after old.own.name (task_effects x.arrays x.locks s.task) untouched) program_is s.whole);
+      numbered = omega (arith, s.numbered, g.forks, ap length g.below, ap length g.unjoined);
+    }
+
+pub counted_seen : (old new : State) (effects : Effects) → Counts effects old new → SameThread (suspended old) (suspended new)
+counted_seen old new effects g = record {
+  program = ap (λ p. p.now) g.program;
+  name = g.name;
+  tag = g.tag;
+  forks = g.forks;
+  unjoined = g.unjoined;
+  below = g.below;
+}
 
 -- What callers see of these steps.
 pub same_thread : (n : ℕ) (old new : State) → Goes n old new → SameThread (suspended old) (suspended new)
@@ -314,6 +352,7 @@ forked_seen old new child task s g =
       tag = ap (λ o. o.tag) g.own;
       forks = g.forks;
       unjoined = g.unjoined;
+      locks = g.locks;
       below = g.below;
       pending = g.pending;
       fresh = record {
@@ -322,29 +361,39 @@ forked_seen old new child task s g =
         has_tag = g.fresh.has_tag;
         no_forks = g.fresh.forks;
         none_unjoined = g.fresh.unjoined;
+        no_locks = g.fresh.locks;
         none_below = g.fresh.below;
         not_paused = g.fresh.pending;
       };
       work = kept.work;
     }
 
-not_joins_0 : ◌≡◌ {A = Option Pending} None (Some pause.Joins) → ⊥
-not_joins_0 h = cc
+not_running : ◌≡◌ {A = Option Pending} None (Some pause.Joins) → ⊥
+not_running h = cc
 
-not_joins_1 : Some pause.Forks ≡ Some pause.Joins → ⊥
-not_joins_1 h = cc
+not_another : (p : Pending) → (is_joins : Pending → Type 0) → is_joins pause.Joins → (is_joins p → ⊥) → Some p ≡ Some pause.Joins → ⊥
+not_another p is_joins holds fails h =
+    let same : p ≡ pause.Joins = cc in
+    fails (subst is_joins (sym same) holds)
 
-not_joins_2 : Some pause.Ended ≡ Some pause.Joins → ⊥
-not_joins_2 h = cc
+abbrev IsJoins : Pending → Type 0
+IsJoins pause.Joins = Unit {0}
+IsJoins _ = ⊥
 
 -- a thread that awaits a child shows whose outcome it awaits
 awaits_some : (k : Control) (name frames : List ℕ) → pending_of k ≡ Some pause.Joins →
     IsSome (option_map (λ number. name ++ number ∷ []) (slice_get (fork_awaited k ++ frames) 0))
 awaits_some (Awaits number during next) name frames h = search rules
-awaits_some (Begin expr) name frames h = absurd (not_joins_0 h)
-awaits_some (Give value) name frames h = absurd (not_joins_0 h)
-awaits_some (Forks expr) name frames h = absurd (not_joins_1 h)
-awaits_some (Ended value) name frames h = absurd (not_joins_2 h)
+awaits_some (AwaitsHalf number right reduction) name frames h = search rules
+awaits_some (Begin expr) name frames h = absurd (not_running h)
+awaits_some (Give value) name frames h = absurd (not_running h)
+awaits_some (Cover stretch) name frames h = absurd (not_running h)
+awaits_some (Forks expr) name frames h = absurd (not_another pause.Forks IsJoins tt (λ x. x) h)
+awaits_some (Halved stretch) name frames h = absurd (not_another pause.Forks IsJoins tt (λ x. x) h)
+awaits_some (Asks lock body) name frames h = absurd (not_another (pause.Asks lock) IsJoins tt (λ x. x) h)
+awaits_some (Frees lock value) name frames h = absurd (not_another (pause.Frees lock) IsJoins tt (λ x. x) h)
+awaits_some (Tallies ledger amount body) name frames h = absurd (not_another (pause.Tallies ledger amount) IsJoins tt (λ x. x) h)
+awaits_some (Ended value) name frames h = absurd (not_another pause.Ended IsJoins tt (λ x. x) h)
 
 pub stopped_seen : (n : ℕ) (old new : State) → Goes n old new → pending_of new.control ≡ Some pause.Joins → IsSome (awaited (suspended new))
 stopped_seen n old new g h = awaits_some new.control new.own.name (forks_of new.frames.items) h
@@ -358,6 +407,7 @@ joined_seen old new outcome s of_name same_source j = record {
   tag = ap (λ o. o.tag) j.own;
   forks = j.forks;
   unjoined = (j.number, j.unjoined);
+  locks = j.locks;
   below = j.below;
   pending = j.pending;
   work = (join_keeps old new outcome of_name same_source j).work;
@@ -376,9 +426,27 @@ same_length t outcome s of_name same_source =
 -- a sound thread in which nothing has changed but room
 pub goes_nowhere : (old new : State) → IsUnchanged old new → Goes 0 old new
 goes_nowhere old new u =
-    goes_by 0 old new old.control old.control old.frames.items old.frames.items old.environment.items old.environment.items
-    u.program u.own u.below u.sums u.forks refl u.control refl u.frames refl u.environment
-    (record { unjoined = refl; ending = refl; account = λ a. refl; work = omega arith })
+    let source = source_of old.program.now in
+    let name = old.own.name in
+    let k = old.control in
+    let fs = old.frames.items in
+    let env = old.environment.items in
+    let at = at_of old new k fs env u in
+    record {
+      program = u.program;
+      own = u.own;
+      below = u.below;
+      sums = u.sums;
+      forks = u.forks;
+      unjoined = ap (λ x. fork_awaited x ++ forks_of new.frames.items) u.control_is ∙ ap (λ x. fork_awaited k ++ forks_of x) u.frames_are;
+      ending = ending_at source name k fs env new at;
+      account = λ a. account_at source name k fs env new a at;
+      work = omega (arith, work_at source name k fs env new at);
+    }
+
+-- nor have its locks
+pub locks_unchanged : (old new : State) → IsUnchanged old new → locks_of new ≡ locks_of old
+locks_unchanged old new u = ap (λ x. lock_freed x ++ releases new.frames.items) u.control_is ∙ ap (λ x. lock_freed old.control ++ releases x) u.frames_are
 
 -- and it looks the same
 pub unchanged_seen : (old new : State) → IsUnchanged old new → suspended new ≡ suspended old

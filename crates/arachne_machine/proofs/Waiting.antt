@@ -11,6 +11,16 @@ pub waits_same : (program : Program) (name name' : List ℕ) (threads : List Sus
     Waits program name threads keys → Waits program name' threads keys
 waits_same program name name' threads keys e h = subst (λ n. Waits program n threads keys) (sym e) h
 
+pub same_on : (a b c : Suspended) → SameThread a b → SameThread b c → SameThread a c
+same_on a b c p q = record {
+  program = q.program ∙ p.program;
+  name = q.name ∙ p.name;
+  tag = q.tag ∙ p.tag;
+  forks = q.forks ∙ p.forks;
+  unjoined = q.unjoined ∙ p.unjoined;
+  below = q.below ∙ p.below;
+}
+
 brought_same : (program : Program) (old new : Suspended) (keys rest : List (Program × List ℕ)) → SameThread old new →
     keys ≡ childs_keys program old.name old.unjoined ++ rest → keys ≡ childs_keys program new.name new.unjoined ++ rest
 brought_same program old new keys rest same e =

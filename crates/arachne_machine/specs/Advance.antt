@@ -1,5 +1,5 @@
 -- What the calls of a thread do.
-use Rattle.std.specs.Prelude.{◌≡◌, ◌≤◌, ℕ, ◌+◌, [], Option, None, Some, IsSome, Result, Ok, Err}
+use Rattle.std.specs.Prelude.{◌≡◌, ◌≤◌, ℕ, ◌+◌, List, [], ◌∷◌, Option, None, Some, IsSome, Result, Ok, Err}
 use Rattle.arachne_machine.specs.declared.pause.Pending.TheVariants as pause
 use Rattle.arachne_machine.specs.declared.pause.Pause.{Pause}
 use Rattle.arachne_machine.specs.declared.pause.Pause.TheVariants as pauses
@@ -15,14 +15,26 @@ use Rattle.arachne_machine.specs.Suspended.{Suspended, SameThread, Forked, await
 -- What an advance does, by the pause that it gives. The budget bounds the steps.
 abbrev pub Advanced : ℕ → Suspended → Pause → Suspended → Type 0
 -- the whole budget was used
-Advanced budget old pauses.Budget new = SameThread old new × (new.pending ≡ None) × (new.work + budget ≤ old.work)
+Advanced budget old pauses.Budget new =
+    SameThread old new × (new.locks ≡ old.locks) × (new.pending ≡ None) × (new.work + budget ≤ old.work)
 -- a child was forked
 Advanced budget old (pauses.Forks class child) new = Forked old new child
 -- a child is awaited, the one of the newest fork that is not joined
 Advanced budget old pauses.Joins new =
-    SameThread old new × (new.pending ≡ Some pause.Joins) × IsSome (awaited new) × (new.work + 1 ≤ old.work)
--- it has ended, and has joined each child
-Advanced budget old pauses.Ended new = SameThread old new × (new.pending ≡ Some pause.Ended) × (new.unjoined ≡ []) × (new.work ≤ old.work)
+    SameThread old new × (new.locks ≡ old.locks) × (new.pending ≡ Some pause.Joins) × IsSome (awaited new) × (new.work + 1 ≤ old.work)
+-- a lock is asked for
+Advanced budget old (pauses.Asks lock) new =
+    SameThread old new × (new.locks ≡ lock ∷ old.locks) × (new.pending ≡ Some (pause.Asks lock)) × (new.work + 1 ≤ old.work)
+-- the lock is freed that was asked for last among those that are not freed
+Advanced budget old (pauses.Frees lock) new =
+    SameThread old new × (new.locks ≡ old.locks) × (new.pending ≡ Some (pause.Frees lock))
+    × ((others : List ℕ) × (old.locks ≡ lock ∷ others)) × (new.work + 1 ≤ old.work)
+-- an amount is added to a ledger
+Advanced budget old (pauses.Tallies ledger amount) new =
+    SameThread old new × (new.locks ≡ old.locks) × (new.pending ≡ Some (pause.Tallies ledger amount)) × (new.work + 1 ≤ old.work)
+-- it has ended, and has joined each child and freed each lock
+Advanced budget old pauses.Ended new =
+    SameThread old new × (old.locks ≡ []) × (new.locks ≡ []) × (new.pending ≡ Some pause.Ended) × (new.unjoined ≡ []) × (new.work ≤ old.work)
 
 -- the outcome that was refused
 abbrev pub handed_back : NotJoined → Finished
@@ -40,11 +52,12 @@ abbrev pub pause_of : Option Stop → Pause
 pause_of None = pauses.Budget
 pause_of (Some (stop.Forks class child)) = pauses.Forks class (suspended child.value)
 pause_of (Some stop.Joins) = pauses.Joins
+pause_of (Some (stop.Asks lock)) = pauses.Asks lock
+pause_of (Some (stop.Frees lock)) = pauses.Frees lock
+pause_of (Some (stop.Tallies ledger amount)) = pauses.Tallies ledger amount
 pause_of (Some stop.Ended) = pauses.Ended
 
 -- a child that is forked is sound
 abbrev pub IsSoundStop : Option Stop → Type 0
-IsSoundStop None = Unit {0}
 IsSoundStop (Some (stop.Forks class child)) = IsSound child.value
-IsSoundStop (Some stop.Joins) = Unit {0}
-IsSoundStop (Some stop.Ended) = Unit {0}
+IsSoundStop _ = Unit {0}

@@ -1,17 +1,19 @@
 -- What a suspended thread will come to.
-use Rattle.std.specs.Prelude.{ℕ, ◌+◌, List, [], ◌∷◌, ◌++◌, Option, unwrap_or, take}
-use Rattle.arachne_lang.specs.declared.program.Expr.{Expr}
-use Rattle.arachne_lang.specs.Tree.{Source, Number, Add}
+use Rattle.std.specs.Prelude.{ℕ, ◌+◌, ◌-◌, ◌==◌, if◌then◌else◌, List, [], ◌∷◌, ◌++◌, Option, unwrap_or, take, length, slice_index}
+use Rattle.arachne_lang.specs.declared.program.Operation.{Operation}
+use Rattle.arachne_lang.specs.Tree.{Tree, Source, Number}
 use Rattle.arachne_lang.specs.Program.{source_of, tree_of}
-use Rattle.arachne_lang.specs.Value.{Environment, with_newest, value_of, apply}
-use Rattle.arachne_lang.specs.Effects.{Task, Evaluate, task_value, task_effects, effects_of}
+use Rattle.arachne_lang.specs.Value.{Environment, with_newest, value_of, array_at, apply, operation_of}
+use Rattle.arachne_lang.specs.Effects.{Task, Evaluate, Reduce, task_value, task_effects, effects_of, tallied, held}
 use Rattle.arachne_lang.specs.Meaning.{task_of}
+use Rattle.arachne_machine.specs.declared.frame.Stretch.{Stretch}
 use Rattle.arachne_machine.specs.declared.frame.Frame.{Frame}
-use Rattle.arachne_machine.specs.declared.frame.Frame.TheVariants.{AddRight, AddTo, Join, Restore}
+use Rattle.arachne_machine.specs.declared.frame.Frame.TheVariants.{Index, Right, Apply, Branch, Extend, Amount, Release, Join, Merge, FoldTo, FoldFirst, FoldStart, FoldTurn, SweepTo, SweepStart, SweepTurn, Restore}
 use Rattle.arachne_machine.specs.declared.frame.Control.{Control}
-use Rattle.arachne_machine.specs.declared.frame.Control.TheVariants.{Begin, Give, Forked, Awaits, Ended}
+use Rattle.arachne_machine.specs.declared.frame.Control.TheVariants.{Begin, Give, Cover, Forked, Halved, Awaits, AwaitsHalf, Asks, Frees, Tallies, Ended}
 use Rattle.arachne_machine.specs.declared.state.State.{State}
 use Rattle.arachne_machine.specs.Work.{work_of}
+use Rattle.arachne_machine.specs.Turns.{folded, folded_effects, folded_work, swept, swept_effects, swept_work, split_work}
 use Rattle.arachne_machine.specs.Account.{Account, after, with_join}
 
 -- the environment and the value that a part of the evaluation leaves
@@ -29,36 +31,146 @@ joined_env source name number s =
     with_newest (with_newest s.env (task_value source.arrays (child_task source name number))) s.value
 
 -- what an expression leaves that is begun after that join
-abbrev pub status_after_join : Source → List ℕ → ℕ → Expr → Status → Status
+abbrev pub status_after_join : Source → List ℕ → ℕ → Tree → Status → Status
 status_after_join source name number next s =
-    record { env = s.env; value = value_of source.arrays (tree_of next) (joined_env source name number s) }
+    record { env = s.env; value = value_of source.arrays next (joined_env source name number s) }
 
--- and the account
-abbrev pub account_after_join : Source → List ℕ → ℕ → Expr → Status → Account → Account
+-- the account after that join
+abbrev pub account_joined : Source → List ℕ → ℕ → Account → Account
+account_joined source name number account =
+    with_join source.locks name number (task_effects source.arrays source.locks (child_task source name number)) account
+
+-- and after that expression too
+abbrev pub account_after_join : Source → List ℕ → ℕ → Tree → Status → Account → Account
 account_after_join source name number next s account =
-    after name (effects_of source.arrays source.locks (tree_of next) (joined_env source name number s))
-    (with_join source.locks name number (task_effects source.arrays source.locks (child_task source name number)) account)
+    after name (effects_of source.arrays source.locks next (joined_env source name number s)) (account_joined source name number account)
+
+-- what the halves of a sweep make once the left one was joined
+abbrev pub status_merged : Source → List ℕ → ℕ → Operation → Status → Status
+status_merged source name number operation s =
+    record { env = s.env; value = apply operation (task_value source.arrays (child_task source name number)) s.value }
+
+-- the task of a part of a sweep
+abbrev pub stretch_task : Stretch → Environment → Task
+stretch_task stretch env = Reduce stretch.reduction stretch.grain (tree_of stretch.body.now) env stretch.first (stretch.end - stretch.first)
+
+-- without so many of the newest variables
+abbrev pub without_newest : ℕ → Environment → Environment
+without_newest n env = take (length env - n) env
 
 -- what a frame makes of what came before it
 abbrev pub unwind : Source → List ℕ → Frame → Status → Status
-unwind source name (AddRight right) s =
-    record { env = s.env; value = apply Add s.value (value_of source.arrays (tree_of right.now) s.env) }
-unwind source name (AddTo left) s = record { env = s.env; value = apply Add left s.value }
-unwind source name (Join number next) s = status_after_join source name number next.now s
+unwind source name (Index a) s = record { env = s.env; value = slice_index (array_at source.arrays a) s.value }
+unwind source name (Right operation right) s =
+    record { env = s.env; value = apply operation s.value (value_of source.arrays (tree_of right.now) s.env) }
+unwind source name (Apply operation left) s = record { env = s.env; value = apply operation left s.value }
+unwind source name (Branch first second) s = record {
+  env = s.env;
+  value = if s.value == 0 then value_of source.arrays (tree_of second.now) s.env else value_of source.arrays (tree_of first.now) s.env;
+}
+unwind source name (Extend body) s =
+    record { env = s.env; value = value_of source.arrays (tree_of body.now) (with_newest s.env s.value) }
+unwind source name (Amount ledger body) s = record { env = s.env; value = value_of source.arrays (tree_of body.now) s.env }
+unwind source name (Release lock) s = s
+unwind source name (Join number next) s = status_after_join source name number (tree_of next.now) s
+unwind source name (Merge number reduction) s = status_merged source name number (operation_of reduction) s
+unwind source name (FoldTo to first body) s = record {
+  env = s.env;
+  value = folded source.arrays (tree_of body.now) s.env s.value (value_of source.arrays (tree_of to.now) s.env - s.value)
+      (value_of source.arrays (tree_of first.now) s.env);
+}
+unwind source name (FoldFirst from first body) s = record {
+  env = s.env;
+  value = folded source.arrays (tree_of body.now) s.env from (s.value - from) (value_of source.arrays (tree_of first.now) s.env);
+}
+unwind source name (FoldStart from to body) s =
+    record { env = s.env; value = folded source.arrays (tree_of body.now) s.env from (to - from) s.value }
+unwind source name (FoldTurn next end body) s = record {
+  env = without_newest 2 s.env;
+  value = folded source.arrays (tree_of body.now) (without_newest 2 s.env) next (end - next) s.value;
+}
+unwind source name (SweepTo reduction grain to body) s = record {
+  env = s.env;
+  value = task_value source.arrays
+      (Reduce reduction grain (tree_of body.now) s.env s.value (value_of source.arrays (tree_of to.now) s.env - s.value));
+}
+unwind source name (SweepStart reduction grain from body) s =
+    record { env = s.env; value = task_value source.arrays (Reduce reduction grain (tree_of body.now) s.env from (s.value - from)) }
+unwind source name (SweepTurn reduction next end so_far body) s = record {
+  env = without_newest 1 s.env;
+  value = swept source.arrays reduction (tree_of body.now) (without_newest 1 s.env) next (end - next)
+      (apply (operation_of reduction) so_far s.value);
+}
 unwind source name (Restore n) s = record { env = take n s.env; value = s.value }
 
 -- and of the account
 abbrev pub accounted : Source → List ℕ → Frame → Status → Account → Account
-accounted source name (AddRight right) s account = after name (effects_of source.arrays source.locks (tree_of right.now) s.env) account
-accounted source name (AddTo left) s account = account
-accounted source name (Join number next) s account = account_after_join source name number next.now s account
+accounted source name (Right operation right) s account =
+    after name (effects_of source.arrays source.locks (tree_of right.now) s.env) account
+accounted source name (Branch first second) s account =
+    after name (if s.value == 0 then effects_of source.arrays source.locks (tree_of second.now) s.env
+    else effects_of source.arrays source.locks (tree_of first.now) s.env) account
+accounted source name (Extend body) s account =
+    after name (effects_of source.arrays source.locks (tree_of body.now) (with_newest s.env s.value)) account
+accounted source name (Amount ledger body) s account =
+    after name (effects_of source.arrays source.locks (tree_of body.now) s.env) (after name (tallied ledger s.value) account)
+accounted source name (Join number next) s account = account_after_join source name number (tree_of next.now) s account
+accounted source name (Merge number reduction) s account = account_joined source name number account
+accounted source name (FoldTo to first body) s account =
+    after name (folded_effects source.arrays source.locks (tree_of body.now) s.env s.value
+    (value_of source.arrays (tree_of to.now) s.env - s.value) (value_of source.arrays (tree_of first.now) s.env))
+    (after name (effects_of source.arrays source.locks (tree_of first.now) s.env)
+    (after name (effects_of source.arrays source.locks (tree_of to.now) s.env) account))
+accounted source name (FoldFirst from first body) s account =
+    after name (folded_effects source.arrays source.locks (tree_of body.now) s.env from (s.value - from)
+    (value_of source.arrays (tree_of first.now) s.env))
+    (after name (effects_of source.arrays source.locks (tree_of first.now) s.env) account)
+accounted source name (FoldStart from to body) s account =
+    after name (folded_effects source.arrays source.locks (tree_of body.now) s.env from (to - from) s.value) account
+accounted source name (FoldTurn next end body) s account =
+    after name (folded_effects source.arrays source.locks (tree_of body.now) (without_newest 2 s.env) next (end - next) s.value) account
+accounted source name (SweepTo reduction grain to body) s account =
+    after name (task_effects source.arrays source.locks
+    (Reduce reduction grain (tree_of body.now) s.env s.value (value_of source.arrays (tree_of to.now) s.env - s.value)))
+    (after name (effects_of source.arrays source.locks (tree_of to.now) s.env) account)
+accounted source name (SweepStart reduction grain from body) s account =
+    after name (task_effects source.arrays source.locks (Reduce reduction grain (tree_of body.now) s.env from (s.value - from))) account
+accounted source name (SweepTurn reduction next end so_far body) s account =
+    after name (swept_effects source.arrays source.locks (tree_of body.now) (without_newest 1 s.env) next (end - next)) account
+accounted source name (Index a) s account = account
+accounted source name (Apply operation left) s account = account
+accounted source name (Release lock) s account = account
 accounted source name (Restore n) s account = account
 
 -- the steps that it takes
 abbrev pub frame_work : Source → List ℕ → Frame → Status → ℕ
-frame_work source name (AddRight right) s = work_of source.arrays right.now s.env + 2
-frame_work source name (AddTo left) s = 1
-frame_work source name (Join number next) s = work_of source.arrays next.now (joined_env source name number s) + 2
+frame_work source name (Index a) s = 1
+frame_work source name (Right operation right) s = work_of source.arrays (tree_of right.now) s.env + 2
+frame_work source name (Apply operation left) s = 1
+frame_work source name (Branch first second) s =
+    (if s.value == 0 then work_of source.arrays (tree_of second.now) s.env else work_of source.arrays (tree_of first.now) s.env) + 1
+frame_work source name (Extend body) s = work_of source.arrays (tree_of body.now) (with_newest s.env s.value) + 2
+frame_work source name (Amount ledger body) s = work_of source.arrays (tree_of body.now) s.env + 1
+frame_work source name (Release lock) s = 1
+frame_work source name (Join number next) s = work_of source.arrays (tree_of next.now) (joined_env source name number s) + 2
+frame_work source name (Merge number reduction) s = 1
+frame_work source name (FoldTo to first body) s =
+    work_of source.arrays (tree_of to.now) s.env + work_of source.arrays (tree_of first.now) s.env
+    + folded_work source.arrays (tree_of body.now) s.env s.value (value_of source.arrays (tree_of to.now) s.env - s.value)
+    (value_of source.arrays (tree_of first.now) s.env) + 3
+frame_work source name (FoldFirst from first body) s =
+    work_of source.arrays (tree_of first.now) s.env
+    + folded_work source.arrays (tree_of body.now) s.env from (s.value - from) (value_of source.arrays (tree_of first.now) s.env) + 2
+frame_work source name (FoldStart from to body) s = folded_work source.arrays (tree_of body.now) s.env from (to - from) s.value + 1
+frame_work source name (FoldTurn next end body) s =
+    folded_work source.arrays (tree_of body.now) (without_newest 2 s.env) next (end - next) s.value + 1
+frame_work source name (SweepTo reduction grain to body) s =
+    work_of source.arrays (tree_of to.now) s.env
+    + split_work source.arrays (tree_of body.now) s.env s.value (value_of source.arrays (tree_of to.now) s.env - s.value) + 2
+frame_work source name (SweepStart reduction grain from body) s =
+    split_work source.arrays (tree_of body.now) s.env from (s.value - from) + 1
+frame_work source name (SweepTurn reduction next end so_far body) s =
+    swept_work source.arrays (tree_of body.now) (without_newest 1 s.env) next (end - next) + 1
 frame_work source name (Restore n) s = 1
 
 -- the same for all frames, the newest of which is the last
@@ -78,53 +190,89 @@ resume_work source name (frame ∷ frames) s = frame_work source name frame (res
 -- the forks among frames, the newest first
 abbrev pub fork_of : Frame → List ℕ
 fork_of (Join number next) = number ∷ []
-fork_of (AddRight right) = []
-fork_of (AddTo left) = []
-fork_of (Restore n) = []
+fork_of (Merge number reduction) = number ∷ []
+fork_of _ = []
 
 abbrev pub forks_of : List Frame → List ℕ
 forks_of [] = []
 forks_of (frame ∷ frames) = forks_of frames ++ fork_of frame
 
+-- the locks that are freed by frames, the newest first
+abbrev pub lock_of : Frame → List ℕ
+lock_of (Release lock) = lock ∷ []
+lock_of _ = []
+
+abbrev pub releases : List Frame → List ℕ
+releases [] = []
+releases (frame ∷ frames) = releases frames ++ lock_of frame
+
 -- what a thread does next, up to the newest frame
 abbrev pub begun : Source → List ℕ → Control → Environment → Status
 begun source name (Begin expr) env = record { env = env; value = value_of source.arrays (tree_of expr.now) env }
 begun source name (Give value) env = record { env = env; value = value }
+begun source name (Cover stretch) env = record { env = env; value = task_value source.arrays (stretch_task stretch env) }
 begun source name (Forked expr) env = record { env = env; value = value_of source.arrays (tree_of expr.now) env }
-begun source name (Awaits number during next) env = status_after_join source name number next.now (record { env = env; value = during })
+begun source name (Halved stretch) env = record { env = env; value = task_value source.arrays (stretch_task stretch env) }
+begun source name (Awaits number during next) env =
+    status_after_join source name number (tree_of next.now) (record { env = env; value = during })
+begun source name (AwaitsHalf number right reduction) env =
+    status_merged source name number (operation_of reduction) (record { env = env; value = right })
+begun source name (Asks lock body) env = record { env = env; value = value_of source.arrays (tree_of body.now) env }
+begun source name (Frees lock value) env = record { env = env; value = value }
+begun source name (Tallies ledger amount body) env = record { env = env; value = value_of source.arrays (tree_of body.now) env }
 begun source name (Ended value) env = record { env = env; value = value }
 
 abbrev pub begun_account : Source → List ℕ → Control → Environment → Account → Account
-begun_account source name (Begin expr) env account = after name (effects_of source.arrays source.locks (tree_of expr.now) env) account
+begun_account source name (Begin expr) env account =
+    after name (effects_of source.arrays source.locks (tree_of expr.now) env) account
 begun_account source name (Give value) env account = account
-begun_account source name (Forked expr) env account = after name (effects_of source.arrays source.locks (tree_of expr.now) env) account
+begun_account source name (Cover stretch) env account =
+    after name (task_effects source.arrays source.locks (stretch_task stretch env)) account
+begun_account source name (Forked expr) env account =
+    after name (effects_of source.arrays source.locks (tree_of expr.now) env) account
+begun_account source name (Halved stretch) env account =
+    after name (task_effects source.arrays source.locks (stretch_task stretch env)) account
 begun_account source name (Awaits number during next) env account =
-    account_after_join source name number next.now (record { env = env; value = during }) account
+    account_after_join source name number (tree_of next.now) (record { env = env; value = during }) account
+begun_account source name (AwaitsHalf number right reduction) env account = account_joined source name number account
+begun_account source name (Asks lock body) env account =
+    after name (effects_of source.arrays source.locks (tree_of body.now) env) (after name (held lock) account)
+begun_account source name (Frees lock value) env account = account
+begun_account source name (Tallies ledger amount body) env account =
+    after name (effects_of source.arrays source.locks (tree_of body.now) env) (after name (tallied ledger amount) account)
 begun_account source name (Ended value) env account = account
 
 abbrev pub begun_work : Source → List ℕ → Control → Environment → ℕ
-begun_work source name (Begin expr) env = work_of source.arrays expr.now env
+begun_work source name (Begin expr) env = work_of source.arrays (tree_of expr.now) env
 begun_work source name (Give value) env = 0
-begun_work source name (Forked expr) env = work_of source.arrays expr.now env
+begun_work source name (Cover stretch) env =
+    split_work source.arrays (tree_of stretch.body.now) env stretch.first (stretch.end - stretch.first)
+begun_work source name (Forked expr) env = work_of source.arrays (tree_of expr.now) env
+begun_work source name (Halved stretch) env =
+    split_work source.arrays (tree_of stretch.body.now) env stretch.first (stretch.end - stretch.first)
 begun_work source name (Awaits number during next) env =
-    work_of source.arrays next.now (joined_env source name number (record { env = env; value = during })) + 1
+    work_of source.arrays (tree_of next.now) (joined_env source name number (record { env = env; value = during })) + 1
+begun_work source name (AwaitsHalf number right reduction) env = 0
+begun_work source name (Asks lock body) env = work_of source.arrays (tree_of body.now) env
+begun_work source name (Frees lock value) env = 0
+begun_work source name (Tallies ledger amount body) env = work_of source.arrays (tree_of body.now) env
 begun_work source name (Ended value) env = 0
 
 -- the fork whose child is awaited
 abbrev pub fork_awaited : Control → List ℕ
 fork_awaited (Awaits number during next) = number ∷ []
-fork_awaited (Begin expr) = []
-fork_awaited (Give value) = []
-fork_awaited (Forked expr) = []
-fork_awaited (Ended value) = []
+fork_awaited (AwaitsHalf number right reduction) = number ∷ []
+fork_awaited _ = []
+
+-- the lock that is to be freed now
+abbrev pub lock_freed : Control → List ℕ
+lock_freed (Frees lock value) = lock ∷ []
+lock_freed _ = []
 
 -- the frames that are still to come: none once the thread has ended
 abbrev pub frames_left : Control → List Frame → List Frame
-frames_left (Begin expr) frames = frames
-frames_left (Give value) frames = frames
-frames_left (Forked expr) frames = frames
-frames_left (Awaits number during next) frames = frames
 frames_left (Ended value) frames = []
+frames_left _ frames = frames
 
 -- what the thread ends with
 abbrev pub ending : State → Status
@@ -149,3 +297,7 @@ work_left t =
 -- its forks that are not joined, the newest first
 abbrev pub unjoined_of : State → List ℕ
 unjoined_of t = fork_awaited t.control ++ forks_of t.frames.items
+
+-- the locks that it has asked for and not freed, the newest first
+abbrev pub locks_of : State → List ℕ
+locks_of t = lock_freed t.control ++ releases t.frames.items

@@ -2,6 +2,7 @@ pub mod Outcome
 pub mod Suspended
 pub mod Advance
 pub mod Work
+pub mod Turns
 pub mod Account
 pub mod Ending
 pub mod Steps

@@ -15,7 +15,7 @@ pub record IsSound (t : State) : Type 0 where
   pub has_task : task_of (source_of t.program.now) t.own.name ≡ Some task
   pub account : Account
   pub sums : t.sums.items ≡ tabulated (source_of t.program.now).ledgers account.sums
-  pub holds : t.own.holds ≡ tabulated (source_of t.program.now).locks account.holds
+  pub holds : t.own.holds.items ≡ tabulated (source_of t.program.now).locks account.holds
   pub lines : map named_holds t.below.items ≡ account.lines
   pub forks : t.forks ≡ length account.children
   pub value : (ending t).value ≡ task_value (source_of t.program.now).arrays task

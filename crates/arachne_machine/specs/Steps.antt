@@ -1,32 +1,42 @@
 -- What the steps of a thread do.
-use Rattle.std.specs.Prelude.{◌≡◌, ◌≤◌, ℕ, ◌+◌, List, [], ◌∷◌, ◌++◌, length, Option, None, Some}
-use Rattle.std.specs.Borrow.{Bor}
-use Rattle.arachne_lang.specs.declared.program.Expr.{Expr}
+use Rattle.std.specs.Prelude.{◌≡◌, ◌≤◌, ◌<◌, ℕ, ◌+◌, ◌-◌, ◌==◌, if◌then◌else◌, false, List, [], ◌∷◌, ◌++◌, length, Option, None, Some}
 use Rattle.arachne_lang.specs.declared.program.Program.{Program}
+use Rattle.arachne_lang.specs.declared.program.Reduction.{Reduction}
+use Rattle.arachne_lang.specs.declared.program.Expr.{Expr}
+use Rattle.std.specs.Borrow.{Bor}
 use Rattle.arachne_lang.specs.Tree.{Source, Number}
 use Rattle.arachne_lang.specs.Program.{source_of, tree_of}
-use Rattle.arachne_lang.specs.Value.{Environment}
-use Rattle.arachne_lang.specs.Effects.{Task, Evaluate, task_value, task_effects, tabulated}
+use Rattle.arachne_lang.specs.Value.{Environment, with_newest}
+use Rattle.arachne_lang.specs.Effects.{Task, Evaluate, Effects, task_value, task_effects, tabulated}
 use Rattle.arachne_lang.specs.Meaning.{task_of}
+use Rattle.arachne_machine.specs.declared.frame.Frame.{Frame}
+use Rattle.arachne_machine.specs.declared.frame.Frame.TheVariants.{FoldTo, FoldFirst, FoldStart, FoldTurn, SweepTo, SweepStart, SweepTurn}
 use Rattle.arachne_machine.specs.declared.frame.Control.{Control}
-use Rattle.arachne_machine.specs.declared.frame.Control.TheVariants.{Begin, Give, Forked, Awaits, Ended}
+use Rattle.arachne_machine.specs.declared.frame.Control.TheVariants.{Begin, Give, Cover, Forked, Halved, Awaits, AwaitsHalf, Asks, Frees, Tallies, Ended}
+use Rattle.arachne_machine.specs.declared.line.ThreadLine.{ThreadLine}
 use Rattle.arachne_machine.specs.declared.pause.Pending.{Pending}
 use Rattle.arachne_machine.specs.declared.pause.Pending.TheVariants as pause
-use Rattle.arachne_machine.specs.declared.frame.Frame.TheVariants as frame
+use Rattle.arachne_machine.specs.declared.state.Own.{Own}
 use Rattle.arachne_machine.specs.declared.state.State.{State}
 use Rattle.arachne_machine.specs.declared.state.Stop.{Stop}
 use Rattle.arachne_machine.specs.declared.state.Stop.TheVariants as stop
 use Rattle.arachne_machine.specs.Outcome.{Finished}
-use Rattle.arachne_machine.specs.Account.{Account, untouched, after, with_fork, with_join}
+use Rattle.arachne_machine.specs.Account.{Account, untouched, after, with_fork}
 use Rattle.arachne_machine.specs.Suspended.{Suspended}
-use Rattle.arachne_machine.specs.Ending.{Status, child_task, ending, account_at_end, work_left, unjoined_of}
+use Rattle.arachne_machine.specs.Ending.{child_task, stretch_task, account_joined, ending, account_at_end, work_left, unjoined_of, locks_of}
 
 -- the pause that is not answered
 abbrev pub pending_of : Control → Option Pending
 pending_of (Begin expr) = None
 pending_of (Give value) = None
+pending_of (Cover stretch) = None
 pending_of (Forked expr) = Some pause.Forks
+pending_of (Halved stretch) = Some pause.Forks
 pending_of (Awaits number during next) = Some pause.Joins
+pending_of (AwaitsHalf number right reduction) = Some pause.Joins
+pending_of (Asks lock body) = Some (pause.Asks lock)
+pending_of (Frees lock value) = Some (pause.Frees lock)
+pending_of (Tallies ledger amount body) = Some (pause.Tallies ledger amount)
 pending_of (Ended value) = Some pause.Ended
 
 -- what callers see
@@ -37,33 +47,66 @@ suspended t = record {
   tag = t.own.tag;
   forks = t.forks;
   unjoined = unjoined_of t;
+  locks = locks_of t;
   pending = pending_of t.control;
   below = t.below.items;
   work = work_left t;
 }
 
+-- a thread's own line
+abbrev pub own_line : Own → ThreadLine
+own_line own = record { name = own.name; tag = own.tag; holds = own.holds.items; in_place = false }
+
 -- A fork's number fits, since each fork that was joined has its line, and each other one its frame.
 abbrev pub IsNumbered : State → Type 0
 IsNumbered t = t.forks ≤ length t.below.items + length (unjoined_of t)
 
+-- a thread may begin like this
+abbrev pub IsBeginning : Control → Type 0
+IsBeginning (Begin expr) = Unit {0}
+IsBeginning (Cover stretch) = Unit {0}
+IsBeginning _ = ⊥
+
 -- the task of a thread that begins now
 abbrev pub task_begun : Control → Environment → Task
 task_begun (Begin expr) env = Evaluate (tree_of expr.now) env
-task_begun (Forked expr) env = Evaluate (tree_of expr.now) env
-task_begun (Give value) env = Evaluate (Number value) env
-task_begun (Awaits number during next) env = Evaluate (Number during) env
-task_begun (Ended value) env = Evaluate (Number value) env
+task_begun (Cover stretch) env = stretch_task stretch env
+task_begun _ env = Evaluate (Number 0) env
 
--- nothing has changed but room
-pub record IsUnchanged (old new : State) : Type 0 where
+-- The environment, the frames and what comes next are now these; the rest is as before, but room.
+pub record Becomes (old new : State) (environment : Environment) (frames : List Frame) (control : Control) : Type 0 where
   pub program : new.program ≡ old.program
   pub own : new.own ≡ old.own
   pub below : new.below.items ≡ old.below.items
   pub sums : new.sums.items ≡ old.sums.items
   pub forks : new.forks ≡ old.forks
-  pub environment : new.environment.items ≡ old.environment.items
-  pub frames : new.frames.items ≡ old.frames.items
-  pub control : new.control ≡ old.control
+  pub environment_is : new.environment.items ≡ environment
+  pub frames_are : new.frames.items ≡ frames
+  pub control_is : new.control ≡ control
+
+-- nothing has changed but room
+abbrev pub IsUnchanged : State → State → Type 0
+IsUnchanged old new = Becomes old new old.environment.items old.frames.items old.control
+
+-- a part is begun, with a frame for what comes after it
+abbrev pub Enters : State → State → Frame → Control → Type 0
+Enters old new frame control = Becomes old new old.environment.items (old.frames.items ++ frame ∷ []) control
+
+-- The first has this newest frame, and the second is without it.
+abbrev pub IsPopped : Frame → State → State → Type 0
+IsPopped frame before popped = Becomes popped before popped.environment.items (popped.frames.items ++ frame ∷ []) popped.control
+
+-- A fold that has this value so far goes on from a number to below an end: with a turn, or not at all.
+pub record TurnsFold (old new : State) (next end : ℕ) (body : Bor Expr) (so_far : ℕ) : Type 0 where
+  pub turn : next < end →
+      Becomes old new (with_newest (with_newest old.environment.items next) so_far) (old.frames.items ++ FoldTurn (next + 1) end body ∷ []) (Begin body)
+  pub done : end ≤ next → Becomes old new old.environment.items old.frames.items (Give so_far)
+
+-- and so does a sweep
+pub record TurnsSweep (old new : State) (reduction : Reduction) (next end : ℕ) (body : Bor Expr) (so_far : ℕ) : Type 0 where
+  pub turn : next < end →
+      Becomes old new (with_newest old.environment.items next) (old.frames.items ++ SweepTurn reduction (next + 1) end so_far body ∷ []) (Begin body)
+  pub done : end ≤ next → Becomes old new old.environment.items old.frames.items (Give so_far)
 
 -- The steps made neither forks nor joins, and what the thread comes to is the same.
 pub record Goes (steps : ℕ) (old new : State) : Type 0 where
@@ -82,11 +125,12 @@ pub record IsNew (program : Program) (name : List ℕ) (tag : ℕ) (task : Task)
   pub same_program : t.program.now ≡ program
   pub has_name : t.own.name ≡ name
   pub has_tag : t.own.tag ≡ tag
-  pub holds : t.own.holds ≡ tabulated program.locks (λ lock. 0)
+  pub holds : t.own.holds.items ≡ tabulated program.locks (λ lock. 0)
   pub below : t.below.items ≡ []
   pub sums : t.sums.items ≡ tabulated program.ledgers (λ ledger. 0)
   pub forks : t.forks ≡ 0
   pub unjoined : unjoined_of t ≡ []
+  pub locks : locks_of t ≡ []
   pub pending : pending_of t.control ≡ None
   pub value : (ending t).value ≡ task_value (source_of program).arrays task
   pub account : account_at_end t untouched ≡ after name (task_effects (source_of program).arrays program.locks task) untouched
@@ -104,6 +148,7 @@ pub record GoesToFork (old new child : State) (task : Task) : Type 0 where
   pub sums : new.sums.items ≡ old.sums.items
   pub forks : new.forks ≡ old.forks + 1
   pub unjoined : unjoined_of new ≡ old.forks ∷ unjoined_of old
+  pub locks : locks_of new ≡ locks_of old
   pub pending : pending_of new.control ≡ Some pause.Forks
   pub fresh : IsNew old.program.now (old.own.name ++ old.forks ∷ []) 0 task child
   pub next_child : (account : Account) → (rest : List Task) × ((account_at_end old account).children ≡ account.children ++ task ∷ rest)
@@ -111,23 +156,31 @@ pub record GoesToFork (old new child : State) (task : Task) : Type 0 where
 
 -- What is so after so many steps, or once the thread has stopped before.
 abbrev pub StopsAt : ℕ → State → Option Stop → State → Type 0
-StopsAt steps old None new = Goes steps old new × (pending_of new.control ≡ None)
+StopsAt steps old None new = Goes steps old new × (pending_of new.control ≡ None) × (locks_of new ≡ locks_of old)
 StopsAt steps old (Some (stop.Forks class child)) new = GoesToFork old new child.value (task_begun child.value.control child.value.environment.items)
-StopsAt steps old (Some stop.Joins) new = Goes 1 old new × (pending_of new.control ≡ Some pause.Joins)
-StopsAt steps old (Some stop.Ended) new = Goes 0 old new × (pending_of new.control ≡ Some pause.Ended) × (unjoined_of new ≡ [])
+StopsAt steps old (Some stop.Joins) new = Goes 1 old new × (pending_of new.control ≡ Some pause.Joins) × (locks_of new ≡ locks_of old)
+StopsAt steps old (Some (stop.Asks lock)) new =
+    Goes 1 old new × (pending_of new.control ≡ Some (pause.Asks lock)) × (locks_of new ≡ lock ∷ locks_of old)
+StopsAt steps old (Some (stop.Frees lock)) new =
+    Goes 1 old new × (pending_of new.control ≡ Some (pause.Frees lock)) × (locks_of new ≡ locks_of old)
+    × ((others : List ℕ) × (locks_of new ≡ lock ∷ others))
+StopsAt steps old (Some (stop.Tallies ledger amount)) new =
+    Goes 1 old new × (pending_of new.control ≡ Some (pause.Tallies ledger amount)) × (locks_of new ≡ locks_of old)
+StopsAt steps old (Some stop.Ended) new =
+    Goes 0 old new × (pending_of new.control ≡ Some pause.Ended) × (unjoined_of new ≡ []) × (locks_of new ≡ locks_of old) × (locks_of new ≡ [])
 
--- a child thread was made, and the thread goes on with what is done meanwhile
-pub record PushesFork (old new child : State) (task : Task) (during next : Bor Expr) : Type 0 where
+-- a child thread was made for a task, and the thread has this newest frame and this to do next
+pub record PushesFork (old new child : State) (begins : Control) (frame : Frame) (control : Control) : Type 0 where
   pub program : new.program ≡ old.program
   pub own : new.own ≡ old.own
   pub below : new.below.items ≡ old.below.items
   pub sums : new.sums.items ≡ old.sums.items
   pub forks : new.forks ≡ old.forks + 1
   pub environment : new.environment.items ≡ old.environment.items
-  pub frames : new.frames.items ≡ old.frames.items ++ frame.Join old.forks next ∷ []
-  pub control : new.control ≡ Forked during
-  pub fresh : IsNew old.program.now (old.own.name ++ old.forks ∷ []) 0 task child
-  pub begun : task_begun child.control child.environment.items ≡ task
+  pub frames : new.frames.items ≡ old.frames.items ++ frame ∷ []
+  pub control_is : new.control ≡ control
+  pub fresh : IsNew old.program.now (old.own.name ++ old.forks ∷ []) 0 (task_begun begins old.environment.items) child
+  pub begun : task_begun child.control child.environment.items ≡ task_begun begins old.environment.items
 
 -- a child's sums and lines were taken in
 pub record TakesIn (old : State) (outcome : Finished) (new : State) : Type 0 where
@@ -142,10 +195,7 @@ pub record TakesIn (old : State) (outcome : Finished) (new : State) : Type 0 whe
 
 pub record KeepsOverJoin (old new : State) (number : ℕ) : Type 0 where
   pub ending : ending new ≡ ending old
-  pub account : (account : Account) →
-      account_at_end new (with_join (source_of old.program.now).locks old.own.name number
-      (task_effects (source_of old.program.now).arrays (source_of old.program.now).locks (child_task (source_of old.program.now) old.own.name number)) account)
-      ≡ account_at_end old account
+  pub account : (account : Account) → account_at_end new (account_joined (source_of old.program.now) old.own.name number account) ≡ account_at_end old account
   pub work : work_left new ≤ work_left old
 
 -- The awaited child was joined. What the thread comes to is the same, if the child brought the value of its task.
@@ -157,6 +207,71 @@ pub record Joins (old : State) (outcome : Finished) (new : State) : Type 0 where
   pub number : ℕ
   pub name : outcome.name ≡ old.own.name ++ number ∷ []
   pub unjoined : unjoined_of old ≡ number ∷ unjoined_of new
+  pub locks : locks_of new ≡ locks_of old
   pub below : new.below.items ≡ old.below.items ++ outcome.lines
   pub sums : (n : ℕ) (own childs : ℕ → ℕ) → old.sums.items ≡ tabulated n own → outcome.sums ≡ tabulated n childs → new.sums.items ≡ tabulated n (λ ledger. own ledger + childs ledger)
   pub keeps : outcome.value ≡ task_value (source_of old.program.now).arrays (child_task (source_of old.program.now) old.own.name number) → KeepsOverJoin old new number
+
+-- The thread has counted these effects of its own, which are neither forks nor lines, and goes on.
+pub record Counts (effects : Effects) (old new : State) : Type 0 where
+  pub program : new.program ≡ old.program
+  pub name : new.own.name ≡ old.own.name
+  pub tag : new.own.tag ≡ old.own.tag
+  pub below : new.below.items ≡ old.below.items
+  pub forks : new.forks ≡ old.forks
+  pub unjoined : unjoined_of new ≡ unjoined_of old
+  pub locks : locks_of new ≡ locks_of old
+  pub pending : pending_of new.control ≡ None
+  pub sums : (n : ℕ) (own : ℕ → ℕ) → old.sums.items ≡ tabulated n own → new.sums.items ≡ tabulated n (λ ledger. own ledger + effects.sums ledger)
+  pub holds : (n : ℕ) (own : ℕ → ℕ) → old.own.holds.items ≡ tabulated n own → new.own.holds.items ≡ tabulated n (λ lock. own lock + effects.holds lock)
+  pub ending : ending new ≡ ending old
+  pub account : (account : Account) → account_at_end new (after old.own.name effects account) ≡ account_at_end old account
+  pub work : work_left new ≤ work_left old
+
+-- a hold of this lock is counted, and the rest is as before
+pub record CountsHold (old new : State) (lock : ℕ) : Type 0 where
+  pub program : new.program ≡ old.program
+  pub name : new.own.name ≡ old.own.name
+  pub tag : new.own.tag ≡ old.own.tag
+  pub below : new.below.items ≡ old.below.items
+  pub sums : new.sums.items ≡ old.sums.items
+  pub forks : new.forks ≡ old.forks
+  pub environment : new.environment.items ≡ old.environment.items
+  pub frames : new.frames.items ≡ old.frames.items
+  pub control : new.control ≡ old.control
+  pub holds : (n : ℕ) (own : ℕ → ℕ) → old.own.holds.items ≡ tabulated n own → new.own.holds.items ≡ tabulated n (λ other. own other + (if other == lock then 1 else 0))
+
+-- an amount is added to the sum for this ledger, and the rest is as before
+pub record CountsTally (old new : State) (ledger amount : ℕ) : Type 0 where
+  pub program : new.program ≡ old.program
+  pub own : new.own ≡ old.own
+  pub below : new.below.items ≡ old.below.items
+  pub forks : new.forks ≡ old.forks
+  pub environment : new.environment.items ≡ old.environment.items
+  pub frames : new.frames.items ≡ old.frames.items
+  pub control : new.control ≡ old.control
+  pub sums : (n : ℕ) (own : ℕ → ℕ) → old.sums.items ≡ tabulated n own → new.sums.items ≡ tabulated n (λ other. own other + (if other == ledger then amount else 0))
+
+-- the pauses at which a lock is asked for or freed, or something is added to a ledger
+abbrev pub IsAsk : Option Pending → Type 0
+IsAsk (Some (pause.Asks lock)) = Unit {0}
+IsAsk _ = ⊥
+
+abbrev pub IsFree : Option Pending → Type 0
+IsFree (Some (pause.Frees lock)) = Unit {0}
+IsFree _ = ⊥
+
+abbrev pub IsTally : Option Pending → Type 0
+IsTally (Some (pause.Tallies ledger amount)) = Unit {0}
+IsTally _ = ⊥
+
+-- a frame of a fold or a sweep
+abbrev pub IsOfRange : Frame → Type 0
+IsOfRange (FoldTo to first body) = Unit {0}
+IsOfRange (FoldFirst from first body) = Unit {0}
+IsOfRange (FoldStart from to body) = Unit {0}
+IsOfRange (FoldTurn next end body) = Unit {0}
+IsOfRange (SweepTo reduction grain to body) = Unit {0}
+IsOfRange (SweepStart reduction grain from body) = Unit {0}
+IsOfRange (SweepTurn reduction next end so_far body) = Unit {0}
+IsOfRange _ = ⊥

@@ -14,6 +14,8 @@ pub record Suspended : Type 0 where
   pub forks : ℕ
   -- the numbers of its forks that are not joined, the newest first
   pub unjoined : List ℕ
+  -- the locks that it has asked for and not freed, the newest first
+  pub locks : List ℕ
   -- the pause that is not answered
   pub pending : Option Pending
   -- the lines of the threads below it, as far as they were joined
@@ -25,7 +27,7 @@ pub record Suspended : Type 0 where
 abbrev pub awaited : Suspended → Option (List ℕ)
 awaited thread = option_map (λ number. thread.name ++ number ∷ []) (slice_get thread.unjoined 0)
 
--- both are of one program, have one name and tag, and have made and joined the same forks
+-- both are of one program, have one name and tag, and have made and joined the same forks; their locks may differ
 pub record SameThread (old new : Suspended) : Type 0 where
   pub program : new.program ≡ old.program
   pub name : new.name ≡ old.name
@@ -41,6 +43,7 @@ pub record IsFresh (program : Program) (name : List ℕ) (tag : ℕ) (thread : S
   pub has_tag : thread.tag ≡ tag
   pub no_forks : thread.forks ≡ 0
   pub none_unjoined : thread.unjoined ≡ []
+  pub no_locks : thread.locks ≡ []
   pub none_below : thread.below ≡ []
   pub not_paused : thread.pending ≡ None
 
@@ -51,6 +54,7 @@ pub record Forked (old new child : Suspended) : Type 0 where
   pub tag : new.tag ≡ old.tag
   pub forks : new.forks ≡ old.forks + 1
   pub unjoined : new.unjoined ≡ old.forks ∷ old.unjoined
+  pub locks : new.locks ≡ old.locks
   pub below : new.below ≡ old.below
   pub pending : new.pending ≡ Some pause.Forks
   pub fresh : IsFresh old.program (old.name ++ old.forks ∷ []) 0 child
@@ -64,6 +68,7 @@ pub record Joined (old : Suspended) (outcome : Finished) (new : Suspended) : Typ
   pub tag : new.tag ≡ old.tag
   pub forks : new.forks ≡ old.forks
   pub unjoined : (number : ℕ) × (old.unjoined ≡ number ∷ new.unjoined)
+  pub locks : new.locks ≡ old.locks
   pub below : new.below ≡ old.below ++ outcome.lines
   pub pending : new.pending ≡ None
   pub work : new.work ≤ old.work

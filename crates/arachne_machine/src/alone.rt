@@ -12,7 +12,8 @@ use arachne_lang::{Line, Meaning, Program, Sequence};
 use std::alloc::{AllocError, Global};
 
 /// What a program means, found by its threads in turn on this one kernel thread: all are in one list, of
-/// which the newest goes on, for so many steps at a time, one at least.
+/// which the newest goes on, for so many steps at a time, but at least one. A lock that it asks for is granted
+/// at once, and it goes on until it frees it.
 pub fn run_alone(alloc: Global, program: &Program, budget: u32) -> Result<Meaning, AllocError>
     ensures { IfOk result (λ meaning. meaning ≡ meaning_of (source_of program.now)) }
 {
@@ -53,6 +54,18 @@ fn take_turn<'p>(
                 Err(NotJoined::Memory(_)) => return Err(AllocError),
                 Err(NotJoined::Foreign(_)) => unreachable!(),
             }
+        }
+        Pause::Asks(_) => {
+            thread.granted();
+            threads.push(thread)?;
+        }
+        Pause::Frees(_) => {
+            thread.freed();
+            threads.push(thread)?;
+        }
+        Pause::Tallies(_, _) => {
+            thread.tallied();
+            threads.push(thread)?;
         }
         Pause::Ended => outcomes.push(thread.finish())?,
     }

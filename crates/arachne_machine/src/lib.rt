@@ -2,11 +2,18 @@
 #![tactic(auto)]
 
 mod alone;
+mod answer;
+mod arithmetic;
+mod begin;
+mod fork;
 mod frame;
+mod give;
+mod join;
 mod line;
 mod outcome;
 mod pause;
 mod state;
+mod tables;
 #[cfg(test)]
 mod tests;
 mod thread;

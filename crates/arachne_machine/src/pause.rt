@@ -12,6 +12,12 @@ pub enum Pause<'p> {
     Forks(Class, Thread<'p>),
     /// It awaits the outcome of a child: answer `joined`.
     Joins,
+    /// It asks for this lock: answer `granted` once it has it.
+    Asks(u64),
+    /// It frees this lock: answer `freed`.
+    Frees(u64),
+    /// It adds to this ledger this amount: answer `tallied`.
+    Tallies(u64, u64),
     /// It has ended: `finish` it.
     Ended,
 }
@@ -21,6 +27,12 @@ pub enum Pause<'p> {
 pub enum Pending {
     Forks,
     Joins,
+    /// Of this lock.
+    Asks(u64),
+    /// Of this lock.
+    Frees(u64),
+    /// A ledger and an amount.
+    Tallies(u64, u64),
     Ended,
 }
 

@@ -4,7 +4,7 @@ ghost use Rattle.arachne_machine.specs.Suspended.{Suspended};
 ghost use Rattle.arachne_machine.specs.Advance.{Advanced};
 
 use crate::{NotJoined, Outcome, Pause, Pending, Thread, run_alone};
-use arachne_lang::{Class, Expr, Program};
+use arachne_lang::{Class, Expr, Operation, Program, Reduction};
 use std::alloc::{AllocError, Global};
 use std::process::Abort;
 use std::test::Fail;
@@ -14,7 +14,7 @@ fn boxed(alloc: Global, expr: Expr) -> Result<Box<Expr>, AllocError> {
 }
 
 fn sum(alloc: Global, left: Expr, right: Expr) -> Result<Expr, AllocError> {
-    Ok(Expr::Add(boxed(alloc, left)?, boxed(alloc, right)?))
+    Ok(Expr::Binary(Operation::Add, boxed(alloc, left)?, boxed(alloc, right)?))
 }
 
 fn fork(alloc: Global, child: Expr, during: Expr, after: Expr) -> Result<Expr, AllocError> {
@@ -57,7 +57,7 @@ fn expect_meaning(
     value: u64,
     names: &[u64],
 ) -> Result<(), Fail> {
-    for budget in [0, 1, 7, 100] {
+    for budget in [1, 7, 100] {
         let meaning = run_alone(alloc, program, budget)?;
         let mut found = Vec::new(alloc);
         for thread in meaning.threads.as_slice() {
@@ -73,6 +73,24 @@ fn expect_meaning(
     Ok(())
 }
 
+/// `(sweep REDUCTION GRAIN (num FROM) (num TO) BODY)`
+fn sweep(
+    alloc: Global,
+    reduction: Reduction,
+    grain: u64,
+    from: u64,
+    to: u64,
+    body: Expr,
+) -> Result<Expr, AllocError> {
+    Ok(Expr::Sweep(
+        reduction,
+        grain,
+        boxed(alloc, Expr::Num(from))?,
+        boxed(alloc, Expr::Num(to))?,
+        boxed(alloc, body)?,
+    ))
+}
+
 #[test]
 fn worked_rows(rt: HostRuntime) -> Result<(), Fail> {
     let alloc = rt.alloc();
@@ -81,38 +99,121 @@ fn worked_rows(rt: HostRuntime) -> Result<(), Fail> {
     let wraps = plain(alloc, sum(alloc, Expr::Num(u64::MAX), Expr::Num(1))?);
     expect_meaning(&rt, alloc, &wraps, 0, &[0])?;
     expect_meaning(&rt, alloc, &one_fork(alloc)?, 5, &[0, 1, 0])?;
+    let nested = forks_within(alloc)?;
+    expect_meaning(&rt, alloc, &nested, 101, &[0, 1, 1, 1, 0, 2, 0, 0])?;
+    let less = Expr::Binary(
+        Operation::Sub,
+        boxed(alloc, Expr::Var(0))?,
+        boxed(alloc, Expr::Var(1))?,
+    );
+    let difference = plain(alloc, fork(alloc, Expr::Num(2), Expr::Num(3), less)?);
+    expect_meaning(&rt, alloc, &difference, u64::MAX, &[0, 1, 0])
+}
+
+#[test]
+fn folds_and_sweeps(rt: HostRuntime) -> Result<(), Fail> {
+    let alloc = rt.alloc();
+    let fold = Expr::Fold(
+        boxed(alloc, Expr::Num(1))?,
+        boxed(alloc, Expr::Num(4))?,
+        boxed(alloc, Expr::Num(0))?,
+        boxed(alloc, sum(alloc, Expr::Var(0), Expr::Var(1))?)?,
+    );
+    expect_meaning(&rt, alloc, &plain(alloc, fold), 6, &[0])?;
+    let split = sweep(alloc, Reduction::Sum, 2, 0, 8, Expr::Var(0))?;
     expect_meaning(
         &rt,
         alloc,
-        &forks_within(alloc)?,
-        101,
+        &plain(alloc, split),
+        28,
         &[0, 1, 1, 1, 0, 2, 0, 0],
+    )?;
+    let none = sweep(alloc, Reduction::Least, 1, 5, 5, Expr::Var(0))?;
+    expect_meaning(&rt, alloc, &plain(alloc, none), u64::MAX, &[0])?;
+    let product = sweep(alloc, Reduction::Product, 1, 1, 6, Expr::Var(0))?;
+    expect_meaning(
+        &rt,
+        alloc,
+        &plain(alloc, product),
+        120,
+        &[0, 1, 2, 1, 1, 1, 0, 2, 0, 0],
     )
 }
 
-/// A step of a thread, which is then not at its end.
-fn cut(thread: &mut Thread<'_>) -> Result<(), Fail>
-    requires { thread.old.pending ≡ None }
-    ensures { OnOk result (thread.new.pending ≡ None) }
-{
-    let Pause::Budget = thread.advance(1)? else {
-        return Err("a pause in place of a cut")?;
-    };
+/// `ledgers 1`, `locks 1`, `(sweep add 1 (num 0) (num 8) (hold 0 (tally 0 (num 5) (num 1))))`
+fn counting(alloc: Global) -> Result<Program, AllocError> {
+    let tally = Expr::Tally(0, boxed(alloc, Expr::Num(5))?, boxed(alloc, Expr::Num(1))?);
+    let hold = Expr::Hold(0, boxed(alloc, tally)?);
+    Ok(Program {
+        arrays: Vec::new(alloc),
+        ledgers: 1,
+        locks: 1,
+        root: sweep(alloc, Reduction::Sum, 1, 0, 8, hold)?,
+    })
+}
+
+#[test]
+fn sums_and_holds(rt: HostRuntime) -> Result<(), Fail> {
+    let alloc = rt.alloc();
+    let program = counting(alloc)?;
+    for budget in [0, 1, 7, 100] {
+        let meaning = run_alone(alloc, &program, budget)?;
+        assert_eq!(rt; meaning.value, 8);
+        assert_eq!(rt; meaning.totals.as_slice(), [40].as_slice());
+        let mut names = Vec::new(alloc);
+        for thread in meaning.threads.as_slice() {
+            names.push(thread.name.forks().len() as u64)?;
+            names.extend_from_slice(thread.name.forks())?;
+            assert_eq!(rt; thread.holds.as_slice(), [1].as_slice());
+        }
+        assert_eq!(rt;
+            names.as_slice(),
+            [0, 1, 2, 1, 1, 2, 1, 0, 1, 0, 2, 0, 1, 2, 0, 0, 3, 0, 0, 0].as_slice()
+        );
+    }
     Ok(())
 }
 
-/// It begins the sum, begins and hands over each number: five steps.
+/// `(let (len 0) (if (eq (var 0) (num 3)) (item 0 (num 2)) (num 0)))` over one array of three.
+#[test]
+fn arrays_and_choices(rt: HostRuntime) -> Result<(), Fail> {
+    let alloc = rt.alloc();
+    for (index, value) in [(2, 30), (3, 0), (u64::MAX, 0)] {
+        let test = Expr::Binary(
+            Operation::Eq,
+            boxed(alloc, Expr::Var(0))?,
+            boxed(alloc, Expr::Num(3))?,
+        );
+        let item = Expr::Item(0, boxed(alloc, Expr::Num(index))?);
+        let choice = Expr::If(
+            boxed(alloc, test)?,
+            boxed(alloc, item)?,
+            boxed(alloc, Expr::Num(1))?,
+        );
+        let mut arrays = Vec::new(alloc);
+        arrays.push(vec![in alloc; 10, 20, 30]?)?;
+        let program = Program {
+            arrays,
+            ledgers: 0,
+            locks: 0,
+            root: Expr::Let(boxed(alloc, Expr::Len(0))?, boxed(alloc, choice)?),
+        };
+        expect_meaning(&rt, alloc, &program, value, &[0])?;
+    }
+    Ok(())
+}
+
 #[test]
 fn sum_in_single_steps(rt: HostRuntime) -> Result<(), Fail> {
     let alloc = rt.alloc();
     let program = plain(alloc, sum(alloc, Expr::Num(1), Expr::Num(2))?);
     let mut thread = Thread::start(alloc, &program, 9)?;
     assert_eq!(rt; thread.tag(), 9);
-    cut(&mut thread)?;
-    cut(&mut thread)?;
-    cut(&mut thread)?;
-    cut(&mut thread)?;
-    cut(&mut thread)?;
+    for _ in 0..5 {
+        let Pause::Budget = thread.advance(1)? else {
+            return Err("the sum has ended too early")?;
+        };
+    }
     assert_eq!(rt; thread.pending(), None);
     let Pause::Ended = thread.advance(1)? else {
         return Err("the sum has not ended")?;
@@ -245,5 +346,83 @@ fn refused_calls_go_on(rt: HostRuntime) -> Result<(), Fail> {
     let alloc = rt.alloc();
     let program = one_fork(alloc)?;
     assert_eq!(rt; persistent(alloc, &program)?, 5);
+    Ok(())
+}
+
+/// An empty list with room for so many items; where memory is refused it is asked for once more.
+fn roomy<T>(alloc: Global, items: usize) -> Result<Vec<T>, AllocError> {
+    match Vec::with_capacity(alloc, items) {
+        Ok(list) => Ok(list),
+        Err(_) => Vec::with_capacity(alloc, items),
+    }
+}
+
+/// The outcome of a program's root, all threads in one list. Each call that is refused memory is made once more.
+fn stubborn<'p>(alloc: Global, program: &'p Program) -> Result<Outcome<'p>, Fail> {
+    let mut threads: Vec<Thread> = roomy(alloc, 16)?;
+    let mut outcomes: Vec<Outcome> = roomy(alloc, 16)?;
+    threads.push(match Thread::start(alloc, program, 0) {
+        Ok(root) => root,
+        Err(_) => Thread::start(alloc, program, 0)?,
+    })?;
+    for _ in 0..1_000 {
+        let Some(mut thread) = threads.pop() else {
+            break;
+        };
+        let None = thread.pending() else {
+            return Err("a pause was not answered")?;
+        };
+        let pause = match thread.advance(3) {
+            Ok(pause) => pause,
+            Err(_) => thread.advance(3)?,
+        };
+        match pause {
+            Pause::Budget => {}
+            Pause::Forks(_, child) => {
+                thread.forked();
+                threads.push(thread)?;
+                threads.push(child)?;
+                continue;
+            }
+            Pause::Joins => {
+                let Some(outcome) = outcomes.pop() else {
+                    return Err("no outcome")?;
+                };
+                if outcome.program() != thread.program() {
+                    return Err("another program")?;
+                }
+                if let Err(refused) = thread.joined(outcome) {
+                    let NotJoined::Memory(outcome) = refused else {
+                        return Err("foreign")?;
+                    };
+                    thread.joined(outcome)?;
+                }
+            }
+            Pause::Asks(_) => thread.granted(),
+            Pause::Frees(_) => thread.freed(),
+            Pause::Tallies(_, _) => thread.tallied(),
+            Pause::Ended => {
+                outcomes.push(thread.finish())?;
+                continue;
+            }
+        }
+        threads.push(thread)?;
+    }
+    match outcomes.pop() {
+        Some(outcome) => Ok(outcome),
+        None => Err("no outcome")?,
+    }
+}
+
+/// Run with each allocation refused in turn (`rt try --test --fail-alloc N`) this gives the same value and sum.
+#[test]
+fn refused_calls_of_all_forms_go_on(rt: HostRuntime) -> Result<(), Fail> {
+    let alloc = rt.alloc();
+    let program = counting(alloc)?;
+    let outcome = stubborn(alloc, &program)?;
+    assert_eq!(rt; outcome.value(), 8);
+    let parts = outcome.into_parts()?;
+    assert_eq!(rt; parts.sums.as_slice(), [40].as_slice());
+    assert_eq!(rt; parts.lines.as_slice().len(), 8);
     Ok(())
 }

@@ -1,10 +1,12 @@
-ghost use Rattle.std.specs.Prelude.{◌≡◌, ◌≢◌, ◌↔◌, ◌≤◌, ◌+◌, [], ◌∷◌, None, Some, IfOk, OnOk, IfErr, OnErr};
+ghost use Rattle.std.specs.Prelude.{◌≡◌, ◌≢◌, ◌↔◌, ◌≤◌, ◌+◌, ℕ, [], ◌∷◌, None, Some, IfOk, OnOk, IfErr, OnErr};
 ghost use Rattle.arachne_machine.specs.Suspended.{SameThread, IsFresh, Joined, awaited};
 ghost use Rattle.arachne_machine.specs.Advance.{Advanced, IsForeign, handed_back, pause_of, IsSoundStop};
+ghost use Rattle.arachne_machine.specs.Steps.{IsAsk, IsFree, IsTally};
 ghost use Rattle.arachne_lang.specs.Program.{source_of};
 ghost use Rattle.arachne_machine.specs.declared.line.ThreadLine.{ThreadLine};
 ghost use Rattle.arachne_machine.specs.declared.pause.Pending.TheVariants as pause;
 
+use crate::frame::Control;
 use crate::outcome::Outcome;
 use crate::pause::{NotJoined, Pause, Pending};
 use crate::state::{State, Stop};
@@ -41,8 +43,9 @@ impl<'p> Thread<'p> {
         ensures { IfOk result (IsFresh program.now [] tag) }
     {
         let root = Name::root(alloc);
+        let begins = Control::Begin(&program.root);
         let environment = Vec::new(alloc);
-        let state = State::new(alloc, program, root, tag, &program.root, environment)?;
+        let state = State::new(alloc, program, root, tag, begins, environment)?;
         Ok(Thread { state })
     }
 
@@ -74,6 +77,7 @@ impl<'p> Thread<'p> {
         requires some { 1 ≤ budget }
         ensures ok { IfOk result (λ pause. Advanced budget self.old pause self.new) }
         ensures err_same { OnErr result (SameThread self.old self.new) }
+        ensures err_locks { OnErr result (self.new.locks ≡ self.old.locks) }
         ensures err_work { OnErr result (self.new.work ≤ self.old.work) }
         ensures err_pending { OnErr result (self.new.pending ≡ None) }
     {
@@ -85,10 +89,44 @@ impl<'p> Thread<'p> {
     pub fn forked(&mut self)
         requires { self.old.pending ≡ Some pause.Forks }
         ensures same { SameThread self.old self.new }
+        ensures locks { self.new.locks ≡ self.old.locks }
         ensures pending { self.new.pending ≡ None }
         ensures work { self.new.work ≡ self.old.work }
     {
         self.state.forked();
+    }
+
+    /// Answers that the thread holds the lock that it asked for. It takes no memory.
+    pub fn granted(&mut self)
+        requires { IsAsk self.old.pending }
+        ensures same { SameThread self.old self.new }
+        ensures locks { self.new.locks ≡ self.old.locks }
+        ensures pending { self.new.pending ≡ None }
+        ensures work { self.new.work ≤ self.old.work }
+    {
+        self.state.granted();
+    }
+
+    /// Answers that the lock was freed. It takes no memory.
+    pub fn freed(&mut self)
+        requires { IsFree self.old.pending }
+        ensures same { SameThread self.old self.new }
+        ensures locks { (lock : ℕ) × (self.old.pending ≡ Some (pause.Frees lock)) × (self.old.locks ≡ lock ∷ self.new.locks) }
+        ensures pending { self.new.pending ≡ None }
+        ensures work { self.new.work ≡ self.old.work }
+    {
+        self.state.freed();
+    }
+
+    /// Answers that the amount was added to the ledger. It takes no memory.
+    pub fn tallied(&mut self)
+        requires { IsTally self.old.pending }
+        ensures same { SameThread self.old self.new }
+        ensures locks { self.new.locks ≡ self.old.locks }
+        ensures pending { self.new.pending ≡ None }
+        ensures work { self.new.work ≤ self.old.work }
+    {
+        self.state.tallied();
     }
 
     /// Joins the outcome of the child that is awaited. Where it answers an error nothing has changed, and the
@@ -130,6 +168,9 @@ fn pause_at<'p>(stop: Option<Stop<'p>>) -> Pause<'p>
         None => Pause::Budget,
         Some(Stop::Forks(class, state)) => Pause::Forks(class, Thread { state }),
         Some(Stop::Joins) => Pause::Joins,
+        Some(Stop::Asks(lock)) => Pause::Asks(lock),
+        Some(Stop::Frees(lock)) => Pause::Frees(lock),
+        Some(Stop::Tallies(ledger, amount)) => Pause::Tallies(ledger, amount),
         Some(Stop::Ended) => Pause::Ended,
     }
 }

@@ -1,67 +1,14 @@
+mod forms;
+mod programs;
+
 use crate::check_fault::CheckFault;
 use crate::checker::check;
 use crate::evaluator::eval;
-use crate::meaning::Meaning;
-use crate::program::{Class, Expr, Program};
-use std::alloc::{AllocError, Global};
-use std::process::Abort;
+use crate::name::Name;
+use crate::program::{Expr, Program, Reduction};
+use crate::sequence::Sequence;
+use programs::{add, balanced, expect_names, fork, meaning_of, nested, program, sum_of_two, sweep};
 use std::test::Fail;
-
-fn add(alloc: Global, a: Expr, b: Expr) -> Result<Expr, AllocError> {
-    Ok(Expr::Add(Box::new(alloc, a)?, Box::new(alloc, b)?))
-}
-
-fn fork(alloc: Global, child: Expr, during: Expr, after: Expr) -> Result<Expr, AllocError> {
-    Ok(Expr::Fork(
-        Class::Normal,
-        Box::new(alloc, child)?,
-        Box::new(alloc, during)?,
-        Box::new(alloc, after)?,
-    ))
-}
-
-/// The sum of the first two variables.
-fn sum_of_two(alloc: Global) -> Result<Expr, AllocError> {
-    add(alloc, Expr::Var(0), Expr::Var(1))
-}
-
-/// A number at the end of so many sums, at each of which a number is added to it.
-fn nested(alloc: Global, sums: u64) -> Result<Expr, AllocError> {
-    let mut root = Expr::Num(0);
-    for _ in 0..sums {
-        root = add(alloc, root, Expr::Num(1))?;
-    }
-    Ok(root)
-}
-
-/// Sums of so many levels over numbers.
-fn balanced(alloc: Global, levels: u32) -> Result<Expr, AllocError> {
-    if levels == 0 {
-        return Ok(Expr::Num(1));
-    }
-    add(
-        alloc,
-        balanced(alloc, levels - 1)?,
-        balanced(alloc, levels - 1)?,
-    )
-}
-
-fn program(alloc: Global, ledgers: u8, locks: u8, root: Expr) -> Program {
-    Program {
-        arrays: Vec::new(alloc),
-        ledgers,
-        locks,
-        root,
-    }
-}
-
-fn expect_names(rt: &impl Abort, meaning: &Meaning, names: &[&[u64]]) {
-    let threads = meaning.threads.as_slice();
-    assert_eq!(rt; threads.len(), names.len());
-    for (line, name) in threads.iter().zip(names) {
-        assert_eq!(rt; line.name.forks(), *name);
-    }
-}
 
 #[test]
 fn a_number_and_a_sum_that_wraps(rt: HostRuntime) -> Result<(), Fail> {
@@ -194,7 +141,7 @@ fn nesting_is_judged_before_all_else(rt: HostRuntime) -> Result<(), Fail> {
 
 /// Drops an expression from above, and not by the recursion of its own drop.
 fn take_apart(mut expr: Expr) {
-    while let Expr::Add(a, _) = expr {
+    while let Expr::Binary(_, a, _) = expr {
         expr = Box::into_inner(a);
     }
 }
@@ -230,5 +177,35 @@ fn equality_is_that_of_the_trees(rt: HostRuntime) -> Result<(), Fail> {
     );
     assert!(rt; one != more);
     assert!(rt; Expr::Num(1) != Expr::Var(1));
+    Ok(())
+}
+
+#[test]
+fn names_and_meanings_are_compared(rt: HostRuntime) -> Result<(), Fail> {
+    let alloc = rt.alloc();
+    let root = Name::root(alloc);
+    let child = root.child(alloc, 3)?;
+    assert!(rt; child == Name::root(alloc).child(alloc, 3)?);
+    assert!(rt; child != root);
+    assert!(rt; child != root.child(alloc, 4)?);
+    let numbers = Sequence::from(vec![in alloc; 1u64, 2]?);
+    assert!(rt; numbers == Sequence::from(vec![in alloc; 1u64, 2]?));
+    assert!(rt; numbers != Sequence::from(vec![in alloc; 2u64, 1]?));
+
+    let one = program(
+        alloc,
+        1,
+        1,
+        sweep(alloc, Reduction::Sum, 2, (0, 8), Expr::Var(0))?,
+    );
+    let other = program(
+        alloc,
+        1,
+        1,
+        sweep(alloc, Reduction::Sum, 1, (0, 8), Expr::Var(0))?,
+    );
+    let meaning = meaning_of(alloc, &one)?;
+    assert!(rt; meaning == meaning_of(alloc, &one)?);
+    assert!(rt; meaning != meaning_of(alloc, &other)?);
     Ok(())
 }

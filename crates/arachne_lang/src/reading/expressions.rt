@@ -1,10 +1,14 @@
+ghost use Rattle.arachne_lang.specs.declared.reading.heads.Head.TheVariants as head;
+ghost use Rattle.std.specs.Prelude.{ℕ, List};
+ghost use Rattle.arachne_lang.specs.Tree.{Tree};
 ghost use Rattle.arachne_lang.specs.Program.{tree_of};
-ghost use Rattle.arachne_lang.specs.Reading.{Gives, expression_at, part_at, form_at, constant_at, variable_at, sum_at, fork_at};
+ghost use Rattle.arachne_lang.specs.Reading.{Gives, Reading, expression_at, part_at, form_at, behind_word_at};
 
+use super::heads::{Head, head_word};
 use super::numbers::number;
 use super::stop::Stop;
 use super::words::word;
-use crate::program::{Class, Expr};
+use crate::program::{Class, Expr, Operation, Reduction};
 use std::alloc::Global;
 
 /// An expression of at most so many levels, and the text behind it.
@@ -39,58 +43,175 @@ fn part<'t>(
 
 /// The form behind its opening bracket, with the closing one. Its parts have at most so many levels.
 #[cycle(expression)]
+#[tactic(auto, unfolding(crate::specs::Reading::form_at))]
 fn form(alloc: Global, levels: u8, text: &[u8]) -> Result<(Expr, &[u8]), Stop<'_>>
     ensures { Gives (λ read. (tree_of read.0, read.1.now)) result (form_at (expression_at levels) text.now) }
 {
-    match text {
-        [b'n', ..] => constant(text),
-        [b'v', ..] => variable(text),
-        [b'a', ..] => sum(alloc, levels, text),
-        [b'f', ..] => fork(alloc, levels, text),
-        _ => Err(Stop::Departs(text)),
+    let (head, rest) = head_word(text)?;
+    match head {
+        Head::Num => constant(rest),
+        Head::Var => variable(rest),
+        Head::Len => length(rest),
+        Head::Item => item(alloc, levels, rest),
+        Head::Binary(operation) => binary(alloc, levels, operation, rest),
+        Head::If => choice(alloc, levels, rest),
+        Head::Let => binding(alloc, levels, rest),
+        Head::Tally => tally(alloc, levels, rest),
+        Head::Hold => hold(alloc, levels, rest),
+        Head::Fork(class) => fork(alloc, levels, class, rest),
+        Head::Fold => fold(alloc, levels, rest),
+        Head::Sweep(reduction) => sweep(alloc, levels, reduction, rest),
     }
 }
 
-#[tactic(auto, unfolding(crate::specs::Reading::constant_at))]
+#[tactic(auto, unfolding(crate::specs::Reading::behind_word_at))]
 fn constant(text: &[u8]) -> Result<(Expr, &[u8]), Stop<'_>>
-    ensures { Gives (λ read. (tree_of read.0, read.1.now)) result (constant_at text.now) }
+    ensures { (tree_at : List ℕ → Reading Tree) → Gives (λ read. (tree_of read.0, read.1.now)) result (behind_word_at tree_at head.Num text.now) }
 {
-    let rest = word(text, b"num ")?;
-    let (value, rest) = number(rest, b")")?;
+    let (value, rest) = number(text, b")")?;
     Ok((Expr::Num(value), rest))
 }
 
-#[tactic(auto, unfolding(crate::specs::Reading::variable_at))]
+#[tactic(auto, unfolding(crate::specs::Reading::behind_word_at))]
 fn variable(text: &[u8]) -> Result<(Expr, &[u8]), Stop<'_>>
-    ensures { Gives (λ read. (tree_of read.0, read.1.now)) result (variable_at text.now) }
+    ensures { (tree_at : List ℕ → Reading Tree) → Gives (λ read. (tree_of read.0, read.1.now)) result (behind_word_at tree_at head.Var text.now) }
 {
-    let rest = word(text, b"var ")?;
-    let (place, rest) = number(rest, b")")?;
+    let (place, rest) = number(text, b")")?;
     Ok((Expr::Var(place), rest))
 }
 
-#[cycle(expression)]
-#[tactic(auto, unfolding(crate::specs::Reading::sum_at))]
-fn sum(alloc: Global, levels: u8, text: &[u8]) -> Result<(Expr, &[u8]), Stop<'_>>
-    ensures { Gives (λ read. (tree_of read.0, read.1.now)) result (sum_at (expression_at levels) text.now) }
+#[tactic(auto, unfolding(crate::specs::Reading::behind_word_at))]
+fn length(text: &[u8]) -> Result<(Expr, &[u8]), Stop<'_>>
+    ensures { (tree_at : List ℕ → Reading Tree) → Gives (λ read. (tree_of read.0, read.1.now)) result (behind_word_at tree_at head.Len text.now) }
 {
-    let rest = word(text, b"add ")?;
-    let (a, rest) = part(alloc, levels, rest, b" ")?;
-    let (b, rest) = part(alloc, levels, rest, b")")?;
-    Ok((Expr::Add(Box::new(alloc, a)?, Box::new(alloc, b)?), rest))
+    let (array, rest) = number(text, b")")?;
+    Ok((Expr::Len(array), rest))
 }
 
 #[cycle(expression)]
-#[tactic(auto, unfolding(crate::specs::Reading::fork_at))]
-fn fork(alloc: Global, levels: u8, text: &[u8]) -> Result<(Expr, &[u8]), Stop<'_>>
-    ensures { Gives (λ read. (tree_of read.0, read.1.now)) result (fork_at (expression_at levels) text.now) }
+#[tactic(auto, unfolding(crate::specs::Reading::behind_word_at))]
+fn item(alloc: Global, levels: u8, text: &[u8]) -> Result<(Expr, &[u8]), Stop<'_>>
+    ensures { Gives (λ read. (tree_of read.0, read.1.now)) result (behind_word_at (expression_at levels) head.Item text.now) }
 {
-    let rest = word(text, b"fork n ")?;
-    let (child, rest) = part(alloc, levels, rest, b" ")?;
+    let (array, rest) = number(text, b" ")?;
+    let (index, rest) = part(alloc, levels, rest, b")")?;
+    let index = Box::new(alloc, index)?;
+    Ok((Expr::Item(array, index), rest))
+}
+
+#[cycle(expression)]
+#[tactic(auto, unfolding(crate::specs::Reading::behind_word_at))]
+fn binary(
+    alloc: Global,
+    levels: u8,
+    operation: Operation,
+    text: &[u8],
+) -> Result<(Expr, &[u8]), Stop<'_>>
+    ensures { Gives (λ read. (tree_of read.0, read.1.now)) result (behind_word_at (expression_at levels) (head.Binary operation) text.now) }
+{
+    let (first, rest) = part(alloc, levels, text, b" ")?;
+    let (second, rest) = part(alloc, levels, rest, b")")?;
+    let first = Box::new(alloc, first)?;
+    let second = Box::new(alloc, second)?;
+    Ok((Expr::Binary(operation, first, second), rest))
+}
+
+#[cycle(expression)]
+#[tactic(auto, unfolding(crate::specs::Reading::behind_word_at))]
+fn choice(alloc: Global, levels: u8, text: &[u8]) -> Result<(Expr, &[u8]), Stop<'_>>
+    ensures { Gives (λ read. (tree_of read.0, read.1.now)) result (behind_word_at (expression_at levels) head.If text.now) }
+{
+    let (condition, rest) = part(alloc, levels, text, b" ")?;
+    let (first, rest) = part(alloc, levels, rest, b" ")?;
+    let (second, rest) = part(alloc, levels, rest, b")")?;
+    let condition = Box::new(alloc, condition)?;
+    let first = Box::new(alloc, first)?;
+    let second = Box::new(alloc, second)?;
+    Ok((Expr::If(condition, first, second), rest))
+}
+
+#[cycle(expression)]
+#[tactic(auto, unfolding(crate::specs::Reading::behind_word_at))]
+fn binding(alloc: Global, levels: u8, text: &[u8]) -> Result<(Expr, &[u8]), Stop<'_>>
+    ensures { Gives (λ read. (tree_of read.0, read.1.now)) result (behind_word_at (expression_at levels) head.Let text.now) }
+{
+    let (bound, rest) = part(alloc, levels, text, b" ")?;
+    let (body, rest) = part(alloc, levels, rest, b")")?;
+    let bound = Box::new(alloc, bound)?;
+    let body = Box::new(alloc, body)?;
+    Ok((Expr::Let(bound, body), rest))
+}
+
+#[cycle(expression)]
+#[tactic(auto, unfolding(crate::specs::Reading::behind_word_at))]
+fn tally(alloc: Global, levels: u8, text: &[u8]) -> Result<(Expr, &[u8]), Stop<'_>>
+    ensures { Gives (λ read. (tree_of read.0, read.1.now)) result (behind_word_at (expression_at levels) head.Tally text.now) }
+{
+    let (ledger, rest) = number(text, b" ")?;
+    let (amount, rest) = part(alloc, levels, rest, b" ")?;
+    let (body, rest) = part(alloc, levels, rest, b")")?;
+    let amount = Box::new(alloc, amount)?;
+    let body = Box::new(alloc, body)?;
+    Ok((Expr::Tally(ledger, amount, body), rest))
+}
+
+#[cycle(expression)]
+#[tactic(auto, unfolding(crate::specs::Reading::behind_word_at))]
+fn hold(alloc: Global, levels: u8, text: &[u8]) -> Result<(Expr, &[u8]), Stop<'_>>
+    ensures { Gives (λ read. (tree_of read.0, read.1.now)) result (behind_word_at (expression_at levels) head.Hold text.now) }
+{
+    let (lock, rest) = number(text, b" ")?;
+    let (body, rest) = part(alloc, levels, rest, b")")?;
+    let body = Box::new(alloc, body)?;
+    Ok((Expr::Hold(lock, body), rest))
+}
+
+#[cycle(expression)]
+#[tactic(auto, unfolding(crate::specs::Reading::behind_word_at))]
+fn fork(alloc: Global, levels: u8, class: Class, text: &[u8]) -> Result<(Expr, &[u8]), Stop<'_>>
+    ensures { Gives (λ read. (tree_of read.0, read.1.now)) result (behind_word_at (expression_at levels) (head.Fork class) text.now) }
+{
+    let (child, rest) = part(alloc, levels, text, b" ")?;
     let (during, rest) = part(alloc, levels, rest, b" ")?;
     let (after, rest) = part(alloc, levels, rest, b")")?;
     let child = Box::new(alloc, child)?;
     let during = Box::new(alloc, during)?;
     let after = Box::new(alloc, after)?;
-    Ok((Expr::Fork(Class::Normal, child, during, after), rest))
+    Ok((Expr::Fork(class, child, during, after), rest))
+}
+
+#[cycle(expression)]
+#[tactic(auto, unfolding(crate::specs::Reading::behind_word_at))]
+fn fold(alloc: Global, levels: u8, text: &[u8]) -> Result<(Expr, &[u8]), Stop<'_>>
+    ensures { Gives (λ read. (tree_of read.0, read.1.now)) result (behind_word_at (expression_at levels) head.Fold text.now) }
+{
+    let (from, rest) = part(alloc, levels, text, b" ")?;
+    let (to, rest) = part(alloc, levels, rest, b" ")?;
+    let (first, rest) = part(alloc, levels, rest, b" ")?;
+    let (body, rest) = part(alloc, levels, rest, b")")?;
+    let from = Box::new(alloc, from)?;
+    let to = Box::new(alloc, to)?;
+    let first = Box::new(alloc, first)?;
+    let body = Box::new(alloc, body)?;
+    Ok((Expr::Fold(from, to, first, body), rest))
+}
+
+#[cycle(expression)]
+#[tactic(auto, unfolding(crate::specs::Reading::behind_word_at))]
+fn sweep(
+    alloc: Global,
+    levels: u8,
+    reduction: Reduction,
+    text: &[u8],
+) -> Result<(Expr, &[u8]), Stop<'_>>
+    ensures { Gives (λ read. (tree_of read.0, read.1.now)) result (behind_word_at (expression_at levels) (head.Sweep reduction) text.now) }
+{
+    let (grain, rest) = number(text, b" ")?;
+    let (from, rest) = part(alloc, levels, rest, b" ")?;
+    let (to, rest) = part(alloc, levels, rest, b" ")?;
+    let (body, rest) = part(alloc, levels, rest, b")")?;
+    let from = Box::new(alloc, from)?;
+    let to = Box::new(alloc, to)?;
+    let body = Box::new(alloc, body)?;
+    Ok((Expr::Sweep(reduction, grain, from, to, body), rest))
 }

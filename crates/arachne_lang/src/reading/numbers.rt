@@ -1,26 +1,49 @@
-ghost use Rattle.std.specs.Prelude.{◌+◌, ◌*◌, ◌^◌};
-ghost use Rattle.arachne_lang.specs.Reading.{Gives, digits_at, number_at};
+ghost use Rattle.std.specs.Prelude.{◌+◌, ◌*◌, ◌^◌, ◌<◌, ◌≤◌, length, IfOk};
+ghost use Rattle.arachne_lang.specs.Reading.{Gives, digits_at, figures_at, number_at};
 
 use super::stop::Stop;
 use super::words::word;
 
-/// A number, the byte that ends it, and the text behind that.
+/// A number, what ends it, and the text behind that.
 #[tactic(auto, unfolding(crate::specs::Reading::number_at))]
 pub fn number<'t>(text: &'t [u8], end: &[u8]) -> Result<(u64, &'t [u8]), Stop<'t>>
     ensures { Gives (λ read. (read.0, read.1.now)) result (number_at (2 ^ 64) end.now text.now) }
 {
-    let (value, rest) = match text {
-        [b'0', rest @ ..] => (0, rest),
-        [digit @ b'1'..=b'9', rest @ ..] => digits(u64::from(*digit - b'0'), rest)?,
-        _ => return Err(Stop::Departs(text)),
-    };
+    let (value, rest) = figures(u64::MAX, text)?;
     let rest = word(rest, end)?;
     Ok((value, rest))
 }
 
+/// A number up to 255, what ends it, and the text behind that.
+#[tactic(auto, unfolding(crate::specs::Reading::number_at))]
+pub fn small_number<'t>(text: &'t [u8], end: &[u8]) -> Result<(u8, &'t [u8]), Stop<'t>>
+    ensures { Gives (λ read. (read.0, read.1.now)) result (number_at 256 end.now text.now) }
+{
+    let (value, rest) = figures(255, text)?;
+    let rest = word(rest, end)?;
+    Ok((value as u8, rest))
+}
+
+/// A number up to this one, and the text behind its digits.
+pub fn figures(greatest: u64, text: &[u8]) -> Result<(u64, &[u8]), Stop<'_>>
+    requires { 9 ≤ greatest }
+    ensures read { Gives (λ read. (read.0, read.1.now)) result (figures_at (greatest + 1) text.now) }
+    ensures in_range { IfOk result (λ read. read.0 ≤ greatest) }
+    ensures shorter { IfOk result (λ read. length read.1.now < length text.now) }
+{
+    match text {
+        [b'0', rest @ ..] => Ok((0, rest)),
+        [digit @ b'1'..=b'9', rest @ ..] => digits(greatest, u64::from(*digit - b'0'), rest),
+        _ => Err(Stop::Departs(text)),
+    }
+}
+
 /// The number whose first digits have this value, and whose others are the next ones of the text.
-fn digits(value: u64, text: &[u8]) -> Result<(u64, &[u8]), Stop<'_>>
-    ensures { Gives (λ read. (read.0, read.1.now)) result (digits_at (2 ^ 64) value text.now) }
+fn digits(greatest: u64, value: u64, text: &[u8]) -> Result<(u64, &[u8]), Stop<'_>>
+    requires { value ≤ greatest }
+    ensures read { Gives (λ read. (read.0, read.1.now)) result (digits_at (greatest + 1) value text.now) }
+    ensures in_range { IfOk result (λ read. read.0 ≤ greatest) }
+    ensures shorter { IfOk result (λ read. length read.1.now ≤ length text.now) }
 {
     let [byte @ b'0'..=b'9', rest @ ..] = text else {
         return Ok((value, text));
@@ -30,7 +53,7 @@ fn digits(value: u64, text: &[u8]) -> Result<(u64, &[u8]), Stop<'_>>
         .checked_mul(10)
         .and_then(|tens| tens.checked_add(digit))
     {
-        Some(value) => digits(value, rest),
-        None => Err(Stop::Overflows(text)),
+        Some(value) if value <= greatest => digits(greatest, value, rest),
+        _ => Err(Stop::Overflows(text)),
     }
 }

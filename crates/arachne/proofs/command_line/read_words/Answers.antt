@@ -7,13 +7,13 @@ use Rattle.arachne.proofs.command_line.read_words.Goals as goal
 
 pub returns-in-Some-clause-asked : goal.returns-in-Some-clause-asked
 returns-in-Some-clause-asked g c =
-    sym (c.in-Some.ensures
+    sym (c.in-Some.ensures.asked
     ∙ asked_is_met c.in_ok-command.command (map g.S.AsStr.text c.args.words.now) c.in_ok-matches.matches c.in_ok-command.ensures c.in_ok-matches.ensures.ok.2)
 
 pub returns-clause-refused : goal.returns-clause-refused
 returns-clause-refused g c = λ taken asked.
     let impossible : false ≡ true = subst (λ (o : Option Request). IsSome o)
-    (sym (c.in-None.ensures
+    (sym (c.in-None.ensures.asked
     ∙ asked_is_met c.in_ok-command.command (map g.S.AsStr.text c.args.words.now) c.in_ok-matches.matches c.in_ok-command.ensures c.in_ok-matches.ensures.ok.2))
     asked in
     cc

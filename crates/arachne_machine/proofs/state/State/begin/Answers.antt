@@ -1,11 +1,16 @@
-use Rattle.std.proofs.Common.{◌≡◌, ◌%◌, ◌^◌, ◌+◌, ◌<◌, ◌≤◌, ◌++◌, ◌∷◌, [], length, refl, arith, sym, ap, ◌∙◌}
+use Rattle.std.proofs.Common.{◌≡◌, ℕ, ◌+◌, ◌<◌, ◌≤◌, ◌++◌, ◌∷◌, [], length, None, refl, arith, sym, ap, ◌∙◌, subst}
 use Rattle.std.specs.Prelude.{slice_index}
-use Rattle.arachne_lang.specs.declared.program.Expr.{Num, Var, Add', Fork'}
-use Rattle.arachne_machine.specs.declared.frame.Frame.TheVariants.{AddRight}
-use Rattle.arachne_machine.specs.declared.frame.Control.TheVariants.{Begin, Give}
-use Rattle.arachne_machine.specs.Ending.{forks_of, fork_awaited, unjoined_of}
-use Rattle.arachne_machine.proofs.Outlooks.{goes_by, begin_num, begin_var, begin_add_at, goes_to_fork_at}
+use Rattle.arachne_lang.specs.Tree.{Number, Variable, Length, Item, Binary, Choose, Bind, Tally, Hold, Fork, Fold, Sweep}
+use Rattle.arachne_lang.specs.Program.{source_of, tree_of}
+use Rattle.arachne_machine.specs.declared.frame.Frame.TheVariants.{Index, Right, Branch, Extend, Amount, Release, FoldTo, SweepTo}
+use Rattle.arachne_machine.specs.declared.frame.Control.TheVariants.{Begin, Give, Asks}
+use Rattle.arachne_machine.specs.Ending.{unjoined_of, releases}
+use Rattle.arachne_machine.specs.Steps.{StopsAt}
 use Rattle.arachne_machine.proofs.Frames.{length-forks_of}
+use Rattle.arachne_machine.proofs.Outlooks.{as_it_is, given}
+use Rattle.arachne_machine.proofs.Openings.{begins_by, goes_to_value, goes_to_part, open_number, open_variable, open_length, open_item, open_binary, open_choice, open_binding, open_tally, open_hold, open_fold, open_sweep}
+use Rattle.arachne_machine.proofs.Splitting.{goes_to_fork}
+use Rattle.arachne_machine.proofs.state.State.begin.Goals.{in-Num, in-Var, in-Len, in-Item+in_ok-enter-in-Item, in-Binary+in_ok-enter-in-Binary, in-If+in_ok-enter-in-If, in-Let+in_ok-enter-in-Let, in-Tally+in_ok-enter-in-Tally, in-Fold+in_ok-enter-in-Fold, in-Sweep+in_ok-enter-in-Sweep}
 use Rattle.arachne_machine.proofs.state.State.begin.Goals as goal
 
 pub fork-requires : goal.fork-requires
@@ -15,38 +20,81 @@ fork-requires c =
     rw c.requires.begins (length-forks_of t.frames.items) in
     omega (arith, few, c.requires.numbered, t.below.ok.0, t.below.ok.1, t.below.small, t.frames.ok.0, t.frames.ok.1, t.frames.small)
 
-pub returns-in-Num-clause-ok : goal.returns-in-Num-clause-ok
-returns-in-Num-clause-ok c =
-    let t = c.args.self.now in (
-      goes_by 1 _ _ (Begin c.args.expr) (Give c.in-Num.number) t.frames.items t.frames.items t.environment.items t.environment.items
-          refl refl refl refl refl c.requires.begins refl refl refl refl refl (begin_num _ _ t.frames.items t.environment.items c.args.expr c.in-Num.number c.in-Num.is),
-      refl,
-    )
-
-pub returns-in-Var-clause-ok : goal.returns-in-Var-clause-ok
-returns-in-Var-clause-ok c =
-    let t = c.args.self.now in (
-      goes_by 1 _ _ (Begin c.args.expr) (Give (slice_index t.environment.items c.in-Var.variable)) t.frames.items t.frames.items t.environment.items t.environment.items
-          refl refl refl refl refl c.requires.begins (ap Give c.variable-value.ensures) refl refl refl refl
-          (begin_var _ _ t.frames.items t.environment.items c.args.expr c.in-Var.variable c.in-Var.is),
-      refl,
-    )
-
-pub returns-in_ok-push-in-Add-clause-ok : goal.returns-in_ok-push-in-Add-clause-ok
-returns-in_ok-push-in-Add-clause-ok c =
+pub returns-in-Hold-clause-ok : goal.returns-in-Hold-clause-ok
+returns-in-Hold-clause-ok c =
     let t = c.args.self.now in
-    let left = c.deref-in-Add.result in
-    let right = c.deref.result in (
-      goes_by 1 _ _ (Begin c.args.expr) (Begin left) t.frames.items (t.frames.items ++ AddRight right ∷ []) t.environment.items t.environment.items
-          refl refl refl refl refl c.requires.begins refl refl c.in_ok-push-in-Add.ensures.items refl refl
-          (begin_add_at _ _ t.frames.items t.environment.items c.args.expr left right c.in-Add.left.value c.in-Add.right.value
-          c.in-Add.is c.deref-in-Add.ensures c.deref.ensures),
-      refl,
-    )
+    let body = c.deref-in-Hold.result in
+    let lock = c.in-Hold.lock in
+    let s = begins_by t c.ask.new.self c.args.expr (Hold lock (tree_of body.now)) (Asks lock body) (Release lock ∷ []) c.requires.begins
+    (rw c.deref-in-Hold.ensures (ap tree_of c.in-Hold.is)) c.in_ok-ask-in-Hold.ensures.ok (λ fs. refl) refl
+    (open_hold (source_of t.program.now) t.own.name t.environment.items lock body) in
+    (s.goes, s.pending, s.locks ∙ ap (λ l. lock ∷ l) (sym s.old_locks))
 
-pub returns-in_ok-child-in-Fork-clause-ok : goal.returns-in_ok-child-in-Fork-clause-ok
-returns-in_ok-child-in-Fork-clause-ok c =
-    goes_to_fork_at c.args.self.now c.fork.new.self c.in_ok-child-in-Fork.child.value c.args.expr c.deref-in-Fork.result c.deref-in-Fork-2.result c.deref-in-Fork-3.result
-    c.in-Fork.child.value c.in-Fork.during.value c.in-Fork.after.value c.requires.begins c.in-Fork.is
-    c.deref-in-Fork.ensures c.deref-in-Fork-2.ensures c.deref-in-Fork-3.ensures
+pub returns-in-Fork-clause-ok : goal.returns-in-Fork-clause-ok
+returns-in-Fork-clause-ok c =
+    goes_to_fork c.args.self.now c.fork.new.self c.in_ok-child-in-Fork.child.value c.args.expr c.deref-in-Fork.result c.deref-in-Fork-2.result c.deref-in-Fork-3.result
+    c.in-Fork.class c.requires.begins
+    (rw (c.deref-in-Fork.ensures, c.deref-in-Fork-2.ensures, c.deref-in-Fork-3.ensures) (ap tree_of c.in-Fork.is))
     c.in_ok-child-in-Fork.ensures.ok c.in_ok-child-in-Fork.ensures.work
+
+pub returns-clause-ok : goal.returns-clause-ok
+returns-clause-ok c =
+    let t = c.args.self.now in
+    let e = c.args.expr in
+    let b = c.requires.begins in
+    let source = source_of t.program.now in
+    let name = t.own.name in
+    let env = t.environment.items in
+    elim c.match-expr.branch [
+      | in-Num w ↦ subst (λ x. StopsAt 1 t None x) (sym w.self-is)
+          (goes_to_value t _ e (Number w.in-Num.number) w.in-Num.number b (ap tree_of w.in-Num.is) (given t _ _ refl) (open_number source name env w.in-Num.number))
+      | in-Var w ↦ subst (λ x. StopsAt 1 t None x) (sym w.self-is)
+          (goes_to_value t _ e (Variable w.in-Var.variable) (slice_index env w.in-Var.variable) b (ap tree_of w.in-Var.is) (given t _ _ (ap Give w.variable.ensures))
+          (open_variable source name env w.in-Var.variable))
+      | in-Len w ↦ subst (λ x. StopsAt 1 t None x) (sym w.self-is)
+          (goes_to_value t _ e (Length w.in-Len.array) _ b (ap tree_of w.in-Len.is) (given t _ _ (ap Give w.length.ensures)) (open_length source name env w.in-Len.array))
+      | in-Item+in_ok-enter-in-Item w ↦ subst (λ x. StopsAt 1 t None x) (sym w.self-is)
+          (goes_to_part t _ e w.deref.result (Item w.in-Item.array (tree_of w.deref.result.now)) (Index w.in-Item.array) b
+          (rw w.deref.ensures (ap tree_of w.in-Item.is)) w.in_ok-enter-in-Item.ensures.ok refl refl (open_item source name env w.in-Item.array w.deref.result))
+      | in-Binary+in_ok-enter-in-Binary w ↦ subst (λ x. StopsAt 1 t None x) (sym w.self-is)
+          (let right = w.deref-in-Binary.result in
+          let left = w.deref-in-Binary-2.result in
+          goes_to_part t _ e left (Binary w.in-Binary.operation (tree_of left.now) (tree_of right.now)) (Right w.in-Binary.operation right) b
+          (rw (w.deref-in-Binary.ensures, w.deref-in-Binary-2.ensures) (ap tree_of w.in-Binary.is)) w.in_ok-enter-in-Binary.ensures.ok refl refl
+          (open_binary source name env w.in-Binary.operation left right))
+      | in-If+in_ok-enter-in-If w ↦ subst (λ x. StopsAt 1 t None x) (sym w.self-is)
+          (let first = w.deref-in-If.result in
+          let second = w.deref-in-If-2.result in
+          let condition = w.deref-in-If-3.result in
+          goes_to_part t _ e condition (Choose (tree_of condition.now) (tree_of first.now) (tree_of second.now)) (Branch first second) b
+          (rw (w.deref-in-If.ensures, w.deref-in-If-2.ensures, w.deref-in-If-3.ensures) (ap tree_of w.in-If.is)) w.in_ok-enter-in-If.ensures.ok refl refl
+          (open_choice source name env condition first second))
+      | in-Let+in_ok-enter-in-Let w ↦ subst (λ x. StopsAt 1 t None x) (sym w.self-is)
+          (let body = w.deref-in-Let.result in
+          let bound = w.deref-in-Let-2.result in
+          goes_to_part t _ e bound (Bind (tree_of bound.now) (tree_of body.now)) (Extend body) b
+          (rw (w.deref-in-Let.ensures, w.deref-in-Let-2.ensures) (ap tree_of w.in-Let.is)) w.in_ok-enter-in-Let.ensures.ok refl refl
+          (open_binding source name env bound body))
+      | in-Tally+in_ok-enter-in-Tally w ↦ subst (λ x. StopsAt 1 t None x) (sym w.self-is)
+          (let body = w.deref-in-Tally.result in
+          let amount = w.deref-in-Tally-2.result in
+          goes_to_part t _ e amount (Tally w.in-Tally.ledger (tree_of amount.now) (tree_of body.now)) (Amount w.in-Tally.ledger body) b
+          (rw (w.deref-in-Tally.ensures, w.deref-in-Tally-2.ensures) (ap tree_of w.in-Tally.is)) w.in_ok-enter-in-Tally.ensures.ok refl refl
+          (open_tally source name env w.in-Tally.ledger amount body))
+      | in-Fold+in_ok-enter-in-Fold w ↦ subst (λ x. StopsAt 1 t None x) (sym w.self-is)
+          (let to = w.deref-in-Fold.result in
+          let first = w.deref-in-Fold-2.result in
+          let body = w.deref-in-Fold-3.result in
+          let from = w.deref-in-Fold-4.result in
+          goes_to_part t _ e from (Fold (tree_of from.now) (tree_of to.now) (tree_of first.now) (tree_of body.now)) (FoldTo to first body) b
+          (rw (w.deref-in-Fold.ensures, w.deref-in-Fold-2.ensures, w.deref-in-Fold-3.ensures, w.deref-in-Fold-4.ensures) (ap tree_of w.in-Fold.is))
+          w.in_ok-enter-in-Fold.ensures.ok refl refl (open_fold source name env from to first body))
+      | in-Sweep+in_ok-enter-in-Sweep w ↦ subst (λ x. StopsAt 1 t None x) (sym w.self-is)
+          (let to = w.deref-in-Sweep.result in
+          let body = w.deref-in-Sweep-2.result in
+          let from = w.deref-in-Sweep-3.result in
+          goes_to_part t _ e from (Sweep w.in-Sweep.reduction w.in-Sweep.grain (tree_of from.now) (tree_of to.now) (tree_of body.now))
+          (SweepTo w.in-Sweep.reduction w.in-Sweep.grain to body) b
+          (rw (w.deref-in-Sweep.ensures, w.deref-in-Sweep-2.ensures, w.deref-in-Sweep-3.ensures) (ap tree_of w.in-Sweep.is))
+          w.in_ok-enter-in-Sweep.ensures.ok refl refl (open_sweep source name env w.in-Sweep.reduction w.in-Sweep.grain from to body))
+    ]

@@ -1,26 +1,51 @@
-use Rattle.std.proofs.Common.{◌≡◌, ℕ, length, ◌++◌, ◌∷◌, [], refl, ap, sym, ◌∙◌}
+use Rattle.std.proofs.Common.{◌≡◌, ℕ, length, ◌++◌, ◌∷◌, [], refl, ap, sym, ◌∙◌, subst}
+use Rattle.arachne_lang.specs.Value.{with_newest, apply, operation_of}
 use Rattle.arachne_machine.specs.declared.frame.Frame.TheVariants.{Restore}
-use Rattle.arachne_machine.proofs.Outlooks.{joins_by, awaited_child}
+use Rattle.arachne_machine.specs.declared.frame.Control.TheVariants.{Awaits, AwaitsHalf}
+use Rattle.arachne_machine.specs.Steps.{Joins}
+use Rattle.arachne_machine.proofs.Joining.{joins_fork, joins_half, awaited_child}
+use Rattle.arachne_machine.proofs.state.State.join.Goals.{in-Awaits, in-AwaitsHalf}
 use Rattle.arachne_machine.proofs.state.State.join.Goals as goal
 
 pub returns-clause-ok : goal.returns-clause-ok
 returns-clause-ok c =
     let t = c.args.self.now in
-    let taken = c.take_in-value.ensures.taken in
-    let same = c.make_room.ensures.same in
-    let number = c.in-Awaits.number in
-    let v = c.in-Awaits.during in
     let env = t.environment.items in
-    let named : c.args.outcome.name ≡ t.own.name ++ number ∷ [] = awaited_child t number v c.in-Awaits.after c.args.outcome.name c.in-Awaits.is c.requires.child in
-    let pushed : c.push.new.self.items ≡ c.take_in-value.new.self.environment.items ++ c.take_in-value.result ∷ [] = rw c.unwrap.ensures at c.push.ensures.items in
-    let pushed_too : c.push-2.new.self.items ≡ c.push.new.self.items ++ v ∷ [] = rw c.unwrap-2.ensures at c.push-2.ensures.items in
-    let framed : c.push-3.new.self.items ≡ c.take_in-value.new.self.frames.items ++ Restore c.len-length.result ∷ [] = rw c.unwrap-3.ensures at c.push-3.ensures.items in
-    let long : c.len-length.result ≡ length env = c.len-length.ensures ∙ c.make_room.new.self.environment.ok.0 ∙ ap length same.environment in
-    joins_by t _ c.args.outcome number v c.in-Awaits.after c.in-Awaits.is named
-    (taken.program ∙ same.program) (taken.own ∙ same.own) (taken.forks ∙ same.forks) refl
-    (framed ∙ ap (λ f. f.items ++ Restore c.len-length.result ∷ []) taken.frames ∙ ap (λ f. f ++ Restore c.len-length.result ∷ []) same.frames
-    ∙ ap (λ n. t.frames.items ++ Restore n ∷ []) long)
-    (pushed_too ∙ ap (λ l. l ++ v ∷ []) pushed ∙ ap (λ e. e.items ++ c.take_in-value.result ∷ [] ++ v ∷ []) taken.environment
-    ∙ ap (λ e. e ++ c.take_in-value.result ∷ [] ++ v ∷ []) same.environment ∙ ap (λ x. env ++ x ∷ [] ++ v ∷ []) c.take_in-value.ensures.value)
-    (taken.below ∙ ap (λ l. l ++ c.args.outcome.lines) same.below)
-    (λ m own childs e f. taken.sums m own childs (same.sums ∙ e) f)
+    let outcome = c.args.outcome in
+    let same = c.make_room.ensures.same in
+    elim c.match-self.branch [
+      | in-Awaits w ↦
+          let n = w.in-Awaits.number in
+          let v = w.in-Awaits.during in
+          let next = w.in-Awaits.after in
+          let taken = w.take_in-value.ensures.taken in
+          let awaits : t.control ≡ Awaits n v next = sym same.control_is ∙ w.in-Awaits.is in
+          let pushed : w.push.new.self.items ≡ w.take_in-value.new.self.environment.items ++ w.take_in-value.result ∷ [] = rw w.unwrap.ensures at w.push.ensures.items in
+          let pushed_too : w.push-in-Awaits.new.self.items ≡ w.push.new.self.items ++ v ∷ [] = rw w.unwrap-in-Awaits.ensures at w.push-in-Awaits.ensures.items in
+          let framed : w.push-in-Awaits-2.new.self.items ≡ w.take_in-value.new.self.frames.items ++ Restore w.len-length.result ∷ [] =
+          rw w.unwrap-in-Awaits-2.ensures at w.push-in-Awaits-2.ensures.items in
+          let long : w.len-length.result ≡ length env = w.len-length.ensures ∙ c.make_room.new.self.environment.ok.0 ∙ ap length same.environment_is in
+          subst (λ x. Joins t outcome x) (sym w.self-is)
+          (joins_fork t _ outcome n v next awaits (awaited_child t n (Awaits n v next) outcome.name awaits refl c.requires.child)
+          (taken.program ∙ same.program) (taken.own ∙ same.own) (taken.forks ∙ same.forks) refl
+          (framed ∙ ap (λ f. f.items ++ Restore w.len-length.result ∷ []) taken.frames ∙ ap (λ f. f ++ Restore w.len-length.result ∷ []) same.frames_are
+          ∙ ap (λ k. t.frames.items ++ Restore k ∷ []) long)
+          (pushed_too ∙ ap (λ l. l ++ v ∷ []) pushed ∙ ap (λ e. with_newest (with_newest e.items w.take_in-value.result) v) taken.environment
+          ∙ ap (λ e. with_newest (with_newest e w.take_in-value.result) v) same.environment_is ∙ ap (λ x. with_newest (with_newest env x) v) w.take_in-value.ensures.value)
+          (taken.below ∙ ap (λ l. l ++ outcome.lines) same.below)
+          (λ m own childs e f. taken.sums m own childs (same.sums ∙ e) f))
+      | in-AwaitsHalf w ↦
+          let n = w.in-AwaitsHalf.number in
+          let v = w.in-AwaitsHalf.right in
+          let r = w.in-AwaitsHalf.reduction in
+          let taken = w.take_in-left.ensures.taken in
+          let awaits : t.control ≡ AwaitsHalf n v r = sym same.control_is ∙ w.in-AwaitsHalf.is in
+          subst (λ x. Joins t outcome x) (sym w.self-is)
+          (joins_half t _ outcome n v w.apply.result r awaits (awaited_child t n (AwaitsHalf n v r) outcome.name awaits refl c.requires.child)
+          (taken.program ∙ same.program) (taken.own ∙ same.own) (taken.forks ∙ same.forks) refl
+          (w.apply.ensures ∙ ap (λ o. apply o w.take_in-left.result v) w.operation_of.ensures ∙ ap (λ x. apply (operation_of r) x v) w.take_in-left.ensures.value)
+          (ap (λ f. f.items) taken.frames ∙ same.frames_are)
+          (ap (λ e. e.items) taken.environment ∙ same.environment_is)
+          (taken.below ∙ ap (λ l. l ++ outcome.lines) same.below)
+          (λ m own childs e f. taken.sums m own childs (same.sums ∙ e) f))
+    ]

@@ -1,0 +1,59 @@
+-- The texts of samples, and the faults of all other texts.
+use Rattle.std.specs.Prelude.{ℕ, ◌≡◌, ◌+◌, ◌^◌, ◌<◌, ◌≤◌, ◌⊎◌, List, [], ◌∷◌, ◌++◌, length, take}
+use Rattle.std.specs.List.{AllByRecursion}
+use Rattle.arachne_lang.specs.declared.text_fault.TextFault.{TextFault}
+use Rattle.arachne_lang.specs.declared.text_fault.TextFault.TheVariants.{Memory, Header, Syntax, Number as Overflow, Nesting}
+use Rattle.arachne_lang.specs.Spelling.{line, numeral}
+use Rattle.arachne_lang.specs.Text.{byte_of}
+use Rattle.arachne_policy.specs.declared.samples.Sample.{Sample}
+
+-- a line of five numbers, with one space between and a newline behind
+abbrev pub sample_line : Sample → List ℕ
+sample_line s = line (numeral s.cores) (s.runnable ∷ s.scans ∷ s.busy ∷ s.elapsed ∷ [])
+
+-- The text of a list of samples. The shape is all of these, with numbers of any length.
+abbrev pub samples_text : List Sample → List ℕ
+samples_text [] = []
+samples_text (s ∷ samples) = sample_line s ++ samples_text samples
+
+-- each number of a sample fits 64 bits
+pub record FitsWords (s : Sample) : Type 0 where
+  pub cores : s.cores < 2 ^ 64
+  pub runnable : s.runnable < 2 ^ 64
+  pub scans : s.scans < 2 ^ 64
+  pub busy : s.busy < 2 ^ 64
+  pub elapsed : s.elapsed < 2 ^ 64
+
+-- each number of the samples is in range
+abbrev pub AreInRange : List Sample → Type 0
+AreInRange samples = AllByRecursion FitsWords samples
+
+-- the bytes begin the text of some samples
+abbrev pub Begins : List ℕ → Type 0
+Begins bytes = (samples : List Sample) × (rest : List ℕ) × (samples_text samples ≡ bytes ++ rest)
+
+-- the bytes begin the text of some samples that are in range
+abbrev pub BeginsInRange : List ℕ → Type 0
+BeginsInRange bytes = (samples : List Sample) × (rest : List ℕ) × AreInRange samples × (samples_text samples ≡ bytes ++ rest)
+
+-- the bytes are the text of some samples
+abbrev pub IsText : List ℕ → Type 0
+IsText bytes = (samples : List Sample) × (samples_text samples ≡ bytes)
+
+-- The input has this fault. It has no header to miss, and nothing in it nests.
+abbrev pub HasFault : List ℕ → TextFault → Type 0
+HasFault bytes Memory = ⊥
+HasFault bytes (Header at) = ⊥
+HasFault bytes (Nesting at) = ⊥
+-- it is no text of the shape, and its longest front that begins one has this length
+HasFault bytes (Syntax at) =
+    ¬ IsText bytes × (at ≤ length bytes) × Begins (take at bytes)
+    × ((longer : ℕ) → longer ≤ length bytes → Begins (take longer bytes) → longer ≤ at)
+-- this byte is the first digit that brings a number over its range
+HasFault bytes (Overflow at) =
+    (at < length bytes) × Begins (take (at + 1) bytes) × BeginsInRange (take at bytes) × ¬ BeginsInRange (take (at + 1) bytes)
+
+-- It is the fault with the least byte, and the only one there.
+pub record IsFirstFault (bytes : List ℕ) (fault : TextFault) : Type 0 where
+  pub has : HasFault bytes fault
+  pub first : (other : TextFault) → HasFault bytes other → (byte_of fault < byte_of other) ⊎ (other ≡ fault)

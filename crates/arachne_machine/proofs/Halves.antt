@@ -1,0 +1,167 @@
+-- A sweep that is split in halves comes to the same.
+use Rattle.std.proofs.Common.{◌≡◌, ◌≤◌, ◌<◌, ℕ, zero, suc, ◌+◌, ◌-◌, ◌*◌, ◌/◌, ◌%◌, ◌^◌, List, Bool, true, false, inl, inr, refl, ap, sym, ◌∙◌, arith, rules}
+use Rattle.std.specs.Prelude.{min, max, bit_xor, nat_le, if◌then◌else◌}
+use Rattle.std.specs.Int.Bits.{xor_assoc, xor_zero_r}
+use Rattle.std.proofs.Math.Nat.{min-le_left, min-eq_left, max-zero, mod-mod, add-mod-mod, mod-add-mod, add_assoc, mul_assoc}
+use Rattle.std.proofs.lemmas.Nat.{mul-mod_first, mul-mod_second}
+use Rattle.std.proofs.lemmas.Bool.{cases_lt}
+use Rattle.std.proofs.Math.Path.{fun_ext}
+use Rattle.arachne_lang.specs.declared.program.Reduction.{Reduction}
+use Rattle.arachne_lang.specs.declared.program.Reduction.TheVariants.{Sum, Product, Parity, Least, Greatest}
+use Rattle.arachne_lang.specs.Tree.{Tree}
+use Rattle.arachne_lang.specs.Value.{Environment, turns, with_newest, value_of, apply, operation_of, unit_of, wrapped}
+use Rattle.arachne_lang.specs.Effects.{Task, Reduce, Effects, forked, halves, turns_effects, effects_of, task_value, task_effects}
+use Rattle.arachne_machine.specs.Turns.{swept, swept_effects, swept_work, split_work}
+use Rattle.arachne_machine.specs.Work.{total, work_of}
+
+-- Values.
+reduction_assoc : (r : Reduction) (x y z : ℕ) → apply (operation_of r) (apply (operation_of r) x y) z ≡ apply (operation_of r) x (apply (operation_of r) y z)
+reduction_assoc Sum x y z =
+    mod-add-mod (x + y) (2 ^ 64) z ∙ ap wrapped (add_assoc x y z) ∙ sym (add-mod-mod x (y + z) (2 ^ 64))
+reduction_assoc Product x y z =
+    mul-mod_first (x * y) z (2 ^ 64) ∙ ap wrapped (mul_assoc x y z) ∙ sym (mul-mod_second x (y * z) (2 ^ 64))
+reduction_assoc Parity x y z = xor_assoc x y z
+reduction_assoc Least x y z = omega arith
+reduction_assoc Greatest x y z = omega arith
+
+least_bounded : (step : ℕ → ℕ) (k : ℕ) → turns (λ j so_far. min so_far (step j)) k (2 ^ 64 - 1) ≤ 2 ^ 64 - 1
+least_bounded step zero = omega arith
+least_bounded step (suc k) =
+    let so_far = turns (λ j s. min s (step j)) k (2 ^ 64 - 1) in
+    omega (arith, least_bounded step k, min-le_left so_far (step k))
+
+wrapped_once : (x : ℕ) → wrapped (wrapped x + 0) ≡ wrapped x
+wrapped_once x = ap wrapped (omega arith) ∙ mod-mod x (2 ^ 64)
+
+times_one : (x : ℕ) → wrapped (wrapped x * 1) ≡ wrapped x
+times_one x = ap wrapped (omega arith) ∙ mod-mod x (2 ^ 64)
+
+-- what so many turns make from the unit is not changed by it
+unit_right : (r : Reduction) (step : ℕ → ℕ) (k : ℕ) →
+    apply (operation_of r) (turns (λ j so_far. apply (operation_of r) so_far (step j)) k (unit_of r)) (unit_of r)
+    ≡ turns (λ j so_far. apply (operation_of r) so_far (step j)) k (unit_of r)
+unit_right Sum step zero = refl
+unit_right Sum step (suc k) = wrapped_once (turns (λ j s. apply (operation_of Sum) s (step j)) k 0 + step k)
+unit_right Product step zero = refl
+unit_right Product step (suc k) = times_one (turns (λ j s. apply (operation_of Product) s (step j)) k 1 * step k)
+unit_right Parity step k = xor_zero_r (turns (λ j s. apply (operation_of Parity) s (step j)) k 0)
+unit_right Least step k = min-eq_left (least_bounded step k)
+unit_right Greatest step k = max-zero (turns (λ j s. apply (operation_of Greatest) s (step j)) k 0)
+
+-- turns from a value on are the value and the turns from the unit on
+turns_apart : (r : Reduction) (step : ℕ → ℕ) (k x : ℕ) → apply (operation_of r) x (unit_of r) ≡ x →
+    turns (λ j so_far. apply (operation_of r) so_far (step j)) k x
+    ≡ apply (operation_of r) x (turns (λ j so_far. apply (operation_of r) so_far (step j)) k (unit_of r))
+turns_apart r step zero x h = sym h
+turns_apart r step (suc k) x h =
+    ap (λ v. apply (operation_of r) v (step k)) (turns_apart r step k x h)
+    ∙ reduction_assoc r x (turns (λ j s. apply (operation_of r) s (step j)) k (unit_of r)) (step k)
+
+turns_after : (r : Reduction) (step : ℕ → ℕ) (m k v : ℕ) →
+    turns (λ j so_far. apply (operation_of r) so_far (step j)) (m + k) v
+    ≡ turns (λ j so_far. apply (operation_of r) so_far (step (m + j))) k (turns (λ j so_far. apply (operation_of r) so_far (step j)) m v)
+turns_after r step m zero v = ap (λ n. turns (λ j s. apply (operation_of r) s (step j)) n v) (omega arith)
+turns_after r step m (suc k) v =
+    let next : m + suc k ≡ suc (m + k) = omega arith in
+    ap (λ n. turns (λ j s. apply (operation_of r) s (step j)) n v) next
+    ∙ ap (λ w. apply (operation_of r) w (step (m + k))) (turns_after r step m k v)
+
+pub value_split : (arrays : List (List ℕ)) (r : Reduction) (grain : ℕ) (body : Tree) (env : Environment) (first m n : ℕ) → m ≤ n →
+    task_value arrays (Reduce r grain body env first n)
+    ≡ apply (operation_of r) (task_value arrays (Reduce r grain body env first m)) (task_value arrays (Reduce r grain body env (first + m) (n - m)))
+value_split arrays r grain body env first m n le =
+    let V : ℕ → ℕ = λ i. value_of arrays body (with_newest env i) in
+    let whole : n ≡ m + (n - m) = omega arith in
+    let left = swept arrays r body env first m (unit_of r) in
+    ap (λ k. swept arrays r body env first k (unit_of r)) whole
+    ∙ turns_after r (λ j. V (first + j)) m (n - m) (unit_of r)
+    ∙ ap (λ step. turns step (n - m) left)
+    (fun_ext (λ j. fun_ext (λ s. ap (λ i. apply (operation_of r) s (V i)) (sym (add_assoc first m j)))))
+    ∙ turns_apart r (λ j. V (first + m + j)) (n - m) left (unit_right r (λ j. V (first + j)) m)
+
+-- Effects. The fuel does not matter, if it is enough.
+pub fits : (n fuel : ℕ) → 2 ≤ n → n ≤ suc fuel → (n / 2 ≤ fuel) × (n - n / 2 ≤ fuel)
+fits n fuel two le = (omega arith, omega arith)
+
+pub halves_none : (locks : ℕ) (task : ℕ → ℕ → Task) (turn : ℕ → Effects) (grain fuel first n : ℕ) → n ≤ max 1 grain →
+    halves locks task turn grain fuel first n ≡ turns_effects (λ j. turn (first + j)) n
+halves_none locks task turn grain zero first n le = refl
+halves_none locks task turn grain (suc fuel) first n le =
+    let small : nat_le n (max 1 grain) ≡ true = search rules in
+    ap (λ b. if b then turns_effects (λ j. turn (first + j)) n
+    else forked locks (task first (n / 2)) (halves locks task turn grain fuel first (n / 2)) (halves locks task turn grain fuel (first + n / 2) (n - n / 2))) small
+
+pub halves_split : (locks : ℕ) (task : ℕ → ℕ → Task) (turn : ℕ → Effects) (grain fuel first n : ℕ) → max 1 grain < n →
+    halves locks task turn grain (suc fuel) first n
+    ≡ forked locks (task first (n / 2)) (halves locks task turn grain fuel first (n / 2)) (halves locks task turn grain fuel (first + n / 2) (n - n / 2))
+halves_split locks task turn grain fuel first n lt =
+    let large : nat_le n (max 1 grain) ≡ false = search rules in
+    ap (λ b. if b then turns_effects (λ j. turn (first + j)) n
+    else forked locks (task first (n / 2)) (halves locks task turn grain fuel first (n / 2)) (halves locks task turn grain fuel (first + n / 2) (n - n / 2))) large
+
+halves_fuel : (locks : ℕ) (task : ℕ → ℕ → Task) (turn : ℕ → Effects) (grain fuel other first n : ℕ) → n ≤ fuel → n ≤ other →
+    halves locks task turn grain fuel first n ≡ halves locks task turn grain other first n
+halves_fuel locks task turn grain zero other first n le le' =
+    let small : n ≤ max 1 grain = omega arith in
+    halves_none locks task turn grain zero first n small ∙ sym (halves_none locks task turn grain other first n small)
+halves_fuel locks task turn grain (suc fuel) zero first n le le' =
+    let small : n ≤ max 1 grain = omega arith in
+    halves_none locks task turn grain (suc fuel) first n small ∙ sym (halves_none locks task turn grain zero first n small)
+halves_fuel locks task turn grain (suc fuel) (suc other) first n le le' =
+    elim (cases_lt (max 1 grain) n) [
+      | inl lt ↦
+          let here = fits n fuel (omega arith) le in
+          let there = fits n other (omega arith) le' in
+          halves_split locks task turn grain fuel first n lt
+          ∙ ap (λ x. forked locks (task first (n / 2)) x (halves locks task turn grain fuel (first + n / 2) (n - n / 2)))
+          (halves_fuel locks task turn grain fuel other first (n / 2) here.0 there.0)
+          ∙ ap (λ x. forked locks (task first (n / 2)) (halves locks task turn grain other first (n / 2)) x)
+          (halves_fuel locks task turn grain fuel other (first + n / 2) (n - n / 2) here.1 there.1)
+          ∙ sym (halves_split locks task turn grain other first n lt)
+      | inr small ↦ halves_none locks task turn grain (suc fuel) first n small ∙ sym (halves_none locks task turn grain (suc other) first n small)
+    ]
+
+pub effects_whole : (arrays : List (List ℕ)) (locks : ℕ) (r : Reduction) (grain : ℕ) (body : Tree) (env : Environment) (first n : ℕ) → n ≤ max 1 grain →
+    task_effects arrays locks (Reduce r grain body env first n) ≡ swept_effects arrays locks body env first n
+effects_whole arrays locks r grain body env first n le =
+    halves_none locks (Reduce r grain body env) (λ i. effects_of arrays locks body (with_newest env i)) grain n first n le
+
+pub effects_split : (arrays : List (List ℕ)) (locks : ℕ) (r : Reduction) (grain : ℕ) (body : Tree) (env : Environment) (first n : ℕ) → max 1 grain < n →
+    task_effects arrays locks (Reduce r grain body env first n)
+    ≡ forked locks (Reduce r grain body env first (n / 2)) (task_effects arrays locks (Reduce r grain body env first (n / 2)))
+    (task_effects arrays locks (Reduce r grain body env (first + n / 2) (n - n / 2)))
+effects_split arrays locks r grain body env first n lt =
+    let task = Reduce r grain body env in
+    let turn : ℕ → Effects = λ i. effects_of arrays locks body (with_newest env i) in
+    let m = n / 2 in
+    let some : n ≡ suc (n - 1) = omega arith in
+    let within = fits n (n - 1) (omega arith) (omega arith) in
+    ap (λ fuel. halves locks task turn grain fuel first n) some
+    ∙ halves_split locks task turn grain (n - 1) first n lt
+    ∙ ap (λ x. forked locks (task first m) x (halves locks task turn grain (n - 1) (first + m) (n - m)))
+    (halves_fuel locks task turn grain (n - 1) m first m within.0 (omega arith))
+    ∙ ap (λ x. forked locks (task first m) (halves locks task turn grain m first m) x)
+    (halves_fuel locks task turn grain (n - 1) (n - m) (first + m) (n - m) within.1 (omega arith))
+
+-- Work.
+total_after : (f : ℕ → ℕ) (m k : ℕ) → total f (m + k) ≡ total f m + total (λ j. f (m + j)) k
+total_after f m zero =
+    let none : m + 0 ≡ m = omega arith in
+    let same : total f (m + 0) ≡ total f m = ap (total f) none in
+    omega (arith, same)
+total_after f m (suc k) =
+    let next : m + suc k ≡ suc (m + k) = omega arith in
+    ap (total f) next ∙ omega (arith, total_after f m k)
+
+pub work_split : (arrays : List (List ℕ)) (body : Tree) (env : Environment) (first n : ℕ) → 2 ≤ n →
+    split_work arrays body env first (n / 2) + split_work arrays body env (first + n / 2) (n - n / 2) + 2 ≤ split_work arrays body env first n
+work_split arrays body env first n two =
+    let m = n / 2 in
+    let W : ℕ → ℕ = λ i. work_of arrays body (with_newest env i) + 1 in
+    let whole : n ≡ m + (n - m) = omega arith in
+    let both : swept_work arrays body env first n ≡ swept_work arrays body env first m + swept_work arrays body env (first + m) (n - m) =
+    ap (swept_work arrays body env first) whole ∙ total_after (λ j. W (first + j)) m (n - m)
+    ∙ ap (λ f. total (λ j. W (first + j)) m + total f (n - m)) (fun_ext (λ j. ap W (sym (add_assoc first m j)))) in
+    let some : 1 ≤ m = omega arith in
+    let more : 1 ≤ n - m = omega arith in
+    omega (arith, both, some, more, whole)

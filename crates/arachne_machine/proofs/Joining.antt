@@ -1,0 +1,205 @@
+-- Joins, and the answers to pauses that count.
+use Rattle.std.proofs.Common.{◌≡◌, ◌≤◌, ℕ, ◌+◌, List, [], ◌∷◌, ◌++◌, length, None, Some, refl, ap, sym, ◌∙◌, subst, arith, append_assoc, take}
+use Rattle.std.specs.Prelude.{slice_get, option_map}
+use Rattle.std.specs.Borrow.{Bor}
+use Rattle.std.proofs.lemmas.List.{append-nil}
+use Rattle.std.proofs.Math.Seq.{take-append_seam}
+use Rattle.arachne_lang.specs.declared.program.Expr.{Expr}
+use Rattle.arachne_lang.specs.declared.program.Reduction.{Reduction}
+use Rattle.arachne_lang.specs.Tree.{Source}
+use Rattle.arachne_lang.specs.Program.{source_of, tree_of}
+use Rattle.arachne_lang.specs.Value.{value_of, with_newest, apply, operation_of}
+use Rattle.arachne_lang.specs.Effects.{Effects, effects_of, task_value, tabulated, held, tallied}
+use Rattle.arachne_machine.specs.declared.frame.Stretch.{Stretch}
+use Rattle.arachne_machine.specs.declared.frame.Frame.{Frame}
+use Rattle.arachne_machine.specs.declared.frame.Frame.TheVariants.{Restore}
+use Rattle.arachne_machine.specs.declared.frame.Control.{Control}
+use Rattle.arachne_machine.specs.declared.frame.Control.TheVariants.{Begin, Give, Cover, Forked, Halved, Awaits, AwaitsHalf, Asks, Frees, Tallies}
+use Rattle.arachne_machine.specs.declared.state.State.{State}
+use Rattle.arachne_machine.specs.Outcome.{Finished}
+use Rattle.arachne_machine.specs.Account.{Account, after}
+use Rattle.arachne_machine.specs.Ending.{Status, child_task, joined_env, account_joined, account_after_join, status_after_join, fork_awaited, lock_freed, forks_of, releases, frames_left, work_left, account_at_end, unjoined_of, locks_of}
+use Rattle.arachne_machine.specs.Steps.{Joins, Counts, pending_of, suspended}
+use Rattle.arachne_machine.specs.Suspended.{awaited}
+use Rattle.arachne_machine.proofs.Outlooks.{SameOutlook, Step, IsAt, Any, itself, unjoined_at, locks_at, same_end, steps_by, framed_as, alone, as_it_is, given}
+
+joins_by : (old new : State) (outcome : Finished) (n : ℕ) (k k' : Control) (gs' : List Frame) (env' : List ℕ) → old.control ≡ k → outcome.name ≡ old.own.name ++ n ∷ [] →
+    new.program ≡ old.program → new.own ≡ old.own → new.forks ≡ old.forks → new.control ≡ k' →
+    new.frames.items ≡ old.frames.items ++ gs' → new.environment.items ≡ env' →
+    new.below.items ≡ old.below.items ++ outcome.lines →
+    ((m : ℕ) (own childs : ℕ → ℕ) → old.sums.items ≡ tabulated m own → outcome.sums ≡ tabulated m childs → new.sums.items ≡ tabulated m (λ ledger. own ledger + childs ledger)) →
+    ((fs : List Frame) → frames_left k fs ≡ fs) → ((fs : List Frame) → frames_left k' fs ≡ fs) →
+    fork_awaited k ++ [] ≡ n ∷ (fork_awaited k' ++ forks_of gs') → lock_freed k' ++ releases gs' ≡ lock_freed k ++ [] → pending_of k' ≡ None →
+    (outcome.value ≡ task_value (source_of old.program.now).arrays (child_task (source_of old.program.now) old.own.name n) →
+    SameOutlook 0 Any (account_joined (source_of old.program.now) old.own.name n) (source_of old.program.now) old.own.name k [] old.environment.items k' gs' env') →
+    Joins old outcome new
+joins_by old new outcome n k k' gs' env' is_k is_name program own forks is_k' frames environment below sums left left' joined locks pending outlook =
+    let source = source_of old.program.now in
+    let name = old.own.name in
+    let fs = old.frames.items in
+    let env = old.environment.items in
+    let at : IsAt source name k (fs ++ []) env old = record { source_is = refl; name_is = refl; control_is = is_k; frames_are = sym (append-nil fs); environment_is = refl } in
+    let at' : IsAt source name k' (fs ++ gs') env' new = record {
+      source_is = ap (λ p. source_of p.now) program;
+      name_is = ap (λ o. o.name) own;
+      control_is = is_k';
+      frames_are = frames;
+      environment_is = environment;
+    } in
+    record {
+      program = program;
+      own = own;
+      forks = forks;
+      pending = ap pending_of is_k' ∙ pending;
+      number = n;
+      name = is_name;
+      unjoined = unjoined_at source name k fs [] env old at ∙ ap (λ l. l ++ forks_of fs) joined ∙ ap (λ l. n ∷ l) (sym (unjoined_at source name k' fs gs' env' new at'));
+      locks = locks_at source name k' fs gs' env' new at' ∙ ap (λ l. l ++ releases fs) locks ∙ sym (locks_at source name k fs [] env old at);
+      below = below;
+      sums = sums;
+      keeps = λ is_value.
+          let end = same_end 0 Any (account_joined source name n) source name k k' fs [] gs' env env' old new at at' (left (fs ++ [])) (left' (fs ++ gs')) (outlook is_value) in
+          record { ending = end.ending; account = λ a. end.account a tt; work = omega (arith, end.work) };
+    }
+
+take-two : (env : List ℕ) (x y : ℕ) → take (length env) (with_newest (with_newest env x) y) ≡ env
+take-two env x y = ap (take (length env)) (append_assoc env (x ∷ []) (y ∷ [])) ∙ take-append_seam env (x ∷ y ∷ [])
+
+-- The child's value becomes the newest variable but one.
+join_outlook : (source : Source) (name env : List ℕ) (n v : ℕ) (next : Bor Expr) →
+    SameOutlook 0 Any (account_joined source name n) source name (Awaits n v next) [] env (Begin next) (Restore (length env) ∷ []) (joined_env source name n (record { env = env; value = v }))
+join_outlook source name env n v next =
+    let x = task_value source.arrays (child_task source name n) in
+    let inner = with_newest (with_newest env x) v in
+    let w = value_of source.arrays (tree_of next.now) inner in
+    let back = take-two env x v in
+    record {
+      ending = ap (λ e. record { env = e; value = w }) back;
+      account = λ a any. refl;
+      work = omega arith;
+    }
+
+pub joins_fork : (old new : State) (outcome : Finished) (n v : ℕ) (next : Bor Expr) → old.control ≡ Awaits n v next → outcome.name ≡ old.own.name ++ n ∷ [] →
+    new.program ≡ old.program → new.own ≡ old.own → new.forks ≡ old.forks → new.control ≡ Begin next →
+    new.frames.items ≡ old.frames.items ++ Restore (length old.environment.items) ∷ [] →
+    new.environment.items ≡ with_newest (with_newest old.environment.items outcome.value) v →
+    new.below.items ≡ old.below.items ++ outcome.lines →
+    ((m : ℕ) (own childs : ℕ → ℕ) → old.sums.items ≡ tabulated m own → outcome.sums ≡ tabulated m childs → new.sums.items ≡ tabulated m (λ ledger. own ledger + childs ledger)) →
+    Joins old outcome new
+joins_fork old new outcome n v next awaits is_name program own forks control frames environment below sums =
+    let source = source_of old.program.now in
+    let name = old.own.name in
+    let env = old.environment.items in
+    joins_by old new outcome n (Awaits n v next) (Begin next) (Restore (length env) ∷ []) (with_newest (with_newest env outcome.value) v) awaits is_name
+    program own forks control frames environment below sums (λ fs. refl) (λ fs. refl) refl refl refl
+    (λ is_value. subst (λ x. SameOutlook 0 Any (account_joined source name n) source name (Awaits n v next) [] env (Begin next) (Restore (length env) ∷ []) (with_newest (with_newest env x) v))
+    (sym is_value) (join_outlook source name env n v next))
+
+pub joins_half : (old new : State) (outcome : Finished) (n right w : ℕ) (reduction : Reduction) → old.control ≡ AwaitsHalf n right reduction → outcome.name ≡ old.own.name ++ n ∷ [] →
+    new.program ≡ old.program → new.own ≡ old.own → new.forks ≡ old.forks → new.control ≡ Give w → w ≡ apply (operation_of reduction) outcome.value right →
+    new.frames.items ≡ old.frames.items → new.environment.items ≡ old.environment.items →
+    new.below.items ≡ old.below.items ++ outcome.lines →
+    ((m : ℕ) (own childs : ℕ → ℕ) → old.sums.items ≡ tabulated m own → outcome.sums ≡ tabulated m childs → new.sums.items ≡ tabulated m (λ ledger. own ledger + childs ledger)) →
+    Joins old outcome new
+joins_half old new outcome n right w reduction awaits is_name program own forks control is frames environment below sums =
+    let source = source_of old.program.now in
+    let name = old.own.name in
+    let env = old.environment.items in
+    joins_by old new outcome n (AwaitsHalf n right reduction) (Give w) [] env awaits is_name
+    program own forks control (frames ∙ sym (append-nil old.frames.items)) environment below sums (λ fs. refl) (λ fs. refl) refl refl refl
+    (λ is_value. record {
+      ending = ap (λ x. record { env = env; value = x }) (is ∙ ap (λ x. apply (operation_of reduction) x right) is_value);
+      account = λ a any. refl;
+      work = omega arith;
+    })
+
+-- the name of the child that is awaited
+pub awaited_child : (t : State) (n : ℕ) (k : Control) (name : List ℕ) → t.control ≡ k → fork_awaited k ≡ n ∷ [] → awaited (suspended t) ≡ Some name → name ≡ t.own.name ++ n ∷ []
+awaited_child t n k name is_control one is_awaited =
+    let e : Some (t.own.name ++ n ∷ []) ≡ Some name =
+    ap (λ l. option_map (λ number. t.own.name ++ number ∷ []) (slice_get (l ++ forks_of t.frames.items) 0)) (sym (ap fork_awaited is_control ∙ one)) ∙ is_awaited in
+    cc
+
+-- An answer that counts, and goes on.
+counts_by : (old new : State) (effects : Effects) (k k' : Control) → old.control ≡ k → new.control ≡ k' →
+    new.program ≡ old.program → new.own.name ≡ old.own.name → new.own.tag ≡ old.own.tag → new.below.items ≡ old.below.items → new.forks ≡ old.forks →
+    new.frames.items ≡ old.frames.items → new.environment.items ≡ old.environment.items →
+    ((n : ℕ) (own : ℕ → ℕ) → old.sums.items ≡ tabulated n own → new.sums.items ≡ tabulated n (λ ledger. own ledger + effects.sums ledger)) →
+    ((n : ℕ) (own : ℕ → ℕ) → old.own.holds.items ≡ tabulated n own → new.own.holds.items ≡ tabulated n (λ lock. own lock + effects.holds lock)) →
+    ((fs : List Frame) → frames_left k fs ≡ fs) → ((fs : List Frame) → frames_left k' fs ≡ fs) →
+    fork_awaited k' ≡ fork_awaited k → lock_freed k' ≡ lock_freed k → pending_of k' ≡ None →
+    SameOutlook 0 Any (after old.own.name effects) (source_of old.program.now) old.own.name k [] old.environment.items k' [] old.environment.items →
+    Counts effects old new
+counts_by old new effects k k' is_k is_k' program is_name tag below forks frames environment sums holds left left' awaits locks pending outlook =
+    let source = source_of old.program.now in
+    let name = old.own.name in
+    let fs = old.frames.items in
+    let env = old.environment.items in
+    let at : IsAt source name k (fs ++ []) env old = record { source_is = refl; name_is = refl; control_is = is_k; frames_are = sym (append-nil fs); environment_is = refl } in
+    let at' : IsAt source name k' (fs ++ []) env new = record {
+      source_is = ap (λ p. source_of p.now) program;
+      name_is = is_name;
+      control_is = is_k';
+      frames_are = frames ∙ sym (append-nil fs);
+      environment_is = environment;
+    } in
+    let end = same_end 0 Any (after name effects) source name k k' fs [] [] env env old new at at' (left (fs ++ [])) (left' (fs ++ [])) outlook in
+    record {
+      program = program;
+      name = is_name;
+      tag = tag;
+      below = below;
+      forks = forks;
+      unjoined = ap (λ x. fork_awaited x ++ forks_of new.frames.items) is_k' ∙ ap (λ l. l ++ forks_of new.frames.items) awaits
+          ∙ ap (λ x. fork_awaited k ++ forks_of x) frames ∙ ap (λ x. fork_awaited x ++ forks_of fs) (sym is_k);
+      locks = ap (λ x. lock_freed x ++ releases new.frames.items) is_k' ∙ ap (λ l. l ++ releases new.frames.items) locks
+          ∙ ap (λ x. lock_freed k ++ releases x) frames ∙ ap (λ x. lock_freed x ++ releases fs) (sym is_k);
+      pending = ap pending_of is_k' ∙ pending;
+      sums = sums;
+      holds = holds;
+      ending = end.ending;
+      account = λ a. end.account a tt;
+      work = omega (arith, end.work);
+    }
+
+pub counts_hold : (old new : State) (lock : ℕ) (body : Bor Expr) → old.control ≡ Asks lock body → new.control ≡ Begin body →
+    new.program ≡ old.program → new.own.name ≡ old.own.name → new.own.tag ≡ old.own.tag → new.below.items ≡ old.below.items → new.forks ≡ old.forks →
+    new.frames.items ≡ old.frames.items → new.environment.items ≡ old.environment.items →
+    ((n : ℕ) (own : ℕ → ℕ) → old.sums.items ≡ tabulated n own → new.sums.items ≡ tabulated n (λ ledger. own ledger + (held lock).sums ledger)) →
+    ((n : ℕ) (own : ℕ → ℕ) → old.own.holds.items ≡ tabulated n own → new.own.holds.items ≡ tabulated n (λ other. own other + (held lock).holds other)) →
+    Counts (held lock) old new
+counts_hold old new lock body asks begins program is_name tag below forks frames environment sums holds =
+    counts_by old new (held lock) (Asks lock body) (Begin body) asks begins program is_name tag below forks frames environment sums holds
+    (λ fs. refl) (λ fs. refl) refl refl refl (record { ending = refl; account = λ a any. refl; work = omega arith })
+
+pub counts_tally : (old new : State) (ledger amount : ℕ) (body : Bor Expr) → old.control ≡ Tallies ledger amount body → new.control ≡ Begin body →
+    new.program ≡ old.program → new.own.name ≡ old.own.name → new.own.tag ≡ old.own.tag → new.below.items ≡ old.below.items → new.forks ≡ old.forks →
+    new.frames.items ≡ old.frames.items → new.environment.items ≡ old.environment.items →
+    ((n : ℕ) (own : ℕ → ℕ) → old.sums.items ≡ tabulated n own → new.sums.items ≡ tabulated n (λ other. own other + (tallied ledger amount).sums other)) →
+    ((n : ℕ) (own : ℕ → ℕ) → old.own.holds.items ≡ tabulated n own → new.own.holds.items ≡ tabulated n (λ lock. own lock + (tallied ledger amount).holds lock)) →
+    Counts (tallied ledger amount) old new
+counts_tally old new ledger amount body tallies begins program is_name tag below forks frames environment sums holds =
+    counts_by old new (tallied ledger amount) (Tallies ledger amount body) (Begin body) tallies begins program is_name tag below forks frames environment sums holds
+    (λ fs. refl) (λ fs. refl) refl refl refl (record { ending = refl; account = λ a any. refl; work = omega arith })
+
+-- An answer that counts nothing, and goes on.
+pub answers_by : (t : State) (k k' : Control) → t.control ≡ k → ((fs : List Frame) → frames_left k fs ≡ fs) → ((fs : List Frame) → frames_left k' fs ≡ fs) →
+    fork_awaited k' ++ [] ≡ fork_awaited k ++ [] →
+    SameOutlook 0 Any itself (source_of t.program.now) t.own.name k [] t.environment.items k' [] t.environment.items →
+    Step 0 k k' t.frames.items [] [] t (record t { control = k' })
+answers_by t k k' is left left' forks same =
+    let fs = t.frames.items in
+    let env = t.environment.items in
+    let new = record t { control = k' } in
+    steps_by 0 t t new k k' fs [] [] env env
+    (framed_as t t env (fs ++ []) (fs ++ []) t.control k (alone t t env t.control (as_it_is t)) refl is)
+    (alone t new env k' (given t k' k' refl)) (left (fs ++ [])) (left' (fs ++ [])) forks same
+
+pub frees_by : (t : State) (lock v : ℕ) → t.control ≡ Frees lock v → Step 0 (Frees lock v) (Give v) t.frames.items [] [] t (record t { control = Give v })
+frees_by t lock v is = answers_by t (Frees lock v) (Give v) is (λ fs. refl) (λ fs. refl) refl (record { ending = refl; account = λ a any. refl; work = omega arith })
+
+pub forked_by : (t : State) (during : Bor Expr) → t.control ≡ Forked during → Step 0 (Forked during) (Begin during) t.frames.items [] [] t (record t { control = Begin during })
+forked_by t during is = answers_by t (Forked during) (Begin during) is (λ fs. refl) (λ fs. refl) refl (record { ending = refl; account = λ a any. refl; work = omega arith })
+
+pub halved_by : (t : State) (right : Stretch) → t.control ≡ Halved right → Step 0 (Halved right) (Cover right) t.frames.items [] [] t (record t { control = Cover right })
+halved_by t right is = answers_by t (Halved right) (Cover right) is (λ fs. refl) (λ fs. refl) refl (record { ending = refl; account = λ a any. refl; work = omega arith })

@@ -1,0 +1,159 @@
+-- What begins an expression leaves what it comes to as it was.
+use Rattle.std.proofs.Common.{◌≡◌, ◌≤◌, ℕ, ◌+◌, ◌-◌, List, [], ◌∷◌, ◌++◌, length, None, refl, ap, sym, ◌∙◌, arith, subst}
+use Rattle.std.specs.Prelude.{slice_index, ◌==◌, if◌then◌else◌}
+use Rattle.std.specs.Borrow.{Bor}
+use Rattle.arachne_lang.specs.declared.program.Expr.{Expr}
+use Rattle.arachne_lang.specs.declared.program.Operation.{Operation}
+use Rattle.arachne_lang.specs.declared.program.Reduction.{Reduction}
+use Rattle.arachne_lang.specs.Tree.{Tree, Number, Variable, Length, Item, Binary, Choose, Bind, Tally, Hold, Fork, Fold, Sweep, Source}
+use Rattle.arachne_lang.specs.Program.{source_of, tree_of}
+use Rattle.arachne_lang.specs.Value.{value_of, array_at, with_newest}
+use Rattle.arachne_lang.specs.Effects.{Reduce, ◌⨾◌, tallied, held, effects_of, task_effects}
+use Rattle.arachne_machine.specs.declared.frame.Frame.{Frame}
+use Rattle.arachne_machine.specs.declared.frame.Frame.TheVariants.{Index, Right, Branch, Extend, Amount, Release, FoldTo, SweepTo}
+use Rattle.arachne_machine.specs.declared.frame.Control.{Control}
+use Rattle.arachne_machine.specs.declared.frame.Control.TheVariants.{Begin, Give, Asks}
+use Rattle.arachne_machine.specs.declared.state.State.{State}
+use Rattle.arachne_machine.specs.Work.{work_of}
+use Rattle.arachne_machine.specs.Turns.{folded_effects}
+use Rattle.arachne_machine.specs.Account.{Account, after}
+use Rattle.arachne_machine.specs.Ending.{resume, resume_account, resume_work, begun, begun_account, begun_work, fork_awaited, lock_freed, forks_of, releases, frames_left}
+use Rattle.arachne_machine.specs.Steps.{Becomes, StopsAt, pending_of}
+use Rattle.arachne_machine.proofs.Accounts.{after-nothing, after-sequence}
+use Rattle.arachne_machine.proofs.Outlooks.{SameOutlook, StepOutlook, Step, steps_by, goes_on_by, as_it_is, framed_as, alone}
+
+-- An expression of this tree comes to the same by these frames and this to do next.
+pub record Opens (source : Source) (name : List ℕ) (tree : Tree) (env : List ℕ) (k' : Control) (gs' : List Frame) : Type 0 where
+  pub ending : resume source name gs' (begun source name k' env) ≡ record { env = env; value = value_of source.arrays tree env }
+  pub account : (a : Account) →
+      resume_account source name gs' (begun source name k' env) (begun_account source name k' env a) ≡ after name (effects_of source.arrays source.locks tree env) a
+  pub work : begun_work source name k' env + resume_work source name gs' (begun source name k' env) + 1 ≤ work_of source.arrays tree env
+
+opened : (source : Source) (name : List ℕ) (expr : Bor Expr) (env : List ℕ) (k' : Control) (gs' : List Frame) → Opens source name (tree_of expr.now) env k' gs' →
+    StepOutlook source name (Begin expr) [] env k' gs' env
+opened source name expr env k' gs' o = record {
+  ending = o.ending;
+  account = λ a any. o.account a;
+  work = omega (arith, o.work);
+}
+
+-- so it goes in a thread
+pub begins_by : (old new : State) (expr : Bor Expr) (tree : Tree) (k' : Control) (gs' : List Frame) → old.control ≡ Begin expr → tree_of expr.now ≡ tree →
+    Becomes old new old.environment.items (old.frames.items ++ gs') k' →
+    ((fs : List Frame) → frames_left k' fs ≡ fs) →
+    fork_awaited k' ++ forks_of gs' ≡ [] →
+    Opens (source_of old.program.now) old.own.name tree old.environment.items k' gs' → Step 1 (Begin expr) k' old.frames.items [] gs' old new
+begins_by old new expr tree k' gs' begins is_tree b left forks o =
+    let source = source_of old.program.now in
+    let name = old.own.name in
+    let fs = old.frames.items in
+    let env = old.environment.items in
+    let same = subst (λ t. Opens source name t env k' gs') (sym is_tree) o in
+    steps_by 1 old old new (Begin expr) k' fs [] gs' env env
+    (framed_as old old env (fs ++ []) (fs ++ []) old.control (Begin expr) (alone old old env old.control (as_it_is old)) refl begins)
+    b refl (left (fs ++ gs')) forks (opened source name expr env k' gs' same)
+
+pub goes_to_value : (old new : State) (expr : Bor Expr) (tree : Tree) (v : ℕ) → old.control ≡ Begin expr → tree_of expr.now ≡ tree →
+    Becomes old new old.environment.items old.frames.items (Give v) →
+    Opens (source_of old.program.now) old.own.name tree old.environment.items (Give v) [] → StopsAt 1 old None new
+goes_to_value old new expr tree v begins is_tree b o =
+    let s = begins_by old new expr tree (Give v) [] begins is_tree (alone old new old.environment.items (Give v) b) (λ fs. refl) refl o in
+    (s.goes, s.pending, s.locks ∙ sym s.old_locks)
+
+pub goes_to_part : (old new : State) (expr part : Bor Expr) (tree : Tree) (f : Frame) → old.control ≡ Begin expr → tree_of expr.now ≡ tree →
+    Becomes old new old.environment.items (old.frames.items ++ f ∷ []) (Begin part) → forks_of (f ∷ []) ≡ [] → releases (f ∷ []) ≡ [] →
+    Opens (source_of old.program.now) old.own.name tree old.environment.items (Begin part) (f ∷ []) → StopsAt 1 old None new
+goes_to_part old new expr part tree f begins is_tree b forks locks o =
+    let s = begins_by old new expr tree (Begin part) (f ∷ []) begins is_tree b (λ fs. refl) forks o in
+    (s.goes, s.pending, s.locks ∙ ap (λ l. l ++ releases old.frames.items) locks ∙ sym s.old_locks)
+
+pub open_number : (source : Source) (name : List ℕ) (env : List ℕ) (n : ℕ) → Opens source name (Number n) env (Give n) []
+open_number source name env n = record { ending = refl; account = λ a. sym (after-nothing name a); work = omega arith }
+
+pub open_variable : (source : Source) (name : List ℕ) (env : List ℕ) (n : ℕ) → Opens source name (Variable n) env (Give (slice_index env n)) []
+open_variable source name env n = record { ending = refl; account = λ a. sym (after-nothing name a); work = omega arith }
+
+pub open_length : (source : Source) (name : List ℕ) (env : List ℕ) (n : ℕ) → Opens source name (Length n) env (Give (length (array_at source.arrays n))) []
+open_length source name env n = record { ending = refl; account = λ a. sym (after-nothing name a); work = omega arith }
+
+pub open_item : (source : Source) (name : List ℕ) (env : List ℕ) (n : ℕ) (index : Bor Expr) →
+    Opens source name (Item n (tree_of index.now)) env (Begin index) (Index n ∷ [])
+open_item source name env n index = record { ending = refl; account = λ a. refl; work = omega arith }
+
+pub open_binary : (source : Source) (name : List ℕ) (env : List ℕ) (operation : Operation) (left right : Bor Expr) →
+    Opens source name (Binary operation (tree_of left.now) (tree_of right.now)) env (Begin left) (Right operation right ∷ [])
+open_binary source name env operation left right = record {
+  ending = refl;
+  account = λ a. sym (after-sequence name (effects_of source.arrays source.locks (tree_of left.now) env) (effects_of source.arrays source.locks (tree_of right.now) env) a);
+  work = omega arith;
+}
+
+pub open_choice : (source : Source) (name : List ℕ) (env : List ℕ) (condition first second : Bor Expr) →
+    Opens source name (Choose (tree_of condition.now) (tree_of first.now) (tree_of second.now)) env (Begin condition) (Branch first second ∷ [])
+open_choice source name env condition first second = record {
+  ending = refl;
+  account = λ a. sym (after-sequence name (effects_of source.arrays source.locks (tree_of condition.now) env)
+      (if value_of source.arrays (tree_of condition.now) env == 0 then effects_of source.arrays source.locks (tree_of second.now) env
+      else effects_of source.arrays source.locks (tree_of first.now) env) a);
+  work = omega arith;
+}
+
+pub open_binding : (source : Source) (name : List ℕ) (env : List ℕ) (bound body : Bor Expr) →
+    Opens source name (Bind (tree_of bound.now) (tree_of body.now)) env (Begin bound) (Extend body ∷ [])
+open_binding source name env bound body = record {
+  ending = refl;
+  account = λ a. sym (after-sequence name (effects_of source.arrays source.locks (tree_of bound.now) env)
+      (effects_of source.arrays source.locks (tree_of body.now) (with_newest env (value_of source.arrays (tree_of bound.now) env))) a);
+  work = omega arith;
+}
+
+pub open_tally : (source : Source) (name : List ℕ) (env : List ℕ) (ledger : ℕ) (amount body : Bor Expr) →
+    Opens source name (Tally ledger (tree_of amount.now) (tree_of body.now)) env (Begin amount) (Amount ledger body ∷ [])
+open_tally source name env ledger amount body =
+    let e = effects_of source.arrays source.locks (tree_of amount.now) env in
+    let t = tallied ledger (value_of source.arrays (tree_of amount.now) env) in
+    let b = effects_of source.arrays source.locks (tree_of body.now) env in
+    record {
+      ending = refl;
+      account = λ a. ap (after name b) (sym (after-sequence name e t a)) ∙ sym (after-sequence name (e ⨾ t) b a);
+      work = omega arith;
+    }
+
+pub open_hold : (source : Source) (name : List ℕ) (env : List ℕ) (lock : ℕ) (body : Bor Expr) →
+    Opens source name (Hold lock (tree_of body.now)) env (Asks lock body) (Release lock ∷ [])
+open_hold source name env lock body = record {
+  ending = refl;
+  account = λ a. sym (after-sequence name (held lock) (effects_of source.arrays source.locks (tree_of body.now) env) a);
+  work = omega arith;
+}
+
+pub open_fold : (source : Source) (name : List ℕ) (env : List ℕ) (from to first body : Bor Expr) →
+    Opens source name (Fold (tree_of from.now) (tree_of to.now) (tree_of first.now) (tree_of body.now)) env (Begin from) (FoldTo to first body ∷ [])
+open_fold source name env from to first body =
+    let A = source.arrays in
+    let e = effects_of A source.locks (tree_of from.now) env in
+    let f = effects_of A source.locks (tree_of to.now) env in
+    let g = effects_of A source.locks (tree_of first.now) env in
+    let v = value_of A (tree_of from.now) env in
+    let h = folded_effects A source.locks (tree_of body.now) env v (value_of A (tree_of to.now) env - v) (value_of A (tree_of first.now) env) in
+    record {
+      ending = refl;
+      account = λ a. ap (λ x. after name h (after name g x)) (sym (after-sequence name e f a))
+          ∙ ap (after name h) (sym (after-sequence name (e ⨾ f) g a))
+          ∙ sym (after-sequence name (e ⨾ f ⨾ g) h a);
+      work = omega arith;
+    }
+
+pub open_sweep : (source : Source) (name : List ℕ) (env : List ℕ) (reduction : Reduction) (grain : ℕ) (from to body : Bor Expr) →
+    Opens source name (Sweep reduction grain (tree_of from.now) (tree_of to.now) (tree_of body.now)) env (Begin from) (SweepTo reduction grain to body ∷ [])
+open_sweep source name env reduction grain from to body =
+    let A = source.arrays in
+    let e = effects_of A source.locks (tree_of from.now) env in
+    let f = effects_of A source.locks (tree_of to.now) env in
+    let v = value_of A (tree_of from.now) env in
+    let h = task_effects A source.locks (Reduce reduction grain (tree_of body.now) env v (value_of A (tree_of to.now) env - v)) in
+    record {
+      ending = refl;
+      account = λ a. ap (after name h) (sym (after-sequence name e f a)) ∙ sym (after-sequence name (e ⨾ f) h a);
+      work = omega arith;
+    }

@@ -1,0 +1,34 @@
+-- So many turns of a fold or a sweep, from a number on.
+use Rattle.std.specs.Prelude.{ℕ, ◌+◌, ◌-◌, ◌*◌, List}
+use Rattle.arachne_lang.specs.declared.program.Reduction.{Reduction}
+use Rattle.arachne_lang.specs.Tree.{Tree}
+use Rattle.arachne_lang.specs.Value.{Environment, with_newest, value_of, apply, operation_of, turns}
+use Rattle.arachne_lang.specs.Effects.{Effects, turns_effects, effects_of}
+use Rattle.arachne_machine.specs.Work.{total, work_of}
+
+-- a fold's turns, from a value on
+abbrev pub folded : List (List ℕ) → Tree → Environment → ℕ → ℕ → ℕ → ℕ
+folded arrays body env from n value = turns (λ j so_far. value_of arrays body (with_newest (with_newest env (from + j)) so_far)) n value
+
+abbrev pub folded_effects : List (List ℕ) → ℕ → Tree → Environment → ℕ → ℕ → ℕ → Effects
+folded_effects arrays locks body env from n value =
+    turns_effects (λ j. effects_of arrays locks body (with_newest (with_newest env (from + j)) (folded arrays body env from j value))) n
+
+abbrev pub folded_work : List (List ℕ) → Tree → Environment → ℕ → ℕ → ℕ → ℕ
+folded_work arrays body env from n value =
+    total (λ j. work_of arrays body (with_newest (with_newest env (from + j)) (folded arrays body env from j value)) + 1) n
+
+-- a sweep's turns, where it is not split
+abbrev pub swept : List (List ℕ) → Reduction → Tree → Environment → ℕ → ℕ → ℕ → ℕ
+swept arrays reduction body env from n value =
+    turns (λ j so_far. apply (operation_of reduction) so_far (value_of arrays body (with_newest env (from + j)))) n value
+
+abbrev pub swept_effects : List (List ℕ) → ℕ → Tree → Environment → ℕ → ℕ → Effects
+swept_effects arrays locks body env from n = turns_effects (λ j. effects_of arrays locks body (with_newest env (from + j))) n
+
+abbrev pub swept_work : List (List ℕ) → Tree → Environment → ℕ → ℕ → ℕ
+swept_work arrays body env from n = total (λ j. work_of arrays body (with_newest env (from + j)) + 1) n
+
+-- and where it may be split
+abbrev pub split_work : List (List ℕ) → Tree → Environment → ℕ → ℕ → ℕ
+split_work arrays body env from n = swept_work arrays body env from n + 3 * (n - 1) + 1

@@ -1,0 +1,243 @@
+use crate::arithmetic::{apply, operation_of};
+use crate::frame::{Control, Frame, Stretch};
+use crate::state::{State, Stop};
+use arachne_lang::{Expr, Reduction};
+use std::alloc::AllocError;
+
+/// The steps that hand a value on.
+impl<'p> State<'p> {
+    ghost use Rattle.std.specs.Prelude.{◌≡◌, ◌+◌, ◌≤◌, ◌++◌, ◌∷◌, [], length, slice_index, take, vec_len, vec_capacity, None, IfOk, OnOk, OnErr};
+    ghost use Rattle.arachne_lang.specs.Program.{source_of};
+    ghost use Rattle.arachne_lang.specs.Value.{array_at, with_newest};
+    ghost use Rattle.arachne_machine.specs.declared.state.State.{State as Thread};
+    ghost use Rattle.arachne_machine.specs.declared.frame.Frame.TheVariants as frames;
+    ghost use Rattle.arachne_machine.specs.declared.frame.Control.TheVariants as control;
+    ghost use Rattle.arachne_machine.specs.Ending.{without_newest};
+    ghost use Rattle.arachne_machine.specs.Steps.{Becomes, IsUnchanged, IsPopped, IsOfRange, Enters, TurnsFold, TurnsSweep, StopsAt};
+
+    /// Hands a value to the newest frame.
+    pub fn give(&mut self, value: u64) -> Result<Option<Stop<'p>>, AllocError>
+        requires { self.old.control ≡ control.Give value }
+        ensures ok { IfOk result (λ stop. StopsAt 1 self.old stop self.new) }
+        ensures err { OnErr result (IsUnchanged self.old self.new) }
+    {
+        self.reserve_turn()?;
+        match self.frames.pop() {
+            Some(frame) => Ok(self.hand(frame, value)),
+            None => {
+                self.control = Control::Ended(value);
+                Ok(Some(Stop::Ended))
+            }
+        }
+    }
+
+    /// Room for what a value begins.
+    pub fn reserve_turn(&mut self) -> Result<(), AllocError>
+        ensures same { IsUnchanged self.old self.new }
+        ensures environment { OnOk result (vec_len self.new.environment + 2 ≤ vec_capacity self.new.environment) }
+        ensures frames { OnOk result (vec_len self.new.frames + 1 ≤ vec_capacity self.new.frames) }
+    {
+        self.environment.try_reserve(2)?;
+        self.frames.try_reserve(1)
+    }
+
+    /// Hands a value to this frame, which was the newest.
+    fn hand(&mut self, frame: Frame<'p>, value: u64) -> Option<Stop<'p>>
+        requires gives { self.old.control ≡ control.Give value }
+        requires environment { vec_len self.old.environment + 2 ≤ vec_capacity self.old.environment }
+        requires frames { vec_len self.old.frames + 1 ≤ vec_capacity self.old.frames }
+        ensures { (before : Thread) → IsPopped frame.entry before self.old → StopsAt 1 before result self.new }
+    {
+        match frame {
+            Frame::Index(array) => self.control = Control::Give(self.item(array, value)),
+            Frame::Right(operation, right) => self.go_on(Frame::Apply(operation, value), right),
+            Frame::Apply(operation, left) => self.control = Control::Give(apply(
+                operation, left, value,
+            )),
+            Frame::Branch(first, second) => {
+                self.control = Control::Begin(if value == 0 { second } else { first });
+            }
+            Frame::Extend(body) => self.extend(value, body),
+            Frame::Restore(length) => self.restore(length),
+            Frame::Amount(ledger, body) => {
+                self.control = Control::Tallies {
+                    ledger,
+                    amount: value,
+                    body,
+                };
+                return Some(Stop::Tallies(ledger, value));
+            }
+            Frame::Release(lock) => {
+                self.control = Control::Frees { lock, value };
+                return Some(Stop::Frees(lock));
+            }
+            Frame::Join { number, after } => {
+                self.control = Control::Awaits {
+                    number,
+                    during: value,
+                    after,
+                };
+                return Some(Stop::Joins);
+            }
+            Frame::Merge { number, reduction } => {
+                self.control = Control::AwaitsHalf {
+                    number,
+                    right: value,
+                    reduction,
+                };
+                return Some(Stop::Joins);
+            }
+            _ => self.hand_to_range(frame, value),
+        }
+        None
+    }
+
+    /// The same for a frame of a fold or a sweep.
+    fn hand_to_range(&mut self, frame: Frame<'p>, value: u64)
+        requires gives { self.old.control ≡ control.Give value }
+        requires range { IsOfRange frame }
+        requires environment { vec_len self.old.environment + 2 ≤ vec_capacity self.old.environment }
+        requires frames { vec_len self.old.frames + 1 ≤ vec_capacity self.old.frames }
+        ensures { (before : Thread) → IsPopped frame.entry before self.old → StopsAt 1 before None self.new }
+    {
+        match frame {
+            Frame::FoldTo(to, first, body) => self.go_on(Frame::FoldFirst(value, first, body), to),
+            Frame::FoldFirst(from, first, body) => {
+                self.go_on(Frame::FoldStart(from, value, body), first);
+            }
+            Frame::FoldStart(from, to, body) => self.turn_fold(from, to, body, value),
+            Frame::FoldTurn { next, end, body } => {
+                self.drop_newest(2);
+                self.turn_fold(next, end, body, value);
+            }
+            Frame::SweepTo(reduction, grain, to, body) => {
+                self.go_on(Frame::SweepStart(reduction, grain, value, body), to);
+            }
+            Frame::SweepStart(reduction, grain, first, body) => {
+                self.control = Control::Cover(Stretch {
+                    reduction,
+                    grain,
+                    first,
+                    end: value,
+                    body,
+                });
+            }
+            Frame::SweepTurn {
+                reduction,
+                next,
+                end,
+                so_far,
+                body,
+            } => {
+                self.drop_newest(1);
+                let value = apply(operation_of(reduction), so_far, value);
+                self.turn_sweep(reduction, next, end, body, value);
+            }
+            _ => unreachable!(),
+        }
+    }
+
+    /// Begins an expression after a frame was taken away; this frame says what comes after it.
+    fn go_on(&mut self, frame: Frame<'p>, part: &'p Expr)
+        requires { vec_len self.old.frames + 1 ≤ vec_capacity self.old.frames }
+        ensures { Enters self.old self.new frame.entry (control.Begin part.entry) }
+    {
+        self.frames.push(frame).unwrap();
+        self.control = Control::Begin(part);
+    }
+
+    /// Begins an expression with a newest variable.
+    fn extend(&mut self, value: u64, body: &'p Expr)
+        requires environment { vec_len self.old.environment + 1 ≤ vec_capacity self.old.environment }
+        requires frames { vec_len self.old.frames + 1 ≤ vec_capacity self.old.frames }
+        ensures { Becomes self.old self.new (with_newest self.old.environment.items value)
+            (self.old.frames.items ++ frames.Restore (length self.old.environment.items) ∷ []) (control.Begin body.entry) }
+    {
+        let length = self.environment.len();
+        self.environment.push(value).unwrap();
+        self.frames.push(Frame::Restore(length)).unwrap();
+        self.control = Control::Begin(body);
+    }
+
+    /// The environment gets back this length.
+    fn restore(&mut self, length: usize)
+        ensures { Becomes self.old self.new (take length self.old.environment.items) self.old.frames.items self.old.control }
+    {
+        self.environment.truncate(length);
+    }
+
+    /// Drops so many of the newest variables.
+    fn drop_newest(&mut self, count: usize)
+        requires environment { vec_len self.old.environment + 2 ≤ vec_capacity self.old.environment }
+        requires frames { vec_len self.old.frames + 1 ≤ vec_capacity self.old.frames }
+        ensures same { Becomes self.old self.new (without_newest count self.old.environment.items) self.old.frames.items self.old.control }
+        ensures environment { vec_len self.new.environment + 2 ≤ vec_capacity self.new.environment }
+        ensures frames { vec_len self.new.frames + 1 ≤ vec_capacity self.new.frames }
+    {
+        let length = self.environment.len().saturating_sub(count);
+        self.environment.truncate(length);
+    }
+
+    /// An item of an array, 0 outside it.
+    fn item(&self, array: u64, index: u64) -> u64
+        ensures { result ≡ slice_index (array_at (source_of self.now.program.now).arrays array) index }
+    {
+        match self.program.arrays.get(array as usize) {
+            Some(items) => match items.get(index as usize) {
+                Some(item) => *item,
+                None => 0,
+            },
+            None => 0,
+        }
+    }
+
+    /// A fold that has this value so far goes on from a number to below an end.
+    fn turn_fold(&mut self, next: u64, end: u64, body: &'p Expr, so_far: u64)
+        requires environment { vec_len self.old.environment + 2 ≤ vec_capacity self.old.environment }
+        requires frames { vec_len self.old.frames + 1 ≤ vec_capacity self.old.frames }
+        ensures { TurnsFold self.old self.new next end body.entry so_far }
+    {
+        if next >= end {
+            self.control = Control::Give(so_far);
+            return;
+        }
+        self.environment.push(next).unwrap();
+        self.environment.push(so_far).unwrap();
+        let turn = Frame::FoldTurn {
+            next: next + 1,
+            end,
+            body,
+        };
+        self.frames.push(turn).unwrap();
+        self.control = Control::Begin(body);
+    }
+
+    /// A sweep that has this value so far goes on from a number to below an end.
+    pub fn turn_sweep(
+        &mut self,
+        reduction: Reduction,
+        next: u64,
+        end: u64,
+        body: &'p Expr,
+        so_far: u64,
+    )
+        requires environment { vec_len self.old.environment + 2 ≤ vec_capacity self.old.environment }
+        requires frames { vec_len self.old.frames + 1 ≤ vec_capacity self.old.frames }
+        ensures { TurnsSweep self.old self.new reduction next end body.entry so_far }
+    {
+        if end <= next {
+            self.control = Control::Give(so_far);
+            return;
+        }
+        self.environment.push(next).unwrap();
+        let turn = Frame::SweepTurn {
+            reduction,
+            next: next + 1,
+            end,
+            so_far,
+            body,
+        };
+        self.frames.push(turn).unwrap();
+        self.control = Control::Begin(body);
+    }
+}

@@ -1,0 +1,106 @@
+ghost use Rattle.std.specs.Prelude.{◌≡◌, ◌∷◌, [], ◌++◌, ◌↔◌, IsTrue};
+
+use crate::arithmetic::{apply, operation_of};
+use crate::frame::{Control, Frame};
+use crate::outcome::Outcome;
+use crate::state::State;
+use crate::tables::add_each;
+use arachne_lang::Name;
+use std::alloc::AllocError;
+
+/// The join of a child's outcome.
+impl<'p> State<'p> {
+    ghost use Rattle.std.specs.Prelude.{◌≡◌, ◌↔◌, ◌+◌, ◌^◌, ◌<◌, ◌≤◌, length, vec_len, vec_capacity, IsTrue, Some, OnOk, OnErr, IfErr};
+    ghost use Rattle.arachne_machine.specs.declared.pause.Pending.TheVariants as pause;
+    ghost use Rattle.arachne_machine.specs.Suspended.{awaited};
+    ghost use Rattle.arachne_machine.specs.Steps.{suspended, pending_of, IsUnchanged, TakesIn, Joins};
+
+    /// Whether it awaits the child of this name.
+    pub fn awaits(&self, name: &Name) -> bool
+        requires { pending_of self.now.control ≡ Some pause.Joins }
+        ensures { IsTrue result ↔ (awaited (suspended self.now) ≡ Some name.now) }
+    {
+        match self.control {
+            Control::Awaits { number, .. } | Control::AwaitsHalf { number, .. } => {
+                is_child(self.own.name.forks(), number, name.forks())
+            }
+            _ => unreachable!(),
+        }
+    }
+
+    /// Joins the child that it awaits. Where memory is refused nothing has changed, and the outcome comes back.
+    pub fn join(&mut self, outcome: Outcome<'p>) -> Result<(), Outcome<'p>>
+        requires awaits { pending_of self.old.control ≡ Some pause.Joins }
+        requires child { awaited (suspended self.old) ≡ Some outcome.name }
+        requires sums { length outcome.sums ≡ length self.old.sums.items }
+        ensures ok { OnOk result (Joins self.old outcome.entry self.new) }
+        ensures err { OnErr result (IsUnchanged self.old self.new) }
+        ensures handed_back { IfErr result (λ e. e ≡ outcome.entry) }
+    {
+        if self.make_room(outcome.below.len()).is_err() {
+            return Err(outcome);
+        }
+        match self.control {
+            Control::Awaits { during, after, .. } => {
+                let length = self.environment.len();
+                let value = self.take_in(outcome);
+                self.environment.push(value).unwrap();
+                self.environment.push(during).unwrap();
+                self.frames.push(Frame::Restore(length)).unwrap();
+                self.control = Control::Begin(after);
+            }
+            Control::AwaitsHalf {
+                right,
+                reduction,
+                ..
+            } => {
+                let left = self.take_in(outcome);
+                self.control = Control::Give(apply(operation_of(reduction), left, right));
+            }
+            _ => unreachable!(),
+        }
+        Ok(())
+    }
+
+    /// Room for what a join adds, with so many lines below the child.
+    fn make_room(&mut self, lines: usize) -> Result<(), AllocError>
+        requires { lines < 2 ^ 63 }
+        ensures same { IsUnchanged self.old self.new }
+        ensures environment { OnOk result (vec_len self.new.environment + 2 ≤ vec_capacity self.new.environment) }
+        ensures frames { OnOk result (vec_len self.new.frames + 1 ≤ vec_capacity self.new.frames) }
+        ensures below { OnOk result (vec_len self.new.below + (lines + 1) ≤ vec_capacity self.new.below) }
+    {
+        self.reserve_turn()?;
+        self.below.try_reserve(lines + 1)
+    }
+
+    /// Takes in the child's sums and lines, and gives its value.
+    fn take_in(&mut self, outcome: Outcome<'p>) -> u64
+        requires sums { length outcome.sums ≡ length self.old.sums.items }
+        requires room { vec_len self.old.below + length outcome.lines ≤ vec_capacity self.old.below }
+        ensures value { result ≡ outcome.entry.value }
+        ensures taken { TakesIn self.old outcome.entry self.new }
+    {
+        let Outcome {
+            program: _,
+            value,
+            sums,
+            own,
+            mut below,
+        } = outcome;
+        add_each(&mut self.sums, &sums);
+        self.below.push(own).unwrap();
+        self.below.append(&mut below).unwrap();
+        value
+    }
+}
+
+/// Whether a name is that of the child of this number.
+fn is_child(parent: &[u64], number: u64, name: &[u64]) -> bool
+    ensures { IsTrue result ↔ (name.now ≡ parent.now ++ number ∷ []) }
+{
+    match name.split_last() {
+        Some((last, others)) => *last == number && others == parent,
+        None => false,
+    }
+}
