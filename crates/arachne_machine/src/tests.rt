@@ -265,20 +265,32 @@ fn to_join<'p>(thread: &mut Thread<'p>) -> Result<(), Fail>
     }
 }
 
-#[test]
-fn foreign_outcome_comes_back(rt: HostRuntime) -> Result<(), Fail> {
-    let alloc = rt.alloc();
-    let program = one_fork(alloc)?;
-    let mut other = Thread::start(alloc, &program, 1)?;
-    let child = next_child(&mut other)?;
-    to_join(&mut other)?;
-    let outcome = ended(child)?;
-    other.joined(outcome)?;
-    let foreign = ended(other)?;
-
-    let mut thread = Thread::start(alloc, &program, 2)?;
+/// The outcome of the root of a program with one fork.
+fn root_outcome<'p>(alloc: Global, program: &'p Program) -> Result<Outcome<'p>, Fail>
+    ensures { IfOk result (λ outcome. outcome.program ≡ program.now) }
+{
+    let mut thread = Thread::start(alloc, program, 1)?;
     let child = next_child(&mut thread)?;
     to_join(&mut thread)?;
+    let outcome = ended(child)?;
+    thread.joined(outcome)?;
+    let outcome = ended(thread)?;
+    Ok(outcome)
+}
+
+/// A thread that awaits its child refuses this outcome as foreign, and then joins its child's.
+fn refuses<'p>(
+    rt: &impl Abort,
+    thread: &mut Thread<'p>,
+    foreign: Outcome<'p>,
+    child: Outcome<'p>,
+) -> Result<(), Fail>
+    requires awaits { thread.old.pending ≡ Some pause.Joins }
+    requires foreign { foreign.program ≡ thread.old.program }
+    requires child { child.program ≡ thread.old.program }
+    ensures goes_on { OnOk result (thread.new.pending ≡ None) }
+    ensures same_program { OnOk result (thread.new.program ≡ thread.old.program) }
+{
     let Err(refused) = thread.joined(foreign) else {
         return Err("the root's outcome was joined as its child's")?;
     };
@@ -287,9 +299,20 @@ fn foreign_outcome_comes_back(rt: HostRuntime) -> Result<(), Fail> {
     };
     assert_eq!(rt; foreign.value(), 5);
     assert_eq!(rt; thread.pending(), Some(Pending::Joins));
+    thread.joined(child)?;
+    Ok(())
+}
+
+#[test]
+fn foreign_outcome_comes_back(rt: HostRuntime) -> Result<(), Fail> {
+    let alloc = rt.alloc();
+    let program = one_fork(alloc)?;
+    let foreign = root_outcome(alloc, &program)?;
+    let mut thread = Thread::start(alloc, &program, 2)?;
+    let child = next_child(&mut thread)?;
+    to_join(&mut thread)?;
     let outcome = ended(child)?;
-    thread.joined(outcome)?;
-    assert_eq!(rt; thread.pending(), None);
+    refuses(&rt, &mut thread, foreign, outcome)?;
     let outcome = ended(thread)?;
     let parts = outcome.into_parts()?;
     assert_eq!(rt; parts.value, 5);
