@@ -1,4 +1,4 @@
-//! The program `arachne`: it evaluates programs of the task language.
+//! The program `arachne`: it evaluates and checks programs of the task language, and judges samples of a load.
 #![tactic(auto)]
 
 mod command_line;
