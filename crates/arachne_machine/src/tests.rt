@@ -203,28 +203,6 @@ fn arrays_and_choices(rt: HostRuntime) -> Result<(), Fail> {
     Ok(())
 }
 
-#[test]
-fn sum_in_single_steps(rt: HostRuntime) -> Result<(), Fail> {
-    let alloc = rt.alloc();
-    let program = plain(alloc, sum(alloc, Expr::Num(1), Expr::Num(2))?);
-    let mut thread = Thread::start(alloc, &program, 9)?;
-    assert_eq!(rt; thread.tag(), 9);
-    for _ in 0..5 {
-        let Pause::Budget = thread.advance(1)? else {
-            return Err("the sum has ended too early")?;
-        };
-    }
-    assert_eq!(rt; thread.pending(), None);
-    let Pause::Ended = thread.advance(1)? else {
-        return Err("the sum has not ended")?;
-    };
-    assert_eq!(rt; thread.pending(), Some(Pending::Ended));
-    let outcome = thread.finish();
-    assert_eq!(rt; outcome.value(), 3);
-    assert_eq!(rt; outcome.name().forks().len(), 0);
-    Ok(())
-}
-
 /// The child that the thread forks next. It is given away.
 fn next_child<'p>(thread: &mut Thread<'p>) -> Result<Thread<'p>, Fail>
     requires { thread.old.pending ≡ None }
@@ -369,83 +347,5 @@ fn refused_calls_go_on(rt: HostRuntime) -> Result<(), Fail> {
     let alloc = rt.alloc();
     let program = one_fork(alloc)?;
     assert_eq!(rt; persistent(alloc, &program)?, 5);
-    Ok(())
-}
-
-/// An empty list with room for so many items; where memory is refused it is asked for once more.
-fn roomy<T>(alloc: Global, items: usize) -> Result<Vec<T>, AllocError> {
-    match Vec::with_capacity(alloc, items) {
-        Ok(list) => Ok(list),
-        Err(_) => Vec::with_capacity(alloc, items),
-    }
-}
-
-/// The outcome of a program's root, all threads in one list. Each call that is refused memory is made once more.
-fn stubborn<'p>(alloc: Global, program: &'p Program) -> Result<Outcome<'p>, Fail> {
-    let mut threads: Vec<Thread> = roomy(alloc, 16)?;
-    let mut outcomes: Vec<Outcome> = roomy(alloc, 16)?;
-    threads.push(match Thread::start(alloc, program, 0) {
-        Ok(root) => root,
-        Err(_) => Thread::start(alloc, program, 0)?,
-    })?;
-    for _ in 0..1_000 {
-        let Some(mut thread) = threads.pop() else {
-            break;
-        };
-        let None = thread.pending() else {
-            return Err("a pause was not answered")?;
-        };
-        let pause = match thread.advance(3) {
-            Ok(pause) => pause,
-            Err(_) => thread.advance(3)?,
-        };
-        match pause {
-            Pause::Budget => {}
-            Pause::Forks(_, child) => {
-                thread.forked();
-                threads.push(thread)?;
-                threads.push(child)?;
-                continue;
-            }
-            Pause::Joins => {
-                let Some(outcome) = outcomes.pop() else {
-                    return Err("no outcome")?;
-                };
-                if outcome.program() != thread.program() {
-                    return Err("another program")?;
-                }
-                if let Err(refused) = thread.joined(outcome) {
-                    let NotJoined::Memory(outcome) = refused else {
-                        return Err("foreign")?;
-                    };
-                    thread.joined(outcome)?;
-                }
-            }
-            Pause::Asks(_) => thread.granted(),
-            Pause::Frees(_) => thread.freed(),
-            Pause::Tallies(_, _) => thread.tallied(),
-            Pause::Ended => {
-                outcomes.push(thread.finish())?;
-                continue;
-            }
-        }
-        threads.push(thread)?;
-    }
-    match outcomes.pop() {
-        Some(outcome) => Ok(outcome),
-        None => Err("no outcome")?,
-    }
-}
-
-/// Run with each allocation refused in turn (`rt try --test --fail-alloc N`) this gives the same value and sum.
-#[test]
-fn refused_calls_of_all_forms_go_on(rt: HostRuntime) -> Result<(), Fail> {
-    let alloc = rt.alloc();
-    let program = counting(alloc)?;
-    let outcome = stubborn(alloc, &program)?;
-    assert_eq!(rt; outcome.value(), 8);
-    let parts = outcome.into_parts()?;
-    assert_eq!(rt; parts.sums.as_slice(), [40].as_slice());
-    assert_eq!(rt; parts.lines.as_slice().len(), 8);
     Ok(())
 }
