@@ -4,7 +4,9 @@ ghost use Rattle.std.specs.Prelude.{◌≡◌, ℕ, ◌+◌, ◌*◌, ◌<◌, L
 ghost use Rattle.arachne_policy.specs.declared.samples.Sample.{Sample};
 ghost use Rattle.arachne_policy.specs.declared.samples.Advice.{Advice};
 ghost use Rattle.arachne_policy.specs.Sample.{utilisation_of};
-ghost use Rattle.arachne_policy.specs.State.{State, after, StandsFor, HasJudged};
+ghost use Rattle.arachne_policy.specs.declared.limits.TheConstants.{MAX_CORES, MAX_COUNT};
+ghost use Rattle.arachne_policy.specs.Sample.{most_counted};
+ghost use Rattle.arachne_policy.specs.State.{most_cores, State, after, StandsFor, HasJudged};
 ghost use Rattle.arachne_policy.specs.Advice.{Settings, threshold, advice, advices, NoneAdded, RecordStands};
 
 /// The threshold of one core more than `cores` is the utilisation of the last sample of `cores` cores that was answered
@@ -33,4 +35,10 @@ pub fn advices_are_in_turn()
         → new ≡ after old s a
         → (a ≡ advice old.settings (reverse samples) s) × StandsFor new (s ∷ reverse samples)
         → HasJudged settings (samples ++ s ∷ []) (answers ++ a ∷ []) new }
+{}
+
+/// The numbers of the machine in the code are those of the definitions.
+pub fn limits_are_the_definitions()
+    ensures cores { MAX_CORES ≡ most_cores }
+    ensures counts { MAX_COUNT ≡ most_counted }
 {}
