@@ -4,7 +4,7 @@ use Rattle.std.proofs.lemmas.List.{append-nil}
 use Rattle.std.proofs.Math.Path.{fun_ext}
 use Rattle.arachne_lang.specs.declared.meaning.Line.{Line}
 use Rattle.arachne_lang.specs.Effects.{Task, Effects, nothing, ◌⨾◌, forked, line_of}
-use Rattle.arachne_machine.specs.Account.{Account, untouched, after, with_fork, with_join}
+use Rattle.arachne_machine.specs.Account.{Account, after, with_fork, with_join}
 
 pub same_account : (s s' h h' : ℕ → ℕ) (c c' : List Task) (l l' : List Line) → s ≡ s' → h ≡ h' → c ≡ c' → l ≡ l' →
     ◌≡◌ {A = Account} (record { sums = s; holds = h; children = c; lines = l }) (record { sums = s'; holds = h'; children = c'; lines = l' })

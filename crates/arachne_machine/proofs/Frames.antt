@@ -2,11 +2,11 @@
 use Rattle.std.proofs.Common.{◌≡◌, ◌≤◌, length-append, ℕ, ◌+◌, List, [], ◌∷◌, ◌++◌, length, refl, ap, sym, ◌∙◌, arith, append_assoc}
 use Rattle.std.proofs.lemmas.List.{append-nil}
 use Rattle.arachne_lang.specs.Tree.{Source}
-use Rattle.arachne_lang.specs.Effects.{Task, Effects, effects_of, tallied, task_effects}
+use Rattle.arachne_lang.specs.Effects.{Task, Effects, effects_of}
 use Rattle.arachne_machine.specs.declared.frame.Frame.{Frame}
 use Rattle.arachne_machine.specs.declared.frame.Frame.TheVariants.{Index, Right, Apply, Branch, Extend, Amount, Release, Join, Merge, FoldTo, FoldFirst, FoldStart, FoldTurn, SweepTo, SweepStart, SweepTurn, Restore}
-use Rattle.arachne_machine.specs.Account.{Account, after, with_fork, with_join}
-use Rattle.arachne_machine.specs.Ending.{Status, unwind, accounted, account_joined, child_task, frame_work, resume, resume_account, resume_work, joined_env, fork_of, forks_of, lock_of, releases}
+use Rattle.arachne_machine.specs.Account.{Account, after, with_join}
+use Rattle.arachne_machine.specs.Ending.{Status, unwind, accounted, account_joined, frame_work, resume, resume_account, resume_work, fork_of, forks_of, lock_of, releases}
 use Rattle.arachne_lang.specs.Program.{tree_of}
 
 pub resume-append : (source : Source) (name : List ℕ) (fs gs : List Frame) (s : Status) →

@@ -1,6 +1,6 @@
 -- What hands a value on leaves what it comes to as it was.
 use Rattle.std.proofs.Common.{◌≡◌, ◌≢◌, ◌≤◌, ◌<◌, ℕ, ◌+◌, ◌-◌, List, [], ◌∷◌, ◌++◌, length, length-append, None, Some, inl, inr, refl, ap, sym, ◌∙◌, arith, subst, append_assoc, take, Bool, true, false, rules}
-use Rattle.std.specs.Prelude.{slice_index, ◌==◌, if◌then◌else◌, max, ◌⊎◌}
+use Rattle.std.specs.Prelude.{slice_index, ◌==◌, if◌then◌else◌, max}
 use Rattle.std.specs.Borrow.{Bor}
 use Rattle.std.proofs.lemmas.Bool.{cases_lt}
 use Rattle.std.proofs.Math.Seq.{take-append_seam}
@@ -10,23 +10,22 @@ use Rattle.arachne_lang.specs.declared.program.Reduction.{Reduction}
 use Rattle.arachne_lang.specs.Tree.{Tree, Source}
 use Rattle.arachne_lang.specs.Program.{source_of, tree_of}
 use Rattle.arachne_lang.specs.Value.{apply, operation_of, unit_of, value_of, array_at, with_newest}
-use Rattle.arachne_lang.specs.Effects.{Reduce, effects_of, task_effects}
+use Rattle.arachne_lang.specs.Effects.{effects_of}
 use Rattle.arachne_machine.specs.declared.frame.Stretch.{Stretch}
 use Rattle.arachne_machine.specs.declared.frame.Frame.{Frame}
 use Rattle.arachne_machine.specs.declared.frame.Frame.TheVariants.{Index, Right, Apply, Branch, Extend, Amount, Release, Join, Merge, FoldTo, FoldFirst, FoldStart, FoldTurn, SweepTo, SweepStart, SweepTurn, Restore}
 use Rattle.arachne_machine.specs.declared.frame.Control.{Control}
 use Rattle.arachne_machine.specs.declared.frame.Control.TheVariants.{Begin, Give, Cover, Awaits, AwaitsHalf, Frees, Tallies, Ended}
 use Rattle.arachne_machine.specs.declared.state.State.{State}
-use Rattle.arachne_machine.specs.declared.state.Stop.{Stop}
 use Rattle.arachne_machine.specs.declared.state.Stop.TheVariants as stop
 use Rattle.arachne_machine.specs.Account.{Account, after}
 use Rattle.arachne_machine.specs.Work.{work_of}
 use Rattle.arachne_machine.specs.Turns.{folded, folded_effects, folded_work, swept, swept_effects, swept_work}
-use Rattle.arachne_machine.specs.Ending.{Status, resume, resume_account, resume_work, begun, begun_account, begun_work, fork_awaited, lock_freed, forks_of, releases, frames_left, without_newest, locks_of, unjoined_of}
-use Rattle.arachne_machine.specs.Steps.{Becomes, IsUnchanged, IsPopped, Enters, TurnsFold, TurnsSweep, Goes, StopsAt, pending_of}
+use Rattle.arachne_machine.specs.Ending.{Status, resume, resume_account, resume_work, begun, begun_account, begun_work, fork_awaited, lock_freed, forks_of, releases, frames_left, without_newest}
+use Rattle.arachne_machine.specs.Steps.{Becomes, IsUnchanged, IsPopped, Enters, TurnsFold, TurnsSweep, StopsAt, pending_of}
 use Rattle.arachne_machine.proofs.Halves.{effects_whole}
 use Rattle.arachne_machine.proofs.Ranges.{folded-turn, folded-done, folded_effects-turn, folded_effects-done, folded_work-turn, swept-turn, swept-done, swept_effects-turn, swept_effects-done, swept_work-turn}
-use Rattle.arachne_machine.proofs.Outlooks.{SameOutlook, StepOutlook, Step, Any, itself, steps_by, goes_on_by, as_it_is, framed_as, reshaped, later, alone}
+use Rattle.arachne_machine.proofs.Outlooks.{StepOutlook, Step, steps_by, goes_on_by, framed_as, reshaped, later, alone}
 
 -- The frame that a value is handed to is taken away, and the thread goes on: with this to do next, or with a new frame.
 pub hands_on : (before mid new : State) (v : ℕ) (f : Frame) (k' : Control) → IsPopped f before mid → mid.control ≡ Give v →

@@ -1,5 +1,5 @@
 -- Joins, and the answers to pauses that count.
-use Rattle.std.proofs.Common.{◌≡◌, ◌≤◌, ℕ, ◌+◌, List, [], ◌∷◌, ◌++◌, length, None, Some, refl, ap, sym, ◌∙◌, subst, arith, append_assoc, take}
+use Rattle.std.proofs.Common.{◌≡◌, ℕ, ◌+◌, List, [], ◌∷◌, ◌++◌, length, None, Some, refl, ap, sym, ◌∙◌, subst, arith, append_assoc, take}
 use Rattle.std.specs.Prelude.{slice_get, option_map}
 use Rattle.std.specs.Borrow.{Bor}
 use Rattle.std.proofs.lemmas.List.{append-nil}
@@ -9,7 +9,7 @@ use Rattle.arachne_lang.specs.declared.program.Reduction.{Reduction}
 use Rattle.arachne_lang.specs.Tree.{Source}
 use Rattle.arachne_lang.specs.Program.{source_of, tree_of}
 use Rattle.arachne_lang.specs.Value.{value_of, with_newest, apply, operation_of}
-use Rattle.arachne_lang.specs.Effects.{Effects, effects_of, task_value, tabulated, held, tallied}
+use Rattle.arachne_lang.specs.Effects.{Effects, task_value, tabulated, held, tallied}
 use Rattle.arachne_machine.specs.declared.frame.Stretch.{Stretch}
 use Rattle.arachne_machine.specs.declared.frame.Frame.{Frame}
 use Rattle.arachne_machine.specs.declared.frame.Frame.TheVariants.{Restore}
@@ -17,8 +17,8 @@ use Rattle.arachne_machine.specs.declared.frame.Control.{Control}
 use Rattle.arachne_machine.specs.declared.frame.Control.TheVariants.{Begin, Give, Cover, Forked, Halved, Awaits, AwaitsHalf, Asks, Frees, Tallies}
 use Rattle.arachne_machine.specs.declared.state.State.{State}
 use Rattle.arachne_machine.specs.Outcome.{Finished}
-use Rattle.arachne_machine.specs.Account.{Account, after}
-use Rattle.arachne_machine.specs.Ending.{Status, child_task, joined_env, account_joined, account_after_join, status_after_join, fork_awaited, lock_freed, forks_of, releases, frames_left, work_left, account_at_end, unjoined_of, locks_of}
+use Rattle.arachne_machine.specs.Account.{after}
+use Rattle.arachne_machine.specs.Ending.{child_task, joined_env, account_joined, fork_awaited, lock_freed, forks_of, releases, frames_left}
 use Rattle.arachne_machine.specs.Steps.{Joins, Counts, pending_of, suspended}
 use Rattle.arachne_machine.specs.Suspended.{awaited}
 use Rattle.arachne_machine.proofs.Outlooks.{SameOutlook, Step, IsAt, Any, itself, unjoined_at, locks_at, same_end, steps_by, framed_as, alone, as_it_is, given}

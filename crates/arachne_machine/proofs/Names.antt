@@ -1,12 +1,11 @@
 -- The tasks that names lead to.
-use Rattle.std.proofs.Common.{◌≡◌, ℕ, List, [], ◌∷◌, ◌++◌, Option, None, Some, refl, ap, sym, ◌∙◌, ◌+◌, ◌<◌, Bool, true, false, rules, length, reverse, arith, length-append}
+use Rattle.std.proofs.Common.{◌≡◌, ℕ, List, [], ◌∷◌, ◌++◌, Option, None, Some, refl, ap, sym, ◌∙◌, Bool, true, false, rules, length, reverse, arith, length-append}
 use Rattle.std.proofs.lemmas.Option.{slice_get-get_or}
 use Rattle.std.proofs.Math.Seq.{get_or-append_seam}
 use lib.Pointwise.{pointwise}
 use Rattle.std.proofs.lemmas.List.{reverse-append, reverse-reverse}
 use Rattle.std.specs.Prelude.{option_and_then, slice_get, IsTrue, nat_eq}
 use Rattle.std.specs.Cmp.Lexicographic.{same_text, other_text}
-use Rattle.arachne_lang.specs.Tree.{Source}
 use Rattle.arachne_lang.specs.Effects.{Task, task_effects, task_below}
 
 then_some : (o : Option Task) → option_and_then (λ task. Some task) o ≡ o

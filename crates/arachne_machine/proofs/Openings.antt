@@ -5,7 +5,7 @@ use Rattle.std.specs.Borrow.{Bor}
 use Rattle.arachne_lang.specs.declared.program.Expr.{Expr}
 use Rattle.arachne_lang.specs.declared.program.Operation.{Operation}
 use Rattle.arachne_lang.specs.declared.program.Reduction.{Reduction}
-use Rattle.arachne_lang.specs.Tree.{Tree, Number, Variable, Length, Item, Binary, Choose, Bind, Tally, Hold, Fork, Fold, Sweep, Source}
+use Rattle.arachne_lang.specs.Tree.{Tree, Number, Variable, Length, Item, Binary, Choose, Bind, Tally, Hold, Fold, Sweep, Source}
 use Rattle.arachne_lang.specs.Program.{source_of, tree_of}
 use Rattle.arachne_lang.specs.Value.{value_of, array_at, with_newest}
 use Rattle.arachne_lang.specs.Effects.{Reduce, ◌⨾◌, tallied, held, effects_of, task_effects}
@@ -17,10 +17,10 @@ use Rattle.arachne_machine.specs.declared.state.State.{State}
 use Rattle.arachne_machine.specs.Work.{work_of}
 use Rattle.arachne_machine.specs.Turns.{folded_effects}
 use Rattle.arachne_machine.specs.Account.{Account, after}
-use Rattle.arachne_machine.specs.Ending.{resume, resume_account, resume_work, begun, begun_account, begun_work, fork_awaited, lock_freed, forks_of, releases, frames_left}
-use Rattle.arachne_machine.specs.Steps.{Becomes, StopsAt, pending_of}
+use Rattle.arachne_machine.specs.Ending.{resume, resume_account, resume_work, begun, begun_account, begun_work, fork_awaited, forks_of, releases, frames_left}
+use Rattle.arachne_machine.specs.Steps.{Becomes, StopsAt}
 use Rattle.arachne_machine.proofs.Accounts.{after-nothing, after-sequence}
-use Rattle.arachne_machine.proofs.Outlooks.{SameOutlook, StepOutlook, Step, steps_by, goes_on_by, as_it_is, framed_as, alone}
+use Rattle.arachne_machine.proofs.Outlooks.{StepOutlook, Step, steps_by, as_it_is, framed_as, alone}
 
 -- An expression of this tree comes to the same by these frames and this to do next.
 pub record Opens (source : Source) (name : List ℕ) (tree : Tree) (env : List ℕ) (k' : Control) (gs' : List Frame) : Type 0 where

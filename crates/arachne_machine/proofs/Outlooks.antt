@@ -1,5 +1,5 @@
 -- What the newest frames and what comes next come to, and so the whole thread.
-use Rattle.std.proofs.Common.{◌≡◌, ◌≤◌, ℕ, ◌+◌, List, [], ◌∷◌, ◌++◌, length, None, refl, ap, sym, ◌∙◌, arith, append_assoc}
+use Rattle.std.proofs.Common.{◌≡◌, ◌≤◌, ℕ, ◌+◌, List, [], ◌++◌, None, refl, ap, sym, ◌∙◌, arith, append_assoc}
 use Rattle.std.proofs.lemmas.List.{append-nil}
 use Rattle.arachne_lang.specs.Tree.{Source}
 use Rattle.arachne_lang.specs.Program.{source_of}
@@ -8,7 +8,7 @@ use Rattle.arachne_machine.specs.declared.frame.Control.{Control}
 use Rattle.arachne_machine.specs.declared.state.State.{State}
 use Rattle.arachne_machine.specs.Account.{Account}
 use Rattle.arachne_machine.specs.Ending.{resume, resume_account, resume_work, begun, begun_account, begun_work, fork_awaited, lock_freed, forks_of, releases, frames_left, ending, account_at_end, work_left, unjoined_of, locks_of}
-use Rattle.arachne_machine.specs.Steps.{Becomes, IsPopped, Goes, StopsAt, pending_of}
+use Rattle.arachne_machine.specs.Steps.{Becomes, Goes, StopsAt, pending_of}
 use Rattle.arachne_machine.proofs.Frames.{resume-append, resume_account-append, resume_work-append, forks_of-append, releases-append}
 
 -- From what comes next, the newest frames and the environment to the new ones the end is the same, if the accounts that fit are taken like this.

@@ -4,7 +4,7 @@ use Rattle.std.proofs.Math.Path.{fun_ext}
 use Rattle.arachne_lang.specs.declared.program.Reduction.{Reduction}
 use Rattle.arachne_lang.specs.Tree.{Tree}
 use Rattle.arachne_lang.specs.Value.{Environment, turns, with_newest, value_of, apply, operation_of}
-use Rattle.arachne_lang.specs.Effects.{Effects, nothing, ◌⨾◌, turns_effects, effects_of}
+use Rattle.arachne_lang.specs.Effects.{Effects, nothing, turns_effects, effects_of}
 use Rattle.arachne_machine.specs.Account.{Account, after}
 use Rattle.arachne_machine.specs.Work.{total, work_of}
 use Rattle.arachne_machine.specs.Turns.{folded, folded_effects, folded_work, swept, swept_effects, swept_work}

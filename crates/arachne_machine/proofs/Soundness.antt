@@ -13,20 +13,20 @@ use Rattle.arachne_machine.specs.declared.frame.Control.{Control}
 use Rattle.arachne_machine.specs.declared.frame.Control.TheVariants.{Begin, Give, Cover, Forked as Forks, Halved, Awaits, AwaitsHalf, Asks, Frees, Tallies, Ended}
 use Rattle.arachne_machine.specs.declared.pause.Pending.{Pending}
 use Rattle.arachne_machine.specs.declared.pause.Pending.TheVariants as pause
-use Rattle.arachne_machine.specs.Suspended.{Suspended, SameThread, Forked, Joined, awaited}
+use Rattle.arachne_machine.specs.Suspended.{SameThread, Forked, Joined, awaited}
 use Rattle.arachne_machine.specs.declared.state.State.{State}
 use Rattle.arachne_machine.specs.declared.state.Stop.{Stop}
 use Rattle.arachne_machine.specs.declared.state.Stop.TheVariants as stop
 use Rattle.arachne_machine.specs.Outcome.{Finished, named_holds, meaning_as, meaning_in, outcome_of, IsOfItsName}
 use Rattle.arachne_machine.specs.Account.{Account, untouched, after, with_fork, with_join}
-use Rattle.arachne_machine.specs.Ending.{Status, child_task, ending, account_at_end, work_left, unjoined_of, locks_of, resume, resume_account, frames_left, begun, begun_account, fork_awaited, forks_of, lock_freed, releases}
-use Rattle.arachne_machine.specs.Steps.{Goes, GoesToFork, KeepsOverFork, IsNew, Joins, KeepsOverJoin, Counts, StopsAt, IsUnchanged, pending_of, suspended, own_line, IsNumbered}
+use Rattle.arachne_machine.specs.Ending.{child_task, ending, account_at_end, unjoined_of, locks_of, resume, resume_account, frames_left, begun, begun_account, fork_awaited, forks_of, lock_freed, releases}
+use Rattle.arachne_machine.specs.Steps.{Goes, GoesToFork, IsNew, Joins, KeepsOverJoin, Counts, StopsAt, IsUnchanged, pending_of, suspended, own_line}
 use Rattle.arachne_machine.specs.Sound.{IsSound}
 use Rattle.arachne_machine.proofs.Accounts.{after-children}
 use Rattle.arachne_machine.proofs.Names.{task_below-child, slice_get-seam}
-use Rattle.arachne_machine.proofs.Outlooks.{IsAt, at_of, ending_at, account_at, work_at}
+use Rattle.arachne_machine.proofs.Outlooks.{at_of, ending_at, account_at, work_at}
 use Rattle.arachne_machine.proofs.Splitting.{child_task-found}
-use Rattle.arachne_machine.proofs.Tabulated.{tabulated-same, length-tabulated}
+use Rattle.arachne_machine.proofs.Tabulated.{tabulated-same, length-tabulated, added_is}
 
 -- steps after steps
 pub goes_on : (m n k : ℕ) (a b c : State) → Goes m a b → Goes n b c → k ≤ m + n → Goes k a c
@@ -361,6 +361,8 @@ forked_seen old new child task s g =
         has_tag = g.fresh.has_tag;
         no_forks = g.fresh.forks;
         none_unjoined = g.fresh.unjoined;
+        no_sums = g.fresh.sums;
+        no_holds = g.fresh.holds;
         no_locks = g.fresh.locks;
         none_below = g.fresh.below;
         not_paused = g.fresh.pending;
@@ -400,18 +402,26 @@ stopped_seen n old new g h = awaits_some new.control new.own.name (forks_of new.
 
 pub joined_seen : (old new : State) (outcome : Finished) → IsSound old → IsOfItsName outcome → source_of outcome.program ≡ source_of old.program.now →
     Joins old outcome new → Joined (suspended old) outcome (suspended new)
-joined_seen old new outcome s of_name same_source j = record {
-  of_child = ap (λ l. option_map (λ k. old.own.name ++ k ∷ []) (slice_get l 0)) j.unjoined ∙ ap (λ n. Some n) (sym j.name);
-  program = ap (λ p. p.now) j.program;
-  name = ap (λ o. o.name) j.own;
-  tag = ap (λ o. o.tag) j.own;
-  forks = j.forks;
-  unjoined = (j.number, j.unjoined);
-  locks = j.locks;
-  below = j.below;
-  pending = j.pending;
-  work = (join_keeps old new outcome of_name same_source j).work;
-}
+joined_seen old new outcome s of_name same_source j =
+    let source = source_of outcome.program in
+    let found = outcome_task source outcome.name (meaning_in outcome) of_name in
+    let effects = task_effects source.arrays source.locks found.0 in
+    let childs = sym (ap (λ m. m.totals) found.2) ∙ ap (λ x. tabulated x.ledgers effects.sums) same_source in
+    let n = (source_of old.program.now).ledgers in
+    record {
+      of_child = ap (λ l. option_map (λ k. old.own.name ++ k ∷ []) (slice_get l 0)) j.unjoined ∙ ap (λ n. Some n) (sym j.name);
+      program = ap (λ p. p.now) j.program;
+      name = ap (λ o. o.name) j.own;
+      tag = ap (λ o. o.tag) j.own;
+      forks = j.forks;
+      unjoined = (j.number, j.unjoined);
+      locks = j.locks;
+      sums = added_is n s.account.sums effects.sums _ _ _ s.sums childs (j.sums n s.account.sums effects.sums s.sums childs);
+      holds = ap (λ o. o.holds.items) j.own;
+      below = j.below;
+      pending = j.pending;
+      work = (join_keeps old new outcome of_name same_source j).work;
+    }
 
 -- both sums have an item for each ledger
 pub same_length : (t : State) (outcome : Finished) → IsSound t → IsOfItsName outcome → source_of outcome.program ≡ source_of t.program.now →

@@ -1,14 +1,14 @@
 -- A fork leaves what the thread comes to as it was, if the child is the one of its number.
-use Rattle.std.proofs.Common.{◌≡◌, ◌≤◌, ◌<◌, ℕ, ◌+◌, ◌-◌, ◌/◌, List, [], ◌∷◌, ◌++◌, length, Some, refl, ap, sym, ◌∙◌, subst, arith, append_assoc}
+use Rattle.std.proofs.Common.{◌≡◌, ◌<◌, ℕ, ◌+◌, ◌-◌, ◌/◌, List, [], ◌∷◌, ◌++◌, length, Some, refl, ap, sym, ◌∙◌, subst, arith, append_assoc}
 use Rattle.std.specs.Prelude.{unwrap_or, max}
 use Rattle.std.specs.Borrow.{Bor}
 use Rattle.std.proofs.lemmas.List.{append-nil}
 use Rattle.arachne_lang.specs.declared.program.Class.{Class}
 use Rattle.arachne_lang.specs.declared.program.Expr.{Expr}
-use Rattle.arachne_lang.specs.Tree.{Tree, Fork, Number, Source}
+use Rattle.arachne_lang.specs.Tree.{Fork, Number, Source}
 use Rattle.arachne_lang.specs.Program.{source_of, tree_of}
 use Rattle.arachne_lang.specs.Value.{value_of, with_newest, apply, operation_of}
-use Rattle.arachne_lang.specs.Effects.{Task, Evaluate, Reduce, forked, ◌⨾◌, effects_of, task_effects, task_value}
+use Rattle.arachne_lang.specs.Effects.{Task, Evaluate, Reduce, forked, effects_of, task_effects, task_value}
 use Rattle.arachne_lang.specs.Meaning.{task_of}
 use Rattle.arachne_machine.specs.declared.frame.Stretch.{Stretch}
 use Rattle.arachne_machine.specs.declared.frame.Frame.{Frame}
@@ -20,7 +20,7 @@ use Rattle.arachne_machine.specs.declared.state.State.{State}
 use Rattle.arachne_machine.specs.Account.{Account, after, with_fork, with_join}
 use Rattle.arachne_machine.specs.Turns.{split_work}
 use Rattle.arachne_machine.specs.Work.{work_of}
-use Rattle.arachne_machine.specs.Ending.{Status, child_task, stretch_task, account_joined, resume, resume_account, resume_work, begun, begun_account, begun_work, fork_awaited, lock_freed, forks_of, releases, frames_left, work_left, account_at_end, unjoined_of, locks_of}
+use Rattle.arachne_machine.specs.Ending.{child_task, stretch_task, resume_account, begun, begun_account, fork_awaited, lock_freed, forks_of, releases, frames_left, work_left}
 use Rattle.arachne_machine.specs.Steps.{PushesFork, GoesToFork, task_begun, pending_of}
 use Rattle.arachne_machine.proofs.Accounts.{after-sequence, after-forked, after-children}
 use Rattle.arachne_machine.proofs.Frames.{Grows-frames}

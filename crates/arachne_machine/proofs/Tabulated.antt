@@ -1,13 +1,15 @@
 -- Tables of numbers modulo 2 ^ 64.
-use Rattle.std.proofs.Common.{◌≡◌, ◌≢◌, set, ℕ, zero, suc, ◌+◌, ◌%◌, ◌^◌, ◌<◌, ◌≤◌, inl, inr, List, [], ◌∷◌, ◌++◌, length, get_or, replicate, refl, ap, sym, ◌∙◌, arith, length-append, add-one}
+use Rattle.std.proofs.Common.{◌≡◌, ◌≢◌, set, ℕ, zero, suc, ◌+◌, ◌^◌, ◌<◌, ◌≤◌, inl, inr, List, [], ◌∷◌, ◌++◌, length, get_or, replicate, refl, ap, sym, ◌∙◌, arith, length-append, add-one}
 use Rattle.std.specs.Prelude.{◌==◌, if◌then◌else◌}
 use Rattle.std.proofs.lemmas.Bool.Decides.{eqb_tells}
-use Rattle.std.proofs.lemmas.List.{ext_get_or, get_or_append_left, get_or-set_other, length-set}
+use Rattle.std.proofs.lemmas.Option.{slice_get_cases}
+use Rattle.std.proofs.lemmas.List.{ext_get_or, get_or_append_left, get_or-set_other, length-set, set_past}
 use Rattle.std.proofs.Math.Seq.{get_or-append_seam}
 use Rattle.std.proofs.Math.Nat.{add-mod, mod-add-mod, eq-or-lt_of_le}
-use Rattle.std.proofs.lemmas.Grind.{replicate_next, common_steps, get_or-set_at}
+use Rattle.std.proofs.lemmas.Grind.{replicate_next, get_or-set_at}
 use Rattle.arachne_lang.specs.Value.{wrapped}
 use Rattle.arachne_lang.specs.Effects.{tabulated}
+use Rattle.arachne_machine.specs.Suspended.{raised, added}
 
 pub length-tabulated : (n : ℕ) (f : ℕ → ℕ) → length (tabulated n f) ≡ n
 length-tabulated zero f = refl
@@ -99,3 +101,26 @@ tabulated-beyond (suc n) f place amount le =
     let apart : n ≢ place = λ e. absurd (omega (arith, e, le)) in
     ap (λ xs. xs ++ wrapped (f n) ∷ []) (tabulated-beyond n f place amount (omega arith))
     ∙ ap (λ x. tabulated n g ++ wrapped x ∷ []) (sym (other_place place amount n (f n) apart))
+
+-- what callers see of it: the number at a place is raised
+pub raised_is : (n : ℕ) (f : ℕ → ℕ) (place amount : ℕ) (xs ys : List ℕ) → xs ≡ tabulated n f → ys ≡ tabulated n (λ k. f k + (if k == place then amount else 0)) →
+    ys ≡ raised xs place amount
+raised_is n f place amount xs ys ex ey =
+    elim (slice_get_cases xs place).1 [
+      | inl found ↦ ey ∙ sym (tabulated-added n f place amount xs ex found.1)
+      | inr none ↦
+          let size : length xs ≡ n = ap length ex ∙ length-tabulated n f in
+          ey ∙ sym (tabulated-beyond n f place amount (omega (arith, size, none.0))) ∙ sym ex ∙ sym (set_past xs place (wrapped (get_or xs place 0 + amount)) none.0)
+    ]
+
+-- nothing is raised
+pub kept_is : (n : ℕ) (f : ℕ → ℕ) (xs ys : List ℕ) → xs ≡ tabulated n f → ys ≡ tabulated n (λ k. f k + 0) → ys ≡ xs
+kept_is n f xs ys ex ey = ey ∙ sym (tabulated-kept n f xs ex)
+
+-- each number is raised
+pub added_is : (n : ℕ) (f g : ℕ → ℕ) (xs ys zs : List ℕ) → xs ≡ tabulated n f → ys ≡ tabulated n g → zs ≡ tabulated n (λ k. f k + g k) → zs ≡ added xs ys
+added_is n f g xs ys zs ex ey ez =
+    let each : ℕ → ℕ = λ k. get_or (tabulated n f) k 0 + get_or (tabulated n g) k 0 in
+    ez ∙ sym (tabulated-sum n f g (tabulated n each) (length-tabulated n each) (get_or-tabulated n each))
+    ∙ ap (λ m. tabulated m each) (sym (length-tabulated n f))
+    ∙ ap (λ l. added l (tabulated n g)) (sym ex) ∙ ap (added xs) (sym ey)

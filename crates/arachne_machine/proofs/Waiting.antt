@@ -1,11 +1,11 @@
 -- Turns keep how threads wait for each other.
-use Rattle.std.proofs.Common.{◌≡◌, ◌≤◌, ◌<◌, ℕ, ◌+◌, ◌*◌, List, [], ◌∷◌, ◌++◌, length, map, reverse, Option, None, Some, refl, ap, sym, ◌∙◌, subst, arith}
+use Rattle.std.proofs.Common.{◌≡◌, ◌<◌, ℕ, List, [], ◌∷◌, ◌++◌, length, map, reverse, None, Some, refl, ap, sym, ◌∙◌, subst, arith}
 use Rattle.std.specs.Prelude.{slice_get, option_map, IsSome}
 use Rattle.std.proofs.lemmas.List.{length-map, length-reverse, reverse-append}
 use Rattle.arachne_lang.specs.declared.program.Program.{Program}
 use Rattle.arachne_machine.specs.Outcome.{Finished}
 use Rattle.arachne_machine.specs.Suspended.{Suspended, SameThread, IsFresh, Forked, Joined, awaited}
-use Rattle.arachne_machine.specs.Alone.{key, childs_keys, IsNewest, IsParent, Waits, Rests}
+use Rattle.arachne_machine.specs.Alone.{key, childs_keys, Waits, Rests}
 
 pub waits_same : (program : Program) (name name' : List ℕ) (threads : List Suspended) (keys : List (Program × List ℕ)) → name' ≡ name →
     Waits program name threads keys → Waits program name' threads keys

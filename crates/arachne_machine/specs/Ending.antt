@@ -1,5 +1,5 @@
 -- What a suspended thread will come to.
-use Rattle.std.specs.Prelude.{ℕ, ◌+◌, ◌-◌, ◌==◌, if◌then◌else◌, List, [], ◌∷◌, ◌++◌, Option, unwrap_or, take, length, slice_index}
+use Rattle.std.specs.Prelude.{ℕ, ◌+◌, ◌-◌, ◌==◌, if◌then◌else◌, List, [], ◌∷◌, ◌++◌, unwrap_or, take, length, slice_index}
 use Rattle.arachne_lang.specs.declared.program.Operation.{Operation}
 use Rattle.arachne_lang.specs.Tree.{Tree, Source, Number}
 use Rattle.arachne_lang.specs.Program.{source_of, tree_of}

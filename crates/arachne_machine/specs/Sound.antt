@@ -1,5 +1,5 @@
 -- A thread is sound if it will end in the outcome of its name.
-use Rattle.std.specs.Prelude.{◌≡◌, ℕ, length, map, Some}
+use Rattle.std.specs.Prelude.{◌≡◌, length, map, Some}
 use Rattle.arachne_lang.specs.Program.{source_of}
 use Rattle.arachne_lang.specs.Effects.{Task, task_value, task_effects, tabulated}
 use Rattle.arachne_lang.specs.Meaning.{task_of}

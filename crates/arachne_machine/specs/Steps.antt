@@ -1,16 +1,16 @@
 -- What the steps of a thread do.
-use Rattle.std.specs.Prelude.{◌≡◌, ◌≤◌, ◌<◌, ℕ, ◌+◌, ◌-◌, ◌==◌, if◌then◌else◌, false, List, [], ◌∷◌, ◌++◌, length, Option, None, Some}
+use Rattle.std.specs.Prelude.{◌≡◌, ◌≤◌, ◌<◌, ℕ, ◌+◌, ◌==◌, if◌then◌else◌, false, List, [], ◌∷◌, ◌++◌, length, Option, None, Some}
 use Rattle.arachne_lang.specs.declared.program.Program.{Program}
 use Rattle.arachne_lang.specs.declared.program.Reduction.{Reduction}
 use Rattle.arachne_lang.specs.declared.program.Expr.{Expr}
 use Rattle.std.specs.Borrow.{Bor}
-use Rattle.arachne_lang.specs.Tree.{Source, Number}
+use Rattle.arachne_lang.specs.Tree.{Number}
 use Rattle.arachne_lang.specs.Program.{source_of, tree_of}
 use Rattle.arachne_lang.specs.Value.{Environment, with_newest}
 use Rattle.arachne_lang.specs.Effects.{Task, Evaluate, Effects, task_value, task_effects, tabulated}
 use Rattle.arachne_lang.specs.Meaning.{task_of}
 use Rattle.arachne_machine.specs.declared.frame.Frame.{Frame}
-use Rattle.arachne_machine.specs.declared.frame.Frame.TheVariants.{FoldTo, FoldFirst, FoldStart, FoldTurn, SweepTo, SweepStart, SweepTurn}
+use Rattle.arachne_machine.specs.declared.frame.Frame.TheVariants.{FoldTo, FoldFirst, FoldStart, FoldTurn, SweepTo, SweepStart, SweepTurn, Amount, Release, Join, Merge}
 use Rattle.arachne_machine.specs.declared.frame.Control.{Control}
 use Rattle.arachne_machine.specs.declared.frame.Control.TheVariants.{Begin, Give, Cover, Forked, Halved, Awaits, AwaitsHalf, Asks, Frees, Tallies, Ended}
 use Rattle.arachne_machine.specs.declared.line.ThreadLine.{ThreadLine}
@@ -49,6 +49,8 @@ suspended t = record {
   unjoined = unjoined_of t;
   locks = locks_of t;
   pending = pending_of t.control;
+  sums = t.sums.items;
+  holds = t.own.holds.items;
   below = t.below.items;
   work = work_left t;
 }
@@ -275,3 +277,11 @@ IsOfRange (SweepTo reduction grain to body) = Unit {0}
 IsOfRange (SweepStart reduction grain from body) = Unit {0}
 IsOfRange (SweepTurn reduction next end so_far body) = Unit {0}
 IsOfRange _ = ⊥
+
+-- such a frame, or one at which the thread pauses
+abbrev pub IsPauseOrRange : Frame → Type 0
+IsPauseOrRange (Amount ledger body) = Unit {0}
+IsPauseOrRange (Release lock) = Unit {0}
+IsPauseOrRange (Join number after) = Unit {0}
+IsPauseOrRange (Merge number reduction) = Unit {0}
+IsPauseOrRange frame = IsOfRange frame

@@ -1,5 +1,7 @@
 -- What callers see of a thread between two calls.
-use Rattle.std.specs.Prelude.{◌≡◌, ◌≤◌, ℕ, ◌+◌, List, [], ◌∷◌, ◌++◌, Option, None, Some, option_map, slice_get}
+use Rattle.std.specs.Prelude.{◌≡◌, ◌≤◌, ℕ, ◌+◌, List, [], ◌∷◌, ◌++◌, length, get_or, set, Option, None, Some, option_map, slice_get}
+use Rattle.arachne_lang.specs.Value.{wrapped}
+use Rattle.arachne_lang.specs.Effects.{tabulated}
 use Rattle.arachne_lang.specs.declared.program.Program.{Program}
 use Rattle.arachne_machine.specs.declared.line.ThreadLine.{ThreadLine}
 use Rattle.arachne_machine.specs.declared.pause.Pending.{Pending}
@@ -18,6 +20,10 @@ pub record Suspended : Type 0 where
   pub locks : List ℕ
   -- the pause that is not answered
   pub pending : Option Pending
+  -- for each ledger, what it and the threads that it has joined have added to it, modulo 2 ^ 64
+  pub sums : List ℕ
+  -- for each lock, how often it was granted
+  pub holds : List ℕ
   -- the lines of the threads below it, as far as they were joined
   pub below : List ThreadLine
   -- a bound on the steps that it and the threads that it will fork have left
@@ -27,7 +33,15 @@ pub record Suspended : Type 0 where
 abbrev pub awaited : Suspended → Option (List ℕ)
 awaited thread = option_map (λ number. thread.name ++ number ∷ []) (slice_get thread.unjoined 0)
 
--- both are of one program, have one name and tag, and have made and joined the same forks; their locks may differ
+-- the numbers with the one at this place raised by an amount, modulo 2 ^ 64; nothing where there is none
+abbrev pub raised : List ℕ → ℕ → ℕ → List ℕ
+raised numbers place amount = set numbers place (wrapped (get_or numbers place 0 + amount))
+
+-- number by number the sum, modulo 2 ^ 64
+abbrev pub added : List ℕ → List ℕ → List ℕ
+added numbers others = tabulated (length numbers) (λ place. get_or numbers place 0 + get_or others place 0)
+
+-- both are of one program, have one name and tag, and have made and joined the same forks; their locks, sums and holds may differ
 pub record SameThread (old new : Suspended) : Type 0 where
   pub program : new.program ≡ old.program
   pub name : new.name ≡ old.name
@@ -44,6 +58,8 @@ pub record IsFresh (program : Program) (name : List ℕ) (tag : ℕ) (thread : S
   pub no_forks : thread.forks ≡ 0
   pub none_unjoined : thread.unjoined ≡ []
   pub no_locks : thread.locks ≡ []
+  pub no_sums : thread.sums ≡ tabulated program.ledgers (λ ledger. 0)
+  pub no_holds : thread.holds ≡ tabulated program.locks (λ lock. 0)
   pub none_below : thread.below ≡ []
   pub not_paused : thread.pending ≡ None
 
@@ -69,6 +85,8 @@ pub record Joined (old : Suspended) (outcome : Finished) (new : Suspended) : Typ
   pub forks : new.forks ≡ old.forks
   pub unjoined : (number : ℕ) × (old.unjoined ≡ number ∷ new.unjoined)
   pub locks : new.locks ≡ old.locks
+  pub sums : new.sums ≡ added old.sums outcome.sums
+  pub holds : new.holds ≡ old.holds
   pub below : new.below ≡ old.below ++ outcome.lines
   pub pending : new.pending ≡ None
   pub work : new.work ≤ old.work

@@ -77,7 +77,9 @@ fn meaning(alloc: Global, outcome: Outcome) -> Result<Meaning, AllocError>
     ensures means { IfOk result (λ meaning. meaning ≡ meaning_in outcome.entry) }
     ensures of_its_name { IsOfItsName outcome.entry }
 {
-    let parts = outcome.into_parts()?;
+    let Ok(parts) = outcome.into_parts() else {
+        return Err(AllocError);
+    };
     let lines = parts.lines.into_vec();
     let threads: Vec<Line> = lines.into_iter().map(line_of_thread).collect(alloc)?;
     Ok(Meaning {

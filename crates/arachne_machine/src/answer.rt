@@ -28,7 +28,7 @@ impl<'p> State<'p> {
     /// It holds the lock that it asked for, and goes on.
     pub fn granted(&mut self)
         requires { IsAsk (pending_of self.old.control) }
-        ensures { (lock : ℕ) × Counts (held lock) self.old self.new }
+        ensures { (lock : ℕ) × (pending_of self.old.control ≡ Some (pause.Asks lock)) × Counts (held lock) self.old self.new }
     {
         let Control::Asks { lock, body } = self.control else {
             unreachable!()
@@ -61,7 +61,7 @@ impl<'p> State<'p> {
     /// The amount was added to the ledger: adds it to the own sums, and goes on.
     pub fn tallied(&mut self)
         requires { IsTally (pending_of self.old.control) }
-        ensures { (ledger amount : ℕ) × Counts (tallied ledger amount) self.old self.new }
+        ensures { (ledger amount : ℕ) × (pending_of self.old.control ≡ Some (pause.Tallies ledger amount)) × Counts (tallied ledger amount) self.old self.new }
     {
         let Control::Tallies {
             ledger,

@@ -1,4 +1,3 @@
-use crate::arithmetic::unit_of;
 use crate::frame::{Control, Frame, Stretch};
 use crate::state::{State, Stop};
 use crate::tables::copied;
@@ -73,7 +72,7 @@ impl<'p> State<'p> {
             return Ok(Some(Stop::Forks(Class::Normal, child)));
         }
         self.reserve_turn()?;
-        let unit = unit_of(stretch.reduction);
+        let unit = stretch.reduction.unit();
         self.turn_sweep(
             stretch.reduction,
             stretch.first,

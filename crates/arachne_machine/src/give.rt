@@ -1,4 +1,3 @@
-use crate::arithmetic::{apply, operation_of};
 use crate::frame::{Control, Frame, Stretch};
 use crate::state::{State, Stop};
 use arachne_lang::{Expr, Reduction};
@@ -13,7 +12,7 @@ impl<'p> State<'p> {
     ghost use Rattle.arachne_machine.specs.declared.frame.Frame.TheVariants as frames;
     ghost use Rattle.arachne_machine.specs.declared.frame.Control.TheVariants as control;
     ghost use Rattle.arachne_machine.specs.Ending.{without_newest};
-    ghost use Rattle.arachne_machine.specs.Steps.{Becomes, IsUnchanged, IsPopped, IsOfRange, Enters, TurnsFold, TurnsSweep, StopsAt};
+    ghost use Rattle.arachne_machine.specs.Steps.{Becomes, IsUnchanged, IsPopped, IsPauseOrRange, IsOfRange, Enters, TurnsFold, TurnsSweep, StopsAt};
 
     /// Hands a value to the newest frame.
     pub fn give(&mut self, value: u64) -> Result<Option<Stop<'p>>, AllocError>
@@ -51,25 +50,39 @@ impl<'p> State<'p> {
         match frame {
             Frame::Index(array) => self.control = Control::Give(self.item(array, value)),
             Frame::Right(operation, right) => self.go_on(Frame::Apply(operation, value), right),
-            Frame::Apply(operation, left) => self.control = Control::Give(apply(
-                operation, left, value,
-            )),
+            Frame::Apply(operation, left) => {
+                self.control = Control::Give(operation.apply(left, value));
+            }
             Frame::Branch(first, second) => {
                 self.control = Control::Begin(if value == 0 { second } else { first });
             }
             Frame::Extend(body) => self.extend(value, body),
             Frame::Restore(length) => self.restore(length),
+            _ => return self.hand_on(frame, value),
+        }
+        None
+    }
+
+    /// The same for a frame at which the thread pauses, or one of a fold or a sweep.
+    fn hand_on(&mut self, frame: Frame<'p>, value: u64) -> Option<Stop<'p>>
+        requires gives { self.old.control ≡ control.Give value }
+        requires later { IsPauseOrRange frame }
+        requires environment { vec_len self.old.environment + 2 ≤ vec_capacity self.old.environment }
+        requires frames { vec_len self.old.frames + 1 ≤ vec_capacity self.old.frames }
+        ensures { (before : Thread) → IsPopped frame.entry before self.old → StopsAt 1 before result self.new }
+    {
+        match frame {
             Frame::Amount(ledger, body) => {
                 self.control = Control::Tallies {
                     ledger,
                     amount: value,
                     body,
                 };
-                return Some(Stop::Tallies(ledger, value));
+                Some(Stop::Tallies(ledger, value))
             }
             Frame::Release(lock) => {
                 self.control = Control::Frees { lock, value };
-                return Some(Stop::Frees(lock));
+                Some(Stop::Frees(lock))
             }
             Frame::Join { number, after } => {
                 self.control = Control::Awaits {
@@ -77,7 +90,7 @@ impl<'p> State<'p> {
                     during: value,
                     after,
                 };
-                return Some(Stop::Joins);
+                Some(Stop::Joins)
             }
             Frame::Merge { number, reduction } => {
                 self.control = Control::AwaitsHalf {
@@ -85,11 +98,13 @@ impl<'p> State<'p> {
                     right: value,
                     reduction,
                 };
-                return Some(Stop::Joins);
+                Some(Stop::Joins)
             }
-            _ => self.hand_to_range(frame, value),
+            _ => {
+                self.hand_to_range(frame, value);
+                None
+            }
         }
-        None
     }
 
     /// The same for a frame of a fold or a sweep.
@@ -130,7 +145,7 @@ impl<'p> State<'p> {
                 body,
             } => {
                 self.drop_newest(1);
-                let value = apply(operation_of(reduction), so_far, value);
+                let value = reduction.operation().apply(so_far, value);
                 self.turn_sweep(reduction, next, end, body, value);
             }
             _ => unreachable!(),

@@ -1,6 +1,5 @@
 ghost use Rattle.std.specs.Prelude.{◌≡◌, ◌∷◌, [], ◌++◌, ◌↔◌, IsTrue};
 
-use crate::arithmetic::{apply, operation_of};
 use crate::frame::{Control, Frame};
 use crate::outcome::Outcome;
 use crate::state::State;
@@ -55,7 +54,7 @@ impl<'p> State<'p> {
                 ..
             } => {
                 let left = self.take_in(outcome);
-                self.control = Control::Give(apply(operation_of(reduction), left, right));
+                self.control = Control::Give(reduction.operation().apply(left, right));
             }
             _ => unreachable!(),
         }

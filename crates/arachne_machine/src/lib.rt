@@ -3,7 +3,6 @@
 
 mod alone;
 mod answer;
-mod arithmetic;
 mod begin;
 mod fork;
 mod frame;
@@ -20,6 +19,6 @@ mod thread;
 
 pub use alone::run_alone;
 pub use line::ThreadLine;
-pub use outcome::Outcome;
+pub use outcome::{Outcome, OutcomeParts};
 pub use pause::{NotJoined, Pause, Pending};
 pub use thread::Thread;

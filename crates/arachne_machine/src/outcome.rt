@@ -1,9 +1,8 @@
-ghost use Rattle.std.specs.Prelude.{◌≡◌, ◌∷◌, IfOk};
+ghost use Rattle.std.specs.Prelude.{◌≡◌, ◌∷◌, IfOk, IfErr};
 ghost use Rattle.arachne_machine.specs.Outcome.{IsOfItsName};
 
 use crate::line::ThreadLine;
 use arachne_lang::{Name, Program, Sequence};
-use std::alloc::AllocError;
 use std::marker::Model;
 
 /// What a thread brings in the end: its value, the ledger sums, and the lines of itself and of all threads
@@ -66,13 +65,18 @@ impl<'p> Outcome<'p> {
         self.value
     }
 
-    /// The value, the sums and the lines. It takes memory for one line.
-    pub fn into_parts(self) -> Result<OutcomeParts, AllocError>
+    /// The value, the sums and the lines. It takes memory for one line; where that is refused the outcome
+    /// comes back.
+    pub fn into_parts(mut self) -> Result<OutcomeParts, Outcome<'p>>
         ensures value { IfOk result (λ parts. parts.value ≡ self.entry.value) }
         ensures sums { IfOk result (λ parts. parts.sums ≡ self.entry.sums) }
         ensures lines { IfOk result (λ parts. parts.lines ≡ self.entry.lines) }
+        ensures handed_back { IfErr result (λ outcome. outcome ≡ self.entry) }
         ensures of_its_name { IsOfItsName self.entry }
     {
+        if self.below.try_reserve(1).is_err() {
+            return Err(self);
+        }
         let Outcome {
             program: _,
             value,
@@ -80,7 +84,7 @@ impl<'p> Outcome<'p> {
             own,
             mut below,
         } = self;
-        below.insert(0, own)?;
+        below.insert(0, own).unwrap();
         Ok(OutcomeParts {
             value,
             sums: Sequence::from(sums),

@@ -142,6 +142,7 @@ impl<'p> State<'p> {
         requires sound { IsSound self }
         ensures program { result.program ≡ self.entry.program.now }
         ensures name { result.name ≡ self.entry.own.name }
+        ensures sums { result.sums ≡ self.entry.sums.items }
         ensures lines { result.lines ≡ own_line self.entry.own ∷ self.entry.below.items }
     {
         let Control::Ended(value) = self.control else {

@@ -292,7 +292,9 @@ fn foreign_outcome_comes_back(rt: HostRuntime) -> Result<(), Fail> {
     let outcome = ended(child)?;
     refuses(&rt, &mut thread, foreign, outcome)?;
     let outcome = ended(thread)?;
-    let parts = outcome.into_parts()?;
+    let Ok(parts) = outcome.into_parts() else {
+        return Err("memory was refused")?;
+    };
     assert_eq!(rt; parts.value, 5);
     let lines = parts.lines.into_vec();
     assert_eq!(rt; lines.len(), 2);
@@ -347,5 +349,61 @@ fn refused_calls_go_on(rt: HostRuntime) -> Result<(), Fail> {
     let alloc = rt.alloc();
     let program = one_fork(alloc)?;
     assert_eq!(rt; persistent(alloc, &program)?, 5);
+    Ok(())
+}
+
+/// Advances by one step, which ends at no pause of the thread's own.
+fn cut(thread: &mut Thread) -> Result<(), Fail>
+    requires { thread.old.pending ≡ None }
+    ensures { OnOk result (thread.new.pending ≡ None) }
+{
+    match thread.advance(1)? {
+        Pause::Budget => Ok(()),
+        _ => Err("a pause before its time")?,
+    }
+}
+
+/// Two numbers and their sum are begun, handed on and added in five steps.
+#[test]
+fn a_sum_has_five_steps(rt: HostRuntime) -> Result<(), Fail> {
+    let alloc = rt.alloc();
+    let program = plain(alloc, sum(alloc, Expr::Num(1), Expr::Num(2))?);
+    let mut thread = Thread::start(alloc, &program, 0)?;
+    cut(&mut thread)?;
+    cut(&mut thread)?;
+    cut(&mut thread)?;
+    cut(&mut thread)?;
+    cut(&mut thread)?;
+    match thread.advance(1)? {
+        Pause::Ended => Ok(()),
+        _ => Err("a sum of more than five steps")?,
+    }
+}
+
+/// The class of the first fork of a program that has one.
+fn first_class(alloc: Global, root: Expr) -> Result<Class, Fail> {
+    let program = plain(alloc, root);
+    let mut thread = Thread::start(alloc, &program, 0)?;
+    match thread.advance(100)? {
+        Pause::Forks(class, _) => Ok(class),
+        _ => Err("no fork")?,
+    }
+}
+
+/// A fork has the class that is written, and a split of a sweep is normal.
+#[test]
+fn forks_have_their_class(rt: HostRuntime) -> Result<(), Fail> {
+    let alloc = rt.alloc();
+    for class in [Class::Normal, Class::Exclusive] {
+        let fork = Expr::Fork(
+            class,
+            boxed(alloc, Expr::Num(1))?,
+            boxed(alloc, Expr::Num(2))?,
+            boxed(alloc, Expr::Num(3))?,
+        );
+        assert_eq!(rt; first_class(alloc, fork)?, class);
+    }
+    let split = sweep(alloc, Reduction::Sum, 1, 0, 2, Expr::Var(0))?;
+    assert_eq!(rt; first_class(alloc, split)?, Class::Normal);
     Ok(())
 }

@@ -1,5 +1,5 @@
 ghost use Rattle.std.specs.Prelude.{◌≡◌, ◌≢◌, ◌↔◌, ◌≤◌, ◌+◌, ℕ, [], ◌∷◌, None, Some, IfOk, OnOk, IfErr, OnErr};
-ghost use Rattle.arachne_machine.specs.Suspended.{SameThread, IsFresh, Joined, awaited};
+ghost use Rattle.arachne_machine.specs.Suspended.{SameThread, IsFresh, Joined, awaited, raised};
 ghost use Rattle.arachne_machine.specs.Advance.{Advanced, IsForeign, handed_back, pause_of, IsSoundStop};
 ghost use Rattle.arachne_machine.specs.Steps.{IsAsk, IsFree, IsTally};
 ghost use Rattle.arachne_lang.specs.Program.{source_of};
@@ -76,6 +76,8 @@ impl<'p> Thread<'p> {
         requires not_paused { self.old.pending ≡ None }
         requires some { 1 ≤ budget }
         ensures ok { IfOk result (λ pause. Advanced budget self.old pause self.new) }
+        ensures sums { self.new.sums ≡ self.old.sums }
+        ensures holds { self.new.holds ≡ self.old.holds }
         ensures err_same { OnErr result (SameThread self.old self.new) }
         ensures err_locks { OnErr result (self.new.locks ≡ self.old.locks) }
         ensures err_work { OnErr result (self.new.work ≤ self.old.work) }
@@ -89,6 +91,8 @@ impl<'p> Thread<'p> {
     pub fn forked(&mut self)
         requires { self.old.pending ≡ Some pause.Forks }
         ensures same { SameThread self.old self.new }
+        ensures sums { self.new.sums ≡ self.old.sums }
+        ensures holds { self.new.holds ≡ self.old.holds }
         ensures locks { self.new.locks ≡ self.old.locks }
         ensures pending { self.new.pending ≡ None }
         ensures work { self.new.work ≡ self.old.work }
@@ -100,6 +104,8 @@ impl<'p> Thread<'p> {
     pub fn granted(&mut self)
         requires { IsAsk self.old.pending }
         ensures same { SameThread self.old self.new }
+        ensures sums { self.new.sums ≡ self.old.sums }
+        ensures holds { (lock : ℕ) × (self.old.pending ≡ Some (pause.Asks lock)) × (self.new.holds ≡ raised self.old.holds lock 1) }
         ensures locks { self.new.locks ≡ self.old.locks }
         ensures pending { self.new.pending ≡ None }
         ensures work { self.new.work ≤ self.old.work }
@@ -111,6 +117,8 @@ impl<'p> Thread<'p> {
     pub fn freed(&mut self)
         requires { IsFree self.old.pending }
         ensures same { SameThread self.old self.new }
+        ensures sums { self.new.sums ≡ self.old.sums }
+        ensures holds { self.new.holds ≡ self.old.holds }
         ensures locks { (lock : ℕ) × (self.old.pending ≡ Some (pause.Frees lock)) × (self.old.locks ≡ lock ∷ self.new.locks) }
         ensures pending { self.new.pending ≡ None }
         ensures work { self.new.work ≡ self.old.work }
@@ -122,6 +130,8 @@ impl<'p> Thread<'p> {
     pub fn tallied(&mut self)
         requires { IsTally self.old.pending }
         ensures same { SameThread self.old self.new }
+        ensures sums { (ledger amount : ℕ) × (self.old.pending ≡ Some (pause.Tallies ledger amount)) × (self.new.sums ≡ raised self.old.sums ledger amount) }
+        ensures holds { self.new.holds ≡ self.old.holds }
         ensures locks { self.new.locks ≡ self.old.locks }
         ensures pending { self.new.pending ≡ None }
         ensures work { self.new.work ≤ self.old.work }
@@ -153,7 +163,8 @@ impl<'p> Thread<'p> {
         requires { self.pending ≡ Some pause.Ended }
         ensures program { result.program ≡ self.entry.program }
         ensures name { result.name ≡ self.entry.name }
-        ensures lines { (own : ThreadLine) × (result.lines ≡ own ∷ self.entry.below) × (own.tag ≡ self.entry.tag) }
+        ensures sums { result.sums ≡ self.entry.sums }
+        ensures lines { (own : ThreadLine) × (result.lines ≡ own ∷ self.entry.below) × (own.tag ≡ self.entry.tag) × (own.holds ≡ self.entry.holds) }
     {
         Box::into_inner(self.state).finish()
     }

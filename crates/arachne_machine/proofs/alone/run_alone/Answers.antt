@@ -1,4 +1,4 @@
-use Rattle.std.proofs.Common.{◌≡◌, [], ◌∷◌, ◌++◌, map, reverse, sym, ap, ◌∙◌, subst}
+use Rattle.std.proofs.Common.{◌≡◌, [], ◌∷◌, map, reverse, sym, ap, ◌∙◌, subst}
 use Rattle.arachne_machine.specs.Alone.{key, Rests}
 use Rattle.arachne_machine.proofs.Waiting.{pushed, rests_root}
 use Rattle.arachne_machine.proofs.alone.run_alone.Goals as goal

@@ -1,4 +1,4 @@
-use Rattle.std.proofs.Common.{◌≡◌, List, [], ◌∷◌, ◌++◌, map, reverse, sym, ap, ◌∙◌, subst}
+use Rattle.std.proofs.Common.{◌≡◌, [], ◌∷◌, ◌++◌, map, reverse, sym, ap, ◌∙◌, subst}
 use Rattle.arachne_machine.specs.Alone.{key, Rests}
 use Rattle.arachne_machine.proofs.Waiting.{pushed, same_on, rests_same, rests_fork, rests_end, ready}
 use Rattle.arachne_machine.proofs.alone.take_turn.Goals as goal

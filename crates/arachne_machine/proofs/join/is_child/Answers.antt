@@ -1,4 +1,3 @@
-use Rattle.std.proofs.Common.{sym, ◌∙◌}
 use Rattle.arachne_machine.proofs.Names.{decides_child}
 use Rattle.arachne_machine.proofs.join.is_child.Goals as goal
 

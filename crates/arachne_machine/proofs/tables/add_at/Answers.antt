@@ -1,4 +1,4 @@
-use Rattle.std.proofs.Common.{◌≡◌, ◌≤◌, length, sym, ap, ◌∙◌, arith}
+use Rattle.std.proofs.Common.{◌≡◌, length, ap, ◌∙◌, arith}
 use Rattle.arachne_machine.proofs.Tabulated.{tabulated-added, tabulated-beyond, length-tabulated}
 use Rattle.arachne_machine.proofs.tables.add_at.Goals as goal
 

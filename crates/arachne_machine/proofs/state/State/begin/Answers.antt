@@ -1,13 +1,13 @@
-use Rattle.std.proofs.Common.{◌≡◌, ℕ, ◌+◌, ◌<◌, ◌≤◌, ◌++◌, ◌∷◌, [], length, None, refl, arith, sym, ap, ◌∙◌, subst}
+use Rattle.std.proofs.Common.{◌≤◌, ◌∷◌, [], length, None, refl, arith, sym, ap, ◌∙◌, subst}
 use Rattle.std.specs.Prelude.{slice_index}
-use Rattle.arachne_lang.specs.Tree.{Number, Variable, Length, Item, Binary, Choose, Bind, Tally, Hold, Fork, Fold, Sweep}
+use Rattle.arachne_lang.specs.Tree.{Number, Variable, Length, Item, Binary, Choose, Bind, Tally, Hold, Fold, Sweep}
 use Rattle.arachne_lang.specs.Program.{source_of, tree_of}
 use Rattle.arachne_machine.specs.declared.frame.Frame.TheVariants.{Index, Right, Branch, Extend, Amount, Release, FoldTo, SweepTo}
-use Rattle.arachne_machine.specs.declared.frame.Control.TheVariants.{Begin, Give, Asks}
-use Rattle.arachne_machine.specs.Ending.{unjoined_of, releases}
+use Rattle.arachne_machine.specs.declared.frame.Control.TheVariants.{Give, Asks}
+use Rattle.arachne_machine.specs.Ending.{unjoined_of}
 use Rattle.arachne_machine.specs.Steps.{StopsAt}
 use Rattle.arachne_machine.proofs.Frames.{length-forks_of}
-use Rattle.arachne_machine.proofs.Outlooks.{as_it_is, given}
+use Rattle.arachne_machine.proofs.Outlooks.{given}
 use Rattle.arachne_machine.proofs.Openings.{begins_by, goes_to_value, goes_to_part, open_number, open_variable, open_length, open_item, open_binary, open_choice, open_binding, open_tally, open_hold, open_fold, open_sweep}
 use Rattle.arachne_machine.proofs.Splitting.{goes_to_fork}
 use Rattle.arachne_machine.proofs.state.State.begin.Goals.{in-Num, in-Var, in-Len, in-Item+in_ok-enter-in-Item, in-Binary+in_ok-enter-in-Binary, in-If+in_ok-enter-in-If, in-Let+in_ok-enter-in-Let, in-Tally+in_ok-enter-in-Tally, in-Fold+in_ok-enter-in-Fold, in-Sweep+in_ok-enter-in-Sweep}

@@ -1,4 +1,4 @@
-use Rattle.std.proofs.Common.{◌≡◌, ◌≤◌, ◌<◌, ◌+◌, ◌-◌, ◌/◌, length, ap, arith}
+use Rattle.std.proofs.Common.{◌≤◌, ◌<◌, ◌+◌, ◌-◌, ◌/◌, length, ap, arith}
 use Rattle.std.specs.Prelude.{max}
 use Rattle.arachne_machine.specs.Ending.{unjoined_of}
 use Rattle.arachne_machine.proofs.Frames.{length-forks_of}
@@ -24,5 +24,5 @@ pub returns-clause-ok : goal.returns-clause-ok
 returns-clause-ok c =
     let s = c.args.stretch in
     let short : s.end - s.first ≤ max 1 s.grain = omega (arith, c.if-count-max.false, c.max.ensures, c.saturating_sub-count.ensures) in
-    covers c.args.self.now c.reserve_turn.new.self c.turn_sweep.new.self s c.unit_of-unit.result c.reserve_turn.ensures.same c.requires.covers short
-    c.unit_of-unit.ensures c.turn_sweep.ensures
+    covers c.args.self.now c.reserve_turn.new.self c.turn_sweep.new.self s c.unit-unit.result c.reserve_turn.ensures.same c.requires.covers short
+    c.unit-unit.ensures c.turn_sweep.ensures

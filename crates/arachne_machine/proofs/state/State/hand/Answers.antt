@@ -1,30 +1,10 @@
-use Rattle.std.proofs.Common.{◌≡◌, None, true, false, refl, sym, ap, subst}
+use Rattle.std.proofs.Common.{None, true, false, refl, sym, ap, subst}
 use Rattle.arachne_machine.specs.Steps.{IsPopped, StopsAt}
 use Rattle.arachne_machine.proofs.Outlooks.{given}
-use Rattle.arachne_machine.proofs.Handings.{hand_index, hand_right, hand_apply, hand_branch, is_zero, is_not_zero, hand_extend, hand_restore, hand_amount, hand_release, hand_join, hand_merge}
+use Rattle.arachne_machine.proofs.Handings.{hand_index, hand_right, hand_apply, hand_branch, is_zero, is_not_zero, hand_extend, hand_restore}
 use Rattle.arachne_machine.specs.declared.frame.Control.TheVariants.{Begin}
-use Rattle.arachne_machine.proofs.state.State.hand.Goals.{in-Index, in-Right, in-Apply, in-Branch, then-value-eq0, else-value-eq0, in-Extend, in-Restore, in_default}
+use Rattle.arachne_machine.proofs.state.State.hand.Goals.{in-Index, in-Right, in-Apply, in-Branch, then-value-eq0, else-value-eq0, in-Extend, in-Restore}
 use Rattle.arachne_machine.proofs.state.State.hand.Goals as goal
-
-pub returns-in-Amount : goal.returns-in-Amount
-returns-in-Amount c = λ before popped.
-    let t = c.args.self.now in
-    hand_amount before t _ c.args.value c.in-Amount.ledger c.in-Amount.body (subst (λ f. IsPopped f before t) c.in-Amount.is popped) c.requires.gives (given t _ _ refl)
-
-pub returns-in-Release : goal.returns-in-Release
-returns-in-Release c = λ before popped.
-    let t = c.args.self.now in
-    hand_release before t _ c.args.value c.in-Release.lock (subst (λ f. IsPopped f before t) c.in-Release.is popped) c.requires.gives (given t _ _ refl)
-
-pub returns-in-Join : goal.returns-in-Join
-returns-in-Join c = λ before popped.
-    let t = c.args.self.now in
-    hand_join before t _ c.args.value c.in-Join.number c.in-Join.after (subst (λ f. IsPopped f before t) c.in-Join.is popped) c.requires.gives (given t _ _ refl)
-
-pub returns-in-Merge : goal.returns-in-Merge
-returns-in-Merge c = λ before popped.
-    let t = c.args.self.now in
-    hand_merge before t _ c.args.value c.in-Merge.number c.in-Merge.reduction (subst (λ f. IsPopped f before t) c.in-Merge.is popped) c.requires.gives (given t _ _ refl)
 
 pub returns : goal.returns
 returns c = λ before popped.
@@ -49,5 +29,4 @@ returns c = λ before popped.
           (hand_extend before t _ v w.in-Extend.body (subst (λ f. IsPopped f before t) w.in-Extend.is popped) gives w.extend.ensures)
       | in-Restore w ↦ subst (λ x. StopsAt 1 before None x) (sym w.self-is)
           (hand_restore before t _ v w.in-Restore.length (subst (λ f. IsPopped f before t) w.in-Restore.is popped) gives w.restore.ensures)
-      | in_default w ↦ subst (λ x. StopsAt 1 before None x) (sym w.self-is) (w.hand_to_range.ensures before popped)
     ]

@@ -1,4 +1,4 @@
-use Rattle.std.proofs.Common.{◌≡◌, refl, ap, ◌∙◌, subst}
+use Rattle.std.proofs.Common.{refl, ap, ◌∙◌, subst}
 use Rattle.arachne_lang.specs.Value.{apply}
 use Rattle.arachne_machine.specs.Steps.{IsPopped}
 use Rattle.arachne_machine.proofs.Outlooks.{given}
@@ -47,5 +47,5 @@ returns-in-SweepTurn c = λ before popped.
     hand_sweep_turn before t c.drop_newest-in-SweepTurn.new.self c.turn_sweep.new.self c.args.value c.in-SweepTurn.reduction c.in-SweepTurn.next c.in-SweepTurn.end
     c.in-SweepTurn.so_far c.apply-value.result c.in-SweepTurn.body
     (subst (λ f. IsPopped f before t) c.in-SweepTurn.is popped) c.requires.gives c.drop_newest-in-SweepTurn.ensures.same
-    (c.apply-value.ensures ∙ ap (λ o. apply o c.in-SweepTurn.so_far c.args.value) c.operation_of.ensures)
+    (c.apply-value.ensures ∙ ap (λ o. apply o c.in-SweepTurn.so_far c.args.value) c.operation.ensures)
     c.turn_sweep.ensures

@@ -1,4 +1,4 @@
-use Rattle.std.proofs.Common.{◌≡◌, ℕ, length, ◌++◌, ◌∷◌, [], refl, ap, sym, ◌∙◌, subst}
+use Rattle.std.proofs.Common.{◌≡◌, length, ◌++◌, ◌∷◌, [], refl, ap, sym, ◌∙◌, subst}
 use Rattle.arachne_lang.specs.Value.{with_newest, apply, operation_of}
 use Rattle.arachne_machine.specs.declared.frame.Frame.TheVariants.{Restore}
 use Rattle.arachne_machine.specs.declared.frame.Control.TheVariants.{Awaits, AwaitsHalf}
@@ -43,7 +43,7 @@ returns-clause-ok c =
           subst (λ x. Joins t outcome x) (sym w.self-is)
           (joins_half t _ outcome n v w.apply.result r awaits (awaited_child t n (AwaitsHalf n v r) outcome.name awaits refl c.requires.child)
           (taken.program ∙ same.program) (taken.own ∙ same.own) (taken.forks ∙ same.forks) refl
-          (w.apply.ensures ∙ ap (λ o. apply o w.take_in-left.result v) w.operation_of.ensures ∙ ap (λ x. apply (operation_of r) x v) w.take_in-left.ensures.value)
+          (w.apply.ensures ∙ ap (λ o. apply o w.take_in-left.result v) w.operation.ensures ∙ ap (λ x. apply (operation_of r) x v) w.take_in-left.ensures.value)
           (ap (λ f. f.items) taken.frames ∙ same.frames_are)
           (ap (λ e. e.items) taken.environment ∙ same.environment_is)
           (taken.below ∙ ap (λ l. l ++ outcome.lines) same.below)

@@ -1,4 +1,5 @@
 use Rattle.std.proofs.Common.{◌∙◌, refl, ap}
+use Rattle.arachne_machine.specs.Steps.{pending_of}
 use Rattle.arachne_machine.proofs.Tabulated.{tabulated-kept}
 use Rattle.arachne_machine.proofs.Joining.{counts_tally}
 use Rattle.arachne_machine.proofs.state.State.tallied.Goals as goal
@@ -11,6 +12,7 @@ returns c =
     let amount = c.in-Tallies.amount in (
       ledger,
       amount,
+      ap pending_of c.in-Tallies.is,
       counts_tally t _ ledger amount c.in-Tallies.body c.in-Tallies.is refl h.program (ap (λ o. o.name) h.own) (ap (λ o. o.tag) h.own) h.below h.forks h.frames h.environment
           h.sums (λ n own e. tabulated-kept n own _ (ap (λ o. o.holds.items) h.own ∙ e)),
     )

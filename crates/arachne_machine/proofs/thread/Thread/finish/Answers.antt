@@ -6,4 +6,4 @@ pub returns-clause-lines : goal.returns-clause-lines
 returns-clause-lines c =
     let seen : suspended c.into_inner.result ≡ c.args.self = ap suspended c.into_inner.ensures ∙ c.self.view_is in
     let own = own_line c.into_inner.result.own in
-    (own, c.finish.ensures.lines ∙ ap (λ v. own ∷ v.below) seen, ap (λ v. v.tag) seen)
+    (own, c.finish.ensures.lines ∙ ap (λ v. own ∷ v.below) seen, ap (λ v. v.tag) seen, ap (λ v. v.holds) seen)
