@@ -320,7 +320,7 @@ Said bytes (Ok p) = IsAccepted (source_of p) × (text_of (source_of p) ≡ bytes
 Said bytes (Err f) = (f ≡ fault.Memory) ⊎ IsFirstFault bytes f
 
 -- the text of an accepted program has no fault
-accepted_has_no_fault : (bytes : List ℕ) (s : Source) → IsAccepted s → text_of s ≡ bytes → (f : TextFault) → HasFault bytes f → ⊥
+pub accepted_has_no_fault : (bytes : List ℕ) (s : Source) → IsAccepted s → text_of s ≡ bytes → (f : TextFault) → HasFault bytes f → ⊥
 accepted_has_no_fault bytes s accepted text fault.Memory h = h
 accepted_has_no_fault bytes s accepted text (fault.Header b) h = h.1 (header_of s bytes text)
 accepted_has_no_fault bytes s accepted text (fault.Syntax b) h = h.1 (s, text)

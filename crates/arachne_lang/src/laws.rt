@@ -1,9 +1,22 @@
-ghost use Rattle.std.specs.Prelude.{◌≢◌, map};
+ghost use Rattle.std.specs.Prelude.{◌≡◌, ◌≢◌, map};
 ghost use Rattle.std.specs.List.{AllPairs};
+ghost use Rattle.arachne_lang.specs.declared.text_fault.TextFault.{TextFault};
 ghost use Rattle.arachne_lang.specs.Tree.{Source};
 ghost use Rattle.arachne_lang.specs.Meaning.{meaning_of};
+ghost use Rattle.arachne_lang.specs.Spelling.{text_of};
+ghost use Rattle.arachne_lang.specs.Text.{IsAccepted, HasFault};
 
 /// No name stands twice among a program's threads.
 pub fn names_differ()
     ensures { (program : Source) → AllPairs (λ a b. a ≢ b) (map (λ line. line.name) (meaning_of program).threads) }
+{}
+
+/// No two programs have one text.
+pub fn texts_differ()
+    ensures { (some : Source) → (other : Source) → text_of some ≡ text_of other → some ≡ other }
+{}
+
+/// The text of an accepted program has no fault.
+pub fn accepted_texts_have_no_fault()
+    ensures { (program : Source) → (fault : TextFault) → IsAccepted program → ¬ HasFault (text_of program) fault }
 {}

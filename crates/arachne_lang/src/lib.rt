@@ -16,7 +16,7 @@ mod text_fault;
 pub use check_fault::CheckFault;
 pub use checker::check;
 pub use evaluator::eval;
-pub use laws::names_differ;
+pub use laws::{accepted_texts_have_no_fault, names_differ, texts_differ};
 pub use meaning::{Line, Meaning};
 pub use name::Name;
 pub use printing::print;
