@@ -1,6 +1,7 @@
 pub mod Lines
 pub mod KnownBytes
 pub mod CommandLines
+mod WorkedCommandLines
 pub mod Figures
 pub mod OrderWords
 pub mod SampleLines

@@ -33,7 +33,7 @@ policy_command =
     with_rule (with_rule (with_rule (new_app (codes "policy"))
     (number_option (codes "up") (2 ^ 64 - 1) (codes "1500")))
     (number_option (codes "hysteresis") (2 ^ 64 - 1) (codes "90")))
-    (number_option (codes "max") 64 (codes "16"))
+    (number_option (codes "max") MAX_CORES (codes "16"))
 
 -- the program with the commands on task texts
 unfoldable pub task_commands : App

@@ -113,7 +113,13 @@ fn policy_command<'a>(alloc: Global) -> Result<Command<'a>, AllocError>
         "90",
         "How far the utilisation falls before a core is given back, in thousandths of a core",
     );
-    let max = number_option(alloc, "max", 64, "16", "The most cores, up to 64");
+    let max = number_option(
+        alloc,
+        "max",
+        MAX_CORES as u64,
+        "16",
+        "The most cores, up to 64",
+    );
     let policy = Command::new(alloc, "policy")
         .about("Judge the samples on the input: add a core, stay, or remove one")
         .arg(up)?

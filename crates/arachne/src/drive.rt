@@ -48,6 +48,7 @@ fn evaluation(alloc: Global, text: &[u8], names: bool) -> Result<String, Fault>
     requires { length text.now ≤ input_limit }
     ensures answers { IfOk result (λ output. IsAnswer (Request.Eval names) text.now (string_bytes output)) }
     ensures cause { IfErr result (λ fault. (fault ≢ Fault.Write) × IsCause (Request.Eval names) text.now fault) }
+    ensures not_read { IfErr result (λ fault. fault ≢ Fault.Read) }
 {
     let program = checked_program(alloc, text)?;
     let meaning = eval(alloc, &program)?;
@@ -60,6 +61,7 @@ fn verdict(alloc: Global, text: &[u8]) -> Result<String, Fault>
     requires { length text.now ≤ input_limit }
     ensures answers { IfOk result (λ output. IsAnswer Request.Check text.now (string_bytes output)) }
     ensures cause { IfErr result (λ fault. (fault ≢ Fault.Write) × IsCause Request.Check text.now fault) }
+    ensures not_read { IfErr result (λ fault. fault ≢ Fault.Read) }
 {
     let _program = checked_program(alloc, text)?;
     let output = String::from_str(alloc, "ok\n")?;
@@ -71,6 +73,7 @@ fn checked_program(alloc: Global, text: &[u8]) -> Result<Program, Fault>
     requires { length text.now ≤ input_limit }
     ensures program { IfOk result (λ program. IsProgramOf text.now (source_of program)) }
     ensures check { IfErr result (λ fault. (fault ≢ Fault.Write) × IsCause Request.Check text.now fault) }
+    ensures not_read { IfErr result (λ fault. fault ≢ Fault.Read) }
     ensures eval { (names : Bool) → IfErr result (λ fault. IsCause (Request.Eval names) text.now fault) }
 {
     let program = parse(alloc, text)?;

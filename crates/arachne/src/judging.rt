@@ -26,6 +26,8 @@ pub fn judgement(alloc: Global, text: &[u8], settings: Settings) -> Result<Strin
     requires most { settings.max ≤ MAX_CORES }
     ensures answers { IfOk result (λ output. IsAnswer (Request.Policy settings) text.now (string_bytes output)) }
     ensures cause { IfErr result (λ fault. (fault ≢ Fault.Write) × IsCause (Request.Policy settings) text.now fault) }
+    // The text was read before.
+    ensures not_read { IfErr result (λ fault. fault ≢ Fault.Read) }
 {
     let samples = match read_samples(alloc, text) {
         Ok(samples) => samples,

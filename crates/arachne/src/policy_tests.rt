@@ -3,6 +3,7 @@ use std::alloc::Global;
 use std::io;
 use std::io::Read;
 use std::process::Abort;
+use std::test::Fail;
 
 /// The output where all goes well, and else the line of the fault.
 fn assert_run(
@@ -142,6 +143,24 @@ fn options_that_are_not_understood(rt: HostRuntime) {
         assert!(rt; output.is_empty(), "{words:?}");
         assert!(rt; !faults.is_empty(), "{words:?}");
     }
+}
+
+/// A text of more than 65,536 bytes, and thousands of lines of advice.
+#[test]
+fn many_samples_are_judged(rt: HostRuntime) -> Result<(), Fail> {
+    let alloc = rt.alloc();
+    let words = ["arachne", "policy"].as_slice();
+    let mut samples = String::new(alloc);
+    let mut advice = String::new(alloc);
+    for _ in 0..2500u32 {
+        samples.push_str("2 151 100 1900 1000\n3 100 100 1809 1000\n")?;
+        advice.push_str("add\nremove\n")?;
+    }
+    assert_run(&rt, alloc, words, samples.as_bytes(), 0, advice.as_str());
+    samples.push_str("0 1 1 1 1\n")?;
+    let fault = "fault 12 line 5001\n";
+    assert_run(&rt, alloc, words, samples.as_bytes(), 1, fault);
+    Ok(())
 }
 
 /// A reader that gives the same line again and again.

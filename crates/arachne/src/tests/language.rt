@@ -209,6 +209,23 @@ fn long_rows_are_evaluated(rt: HostRuntime) -> Result<(), Fail> {
     Ok(())
 }
 
+/// An array line of 80,000 bytes, with what is evaluated behind it.
+#[test]
+fn long_arrays_are_evaluated(rt: HostRuntime) -> Result<(), Fail> {
+    let alloc = rt.alloc();
+    let mut text = String::from_str(alloc, "arachne 1\narray")?;
+    for _ in 0..39_999u32 {
+        text.push_str(" 1")?;
+    }
+    text.push_str(" 5\nledgers 0\nlocks 0\n(mul (len 0) (item 0 (num 39999)))\n")?;
+    let ended = run(alloc, &["arachne", "eval"], text.as_bytes());
+    assert_eq!(rt;
+        ended.output.as_slice(),
+        b"value 200000\nthreads 1\n".as_slice()
+    );
+    Ok(())
+}
+
 #[test]
 fn programs_at_fault(rt: HostRuntime) -> Result<(), Fail> {
     let alloc = rt.alloc();
