@@ -4,203 +4,115 @@ ghost use Rattle.arachne_machine.specs.Suspended.{Suspended};
 ghost use Rattle.arachne_machine.specs.Advance.{Advanced};
 
 use crate::{NotJoined, Outcome, Pause, Pending, Thread, run_alone};
-use arachne_lang::{Class, Expr, Operation, Program, Reduction};
+use arachne_lang::{Class, Program, TextFault, parse};
 use std::alloc::{AllocError, Global};
 use std::process::Abort;
 use std::test::Fail;
 
-fn boxed(alloc: Global, expr: Expr) -> Result<Box<Expr>, AllocError> {
-    Ok(Box::new(alloc, expr)?)
+/// The program of an expression, over one array of three items, with so many ledgers and locks.
+fn program(alloc: Global, count: u8, expression: &str) -> Result<Program, Fail> {
+    let text = format!(in alloc;
+        "arachne 1\narray 10 20 30\nledgers {count}\nlocks {count}\n{expression}\n"
+    )?;
+    Ok(parse(alloc, text.as_bytes())?)
 }
 
-fn sum(alloc: Global, left: Expr, right: Expr) -> Result<Expr, AllocError> {
-    Ok(Expr::Binary(Operation::Add, boxed(alloc, left)?, boxed(alloc, right)?))
+const ONE_FORK: &str = "(fork x (num 2) (num 3) (add (var 0) (var 1)))";
+
+/// What a program means: its value and totals, its threads' names, of each its length and then its numbers, and
+/// their holds one after the other.
+#[derive(Clone, Copy)]
+struct Expected<'a> {
+    value: u64,
+    totals: &'a [u64],
+    names: &'a [u64],
+    holds: &'a [u64],
 }
 
-fn fork(alloc: Global, child: Expr, during: Expr, after: Expr) -> Result<Expr, AllocError> {
-    Ok(Expr::Fork(
-        Class::Exclusive,
-        boxed(alloc, child)?,
-        boxed(alloc, during)?,
-        boxed(alloc, after)?,
-    ))
-}
-
-fn plain(alloc: Global, root: Expr) -> Program {
-    Program {
-        arrays: Vec::new(alloc),
-        ledgers: 0,
-        locks: 0,
-        root,
-    }
-}
-
-/// `(fork x (num 2) (num 3) (add (var 0) (var 1)))`
-fn one_fork(alloc: Global) -> Result<Program, AllocError> {
-    let after = sum(alloc, Expr::Var(0), Expr::Var(1))?;
-    Ok(plain(alloc, fork(alloc, Expr::Num(2), Expr::Num(3), after)?))
-}
-
-/// A fork whose child and whose during fork too, each with another value.
-fn forks_within(alloc: Global) -> Result<Program, AllocError> {
-    let child = fork(alloc, Expr::Num(1), Expr::Num(10), Expr::Var(0))?;
-    let during = fork(alloc, Expr::Num(100), Expr::Num(5), Expr::Var(0))?;
-    let after = sum(alloc, Expr::Var(0), Expr::Var(1))?;
-    Ok(plain(alloc, fork(alloc, child, during, after)?))
-}
-
-/// Each budget gives this value and these names, of each its length and then its numbers.
-fn expect_meaning(
+/// Each budget gives this meaning.
+fn expect(
     rt: &impl Abort,
     alloc: Global,
     program: &Program,
-    value: u64,
-    names: &[u64],
+    expected: &Expected,
 ) -> Result<(), Fail> {
-    for budget in [1, 7, 100] {
+    for budget in [0, 1, 7, 100] {
         let meaning = run_alone(alloc, program, budget)?;
-        let mut found = Vec::new(alloc);
+        let mut names = Vec::new(alloc);
+        let mut holds = Vec::new(alloc);
         for thread in meaning.threads.as_slice() {
             let forks = thread.name.forks();
-            found.push(forks.len() as u64)?;
-            found.extend_from_slice(forks)?;
-            assert_eq!(rt; thread.holds.as_slice().len(), 0);
+            names.push(forks.len() as u64)?;
+            names.extend_from_slice(forks)?;
+            holds.extend_from_slice(thread.holds.as_slice())?;
         }
-        assert_eq!(rt; meaning.value, value);
-        assert_eq!(rt; meaning.totals.as_slice().len(), 0);
-        assert_eq!(rt; found.as_slice(), names);
+        assert_eq!(rt; meaning.value, expected.value);
+        assert_eq!(rt; meaning.totals.as_slice(), expected.totals);
+        assert_eq!(rt; names.as_slice(), expected.names);
+        assert_eq!(rt; holds.as_slice(), expected.holds);
     }
     Ok(())
-}
-
-/// `(sweep REDUCTION GRAIN (num FROM) (num TO) BODY)`
-fn sweep(
-    alloc: Global,
-    reduction: Reduction,
-    grain: u64,
-    from: u64,
-    to: u64,
-    body: Expr,
-) -> Result<Expr, AllocError> {
-    Ok(Expr::Sweep(
-        reduction,
-        grain,
-        boxed(alloc, Expr::Num(from))?,
-        boxed(alloc, Expr::Num(to))?,
-        boxed(alloc, body)?,
-    ))
 }
 
 #[test]
 fn worked_rows(rt: HostRuntime) -> Result<(), Fail> {
     let alloc = rt.alloc();
-    let seven = plain(alloc, Expr::Num(7));
-    expect_meaning(&rt, alloc, &seven, 7, &[0])?;
-    let wraps = plain(alloc, sum(alloc, Expr::Num(u64::MAX), Expr::Num(1))?);
-    expect_meaning(&rt, alloc, &wraps, 0, &[0])?;
-    expect_meaning(&rt, alloc, &one_fork(alloc)?, 5, &[0, 1, 0])?;
-    let nested = forks_within(alloc)?;
-    expect_meaning(&rt, alloc, &nested, 101, &[0, 1, 1, 1, 0, 2, 0, 0])?;
-    let less = Expr::Binary(
-        Operation::Sub,
-        boxed(alloc, Expr::Var(0))?,
-        boxed(alloc, Expr::Var(1))?,
-    );
-    let difference = plain(alloc, fork(alloc, Expr::Num(2), Expr::Num(3), less)?);
-    expect_meaning(&rt, alloc, &difference, u64::MAX, &[0, 1, 0])
+    let most = u64::MAX;
+    let one = [0].as_slice();
+    let two = [0, 1, 0].as_slice();
+    let three = [0, 1, 1, 1, 0, 2, 0, 0].as_slice();
+    let five = [0, 1, 2, 1, 1, 1, 0, 2, 0, 0].as_slice();
+    for (expression, value, names) in [
+        ("(num 7)", 7, one),
+        ("(add (num 18446744073709551615) (num 1))", 0, one),
+        (ONE_FORK, 5, two),
+        ("(fork x (num 2) (num 3) (sub (var 0) (var 1)))", most, two),
+        (
+            "(fork x (fork x (num 1) (num 10) (var 0)) (fork x (num 100) (num 5) (var 0)) (add (var 0) (var 1)))",
+            101,
+            three,
+        ),
+        (
+            "(fold (num 1) (num 4) (num 0) (add (var 0) (var 1)))",
+            6,
+            one,
+        ),
+        ("(sweep add 2 (num 0) (num 8) (var 0))", 28, three),
+        ("(sweep min 1 (num 5) (num 5) (var 0))", most, one),
+        ("(sweep mul 1 (num 1) (num 6) (var 0))", 120, five),
+        (
+            "(let (len 0) (if (eq (var 0) (num 3)) (item 0 (num 2)) (num 1)))",
+            30,
+            one,
+        ),
+        ("(if (num 0) (num 1) (item 0 (num 3)))", 0, one),
+        ("(item 0 (num 18446744073709551615))", 0, one),
+    ] {
+        let program = program(alloc, 0, expression)?;
+        let expected = Expected {
+            value,
+            totals: &[],
+            names,
+            holds: &[],
+        };
+        expect(&rt, alloc, &program, &expected)?;
+    }
+    Ok(())
 }
 
-#[test]
-fn folds_and_sweeps(rt: HostRuntime) -> Result<(), Fail> {
-    let alloc = rt.alloc();
-    let fold = Expr::Fold(
-        boxed(alloc, Expr::Num(1))?,
-        boxed(alloc, Expr::Num(4))?,
-        boxed(alloc, Expr::Num(0))?,
-        boxed(alloc, sum(alloc, Expr::Var(0), Expr::Var(1))?)?,
-    );
-    expect_meaning(&rt, alloc, &plain(alloc, fold), 6, &[0])?;
-    let split = sweep(alloc, Reduction::Sum, 2, 0, 8, Expr::Var(0))?;
-    expect_meaning(
-        &rt,
-        alloc,
-        &plain(alloc, split),
-        28,
-        &[0, 1, 1, 1, 0, 2, 0, 0],
-    )?;
-    let none = sweep(alloc, Reduction::Least, 1, 5, 5, Expr::Var(0))?;
-    expect_meaning(&rt, alloc, &plain(alloc, none), u64::MAX, &[0])?;
-    let product = sweep(alloc, Reduction::Product, 1, 1, 6, Expr::Var(0))?;
-    expect_meaning(
-        &rt,
-        alloc,
-        &plain(alloc, product),
-        120,
-        &[0, 1, 2, 1, 1, 1, 0, 2, 0, 0],
-    )
-}
-
-/// `ledgers 1`, `locks 1`, `(sweep add 1 (num 0) (num 8) (hold 0 (tally 0 (num 5) (num 1))))`
-fn counting(alloc: Global) -> Result<Program, AllocError> {
-    let tally = Expr::Tally(0, boxed(alloc, Expr::Num(5))?, boxed(alloc, Expr::Num(1))?);
-    let hold = Expr::Hold(0, boxed(alloc, tally)?);
-    Ok(Program {
-        arrays: Vec::new(alloc),
-        ledgers: 1,
-        locks: 1,
-        root: sweep(alloc, Reduction::Sum, 1, 0, 8, hold)?,
-    })
-}
+const COUNTING: &str = "(sweep add 1 (num 0) (num 8) (hold 0 (tally 0 (num 5) (num 1))))";
 
 #[test]
 fn sums_and_holds(rt: HostRuntime) -> Result<(), Fail> {
     let alloc = rt.alloc();
-    let program = counting(alloc)?;
-    for budget in [0, 1, 7, 100] {
-        let meaning = run_alone(alloc, &program, budget)?;
-        assert_eq!(rt; meaning.value, 8);
-        assert_eq!(rt; meaning.totals.as_slice(), [40].as_slice());
-        let mut names = Vec::new(alloc);
-        for thread in meaning.threads.as_slice() {
-            names.push(thread.name.forks().len() as u64)?;
-            names.extend_from_slice(thread.name.forks())?;
-            assert_eq!(rt; thread.holds.as_slice(), [1].as_slice());
-        }
-        assert_eq!(rt;
-            names.as_slice(),
-            [0, 1, 2, 1, 1, 2, 1, 0, 1, 0, 2, 0, 1, 2, 0, 0, 3, 0, 0, 0].as_slice()
-        );
-    }
-    Ok(())
-}
-
-/// `(let (len 0) (if (eq (var 0) (num 3)) (item 0 (num 2)) (num 0)))` over one array of three.
-#[test]
-fn arrays_and_choices(rt: HostRuntime) -> Result<(), Fail> {
-    let alloc = rt.alloc();
-    for (index, value) in [(2, 30), (3, 0), (u64::MAX, 0)] {
-        let test = Expr::Binary(
-            Operation::Eq,
-            boxed(alloc, Expr::Var(0))?,
-            boxed(alloc, Expr::Num(3))?,
-        );
-        let item = Expr::Item(0, boxed(alloc, Expr::Num(index))?);
-        let choice = Expr::If(
-            boxed(alloc, test)?,
-            boxed(alloc, item)?,
-            boxed(alloc, Expr::Num(1))?,
-        );
-        let mut arrays = Vec::new(alloc);
-        arrays.push(vec![in alloc; 10, 20, 30]?)?;
-        let program = Program {
-            arrays,
-            ledgers: 0,
-            locks: 0,
-            root: Expr::Let(boxed(alloc, Expr::Len(0))?, boxed(alloc, choice)?),
-        };
-        expect_meaning(&rt, alloc, &program, value, &[0])?;
-    }
-    Ok(())
+    let program = program(alloc, 1, COUNTING)?;
+    let expected = Expected {
+        value: 8,
+        totals: &[40],
+        names: &[0, 1, 2, 1, 1, 2, 1, 0, 1, 0, 2, 0, 1, 2, 0, 0, 3, 0, 0, 0],
+        holds: &[1, 1, 1, 1, 1, 1, 1, 1],
+    };
+    expect(&rt, alloc, &program, &expected)
 }
 
 /// The child that the thread forks next. It is given away.
@@ -284,7 +196,7 @@ fn refuses<'p>(
 #[test]
 fn foreign_outcome_comes_back(rt: HostRuntime) -> Result<(), Fail> {
     let alloc = rt.alloc();
-    let program = one_fork(alloc)?;
+    let program = program(alloc, 0, ONE_FORK)?;
     let foreign = root_outcome(alloc, &program)?;
     let mut thread = Thread::start(alloc, &program, 2)?;
     let child = next_child(&mut thread)?;
@@ -347,8 +259,11 @@ fn persistent(alloc: Global, program: &Program) -> Result<u64, Fail> {
 #[test]
 fn refused_calls_go_on(rt: HostRuntime) -> Result<(), Fail> {
     let alloc = rt.alloc();
-    let program = one_fork(alloc)?;
-    assert_eq!(rt; persistent(alloc, &program)?, 5);
+    let forks = match program(alloc, 0, ONE_FORK) {
+        Ok(forks) => forks,
+        Err(_) => program(alloc, 0, ONE_FORK)?,
+    };
+    assert_eq!(rt; persistent(alloc, &forks)?, 5);
     Ok(())
 }
 
@@ -367,7 +282,7 @@ fn cut(thread: &mut Thread) -> Result<(), Fail>
 #[test]
 fn a_sum_has_five_steps(rt: HostRuntime) -> Result<(), Fail> {
     let alloc = rt.alloc();
-    let program = plain(alloc, sum(alloc, Expr::Num(1), Expr::Num(2))?);
+    let program = program(alloc, 0, "(add (num 1) (num 2))")?;
     let mut thread = Thread::start(alloc, &program, 0)?;
     cut(&mut thread)?;
     cut(&mut thread)?;
@@ -381,9 +296,8 @@ fn a_sum_has_five_steps(rt: HostRuntime) -> Result<(), Fail> {
 }
 
 /// The class of the first fork of a program that has one.
-fn first_class(alloc: Global, root: Expr) -> Result<Class, Fail> {
-    let program = plain(alloc, root);
-    let mut thread = Thread::start(alloc, &program, 0)?;
+fn first_class(alloc: Global, program: &Program) -> Result<Class, Fail> {
+    let mut thread = Thread::start(alloc, program, 0)?;
     match thread.advance(100)? {
         Pause::Forks(class, _) => Ok(class),
         _ => Err("no fork")?,
@@ -394,16 +308,39 @@ fn first_class(alloc: Global, root: Expr) -> Result<Class, Fail> {
 #[test]
 fn forks_have_their_class(rt: HostRuntime) -> Result<(), Fail> {
     let alloc = rt.alloc();
-    for class in [Class::Normal, Class::Exclusive] {
-        let fork = Expr::Fork(
-            class,
-            boxed(alloc, Expr::Num(1))?,
-            boxed(alloc, Expr::Num(2))?,
-            boxed(alloc, Expr::Num(3))?,
-        );
-        assert_eq!(rt; first_class(alloc, fork)?, class);
+    for (expression, class) in [
+        ("(fork n (num 1) (num 2) (num 3))", Class::Normal),
+        ("(fork x (num 1) (num 2) (num 3))", Class::Exclusive),
+        ("(sweep add 1 (num 0) (num 2) (var 0))", Class::Normal),
+    ] {
+        let program = program(alloc, 0, expression)?;
+        assert_eq!(rt; first_class(alloc, &program)?, class);
     }
-    let split = sweep(alloc, Reduction::Sum, 1, 0, 2, Expr::Var(0))?;
-    assert_eq!(rt; first_class(alloc, split)?, Class::Normal);
+    Ok(())
+}
+
+const FORKED_COUNTING: &[u8] = b"arachne 1\nledgers 1\nlocks 1\n\
+(fork n (sweep add 1 (num 0) (num 8) (hold 0 (tally 0 (num 5) (num 1)))) (num 3) (add (var 0) (var 1)))\n";
+
+/// Whether what `run_alone` answers is right, or memory was refused.
+fn is_right_or_refused(alloc: Global, budget: u32) -> bool {
+    let program = match parse(alloc, FORKED_COUNTING) {
+        Ok(program) => program,
+        Err(fault) => return fault == TextFault::Memory,
+    };
+    let Ok(meaning) = run_alone(alloc, &program, budget) else {
+        return true;
+    };
+    meaning.value == 11
+        && meaning.totals.as_slice() == [40].as_slice()
+        && meaning.threads.as_slice().len() == 9
+}
+
+/// Run with each allocation refused in turn (`rt try --test --fail-alloc N`) no answer changes but to want of memory.
+#[test]
+fn refused_memory_changes_no_answer(rt: HostRuntime) -> Result<(), Fail> {
+    for budget in [1, 7, 100] {
+        assert!(rt; is_right_or_refused(rt.alloc(), budget));
+    }
     Ok(())
 }
