@@ -1,5 +1,6 @@
 ghost use Rattle.std.specs.Prelude.{◌≡◌, ◌⊎◌, ◌≢◌, ◌≤◌, length, IfOk, IfErr, IfSome, OnOk, OnErr, IsSome, ◌+◌, Bool, List, ℕ, map, Some, None, true, string_bytes};
 ghost use Rattle.std.specs.Io.KnownBytes.{Appends, Consumes, Keeps};
+ghost use Rattle.std.specs.IoError.{error_kind};
 ghost use Rattle.arachne_lang.specs.Program.{source_of};
 ghost use Rattle.arachne.specs.CommandLine.{IsAllowed, asked_by, is_taken};
 ghost use Rattle.arachne.specs.Fault.{fault_line};
@@ -16,7 +17,7 @@ use clap::error::ErrorKind;
 use std::alloc::Global;
 use std::convert::AsStr;
 use std::fmt::Write as _;
-use std::io::{self, Read, Write};
+use std::io::{self, ErrorKind as StreamFault, Read, Write};
 
 /// The status where all went well, where there was a fault, and where the words were not understood.
 pub const DONE: u8 = 0;
@@ -108,9 +109,11 @@ pub fn refuse<W: Write>(faults: &mut W, fault: Fault) -> u8
 
 /// Says why the words of the command line could not be had, and answers the status: that of a fault where memory was refused.
 pub fn refuse_words<W: Write>(faults: &mut W, error: &io::Error) -> u8
-    ensures { ((result ≡ 1) × AppendsFront (W.contents faults.old) (W.contents faults.new) (fault_line Fault.Memory)) ⊎ (result ≡ 2) }
+    ensures memory { error_kind error.now ≡ StreamFault.OutOfMemory
+        → (result ≡ 1) × AppendsFront (W.contents faults.old) (W.contents faults.new) (fault_line Fault.Memory) }
+    ensures other { error_kind error.now ≢ StreamFault.OutOfMemory → result ≡ 2 }
 {
-    if error.kind() == io::ErrorKind::OutOfMemory {
+    if error.kind() == StreamFault::OutOfMemory {
         return refuse(faults, Fault::Memory);
     }
     let _ = writeln!(faults, "error: {error}");
