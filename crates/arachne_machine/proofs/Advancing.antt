@@ -3,7 +3,8 @@ use Rattle.std.proofs.Common.{ℕ, Option, None, Some, sym, ◌∙◌, arith}
 use Rattle.arachne_machine.specs.declared.state.State.{State}
 use Rattle.arachne_machine.specs.declared.state.Stop.{Stop}
 use Rattle.arachne_machine.specs.declared.state.Stop.TheVariants as stop
-use Rattle.arachne_machine.specs.Advance.{Advanced, pause_of, IsSoundStop}
+use Rattle.arachne_machine.specs.Advance.{Advanced}
+use Rattle.arachne_machine.specs.Stops.{pause_of, IsSoundStop}
 use Rattle.arachne_machine.specs.Steps.{StopsAt, suspended}
 use Rattle.arachne_machine.specs.Sound.{IsSound}
 use Rattle.arachne_machine.proofs.Soundness.{sound_goes, sound_fork, sound_child, same_thread, forked_seen, stopped_seen}

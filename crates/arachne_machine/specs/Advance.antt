@@ -1,15 +1,11 @@
 -- What the calls of a thread do.
-use Rattle.std.specs.Prelude.{◌≡◌, ◌≤◌, ℕ, ◌+◌, List, [], ◌∷◌, Option, None, Some, IsSome, Result, Ok, Err}
+use Rattle.std.specs.Prelude.{◌≡◌, ◌≤◌, ℕ, ◌+◌, List, [], ◌∷◌, None, Some, IsSome, Result, Ok, Err}
 use Rattle.arachne_machine.specs.declared.pause.Pending.TheVariants as pause
 use Rattle.arachne_machine.specs.declared.pause.Pause.{Pause}
 use Rattle.arachne_machine.specs.declared.pause.Pause.TheVariants as pauses
 use Rattle.arachne_machine.specs.declared.pause.NotJoined.{NotJoined}
 use Rattle.arachne_machine.specs.declared.pause.NotJoined.TheVariants as refused
 use Rattle.arachne_machine.specs.Outcome.{Finished}
-use Rattle.arachne_machine.specs.declared.state.Stop.{Stop}
-use Rattle.arachne_machine.specs.declared.state.Stop.TheVariants as stop
-use Rattle.arachne_machine.specs.Steps.{suspended}
-use Rattle.arachne_machine.specs.Sound.{IsSound}
 use Rattle.arachne_machine.specs.Suspended.{Suspended, SameThread, Forked, awaited}
 
 -- What an advance does, by the pause that it gives. The budget bounds the steps.
@@ -46,18 +42,3 @@ abbrev pub IsForeign : Result (Unit {0}) NotJoined → Type 0
 IsForeign (Ok done) = ⊥
 IsForeign (Err (refused.Foreign outcome)) = Unit {0}
 IsForeign (Err (refused.Memory outcome)) = ⊥
-
--- the pause that a stop is
-abbrev pub pause_of : Option Stop → Pause
-pause_of None = pauses.Budget
-pause_of (Some (stop.Forks class child)) = pauses.Forks class (suspended child.value)
-pause_of (Some stop.Joins) = pauses.Joins
-pause_of (Some (stop.Asks lock)) = pauses.Asks lock
-pause_of (Some (stop.Frees lock)) = pauses.Frees lock
-pause_of (Some (stop.Tallies ledger amount)) = pauses.Tallies ledger amount
-pause_of (Some stop.Ended) = pauses.Ended
-
--- a child that is forked is sound
-abbrev pub IsSoundStop : Option Stop → Type 0
-IsSoundStop (Some (stop.Forks class child)) = IsSound child.value
-IsSoundStop _ = Unit {0}

@@ -6,6 +6,7 @@ pub mod Turns
 pub mod Account
 pub mod Ending
 pub mod Steps
+pub mod Stops
 pub mod Sound
 pub mod Alone
 pub use Rattle.arachne_lang.specs.Tree

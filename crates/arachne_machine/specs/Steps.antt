@@ -254,19 +254,6 @@ pub record CountsTally (old new : State) (ledger amount : ℕ) : Type 0 where
   pub control : new.control ≡ old.control
   pub sums : (n : ℕ) (own : ℕ → ℕ) → old.sums.items ≡ tabulated n own → new.sums.items ≡ tabulated n (λ other. own other + (if other == ledger then amount else 0))
 
--- the pauses at which a lock is asked for or freed, or something is added to a ledger
-abbrev pub IsAsk : Option Pending → Type 0
-IsAsk (Some (pause.Asks lock)) = Unit {0}
-IsAsk _ = ⊥
-
-abbrev pub IsFree : Option Pending → Type 0
-IsFree (Some (pause.Frees lock)) = Unit {0}
-IsFree _ = ⊥
-
-abbrev pub IsTally : Option Pending → Type 0
-IsTally (Some (pause.Tallies ledger amount)) = Unit {0}
-IsTally _ = ⊥
-
 -- a frame of a fold or a sweep
 abbrev pub IsOfRange : Frame → Type 0
 IsOfRange (FoldTo to first body) = Unit {0}

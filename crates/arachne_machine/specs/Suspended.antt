@@ -1,5 +1,5 @@
 -- What callers see of a thread between two calls.
-use Rattle.std.specs.Prelude.{◌≡◌, ◌≤◌, ℕ, ◌+◌, List, [], ◌∷◌, ◌++◌, length, get_or, set, Option, None, Some, option_map, slice_get}
+use Rattle.std.specs.Prelude.{◌≡◌, ◌≤◌, ℕ, ◌+◌, List, [], ◌∷◌, ◌++◌, length, get_or, set, false, Option, None, Some, option_map, slice_get}
 use Rattle.arachne_lang.specs.Value.{wrapped}
 use Rattle.arachne_lang.specs.Effects.{tabulated}
 use Rattle.arachne_lang.specs.declared.program.Program.{Program}
@@ -26,12 +26,16 @@ pub record Suspended : Type 0 where
   pub holds : List ℕ
   -- the lines of the threads below it, as far as they were joined
   pub below : List ThreadLine
-  -- a bound on the steps that it and the threads that it will fork have left
+  -- A bound on the steps that it and the threads that it will fork have left, without the one in which each finds that it has ended. Each step takes at least one.
   pub work : ℕ
 
 -- the name of the child that a join awaits: that of the newest fork that is not joined
 abbrev pub awaited : Suspended → Option (List ℕ)
 awaited thread = option_map (λ number. thread.name ++ number ∷ []) (slice_get thread.unjoined 0)
+
+-- its own line, once it has ended
+abbrev pub own_line_of : Suspended → ThreadLine
+own_line_of thread = record { name = thread.name; tag = thread.tag; holds = thread.holds; in_place = false }
 
 -- the numbers with the one at this place raised by an amount, modulo 2 ^ 64; nothing where there is none
 abbrev pub raised : List ℕ → ℕ → ℕ → List ℕ
@@ -41,7 +45,20 @@ raised numbers place amount = set numbers place (wrapped (get_or numbers place 0
 abbrev pub added : List ℕ → List ℕ → List ℕ
 added numbers others = tabulated (length numbers) (λ place. get_or numbers place 0 + get_or others place 0)
 
--- both are of one program, have one name and tag, and have made and joined the same forks; their locks, sums and holds may differ
+-- the pauses at which a lock is asked for or freed, or something is added to a ledger
+abbrev pub IsAsk : Option Pending → Type 0
+IsAsk (Some (pause.Asks lock)) = Unit {0}
+IsAsk _ = ⊥
+
+abbrev pub IsFree : Option Pending → Type 0
+IsFree (Some (pause.Frees lock)) = Unit {0}
+IsFree _ = ⊥
+
+abbrev pub IsTally : Option Pending → Type 0
+IsTally (Some (pause.Tallies ledger amount)) = Unit {0}
+IsTally _ = ⊥
+
+-- both are of one program, have one name and tag, and have made and joined the same forks; the rest may differ
 pub record SameThread (old new : Suspended) : Type 0 where
   pub program : new.program ≡ old.program
   pub name : new.name ≡ old.name

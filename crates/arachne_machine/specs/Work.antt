@@ -1,4 +1,4 @@
--- How many steps an expression takes, the steps of the threads that it forks among them.
+-- How many steps an expression takes at most, the steps of the threads that it forks among them.
 use Rattle.std.specs.Prelude.{ℕ, zero, suc, ◌+◌, ◌-◌, ◌*◌, ◌==◌, if◌then◌else◌, List}
 use Rattle.arachne_lang.specs.Tree.{Tree, Number, Variable, Length, Item, Binary, Choose, Bind, Tally, Hold, Fork, Fold, Sweep}
 use Rattle.arachne_lang.specs.Value.{Environment, with_newest, value_of, turns}

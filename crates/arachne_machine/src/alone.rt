@@ -13,7 +13,7 @@ use std::alloc::{AllocError, Global};
 
 /// What a program means, found by its threads in turn on this one kernel thread: all are in one list, of
 /// which the newest goes on, for so many steps at a time, but at least one. A lock that it asks for is granted
-/// at once, and it goes on until it frees it.
+/// at once, and it goes on until it frees it, since nothing is forked meanwhile in a checked program.
 pub fn run_alone(alloc: Global, program: &Program, budget: u32) -> Result<Meaning, AllocError>
     ensures { IfOk result (λ meaning. meaning ≡ meaning_of (source_of program.now)) }
 {

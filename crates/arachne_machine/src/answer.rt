@@ -8,7 +8,8 @@ impl<'p> State<'p> {
     ghost use Rattle.arachne_lang.specs.Effects.{held, tallied};
     ghost use Rattle.arachne_machine.specs.declared.pause.Pending.TheVariants as pause;
     ghost use Rattle.arachne_machine.specs.Ending.{work_left, locks_of};
-    ghost use Rattle.arachne_machine.specs.Steps.{pending_of, IsAsk, IsFree, IsTally, Goes, Counts, CountsHold, CountsTally};
+    ghost use Rattle.arachne_machine.specs.Suspended.{IsAsk, IsFree, IsTally};
+    ghost use Rattle.arachne_machine.specs.Steps.{pending_of, Goes, Counts, CountsHold, CountsTally};
 
     /// The child was taken: goes on with what is done meanwhile.
     pub fn forked(&mut self)

@@ -1,9 +1,8 @@
 ghost use Rattle.std.specs.Prelude.{◌≡◌, ◌≢◌, ◌↔◌, ◌≤◌, ◌+◌, ℕ, [], ◌∷◌, None, Some, IfOk, OnOk, IfErr, OnErr};
-ghost use Rattle.arachne_machine.specs.Suspended.{SameThread, IsFresh, Joined, awaited, raised};
-ghost use Rattle.arachne_machine.specs.Advance.{Advanced, IsForeign, handed_back, pause_of, IsSoundStop};
-ghost use Rattle.arachne_machine.specs.Steps.{IsAsk, IsFree, IsTally};
+ghost use Rattle.arachne_machine.specs.Suspended.{SameThread, IsFresh, Joined, IsAsk, IsFree, IsTally, awaited, own_line_of, raised};
+ghost use Rattle.arachne_machine.specs.Advance.{Advanced, IsForeign, handed_back};
+ghost use Rattle.arachne_machine.specs.Stops.{pause_of, IsSoundStop};
 ghost use Rattle.arachne_lang.specs.Program.{source_of};
-ghost use Rattle.arachne_machine.specs.declared.line.ThreadLine.{ThreadLine};
 ghost use Rattle.arachne_machine.specs.declared.pause.Pending.TheVariants as pause;
 
 use crate::frame::Control;
@@ -164,7 +163,7 @@ impl<'p> Thread<'p> {
         ensures program { result.program ≡ self.entry.program }
         ensures name { result.name ≡ self.entry.name }
         ensures sums { result.sums ≡ self.entry.sums }
-        ensures lines { (own : ThreadLine) × (result.lines ≡ own ∷ self.entry.below) × (own.tag ≡ self.entry.tag) × (own.holds ≡ self.entry.holds) }
+        ensures lines { result.lines ≡ own_line_of self.entry ∷ self.entry.below }
     {
         Box::into_inner(self.state).finish()
     }

@@ -200,25 +200,37 @@ fn nesting_is_judged_before_all_else(rt: HostRuntime) -> Result<(), Fail> {
     Ok(())
 }
 
-/// No two of these are the same.
+/// None of these is the same as those that the test compares them with.
 const PROGRAMS: &str = "\
-1 0 (fork n (num 2) (num 3) (add (var 0) (var 1)))
 1 0 (fork n (num 2) (num 4) (add (var 0) (var 1)))
+1 0 (fork n (num 2) (num 3) (add (var 1) (var 1)))
+1 0 (fork n (num 1) (num 3) (add (var 0) (var 1)))
 1 0 (fork x (num 2) (num 3) (add (var 0) (var 1)))
 2 0 (fork n (num 2) (num 3) (add (var 0) (var 1)))
-0 0 (num 1)
 0 1 (num 1)
-0 0 (var 1)";
+1 0 (num 1)
+0 0 (num 2)
+0 0 (var 1)
+0 0 (len 1)";
+
+fn are_same(alloc: Global, some: &str, other: &str) -> Result<bool, Fail> {
+    Ok(row_of(alloc, some)?.0 == row_of(alloc, other)?.0)
+}
 
 #[test]
 fn equality_is_that_of_the_trees(rt: HostRuntime) -> Result<(), Fail> {
     let alloc = rt.alloc();
-    for some in PROGRAMS.lines() {
-        let (program, _) = row_of(alloc, some)?;
-        for other in PROGRAMS.lines() {
-            let (others, _) = row_of(alloc, other)?;
-            assert_eq!(rt; program == others, some == other, "{some}, {other}");
-        }
+    for row in PROGRAMS.lines() {
+        assert!(rt; are_same(alloc, row, row)?, "{row}");
+        assert!(rt; !are_same(alloc, row, "0 0 (num 1)")?, "{row}");
+        assert!(rt;
+            !are_same(
+                alloc,
+                row,
+                "1 0 (fork n (num 2) (num 3) (add (var 0) (var 1)))"
+            )?,
+            "{row}"
+        );
     }
     let mut program = program_of(alloc, "0", "0", "(num 1)")?;
     let other = program_of(alloc, "0", "0", "(num 1)")?;

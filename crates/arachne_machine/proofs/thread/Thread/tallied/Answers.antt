@@ -1,8 +1,8 @@
 use Rattle.std.proofs.Common.{◌≡◌, refl, sym, ap, ◌∙◌, subst}
 use Rattle.arachne_lang.specs.Effects.{tallied}
 use Rattle.arachne_lang.specs.Program.{source_of}
-use Rattle.arachne_machine.specs.Suspended.{SameThread, raised}
-use Rattle.arachne_machine.specs.Steps.{suspended, IsTally}
+use Rattle.arachne_machine.specs.Suspended.{SameThread, IsTally, raised}
+use Rattle.arachne_machine.specs.Steps.{suspended}
 use Rattle.arachne_machine.specs.Sound.{IsSound}
 use Rattle.arachne_machine.proofs.Tabulated.{raised_is, kept_is}
 use Rattle.arachne_machine.proofs.Soundness.{sound_counts, counted_seen}
