@@ -1,5 +1,7 @@
-use crate::drive::{drive, refuse_words};
+use crate::drive::{drive, refuse, refuse_words};
+use crate::fault::Fault;
 use crate::stream::INPUT_LIMIT;
+use arachne_lang::{CheckFault, TextFault};
 use std::alloc::Global;
 use std::io;
 use std::io::{ErrorKind, Read, Write};
@@ -92,6 +94,29 @@ fn words_that_cannot_be_had(rt: HostRuntime) {
     let status = refuse_words(&mut faults, &io::Error::from(ErrorKind::InvalidData));
     assert_eq!(rt; status, 2);
     assert!(rt; faults.starts_with(b"error: "));
+}
+
+/// The lines with the largest numbers.
+#[test]
+fn the_longest_fault_lines_are_written_whole(rt: HostRuntime) {
+    for (fault, line) in [
+        (
+            Fault::InProgram(CheckFault::NoGrain(u64::MAX)),
+            "fault 11 node 18446744073709551615\n",
+        ),
+        (
+            Fault::BadSample { line: usize::MAX },
+            "fault 12 line 18446744073709551615\n",
+        ),
+        (
+            Fault::InText(TextFault::Nesting { at: usize::MAX }),
+            "fault 4 at 18446744073709551615\n",
+        ),
+    ] {
+        let mut faults = Vec::new(rt.alloc());
+        assert_eq!(rt; refuse(&mut faults, fault), 1, "{line}");
+        assert_eq!(rt; faults.as_slice(), line.as_bytes(), "{line}");
+    }
 }
 
 #[test]
@@ -260,6 +285,53 @@ fn writers_that_fail(rt: HostRuntime) -> Result<(), Fail> {
             assert_eq!(rt; faults.as_slice(), line.as_bytes(), "{room}");
         }
     }
+    Ok(())
+}
+
+/// A writer that keeps what it takes until it is flushed.
+#[derive(Drop)]
+struct Buffered {
+    kept: usize,
+    flushed: usize,
+    flushes: u64,
+}
+
+impl Write for Buffered {
+    fn write(&mut self, buf: &[u8]) -> io::Result<usize> {
+        self.kept = self.kept.wrapping_add(buf.len());
+        Ok(buf.len())
+    }
+
+    fn flush(&mut self) -> io::Result<()> {
+        self.flushed = self.flushed.wrapping_add(self.kept);
+        self.kept = 0;
+        self.flushes = self.flushes.wrapping_add(1);
+        Ok(())
+    }
+}
+
+#[test]
+fn the_output_is_flushed_once_all_is_written(rt: HostRuntime) -> Result<(), Fail> {
+    let alloc = rt.alloc();
+    let text = text_of(alloc, "(num 7)")?;
+    let mut input = text.as_bytes();
+    let mut faults = Vec::new(alloc);
+    let mut output = Buffered {
+        kept: 0,
+        flushed: 0,
+        flushes: 0,
+    };
+    let status = drive(
+        alloc,
+        &["arachne", "eval"],
+        &mut input,
+        &mut output,
+        &mut faults,
+    );
+    assert_eq!(rt; status, 0);
+    assert_eq!(rt; output.kept, 0);
+    assert_eq!(rt; output.flushed, "value 7\nthreads 1\n".len());
+    assert_eq!(rt; output.flushes, 1);
     Ok(())
 }
 

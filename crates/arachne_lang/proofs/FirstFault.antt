@@ -290,7 +290,7 @@ letter_taken : (byte letter : ℕ) (word bytes rest : List ℕ) → (word_at wor
 letter_taken byte letter word bytes rest others true is e = let one : byte ≡ letter = eqb-true byte letter is in let behind = others e in (cc)
 letter_taken byte letter word bytes rest others false is e = absurd (cc)
 
-word_taken : (word bytes rest : List ℕ) → word_at word bytes ≡ Ok rest → bytes ≡ word ++ rest
+pub word_taken : (word bytes rest : List ℕ) → word_at word bytes ≡ Ok rest → bytes ≡ word ++ rest
 word_taken [] bytes rest e = cc
 word_taken (letter ∷ word) [] rest e = absurd (cc)
 word_taken (letter ∷ word) (byte ∷ bytes) rest e = letter_taken byte letter word bytes rest (word_taken word bytes rest) (byte == letter) refl e
@@ -312,6 +312,19 @@ judged_header bytes h e = header_fault bytes (λ starts. none starts.0 (sym (ap 
   where
     none : (rest : List ℕ) → Ok rest ≡ Err h → ⊥
     none rest e = cc
+
+-- each text is accepted or has a first fault
+pub judged_each : (bytes : List ℕ) → ((program : Source) × IsAccepted program × (text_of program ≡ bytes)) ⊎ ((first : TextFault) × IsFirstFault bytes first)
+judged_each bytes = by (word_at header bytes) refl
+  where
+    within : (r : Result Source Halt) → Judged bytes r → ((program : Source) × IsAccepted program × (text_of program ≡ bytes)) ⊎ ((first : TextFault) × IsFirstFault bytes first)
+    within (Ok s) j = inl (s, j.0, j.1)
+    within (Err h) j = inr (fault_at bytes h, j)
+
+    by : (w : Result (List ℕ) Halt) → word_at header bytes ≡ w →
+        ((program : Source) × IsAccepted program × (text_of program ≡ bytes)) ⊎ ((first : TextFault) × IsFirstFault bytes first)
+    by (Ok rest) e = within (program_at rest) (judged bytes rest e)
+    by (Err h) e = inr (fault.Header 0, judged_header bytes h e)
 
 -- ---- what a reader may answer
 

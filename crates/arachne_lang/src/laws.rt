@@ -1,10 +1,10 @@
-ghost use Rattle.std.specs.Prelude.{◌≡◌, ◌≢◌, map};
+ghost use Rattle.std.specs.Prelude.{◌≡◌, ◌≢◌, ◌⊎◌, ℕ, List, map};
 ghost use Rattle.std.specs.List.{AllPairs};
 ghost use Rattle.arachne_lang.specs.declared.text_fault.TextFault.{TextFault};
 ghost use Rattle.arachne_lang.specs.Tree.{Source};
 ghost use Rattle.arachne_lang.specs.Meaning.{meaning_of};
 ghost use Rattle.arachne_lang.specs.Spelling.{text_of};
-ghost use Rattle.arachne_lang.specs.Text.{IsAccepted, HasFault};
+ghost use Rattle.arachne_lang.specs.Text.{IsAccepted, HasFault, IsFirstFault};
 
 /// No name stands twice among a program's threads.
 pub fn names_differ()
@@ -19,4 +19,9 @@ pub fn texts_differ()
 /// The text of an accepted program has no fault.
 pub fn accepted_texts_have_no_fault()
     ensures { (program : Source) → (fault : TextFault) → IsAccepted program → ¬ HasFault (text_of program) fault }
+{}
+
+/// Every text is that of an accepted program, or has a first fault.
+pub fn other_texts_have_a_first_fault()
+    ensures { (bytes : List ℕ) → ((program : Source) × IsAccepted program × (text_of program ≡ bytes)) ⊎ ((first : TextFault) × IsFirstFault bytes first) }
 {}

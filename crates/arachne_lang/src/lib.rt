@@ -16,7 +16,9 @@ mod text_fault;
 pub use check_fault::CheckFault;
 pub use checker::check;
 pub use evaluator::eval;
-pub use laws::{accepted_texts_have_no_fault, names_differ, texts_differ};
+pub use laws::{
+    accepted_texts_have_no_fault, names_differ, other_texts_have_a_first_fault, texts_differ,
+};
 pub use meaning::{Line, Meaning};
 pub use name::Name;
 pub use printing::print;

@@ -1,11 +1,11 @@
 //! Reading the text of a program.
 
-ghost use Rattle.std.specs.Prelude.{◌≡◌, ◌⊎◌, IfOk, IfErr, IsErrAnd, MatchResult};
+ghost use Rattle.std.specs.Prelude.{◌≡◌, ◌⊎◌, Err, IfOk, IfErr, IsErrAnd, MatchResult};
 ghost use Rattle.arachne_lang.specs.declared.text_fault.TextFault.{TextFault as Fault};
 ghost use Rattle.arachne_lang.specs.Tree.{Source};
 ghost use Rattle.arachne_lang.specs.Program.{source_of};
-ghost use Rattle.arachne_lang.specs.Spelling.{text_of};
-ghost use Rattle.arachne_lang.specs.Text.{IsAccepted, IsFirstFault};
+ghost use Rattle.arachne_lang.specs.Spelling.{header, text_of};
+ghost use Rattle.arachne_lang.specs.Text.{IsAccepted, IsFirstFault, StartsWith};
 ghost use Rattle.arachne_lang.specs.Reading.{Gives, program_at};
 
 mod arrays;
@@ -36,6 +36,8 @@ pub fn parse(alloc: Global, text: &[u8]) -> Result<Program, TextFault>
     ensures every_text { (source : Source) → IsAccepted source → text_of source ≡ text.now
         → MatchResult result (λ program. source_of program ≡ source) (λ fault. fault ≡ TextFault.Memory) }
 
+    // Where the header is missing no memory is taken, and that fault is the answer.
+    ensures no_header { ¬ StartsWith header text.now → result ≡ Err (Fault.Header 0) }
     // A fault is the first one of the text, unless memory is refused.
     ensures first_fault { IfErr result (λ fault. (fault ≡ TextFault.Memory) ⊎ IsFirstFault text.now fault) }
     // A text with a first fault is refused by it, unless memory is refused.
