@@ -259,9 +259,10 @@ fn persistent(alloc: Global, program: &Program) -> Result<u64, Fail> {
 #[test]
 fn refused_calls_go_on(rt: HostRuntime) -> Result<(), Fail> {
     let alloc = rt.alloc();
-    let forks = match program(alloc, 0, ONE_FORK) {
+    let text = b"arachne 1\nledgers 0\nlocks 0\n(fork x (num 2) (num 3) (add (var 0) (var 1)))\n";
+    let forks = match parse(alloc, text) {
         Ok(forks) => forks,
-        Err(_) => program(alloc, 0, ONE_FORK)?,
+        Err(_) => parse(alloc, text)?,
     };
     assert_eq!(rt; persistent(alloc, &forks)?, 5);
     Ok(())
