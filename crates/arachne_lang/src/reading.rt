@@ -32,15 +32,14 @@ const NESTING: u8 = 64;
 pub fn parse(alloc: Global, text: &[u8]) -> Result<Program, TextFault>
     // What is read is accepted, and the text is its spelling.
     ensures accepted { IfOk result (λ program. IsAccepted (source_of program) × (text_of (source_of program) ≡ text.now)) }
-    // What is accepted is read, unless memory is refused.
+    // What is accepted is read, unless want of memory is answered.
     ensures every_text { (source : Source) → IsAccepted source → text_of source ≡ text.now
         → MatchResult result (λ program. source_of program ≡ source) (λ fault. fault ≡ TextFault.Memory) }
-
     // Where the header is missing no memory is taken, and that fault is the answer.
     ensures no_header { ¬ StartsWith header text.now → result ≡ Err (Fault.Header 0) }
-    // A fault is the first one of the text, unless memory is refused.
+    // A fault is the first one of the text, unless want of memory is answered.
     ensures first_fault { IfErr result (λ fault. (fault ≡ TextFault.Memory) ⊎ IsFirstFault text.now fault) }
-    // A text with a first fault is refused by it, unless memory is refused.
+    // A text with a first fault is refused by it, unless want of memory is answered.
     ensures every_fault { (first : Fault) → IsFirstFault text.now first → IsErrAnd result (λ fault. (fault ≡ TextFault.Memory) ⊎ (fault ≡ first)) }
 {
     let Ok(rest) = word(text, b"arachne 1\n") else {

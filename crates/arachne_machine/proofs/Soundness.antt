@@ -13,14 +13,14 @@ use Rattle.arachne_machine.specs.declared.frame.Control.{Control}
 use Rattle.arachne_machine.specs.declared.frame.Control.TheVariants.{Begin, Give, Cover, Forked as Forks, Halved, Awaits, AwaitsHalf, Asks, Frees, Tallies, Ended}
 use Rattle.arachne_machine.specs.declared.pause.Pending.{Pending}
 use Rattle.arachne_machine.specs.declared.pause.Pending.TheVariants as pause
-use Rattle.arachne_machine.specs.Suspended.{SameThread, Forked, Joined, awaited}
+use Rattle.arachne_machine.specs.Suspended.{own_line_of, SameThread, Forked, Joined, awaited}
 use Rattle.arachne_machine.specs.declared.state.State.{State}
 use Rattle.arachne_machine.specs.declared.state.Stop.{Stop}
 use Rattle.arachne_machine.specs.declared.state.Stop.TheVariants as stop
 use Rattle.arachne_machine.specs.Outcome.{Finished, named_holds, meaning_as, meaning_in, outcome_of, IsOfItsName}
 use Rattle.arachne_machine.specs.Account.{Account, untouched, after, with_fork, with_join}
 use Rattle.arachne_machine.specs.Ending.{child_task, ending, account_at_end, unjoined_of, locks_of, resume, resume_account, frames_left, begun, begun_account, fork_awaited, forks_of, lock_freed, releases}
-use Rattle.arachne_machine.specs.Steps.{Goes, GoesToFork, IsNew, Joins, KeepsOverJoin, Counts, StopsAt, IsUnchanged, pending_of, suspended, own_line}
+use Rattle.arachne_machine.specs.Steps.{Goes, GoesToFork, IsNew, Joins, KeepsOverJoin, Counts, StopsAt, IsUnchanged, pending_of, suspended}
 use Rattle.arachne_machine.specs.Sound.{IsSound}
 use Rattle.arachne_machine.proofs.Accounts.{after-children}
 use Rattle.arachne_machine.proofs.Names.{task_below-child, slice_get-seam}
@@ -275,7 +275,7 @@ same_meaning v v' t t' l l' p q r =
 
 -- A sound thread that has ended has the outcome of its name.
 pub sound_end : (t : State) (v : ℕ) → IsSound t → t.control ≡ Ended v →
-    IsOfItsName (record { program = t.program.now; name = t.own.name; value = v; sums = t.sums.items; lines = own_line t.own ∷ t.below.items })
+    IsOfItsName (record { program = t.program.now; name = t.own.name; value = v; sums = t.sums.items; lines = own_line_of (suspended t) ∷ t.below.items })
 sound_end t v s ended =
     let source = source_of t.program.now in
     let name = t.own.name in
@@ -295,7 +295,7 @@ sound_end t v s ended =
     let line : List ℕ → Line = λ h. record { name = name; holds = h } in
     ap (option_map (meaning_as source name)) s.has_task
     ∙ ap (λ m. Some m) (same_meaning (task_value source.arrays s.task) v (tabulated source.ledgers effects.sums) t.sums.items
-    (line_of source.locks name effects ∷ effects.lines name 0) (map named_holds (own_line t.own ∷ t.below.items))
+    (line_of source.locks name effects ∷ effects.lines name 0) (map named_holds (own_line_of (suspended t) ∷ t.below.items))
     (sym value) (sym sums)
     (ap (λ h. line h ∷ effects.lines name 0) (sym holds) ∙ ap (λ l. line t.own.holds.items ∷ l) (sym below)))
 

@@ -55,10 +55,6 @@ suspended t = record {
   work = work_left t;
 }
 
--- a thread's own line
-abbrev pub own_line : Own → ThreadLine
-own_line own = record { name = own.name; tag = own.tag; holds = own.holds.items; in_place = false }
-
 -- A fork's number fits, since each fork that was joined has its line, and each other one its frame.
 abbrev pub IsNumbered : State → Type 0
 IsNumbered t = t.forks ≤ length t.below.items + length (unjoined_of t)

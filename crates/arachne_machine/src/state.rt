@@ -55,7 +55,8 @@ impl<'p> State<'p> {
     ghost use Rattle.arachne_lang.specs.Program.{source_of};
     ghost use Rattle.arachne_machine.specs.Sound.{IsSound};
     ghost use Rattle.arachne_machine.specs.Ending.{work_left, begun_work, locks_of};
-    ghost use Rattle.arachne_machine.specs.Steps.{pending_of, own_line, task_begun, IsBeginning, IsNumbered, IsUnchanged, Goes, IsNew, StopsAt};
+    ghost use Rattle.arachne_machine.specs.Suspended.{own_line_of};
+    ghost use Rattle.arachne_machine.specs.Steps.{pending_of, suspended, task_begun, IsBeginning, IsNumbered, IsUnchanged, Goes, IsNew, StopsAt};
     ghost use Rattle.arachne_machine.specs.declared.pause.Pending.TheVariants as pause;
 
     /// A thread that begins like this.
@@ -143,7 +144,7 @@ impl<'p> State<'p> {
         ensures program { result.program ≡ self.entry.program.now }
         ensures name { result.name ≡ self.entry.own.name }
         ensures sums { result.sums ≡ self.entry.sums.items }
-        ensures lines { result.lines ≡ own_line self.entry.own ∷ self.entry.below.items }
+        ensures lines { result.lines ≡ own_line_of (suspended self.entry) ∷ self.entry.below.items }
     {
         let Control::Ended(value) = self.control else {
             unreachable!()
