@@ -13,6 +13,7 @@ impl<'p> State<'p> {
     ghost use Rattle.arachne_machine.specs.Steps.{IsNumbered, IsUnchanged, Enters, StopsAt};
 
     /// Begins this expression.
+    #[inline(always)]
     pub fn begin(&mut self, expr: &'p Expr) -> Result<Option<Stop<'p>>, AllocError>
         requires begins { self.old.control ≡ control.Begin expr }
         requires numbered { IsNumbered self.old }
@@ -51,6 +52,7 @@ impl<'p> State<'p> {
     }
 
     /// Begins a part of an expression; the frame says what comes after it.
+    #[inline(always)]
     fn enter(&mut self, frame: Frame<'p>, part: &'p Expr) -> Result<(), AllocError>
         ensures ok { OnOk result (Enters self.old self.new frame.entry (control.Begin part.entry)) }
         ensures err { OnErr result (IsUnchanged self.old self.new) }
@@ -61,6 +63,7 @@ impl<'p> State<'p> {
     }
 
     /// Asks for a lock. It is freed once the value of the expression is known.
+    #[inline(always)]
     fn ask(&mut self, lock: u64, body: &'p Expr) -> Result<(), AllocError>
         ensures ok { OnOk result (Enters self.old self.new (frames.Release lock) (control.Asks lock body.entry)) }
         ensures err { OnErr result (IsUnchanged self.old self.new) }
@@ -71,6 +74,7 @@ impl<'p> State<'p> {
     }
 
     /// The value of a variable.
+    #[inline(always)]
     fn variable(&self, variable: u64) -> u64
         ensures { result ≡ slice_index self.now.environment.items variable }
     {
@@ -81,6 +85,7 @@ impl<'p> State<'p> {
     }
 
     /// How many items an array has.
+    #[inline(always)]
     fn length(&self, array: u64) -> u64
         ensures { result ≡ length (array_at (source_of self.now.program.now).arrays array) }
     {

@@ -15,12 +15,13 @@ impl<'p> State<'p> {
     ghost use Rattle.arachne_machine.specs.Steps.{Becomes, IsUnchanged, IsPopped, IsPauseOrRange, IsOfRange, Enters, TurnsFold, TurnsSweep, StopsAt};
 
     /// Hands a value to the newest frame.
+    #[inline(always)]
     pub fn give(&mut self, value: u64) -> Result<Option<Stop<'p>>, AllocError>
         requires { self.old.control ≡ control.Give value }
         ensures ok { IfOk result (λ stop. StopsAt 1 self.old stop self.new) }
         ensures err { OnErr result (IsUnchanged self.old self.new) }
     {
-        self.reserve_turn()?;
+        self.environment.try_reserve(2)?;
         match self.frames.pop() {
             Some(frame) => Ok(self.hand(frame, value)),
             None => {
@@ -41,6 +42,7 @@ impl<'p> State<'p> {
     }
 
     /// Hands a value to this frame, which was the newest.
+    #[inline(always)]
     fn hand(&mut self, frame: Frame<'p>, value: u64) -> Option<Stop<'p>>
         requires gives { self.old.control ≡ control.Give value }
         requires environment { vec_len self.old.environment + 2 ≤ vec_capacity self.old.environment }
@@ -64,6 +66,7 @@ impl<'p> State<'p> {
     }
 
     /// The same for a frame at which the thread pauses, or one of a fold or a sweep.
+    #[inline(always)]
     fn hand_on(&mut self, frame: Frame<'p>, value: u64) -> Option<Stop<'p>>
         requires gives { self.old.control ≡ control.Give value }
         requires later { IsPauseOrRange frame }
@@ -108,6 +111,7 @@ impl<'p> State<'p> {
     }
 
     /// The same for a frame of a fold or a sweep.
+    #[inline(always)]
     fn hand_to_range(&mut self, frame: Frame<'p>, value: u64)
         requires gives { self.old.control ≡ control.Give value }
         requires range { IsOfRange frame }
@@ -153,15 +157,17 @@ impl<'p> State<'p> {
     }
 
     /// Begins an expression after a frame was taken away; this frame says what comes after it.
+    #[inline(always)]
     fn go_on(&mut self, frame: Frame<'p>, part: &'p Expr)
         requires { vec_len self.old.frames + 1 ≤ vec_capacity self.old.frames }
         ensures { Enters self.old self.new frame.entry (control.Begin part.entry) }
     {
-        self.frames.push(frame).unwrap();
+        self.frames.push_reserved(frame);
         self.control = Control::Begin(part);
     }
 
     /// Begins an expression with a newest variable.
+    #[inline(always)]
     fn extend(&mut self, value: u64, body: &'p Expr)
         requires environment { vec_len self.old.environment + 1 ≤ vec_capacity self.old.environment }
         requires frames { vec_len self.old.frames + 1 ≤ vec_capacity self.old.frames }
@@ -169,12 +175,13 @@ impl<'p> State<'p> {
             (self.old.frames.items ++ frames.Restore (length self.old.environment.items) ∷ []) (control.Begin body.entry) }
     {
         let length = self.environment.len();
-        self.environment.push(value).unwrap();
-        self.frames.push(Frame::Restore(length)).unwrap();
+        self.environment.push_reserved(value);
+        self.frames.push_reserved(Frame::Restore(length));
         self.control = Control::Begin(body);
     }
 
     /// The environment gets back this length.
+    #[inline(always)]
     fn restore(&mut self, length: usize)
         ensures { Becomes self.old self.new (take length self.old.environment.items) self.old.frames.items self.old.control }
     {
@@ -182,6 +189,7 @@ impl<'p> State<'p> {
     }
 
     /// Drops so many of the newest variables.
+    #[inline(always)]
     fn drop_newest(&mut self, count: usize)
         requires environment { vec_len self.old.environment + 2 ≤ vec_capacity self.old.environment }
         requires frames { vec_len self.old.frames + 1 ≤ vec_capacity self.old.frames }
@@ -194,6 +202,7 @@ impl<'p> State<'p> {
     }
 
     /// An item of an array, 0 outside it.
+    #[inline(always)]
     fn item(&self, array: u64, index: u64) -> u64
         ensures { result ≡ slice_index (array_at (source_of self.now.program.now).arrays array) index }
     {
@@ -207,6 +216,7 @@ impl<'p> State<'p> {
     }
 
     /// A fold that has this value so far goes on from a number to below an end.
+    #[inline(always)]
     fn turn_fold(&mut self, next: u64, end: u64, body: &'p Expr, so_far: u64)
         requires environment { vec_len self.old.environment + 2 ≤ vec_capacity self.old.environment }
         requires frames { vec_len self.old.frames + 1 ≤ vec_capacity self.old.frames }
@@ -216,14 +226,14 @@ impl<'p> State<'p> {
             self.control = Control::Give(so_far);
             return;
         }
-        self.environment.push(next).unwrap();
-        self.environment.push(so_far).unwrap();
+        self.environment.push_reserved(next);
+        self.environment.push_reserved(so_far);
         let turn = Frame::FoldTurn {
             next: next + 1,
             end,
             body,
         };
-        self.frames.push(turn).unwrap();
+        self.frames.push_reserved(turn);
         self.control = Control::Begin(body);
     }
 
@@ -244,7 +254,7 @@ impl<'p> State<'p> {
             self.control = Control::Give(so_far);
             return;
         }
-        self.environment.push(next).unwrap();
+        self.environment.push_reserved(next);
         let turn = Frame::SweepTurn {
             reduction,
             next: next + 1,
@@ -252,7 +262,7 @@ impl<'p> State<'p> {
             so_far,
             body,
         };
-        self.frames.push(turn).unwrap();
+        self.frames.push_reserved(turn);
         self.control = Control::Begin(body);
     }
 }

@@ -43,9 +43,9 @@ impl<'p> State<'p> {
             Control::Awaits { during, after, .. } => {
                 let length = self.environment.len();
                 let value = self.take_in(outcome);
-                self.environment.push(value).unwrap();
-                self.environment.push(during).unwrap();
-                self.frames.push(Frame::Restore(length)).unwrap();
+                self.environment.push_reserved(value);
+                self.environment.push_reserved(during);
+                self.frames.push_reserved(Frame::Restore(length));
                 self.control = Control::Begin(after);
             }
             Control::AwaitsHalf {
@@ -88,7 +88,7 @@ impl<'p> State<'p> {
             mut below,
         } = outcome;
         add_each(&mut self.sums, &sums);
-        self.below.push(own).unwrap();
+        self.below.push_reserved(own);
         self.below.append(&mut below).unwrap();
         value
     }

@@ -108,6 +108,7 @@ impl<'p> State<'p> {
     }
 
     /// One step.
+    #[inline(always)]
     fn step(&mut self) -> Result<Option<Stop<'p>>, AllocError>
         requires running { pending_of self.old.control ≡ None }
         requires numbered { IsNumbered self.old }

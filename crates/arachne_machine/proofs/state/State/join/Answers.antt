@@ -20,10 +20,10 @@ returns-clause-ok c =
           let next = w.in-Awaits.after in
           let taken = w.take_in-value.ensures.taken in
           let awaits : t.control ≡ Awaits n v next = sym same.control_is ∙ w.in-Awaits.is in
-          let pushed : w.push.new.self.items ≡ w.take_in-value.new.self.environment.items ++ w.take_in-value.result ∷ [] = rw w.unwrap.ensures at w.push.ensures.items in
-          let pushed_too : w.push-in-Awaits.new.self.items ≡ w.push.new.self.items ++ v ∷ [] = rw w.unwrap-in-Awaits.ensures at w.push-in-Awaits.ensures.items in
-          let framed : w.push-in-Awaits-2.new.self.items ≡ w.take_in-value.new.self.frames.items ++ Restore w.len-length.result ∷ [] =
-          rw w.unwrap-in-Awaits-2.ensures at w.push-in-Awaits-2.ensures.items in
+          let pushed : w.push_reserved.new.self.items ≡ w.take_in-value.new.self.environment.items ++ w.take_in-value.result ∷ [] = w.push_reserved.ensures.items in
+          let pushed_too : w.push_reserved-in-Awaits.new.self.items ≡ w.push_reserved.new.self.items ++ v ∷ [] = w.push_reserved-in-Awaits.ensures.items in
+          let framed : w.push_reserved-in-Awaits-2.new.self.items ≡ w.take_in-value.new.self.frames.items ++ Restore w.len-length.result ∷ [] =
+          w.push_reserved-in-Awaits-2.ensures.items in
           let long : w.len-length.result ≡ length env = w.len-length.ensures ∙ c.make_room.new.self.environment.ok.0 ∙ ap length same.environment_is in
           subst (λ x. Joins t outcome x) (sym w.self-is)
           (joins_fork t _ outcome n v next awaits (awaited_child t n (Awaits n v next) outcome.name awaits refl c.requires.child)
