@@ -22,10 +22,10 @@ use Rattle.arachne_machine.specs.Account.{Account, after}
 use Rattle.arachne_machine.specs.Work.{work_of}
 use Rattle.arachne_machine.specs.Turns.{folded, folded_effects, folded_work, swept, swept_effects, swept_work}
 use Rattle.arachne_machine.specs.Ending.{Status, resume, resume_account, resume_work, begun, begun_account, begun_work, fork_awaited, lock_freed, forks_of, releases, frames_left, without_newest}
-use Rattle.arachne_machine.specs.Steps.{Becomes, IsUnchanged, IsPopped, Enters, TurnsFold, TurnsSweep, StopsAt, pending_of}
+use Rattle.arachne_machine.specs.Steps.{Becomes, IsUnchanged, IsPopped, Enters, TurnsFold, TurnsSweep, StopsAt, pending_of, giving}
 use Rattle.arachne_machine.proofs.Halves.{effects_whole}
 use Rattle.arachne_machine.proofs.Ranges.{folded-turn, folded-done, folded_effects-turn, folded_effects-done, folded_work-turn, swept-turn, swept-done, swept_effects-turn, swept_effects-done, swept_work-turn}
-use Rattle.arachne_machine.proofs.Outlooks.{StepOutlook, Step, steps_by, goes_on_by, framed_as, reshaped, later, alone}
+use Rattle.arachne_machine.proofs.Outlooks.{StepOutlook, Step, steps_by, goes_on_by, framed_as, reshaped, later, alone, as_giving}
 
 -- The frame that a value is handed to is taken away, and the thread goes on: with this to do next, or with a new frame.
 pub hands_on : (before mid new : State) (v : ℕ) (f : Frame) (k' : Control) → IsPopped f before mid → mid.control ≡ Give v →
@@ -256,11 +256,17 @@ fold_on : (source : Source) (name env : List ℕ) (v next end : ℕ) (body : Bor
     StepOutlook source name (Give v) (FoldTurn next end body ∷ []) env k' gs' env'
 fold_on source name env v next end body k' gs' env' s = record { ending = s.ending; account = s.account; work = s.work }
 
+pub fold_giving : (t new : State) (v next end : ℕ) (body : Bor Expr) (so_far : ℕ) → TurnsFold t new next end body so_far → TurnsFold (giving t v) new next end body so_far
+fold_giving t new v next end body so_far turns = record {
+  turn = λ lt. as_giving t new v _ _ _ (turns.turn lt);
+  done = λ le. as_giving t new v _ _ _ (turns.done le);
+}
+
 -- The same in the midst of a fold, once the two newest variables were dropped.
-pub hand_fold_turn : (before mid outer new : State) (v next end : ℕ) (body : Bor Expr) → IsPopped (FoldTurn next end body) before mid → mid.control ≡ Give v →
-    Becomes mid outer (without_newest 2 mid.environment.items) mid.frames.items mid.control →
+pub hand_fold_turn : (before mid outer new : State) (v next end : ℕ) (body : Bor Expr) (k : Control) → IsPopped (FoldTurn next end body) before mid → mid.control ≡ Give v →
+    Becomes mid outer (without_newest 2 mid.environment.items) mid.frames.items k →
     TurnsFold outer new next end body v → StopsAt 1 before None new
-hand_fold_turn before mid outer new v next end body popped gives dropped turns =
+hand_fold_turn before mid outer new v next end body k popped gives dropped turns =
     let source = source_of mid.program.now in
     let name = mid.own.name in
     let env = mid.environment.items in
@@ -273,7 +279,7 @@ hand_fold_turn before mid outer new v next end body popped gives dropped turns =
           popped_off
           (reshaped mid new (with_newest (with_newest outer.environment.items next) v) (with_newest (with_newest less next) v)
           (outer.frames.items ++ FoldTurn (next + 1) end body ∷ []) (fs ++ FoldTurn (next + 1) end body ∷ []) (Begin body) (Begin body)
-          (later mid outer new less (with_newest (with_newest outer.environment.items next) v) fs (outer.frames.items ++ FoldTurn (next + 1) end body ∷ []) mid.control (Begin body)
+          (later mid outer new less (with_newest (with_newest outer.environment.items next) v) fs (outer.frames.items ++ FoldTurn (next + 1) end body ∷ []) k (Begin body)
           dropped (turns.turn lt))
           (ap (λ e. with_newest (with_newest e next) v) dropped.environment_is) (ap (λ l. l ++ FoldTurn (next + 1) end body ∷ []) dropped.frames_are) refl)
           refl refl refl refl refl (fold_on source name env v next end body (Begin body) (FoldTurn (next + 1) end body ∷ []) (with_newest (with_newest less next) v)
@@ -282,7 +288,7 @@ hand_fold_turn before mid outer new v next end body popped gives dropped turns =
           popped_off
           (alone mid new less (Give v)
           (reshaped mid new outer.environment.items less outer.frames.items fs (Give v) (Give v)
-          (later mid outer new less outer.environment.items fs outer.frames.items mid.control (Give v) dropped (turns.done le))
+          (later mid outer new less outer.environment.items fs outer.frames.items k (Give v) dropped (turns.done le))
           dropped.environment_is dropped.frames_are refl))
           refl refl refl refl refl (fold_on source name env v next end body (Give v) [] less (fold_end source name less v next end body le))
     ]
@@ -345,10 +351,10 @@ sweep_on source name env less v so_far reduction next end body k' gs' env' is s 
     record { ending = s'.ending; account = λ a any. s'.account a; work = omega (arith, s'.work) }
 
 -- In the midst of a sweep, once its newest variable was dropped.
-pub hand_sweep_turn : (before mid outer new : State) (v : ℕ) (reduction : Reduction) (next end so_far w : ℕ) (body : Bor Expr) → IsPopped (SweepTurn reduction next end so_far body) before mid → mid.control ≡ Give v →
-    Becomes mid outer (without_newest 1 mid.environment.items) mid.frames.items mid.control → w ≡ apply (operation_of reduction) so_far v →
+pub hand_sweep_turn : (before mid outer new : State) (v : ℕ) (reduction : Reduction) (next end so_far w : ℕ) (body : Bor Expr) (k : Control) → IsPopped (SweepTurn reduction next end so_far body) before mid → mid.control ≡ Give v →
+    Becomes mid outer (without_newest 1 mid.environment.items) mid.frames.items k → w ≡ apply (operation_of reduction) so_far v →
     TurnsSweep outer new reduction next end body w → StopsAt 1 before None new
-hand_sweep_turn before mid outer new v reduction next end so_far w body popped gives dropped is turns =
+hand_sweep_turn before mid outer new v reduction next end so_far w body k popped gives dropped is turns =
     let source = source_of mid.program.now in
     let name = mid.own.name in
     let env = mid.environment.items in
@@ -362,7 +368,7 @@ hand_sweep_turn before mid outer new v reduction next end so_far w body popped g
           popped_off
           (reshaped mid new (with_newest outer.environment.items next) (with_newest less next)
           (outer.frames.items ++ SweepTurn reduction (next + 1) end w body ∷ []) (fs ++ SweepTurn reduction (next + 1) end x body ∷ []) (Begin body) (Begin body)
-          (later mid outer new less (with_newest outer.environment.items next) fs (outer.frames.items ++ SweepTurn reduction (next + 1) end w body ∷ []) mid.control (Begin body)
+          (later mid outer new less (with_newest outer.environment.items next) fs (outer.frames.items ++ SweepTurn reduction (next + 1) end w body ∷ []) k (Begin body)
           dropped (turns.turn lt))
           (ap (λ e. with_newest e next) dropped.environment_is)
           (ap (λ l. l ++ SweepTurn reduction (next + 1) end w body ∷ []) dropped.frames_are ∙ ap (λ y. fs ++ SweepTurn reduction (next + 1) end y body ∷ []) is) refl)
@@ -373,7 +379,7 @@ hand_sweep_turn before mid outer new v reduction next end so_far w body popped g
           popped_off
           (alone mid new less (Give x)
           (reshaped mid new outer.environment.items less outer.frames.items fs (Give w) (Give x)
-          (later mid outer new less outer.environment.items fs outer.frames.items mid.control (Give w) dropped (turns.done le))
+          (later mid outer new less outer.environment.items fs outer.frames.items k (Give w) dropped (turns.done le))
           dropped.environment_is dropped.frames_are (ap Give is)))
           refl refl refl refl refl
           (sweep_on source name env less v so_far reduction next end body (Give x) [] less refl (sweep_end source name less reduction next end x (tree_of body.now) le))

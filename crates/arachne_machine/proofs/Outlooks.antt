@@ -8,7 +8,7 @@ use Rattle.arachne_machine.specs.declared.frame.Control.{Control}
 use Rattle.arachne_machine.specs.declared.state.State.{State}
 use Rattle.arachne_machine.specs.Account.{Account}
 use Rattle.arachne_machine.specs.Ending.{resume, resume_account, resume_work, begun, begun_account, begun_work, fork_awaited, lock_freed, forks_of, releases, frames_left, ending, account_at_end, work_left, unjoined_of, locks_of}
-use Rattle.arachne_machine.specs.Steps.{Becomes, Goes, StopsAt, pending_of}
+use Rattle.arachne_machine.specs.Steps.{Becomes, Goes, StopsAt, pending_of, giving}
 use Rattle.arachne_machine.proofs.Frames.{resume-append, resume_account-append, resume_work-append, forks_of-append, releases-append}
 
 -- From what comes next, the newest frames and the environment to the new ones the end is the same, if the accounts that fit are taken like this.
@@ -188,6 +188,23 @@ reshaped mid t env env' fs fs' k k' b d e f = record {
 
 pub framed_as : (mid t : State) (env : List ℕ) (fs fs' : List Frame) (k k' : Control) → Becomes mid t env fs k → fs ≡ fs' → k ≡ k' → Becomes mid t env fs' k'
 framed_as mid t env fs fs' k k' b e f = reshaped mid t env env fs fs' k k' b refl e f
+
+-- what it is to hand on does not matter to what it becomes
+pub as_giving : (t new : State) (v : ℕ) (env : List ℕ) (fs : List Frame) (k : Control) → Becomes t new env fs k → Becomes (giving t v) new env fs k
+as_giving t new v env fs k b = record {
+  program = b.program;
+  own = b.own;
+  below = b.below;
+  sums = b.sums;
+  forks = b.forks;
+  environment_is = b.environment_is;
+  frames_are = b.frames_are;
+  control_is = b.control_is;
+}
+
+-- and its control alone is new
+pub given_from : (t : State) (v : ℕ) (k k' : Control) → k ≡ k' → Becomes (giving t v) (record t { control = k }) t.environment.items t.frames.items k'
+given_from t v k k' e = record { program = refl; own = refl; below = refl; sums = refl; forks = refl; environment_is = refl; frames_are = refl; control_is = e }
 
 -- one change after another
 pub later : (mid outer new : State) (env env' : List ℕ) (fs fs' : List Frame) (k k' : Control) → Becomes mid outer env fs k → Becomes outer new env' fs' k' → Becomes mid new env' fs' k'

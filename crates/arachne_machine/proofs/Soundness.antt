@@ -78,6 +78,11 @@ goes_then_stops m n a b c (stop.Frees lock) p l q = (goes_on m 1 1 a b c p q.0 (
 goes_then_stops m n a b c (stop.Tallies ledger amount) p l q = (goes_on m 1 1 a b c p q.0 (omega arith), q.1, q.2 ∙ l)
 goes_then_stops m n a b c stop.Ended p l q = (goes_on m 0 0 a b c p q.0 (omega arith), q.1, q.2, q.3 ∙ l, q.4)
 
+-- the same, with or without a reason to stop
+pub goes_then_made : (a b c : State) (s : Option Stop) → Goes 0 a b → locks_of b ≡ locks_of a → StopsAt 1 b s c → StopsAt 1 a s c
+goes_then_made a b c None p l q = (goes_on 0 1 1 a b c p q.0 (omega arith), q.1, q.2 ∙ l)
+goes_then_made a b c (Some s) p l q = goes_then_stops 0 1 a b c s p l q
+
 -- a new thread of the task of its name is sound
 pub sound_new : (program : Program) (name : List ℕ) (tag : ℕ) (task : Task) (t : State) →
     IsNew program name tag task t → task_of (source_of program) name ≡ Some task → IsSound t

@@ -20,6 +20,8 @@ use Rattle.arachne_machine.specs.declared.state.Own.{Own}
 use Rattle.arachne_machine.specs.declared.state.State.{State}
 use Rattle.arachne_machine.specs.declared.state.Stop.{Stop}
 use Rattle.arachne_machine.specs.declared.state.Stop.TheVariants as stop
+use Rattle.arachne_machine.specs.declared.state.Progress.{Progress}
+use Rattle.arachne_machine.specs.declared.state.Progress.TheVariants.{Value, Made}
 use Rattle.arachne_machine.specs.Outcome.{Finished}
 use Rattle.arachne_machine.specs.Account.{Account, untouched, after, with_fork}
 use Rattle.arachne_machine.specs.Suspended.{Suspended}
@@ -166,6 +168,19 @@ StopsAt steps old (Some (stop.Tallies ledger amount)) new =
     Goes 1 old new × (pending_of new.control ≡ Some (pause.Tallies ledger amount)) × (locks_of new ≡ locks_of old)
 StopsAt steps old (Some stop.Ended) new =
     Goes 0 old new × (pending_of new.control ≡ Some pause.Ended) × (unjoined_of new ≡ []) × (locks_of new ≡ locks_of old) × (locks_of new ≡ [])
+
+-- the thread that hands on this value next
+abbrev pub giving : State → ℕ → State
+giving t value = record t { control = Give value }
+
+-- What is so after a part of a step, with a value that is to be handed on or with none.
+abbrev pub Progresses : State → Progress → State → Type 0
+Progresses old (Value value) new = StopsAt 1 old None (giving new value)
+Progresses old (Made stop) new = StopsAt 1 old stop new
+
+abbrev pub OnValue : Progress → Type 0 → Type 0
+OnValue (Value value) A = A
+OnValue (Made stop) A = Unit {0}
 
 -- a child thread was made for a task, and the thread has this newest frame and this to do next
 pub record PushesFork (old new child : State) (begins : Control) (frame : Frame) (control : Control) : Type 0 where

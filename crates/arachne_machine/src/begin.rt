@@ -1,5 +1,5 @@
 use crate::frame::{Control, Frame};
-use crate::state::{State, Stop};
+use crate::state::{Progress, State, Stop};
 use arachne_lang::Expr;
 use std::alloc::AllocError;
 
@@ -10,20 +10,21 @@ impl<'p> State<'p> {
     ghost use Rattle.arachne_lang.specs.Value.{array_at};
     ghost use Rattle.arachne_machine.specs.declared.frame.Frame.TheVariants as frames;
     ghost use Rattle.arachne_machine.specs.declared.frame.Control.TheVariants as control;
-    ghost use Rattle.arachne_machine.specs.Steps.{IsNumbered, IsUnchanged, Enters, StopsAt};
+    ghost use Rattle.arachne_machine.specs.Steps.{IsNumbered, IsUnchanged, Enters, Progresses, OnValue};
 
-    /// Begins this expression.
+    /// Begins this expression. Where its value is known at once nothing else has changed.
     #[inline(always)]
-    pub fn begin(&mut self, expr: &'p Expr) -> Result<Option<Stop<'p>>, AllocError>
+    pub fn begin(&mut self, expr: &'p Expr) -> Result<Progress<'p>, AllocError>
         requires begins { self.old.control ≡ control.Begin expr }
         requires numbered { IsNumbered self.old }
-        ensures ok { IfOk result (λ stop. StopsAt 1 self.old stop self.new) }
+        ensures ok { IfOk result (λ progress. Progresses self.old progress self.new) }
+        ensures same { IfOk result (λ progress. OnValue progress (IsUnchanged self.old self.new)) }
         ensures err { OnErr result (IsUnchanged self.old self.new) }
     {
         match expr {
-            Expr::Num(number) => self.control = Control::Give(*number),
-            Expr::Var(variable) => self.control = Control::Give(self.variable(*variable)),
-            Expr::Len(array) => self.control = Control::Give(self.length(*array)),
+            Expr::Num(number) => return Ok(Progress::Value(*number)),
+            Expr::Var(variable) => return Ok(Progress::Value(self.variable(*variable))),
+            Expr::Len(array) => return Ok(Progress::Value(self.length(*array))),
             Expr::Item(array, index) => self.enter(Frame::Index(*array), index)?,
             Expr::Binary(operation, left, right) => self.enter(
                 Frame::Right(*operation, right),
@@ -41,14 +42,14 @@ impl<'p> State<'p> {
             }
             Expr::Hold(lock, body) => {
                 self.ask(*lock, body)?;
-                return Ok(Some(Stop::Asks(*lock)));
+                return Ok(Progress::Made(Some(Stop::Asks(*lock))));
             }
             Expr::Fork(class, child, during, after) => {
                 let child = self.fork(child, during, after)?;
-                return Ok(Some(Stop::Forks(*class, child)));
+                return Ok(Progress::Made(Some(Stop::Forks(*class, child))));
             }
         }
-        Ok(None)
+        Ok(Progress::Made(None))
     }
 
     /// Begins a part of an expression; the frame says what comes after it.

@@ -1,5 +1,5 @@
 use crate::frame::{Control, Frame, Stretch};
-use crate::state::{State, Stop};
+use crate::state::{Progress, State, Stop};
 use arachne_lang::{Expr, Reduction};
 use std::alloc::AllocError;
 
@@ -12,23 +12,23 @@ impl<'p> State<'p> {
     ghost use Rattle.arachne_machine.specs.declared.frame.Frame.TheVariants as frames;
     ghost use Rattle.arachne_machine.specs.declared.frame.Control.TheVariants as control;
     ghost use Rattle.arachne_machine.specs.Ending.{without_newest};
-    ghost use Rattle.arachne_machine.specs.Steps.{Becomes, IsUnchanged, IsPopped, IsPauseOrRange, IsOfRange, Enters, TurnsFold, TurnsSweep, StopsAt};
+    ghost use Rattle.arachne_machine.specs.Steps.{Becomes, IsUnchanged, IsPopped, IsPauseOrRange, IsOfRange, Enters, TurnsFold, TurnsSweep, StopsAt, Progresses, OnValue, giving};
 
-    /// Hands a value to the newest frame.
+    /// Hands a value on from frame to frame, until the thread begins an expression or stops.
     #[inline(always)]
-    pub fn give(&mut self, value: u64) -> Result<Option<Stop<'p>>, AllocError>
-        requires { self.old.control ≡ control.Give value }
-        ensures ok { IfOk result (λ stop. StopsAt 1 self.old stop self.new) }
+    pub fn give(&mut self, mut value: u64) -> Result<Option<Stop<'p>>, AllocError>
+        ensures ok { IfOk result (λ stop. StopsAt 1 (giving self.old value) stop self.new) }
         ensures err { OnErr result (IsUnchanged self.old self.new) }
     {
         self.environment.try_reserve(2)?;
-        match self.frames.pop() {
-            Some(frame) => Ok(self.hand(frame, value)),
-            None => {
-                self.control = Control::Ended(value);
-                Ok(Some(Stop::Ended))
+        while let Some(frame) = self.frames.pop() {
+            match self.hand(frame, value) {
+                Progress::Value(next) => value = next,
+                Progress::Made(stop) => return Ok(stop),
             }
         }
+        self.control = Control::Ended(value);
+        Ok(Some(Stop::Ended))
     }
 
     /// Room for what a value begins.
@@ -43,36 +43,38 @@ impl<'p> State<'p> {
 
     /// Hands a value to this frame, which was the newest.
     #[inline(always)]
-    fn hand(&mut self, frame: Frame<'p>, value: u64) -> Option<Stop<'p>>
-        requires gives { self.old.control ≡ control.Give value }
+    fn hand(&mut self, frame: Frame<'p>, value: u64) -> Progress<'p>
         requires environment { vec_len self.old.environment + 2 ≤ vec_capacity self.old.environment }
         requires frames { vec_len self.old.frames + 1 ≤ vec_capacity self.old.frames }
-        ensures { (before : Thread) → IsPopped frame.entry before self.old → StopsAt 1 before result self.new }
+        ensures made { (before : Thread) → IsPopped frame.entry before (giving self.old value) → Progresses before result self.new }
+        ensures room { OnValue result (vec_len self.new.environment + 2 ≤ vec_capacity self.new.environment) }
     {
         match frame {
-            Frame::Index(array) => self.control = Control::Give(self.item(array, value)),
-            Frame::Right(operation, right) => self.go_on(Frame::Apply(operation, value), right),
+            Frame::Index(array) => return Progress::Value(self.item(array, value)),
             Frame::Apply(operation, left) => {
-                self.control = Control::Give(operation.apply(left, value));
+                return Progress::Value(operation.apply(left, value));
             }
+            Frame::Restore(length) => {
+                self.environment.truncate(length);
+                return Progress::Value(value);
+            }
+            Frame::Right(operation, right) => self.go_on(Frame::Apply(operation, value), right),
             Frame::Branch(first, second) => {
                 self.control = Control::Begin(if value == 0 { second } else { first });
             }
             Frame::Extend(body) => self.extend(value, body),
-            Frame::Restore(length) => self.restore(length),
-            _ => return self.hand_on(frame, value),
+            _ => return Progress::Made(self.hand_on(frame, value)),
         }
-        None
+        Progress::Made(None)
     }
 
     /// The same for a frame at which the thread pauses, or one of a fold or a sweep.
     #[inline(always)]
     fn hand_on(&mut self, frame: Frame<'p>, value: u64) -> Option<Stop<'p>>
-        requires gives { self.old.control ≡ control.Give value }
         requires later { IsPauseOrRange frame }
         requires environment { vec_len self.old.environment + 2 ≤ vec_capacity self.old.environment }
         requires frames { vec_len self.old.frames + 1 ≤ vec_capacity self.old.frames }
-        ensures { (before : Thread) → IsPopped frame.entry before self.old → StopsAt 1 before result self.new }
+        ensures { (before : Thread) → IsPopped frame.entry before (giving self.old value) → StopsAt 1 before result self.new }
     {
         match frame {
             Frame::Amount(ledger, body) => {
@@ -113,11 +115,10 @@ impl<'p> State<'p> {
     /// The same for a frame of a fold or a sweep.
     #[inline(always)]
     fn hand_to_range(&mut self, frame: Frame<'p>, value: u64)
-        requires gives { self.old.control ≡ control.Give value }
         requires range { IsOfRange frame }
         requires environment { vec_len self.old.environment + 2 ≤ vec_capacity self.old.environment }
         requires frames { vec_len self.old.frames + 1 ≤ vec_capacity self.old.frames }
-        ensures { (before : Thread) → IsPopped frame.entry before self.old → StopsAt 1 before None self.new }
+        ensures { (before : Thread) → IsPopped frame.entry before (giving self.old value) → StopsAt 1 before None self.new }
     {
         match frame {
             Frame::FoldTo(to, first, body) => self.go_on(Frame::FoldFirst(value, first, body), to),
@@ -178,14 +179,6 @@ impl<'p> State<'p> {
         self.environment.push_reserved(value);
         self.frames.push_reserved(Frame::Restore(length));
         self.control = Control::Begin(body);
-    }
-
-    /// The environment gets back this length.
-    #[inline(always)]
-    fn restore(&mut self, length: usize)
-        ensures { Becomes self.old self.new (take length self.old.environment.items) self.old.frames.items self.old.control }
-    {
-        self.environment.truncate(length);
     }
 
     /// Drops so many of the newest variables.

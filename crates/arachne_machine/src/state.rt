@@ -50,6 +50,15 @@ pub enum Stop<'p> {
     Ended,
 }
 
+/// What comes of a part of a step.
+#[derive(Drop)]
+pub enum Progress<'p> {
+    /// This value is handed to the newest frame.
+    Value(u64),
+    /// The step is made, and the thread stops where there is a reason to.
+    Made(Option<Stop<'p>>),
+}
+
 impl<'p> State<'p> {
     ghost use Rattle.std.specs.Prelude.{◌≡◌, ◌∷◌, IfOk, OnErr, None, Some};
     ghost use Rattle.arachne_lang.specs.Program.{source_of};
@@ -107,7 +116,7 @@ impl<'p> State<'p> {
         Ok(None)
     }
 
-    /// One step.
+    /// One step: it begins an expression or a part of a sweep, and hands on the value that is known then.
     #[inline(always)]
     fn step(&mut self) -> Result<Option<Stop<'p>>, AllocError>
         requires running { pending_of self.old.control ≡ None }
@@ -115,12 +124,17 @@ impl<'p> State<'p> {
         ensures ok { IfOk result (λ stop. StopsAt 1 self.old stop self.new) }
         ensures err { OnErr result (IsUnchanged self.old self.new) }
     {
-        match self.control {
-            Control::Begin(expr) => self.begin(expr),
-            Control::Give(value) => self.give(value),
-            Control::Cover(stretch) => self.cover(stretch),
+        let value = match self.control {
+            Control::Begin(expr) => match self.begin(expr)? {
+                Progress::Value(value) => value,
+                Progress::Made(stop) => return Ok(stop),
+            },
+            Control::Give(value) => value,
+            Control::Cover(stretch) => return self.cover(stretch),
             _ => unreachable!(),
-        }
+        };
+        let stop = self.give(value)?;
+        Ok(stop)
     }
 
     /// The pause that is not answered.

@@ -10,7 +10,7 @@ use Rattle.arachne_machine.proofs.Frames.{length-forks_of}
 use Rattle.arachne_machine.proofs.Outlooks.{given}
 use Rattle.arachne_machine.proofs.Openings.{begins_by, goes_to_value, goes_to_part, open_number, open_variable, open_length, open_item, open_binary, open_choice, open_binding, open_tally, open_hold, open_fold, open_sweep}
 use Rattle.arachne_machine.proofs.Splitting.{goes_to_fork}
-use Rattle.arachne_machine.proofs.state.State.begin.Goals.{in-Num, in-Var, in-Len, in-Item+in_ok-enter-in-Item, in-Binary+in_ok-enter-in-Binary, in-If+in_ok-enter-in-If, in-Let+in_ok-enter-in-Let, in-Tally+in_ok-enter-in-Tally, in-Fold+in_ok-enter-in-Fold, in-Sweep+in_ok-enter-in-Sweep}
+use Rattle.arachne_machine.proofs.state.State.begin.Goals.{in-Item+in_ok-enter-in-Item, in-Binary+in_ok-enter-in-Binary, in-If+in_ok-enter-in-If, in-Let+in_ok-enter-in-Let, in-Tally+in_ok-enter-in-Tally, in-Fold+in_ok-enter-in-Fold, in-Sweep+in_ok-enter-in-Sweep}
 use Rattle.arachne_machine.proofs.state.State.begin.Goals as goal
 
 pub fork-requires : goal.fork-requires
@@ -19,6 +19,24 @@ fork-requires c =
     let few : length (unjoined_of t) ≤ length t.frames.items =
     rw c.requires.begins (length-forks_of t.frames.items) in
     omega (arith, few, c.requires.numbered, t.below.ok.0, t.below.ok.1, t.below.small, t.frames.ok.0, t.frames.ok.1, t.frames.small)
+
+pub returns-in-Num-clause-ok : goal.returns-in-Num-clause-ok
+returns-in-Num-clause-ok c =
+    let t = c.args.self.now in
+    goes_to_value t _ c.args.expr (Number c.in-Num.number) c.in-Num.number c.requires.begins (ap tree_of c.in-Num.is) (given t _ _ refl)
+    (open_number (source_of t.program.now) t.own.name t.environment.items c.in-Num.number)
+
+pub returns-in-Var-clause-ok : goal.returns-in-Var-clause-ok
+returns-in-Var-clause-ok c =
+    let t = c.args.self.now in
+    goes_to_value t _ c.args.expr (Variable c.in-Var.variable) (slice_index t.environment.items c.in-Var.variable) c.requires.begins (ap tree_of c.in-Var.is)
+    (given t _ _ (ap Give c.variable.ensures)) (open_variable (source_of t.program.now) t.own.name t.environment.items c.in-Var.variable)
+
+pub returns-in-Len-clause-ok : goal.returns-in-Len-clause-ok
+returns-in-Len-clause-ok c =
+    let t = c.args.self.now in
+    goes_to_value t _ c.args.expr (Length c.in-Len.array) _ c.requires.begins (ap tree_of c.in-Len.is)
+    (given t _ _ (ap Give c.length.ensures)) (open_length (source_of t.program.now) t.own.name t.environment.items c.in-Len.array)
 
 pub returns-in-Hold-clause-ok : goal.returns-in-Hold-clause-ok
 returns-in-Hold-clause-ok c =
@@ -46,13 +64,6 @@ returns-clause-ok c =
     let name = t.own.name in
     let env = t.environment.items in
     elim c.match-expr.branch [
-      | in-Num w ↦ subst (λ x. StopsAt 1 t None x) (sym w.self-is)
-          (goes_to_value t _ e (Number w.in-Num.number) w.in-Num.number b (ap tree_of w.in-Num.is) (given t _ _ refl) (open_number source name env w.in-Num.number))
-      | in-Var w ↦ subst (λ x. StopsAt 1 t None x) (sym w.self-is)
-          (goes_to_value t _ e (Variable w.in-Var.variable) (slice_index env w.in-Var.variable) b (ap tree_of w.in-Var.is) (given t _ _ (ap Give w.variable.ensures))
-          (open_variable source name env w.in-Var.variable))
-      | in-Len w ↦ subst (λ x. StopsAt 1 t None x) (sym w.self-is)
-          (goes_to_value t _ e (Length w.in-Len.array) _ b (ap tree_of w.in-Len.is) (given t _ _ (ap Give w.length.ensures)) (open_length source name env w.in-Len.array))
       | in-Item+in_ok-enter-in-Item w ↦ subst (λ x. StopsAt 1 t None x) (sym w.self-is)
           (goes_to_part t _ e w.deref.result (Item w.in-Item.array (tree_of w.deref.result.now)) (Index w.in-Item.array) b
           (rw w.deref.ensures (ap tree_of w.in-Item.is)) w.in_ok-enter-in-Item.ensures.ok refl refl (open_item source name env w.in-Item.array w.deref.result))
