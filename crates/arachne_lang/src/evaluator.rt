@@ -186,42 +186,22 @@ impl Evaluator<'_> {
                 let index = self.value(shared, own, index)?;
                 Ok(self.item(*array, index))
             }
-            Expr::Binary(operation, a, b) => {
-                let value = self.binary(shared, own, *operation, a, b)?;
-                Ok(value)
-            }
+            Expr::Binary(operation, a, b) => self.binary(shared, own, *operation, a, b),
             Expr::If(condition, first, second) => {
-                let value = self.choose(shared, own, condition, first, second)?;
-                Ok(value)
+                self.choose(shared, own, condition, first, second)
             }
-            Expr::Let(bound, body) => {
-                let value = self.bind(shared, own, bound, body)?;
-                Ok(value)
-            }
-            Expr::Tally(ledger, amount, body) => {
-                let value = self.tally(shared, own, *ledger, amount, body)?;
-                Ok(value)
-            }
-            Expr::Hold(lock, body) => {
-                let value = self.hold(shared, own, *lock, body)?;
-                Ok(value)
-            }
-            Expr::Fork(_, child, during, after) => {
-                let value = self.fork(shared, own, child, during, after)?;
-                Ok(value)
-            }
-            Expr::Fold(from, to, first, body) => {
-                let value = self.fold(shared, own, from, to, first, body)?;
-                Ok(value)
-            }
+            Expr::Let(bound, body) => self.bind(shared, own, bound, body),
+            Expr::Tally(ledger, amount, body) => self.tally(shared, own, *ledger, amount, body),
+            Expr::Hold(lock, body) => self.hold(shared, own, *lock, body),
+            Expr::Fork(_, child, during, after) => self.fork(shared, own, child, during, after),
+            Expr::Fold(from, to, first, body) => self.fold(shared, own, from, to, first, body),
             Expr::Sweep(reduction, grain, from, to, body) => {
                 let reducer = Reducer {
                     reduction: *reduction,
                     grain: *grain,
                     body,
                 };
-                let value = self.sweep(shared, own, reducer, from, to)?;
-                Ok(value)
+                self.sweep(shared, own, reducer, from, to)
             }
         }
     }

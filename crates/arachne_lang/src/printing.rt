@@ -1,7 +1,8 @@
 //! Writing the text of a program.
 
-ghost use Rattle.std.specs.Prelude.{◌≡◌, ◌≤◌, ◌++◌, ◌∷◌, [], codes, map, option_to_list, IfOk, OnOk};
-ghost use Rattle.arachne_lang.specs.Text.{nesting};
+ghost use Rattle.std.specs.Prelude.{◌≡◌, ◌^◌, ◌<◌, ◌≤◌, ◌++◌, ◌∷◌, [], codes, map, option_to_list, IfOk, OnOk};
+ghost use Rattle.std.specs.List.{AllByRecursion};
+ghost use Rattle.arachne_lang.specs.Text.{nesting, NumbersFit, IsAccepted};
 ghost use Rattle.arachne_lang.specs.Program.{tree_of, source_of};
 ghost use Rattle.arachne_lang.specs.Spelling.{numeral, after_spaces, bracketed, line, operation_word, reduction_word, class_word, text_of, spelling};
 
@@ -12,15 +13,19 @@ use std::alloc::{AllocError, Global};
 /// The one text of a program. Linear in its bytes; memory is taken for the text alone, as it grows.
 pub fn print(alloc: Global, program: &Program) -> Result<Vec<u8>, AllocError>
     requires { nesting (tree_of program.now.root) ≤ 64 }
-    ensures { IfOk result (λ text. text.items ≡ text_of (source_of program.now)) }
+    ensures text { IfOk result (λ text. text.items ≡ text_of (source_of program.now)) }
+    // So the text is read as this program, unless want of memory is answered.
+    ensures accepted { OnOk result (IsAccepted (source_of program.now)) }
 {
     let mut text = Vec::new(alloc);
     push_line(&mut text, b"arachne", &[1])?;
     for array in &program.arrays {
         push_line(&mut text, b"array", array)?;
     }
-    push_line(&mut text, b"ledgers", &[u64::from(program.ledgers)])?;
-    push_line(&mut text, b"locks", &[u64::from(program.locks)])?;
+    let ledgers = program.ledgers;
+    push_line(&mut text, b"ledgers", &[u64::from(ledgers)])?;
+    let locks = program.locks;
+    push_line(&mut text, b"locks", &[u64::from(locks)])?;
     push_expression(&mut text, &program.root)?;
     text.push(b'\n')?;
     Ok(text)
@@ -28,7 +33,8 @@ pub fn print(alloc: Global, program: &Program) -> Result<Vec<u8>, AllocError>
 
 /// Adds a line: a word, and the numbers after it.
 fn push_line(text: &mut Vec<u8>, word: &[u8], numbers: &[u64]) -> Result<(), AllocError>
-    ensures { OnOk result (text.new.items ≡ text.old.items ++ line word.now numbers.now) }
+    ensures text { OnOk result (text.new.items ≡ text.old.items ++ line word.now numbers.now) }
+    ensures fit { OnOk result (AllByRecursion (λ n. n < 2 ^ 64) numbers.now) }
 {
     text.extend_from_slice(word)?;
     for number in numbers {
@@ -67,7 +73,8 @@ fn word_of(operation: Operation) -> &'static [u8]
 /// Adds an expression.
 #[cycle(expression)]
 fn push_expression(text: &mut Vec<u8>, expr: &Expr) -> Result<(), AllocError>
-    ensures { OnOk result (text.new.items ≡ text.old.items ++ spelling (tree_of expr.now)) }
+    ensures text { OnOk result (text.new.items ≡ text.old.items ++ spelling (tree_of expr.now)) }
+    ensures fit { OnOk result (NumbersFit (tree_of expr.now)) }
 {
     match expr {
         Expr::Num(n) => push_leaf(text, b"num", *n),
@@ -95,7 +102,8 @@ fn push_expression(text: &mut Vec<u8>, expr: &Expr) -> Result<(), AllocError>
 /// Adds a space and an expression.
 #[cycle(expression)]
 fn push_part(text: &mut Vec<u8>, part: &Expr) -> Result<(), AllocError>
-    ensures { OnOk result (text.new.items ≡ text.old.items ++ 32 ∷ spelling (tree_of part.now)) }
+    ensures text { OnOk result (text.new.items ≡ text.old.items ++ 32 ∷ spelling (tree_of part.now)) }
+    ensures fit { OnOk result (NumbersFit (tree_of part.now)) }
 {
     text.push(b' ')?;
     push_expression(text, part)?;
@@ -114,7 +122,8 @@ fn push_leaf(text: &mut Vec<u8>, word: &[u8], number: u64) -> Result<(), AllocEr
 /// Adds a form of a word, a number and a part.
 #[cycle(expression)]
 fn push_with_one(text: &mut Vec<u8>, word: &[u8], number: u64, a: &Expr) -> Result<(), AllocError>
-    ensures { OnOk result (text.new.items ≡ text.old.items ++ bracketed word.now (numeral number ∷ spelling (tree_of a.now) ∷ [])) }
+    ensures text { OnOk result (text.new.items ≡ text.old.items ++ bracketed word.now (numeral number ∷ spelling (tree_of a.now) ∷ [])) }
+    ensures fit { OnOk result (NumbersFit (tree_of a.now)) }
 {
     push_opening(text, word, Some(number))?;
     push_part(text, a)?;
@@ -131,8 +140,9 @@ fn push_with_two(
     a: &Expr,
     b: &Expr,
 ) -> Result<(), AllocError>
-    ensures { OnOk result (text.new.items ≡ text.old.items
+    ensures text { OnOk result (text.new.items ≡ text.old.items
         ++ bracketed word.now (map numeral (option_to_list number) ++ spelling (tree_of a.now) ∷ spelling (tree_of b.now) ∷ [])) }
+    ensures fit { OnOk result (NumbersFit (tree_of a.now) × NumbersFit (tree_of b.now)) }
 {
     push_opening(text, word, number)?;
     push_part(text, a)?;
@@ -151,9 +161,10 @@ fn push_with_three(
     b: &Expr,
     c: &Expr,
 ) -> Result<(), AllocError>
-    ensures { OnOk result (text.new.items ≡ text.old.items
+    ensures text { OnOk result (text.new.items ≡ text.old.items
         ++ bracketed word.now (map numeral (option_to_list number)
         ++ spelling (tree_of a.now) ∷ spelling (tree_of b.now) ∷ spelling (tree_of c.now) ∷ [])) }
+    ensures fit { OnOk result (NumbersFit (tree_of a.now) × NumbersFit (tree_of b.now) × NumbersFit (tree_of c.now)) }
 {
     push_opening(text, word, number)?;
     push_part(text, a)?;
@@ -173,8 +184,9 @@ fn push_with_four(
     c: &Expr,
     d: &Expr,
 ) -> Result<(), AllocError>
-    ensures { OnOk result (text.new.items ≡ text.old.items
+    ensures text { OnOk result (text.new.items ≡ text.old.items
         ++ bracketed word.now (spelling (tree_of a.now) ∷ spelling (tree_of b.now) ∷ spelling (tree_of c.now) ∷ spelling (tree_of d.now) ∷ [])) }
+    ensures fit { OnOk result (NumbersFit (tree_of a.now) × NumbersFit (tree_of b.now) × NumbersFit (tree_of c.now) × NumbersFit (tree_of d.now)) }
 {
     push_opening(text, word, None)?;
     push_part(text, a)?;

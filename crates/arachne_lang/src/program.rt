@@ -139,67 +139,29 @@ impl Expr {
     fn is_same(&self, other: &Expr) -> bool
         ensures { IsTrue result ↔ (tree_of self.now ≡ tree_of other.now) }
     {
-        match self {
-            Expr::Num(n) => match other {
-                Expr::Num(m) => n == m,
-                _ => false,
-            },
-            Expr::Var(k) => match other {
-                Expr::Var(j) => k == j,
-                _ => false,
-            },
-            Expr::Len(array) => match other {
-                Expr::Len(other) => array == other,
-                _ => false,
-            },
-            Expr::Item(array, index) => match other {
-                Expr::Item(other, place) => array == other && index.is_same(place),
-                _ => false,
-            },
-            Expr::Binary(operation, a, b) => match other {
-                Expr::Binary(other, x, y) => operation == other && a.is_same(x) && b.is_same(y),
-                _ => false,
-            },
-            Expr::If(condition, a, b) => match other {
-                Expr::If(other, x, y) => condition.is_same(other) && a.is_same(x) && b.is_same(y),
-                _ => false,
-            },
-            Expr::Let(bound, body) => match other {
-                Expr::Let(value, other) => bound.is_same(value) && body.is_same(other),
-                _ => false,
-            },
-            Expr::Tally(ledger, amount, body) => match other {
-                Expr::Tally(number, value, other) => ledger == number
-                    && amount.is_same(value)
-                    && body.is_same(other),
-                _ => false,
-            },
-            Expr::Hold(lock, body) => match other {
-                Expr::Hold(number, other) => lock == number && body.is_same(other),
-                _ => false,
-            },
-            Expr::Fork(class, child, during, after) => match other {
-                Expr::Fork(kind, first, second, third) => class == kind
-                    && child.is_same(first)
-                    && during.is_same(second)
-                    && after.is_same(third),
-                _ => false,
-            },
-            Expr::Fold(from, to, first, body) => match other {
-                Expr::Fold(low, high, start, other) => from.is_same(low)
-                    && to.is_same(high)
-                    && first.is_same(start)
-                    && body.is_same(other),
-                _ => false,
-            },
-            Expr::Sweep(reduction, grain, from, to, body) => match other {
-                Expr::Sweep(kind, size, low, high, other) => reduction == kind
-                    && grain == size
-                    && from.is_same(low)
-                    && to.is_same(high)
-                    && body.is_same(other),
-                _ => false,
-            },
+        match (self, other) {
+            (Expr::Num(n), Expr::Num(m))
+            | (Expr::Var(n), Expr::Var(m))
+            | (Expr::Len(n), Expr::Len(m)) => n == m,
+            (Expr::Item(n, a), Expr::Item(m, x)) | (Expr::Hold(n, a), Expr::Hold(m, x)) => {
+                n == m && a.is_same(x)
+            }
+            (Expr::Binary(operation, a, b), Expr::Binary(other, x, y)) => {
+                operation == other && a.is_same(x) && b.is_same(y)
+            }
+            (Expr::If(a, b, c), Expr::If(x, y, z)) => a.is_same(x) && b.is_same(y) && c.is_same(z),
+            (Expr::Let(a, b), Expr::Let(x, y)) => a.is_same(x) && b.is_same(y),
+            (Expr::Tally(n, a, b), Expr::Tally(m, x, y)) => n == m && a.is_same(x) && b.is_same(y),
+            (Expr::Fork(class, a, b, c), Expr::Fork(kind, x, y, z)) => {
+                class == kind && a.is_same(x) && b.is_same(y) && c.is_same(z)
+            }
+            (Expr::Fold(a, b, c, d), Expr::Fold(w, x, y, z)) => {
+                a.is_same(w) && b.is_same(x) && c.is_same(y) && d.is_same(z)
+            }
+            (Expr::Sweep(reduction, grain, a, b, c), Expr::Sweep(kind, size, x, y, z)) => {
+                reduction == kind && grain == size && a.is_same(x) && b.is_same(y) && c.is_same(z)
+            }
+            _ => false,
         }
     }
 }

@@ -1,5 +1,8 @@
-use Rattle.std.proofs.Common.{◌≡◌, ◌+◌, ◌≤◌, ◌<◌, max, length, refl, ap, ◌∙◌, arith, rules}
+use Rattle.std.proofs.Common.{◌≡◌, ◌+◌, ◌≤◌, ◌<◌, max, length, Result, refl, ap, ◌∙◌, arith, rules}
+use Rattle.std.specs.Prelude.{IfOk}
 use Rattle.std.specs.Vec.{with_item, with_items}
+use Rattle.std.proofs.lemmas.Result.{IfOk-weaker}
+use Rattle.arachne_lang.specs.declared.program.Class.{Class}
 use Rattle.arachne_lang.specs.Program.{tree_of, source_of}
 use Rattle.arachne_lang.proofs.Accounts.{eq-other, Gains-written}
 use Rattle.arachne_lang.proofs.EvaluationSteps.{IsEvaluated-Binary, IsEvaluated-Choose, IsEvaluated-Bind, IsEvaluated-Tally, IsEvaluated-Hold, IsEvaluated-Fork, IsEvaluated-Fold, IsEvaluated-Sweep, IsFolded-none, IsFolded-turn, IsReduced-none, IsReduced-turn, IsHalved-short, IsHalved-long, IsRun-line, IsHalfRun-line, MaySplit-right, newest-set, two_newest-set, newest-cut, two_newest-cut}
@@ -190,5 +193,10 @@ run_half-returns-clause-value t c =
     c.in_ok-value.ensures.value
     refl refl (rw (c.len-place.ensures, c.args.shared.now.lines.ok.0, c.into_line.ensures) refl)
 
-pub value-returns-in_ok-value-in-Fork-clause-value : goal.value-returns-in_ok-value-in-Fork-clause-value
-value-returns-in_ok-value-in-Fork-clause-value t c = let h = c.in_ok-value-in-Fork.ensures.value c.in-Fork.field-0 in search rules
+-- what holds for every class holds for one
+at_class : {X E : Type 0} (r : Result X E) (P : X → Class → Type 0) (class : Class) → IfOk r (λ x. (any : Class) → P x any) → IfOk r (λ x. P x class)
+at_class r P class h = IfOk-weaker r _ _ (λ x each. each class) h
+
+pub value-returns-in-Fork-clause-value : goal.value-returns-in-Fork-clause-value
+value-returns-in-Fork-clause-value t c =
+    rw (c.in-Fork.is, ← c.deref-in-Fork.ensures, ← c.deref-in-Fork-2.ensures, ← c.deref-in-Fork-3.ensures) (at_class c.fork.result _ c.in-Fork.field-0 c.fork.ensures.value)
