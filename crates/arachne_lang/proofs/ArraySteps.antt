@@ -1,8 +1,8 @@
 -- Reading the lines of arrays item by item and line by line.
-use Rattle.std.proofs.Common.{◌≡◌, ℕ, zero, suc, ◌+◌, ◌-◌, ◌*◌, ◌^◌, ◌<◌, ◌≤◌, List, [], ◌∷◌, ◌++◌, length, get_or, take, drop, Result, Ok, Err, refl, sym, ap, subst, ◌∙◌, arith}
+use Rattle.std.proofs.Common.{◌≡◌, ℕ, zero, suc, ◌+◌, ◌-◌, ◌*◌, ◌^◌, ◌<◌, ◌≤◌, List, [], ◌∷◌, ◌++◌, length, get_or, take, drop, Result, Ok, Err, refl, sym, ap, subst, arith}
 use Rattle.std.specs.Prelude.{◌==◌, ◌&&◌, nat_le, nat_lt, if◌then◌else◌, Bool, true, false, codes}
 use Rattle.std.proofs.Math.Seq.{take-length}
-use Rattle.std.proofs.lemmas.Bool.{eqb-true, ne_eqb}
+use Rattle.std.proofs.lemmas.Bool.{ne_eqb}
 use Rattle.arachne_lang.specs.declared.reading.stop.Stop.{Stop}
 use Rattle.arachne_lang.specs.declared.reading.stop.Stop.TheVariants as stop
 use Rattle.arachne_lang.specs.Reading.{Fails, Halt, Departs, Overflows, Reading, ◌>>=◌, word_at, digits_at, figures_at, items_within, items_at, arrays_within, arrays_at}

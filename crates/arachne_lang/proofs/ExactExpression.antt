@@ -8,7 +8,7 @@ use Rattle.arachne_lang.specs.declared.reading.heads.Head.TheVariants as head
 use Rattle.arachne_lang.specs.Tree.{Tree, Number}
 use Rattle.arachne_lang.specs.Spelling.{spelling}
 use Rattle.arachne_lang.specs.Text.{NumbersFit}
-use Rattle.arachne_lang.specs.Reading.{Departs, TooDeep, Reading, ◌>>=◌, words_at, form_words, behind_word_at, form_at, expression_at}
+use Rattle.arachne_lang.specs.Reading.{Departs, TooDeep, Reading, words_at, form_words, behind_word_at, form_at, expression_at}
 use Rattle.arachne_lang.proofs.Languages.{Language, first, Departure, Deepening, Exact, Residual, Exact-residual, byte_residual, same_residual, sequence, exact_sequence, after}
 use Rattle.arachne_lang.proofs.ExactWords.{vocabulary}
 use Rattle.arachne_lang.proofs.Forms.{contents_text, kind_of, made, word_of, formed, made-text, made-fits, fits-made}

@@ -1,13 +1,13 @@
 -- What stands behind the word of a form is read exactly.
-use Rattle.std.proofs.Common.{◌≡◌, ℕ, zero, suc, ◌^◌, ◌<◌, List, [], ◌∷◌, ◌++◌, Some, Ok, refl, sym, ap, subst, ◌∙◌, append_assoc, arith, lit<}
+use Rattle.std.proofs.Common.{◌≡◌, ℕ, zero, suc, ◌^◌, ◌<◌, List, [], ◌++◌, Some, Ok, refl, sym, ap, subst, ◌∙◌, append_assoc, lit<}
 use Rattle.std.specs.Prelude.{codes}
-use Rattle.std.proofs.lemmas.List.{append-nil, append_cancel_left}
+use Rattle.std.proofs.lemmas.List.{append-nil}
 use Rattle.arachne_lang.specs.Tree.{Tree, Number}
 use Rattle.arachne_lang.specs.Spelling.{numeral, spelling}
 use Rattle.arachne_lang.specs.Text.{NumbersFit}
 use Rattle.arachne_lang.specs.Reading.{Reading, ◌>>=◌, word_at, number_at, part_at}
 use Rattle.arachne_lang.proofs.Numerals.{bracket_is_no_digit, space_is_no_digit}
-use Rattle.arachne_lang.proofs.Languages.{levels_behind, Language, Exact, Residual, Exact-residual, same_residual, sequence, exact_sequence, nothing_more, exact_nothing_more, behind_word, exact_word}
+use Rattle.arachne_lang.proofs.Languages.{levels_behind, Language, Exact, Exact-residual, same_residual, sequence, exact_sequence, nothing_more, exact_nothing_more, behind_word, exact_word}
 use Rattle.arachne_lang.proofs.ExactNumber.{number_before, exact_number}
 use Rattle.arachne_lang.proofs.Forms.{Values, Each, joined, Kind, Numeral, Parts, Both, Contents, contents_text, Fit}
 use Rattle.arachne_lang.proofs.ExpressionTexts.{expression, spelling-unique}

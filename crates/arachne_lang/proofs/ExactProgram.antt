@@ -1,15 +1,15 @@
 -- The text of a program is read exactly.
-use Rattle.std.proofs.Common.{◌≡◌, ℕ, zero, suc, ◌+◌, ◌^◌, ◌<◌, ◌≤◌, List, [], ◌∷◌, ◌++◌, length, Option, Some, None, Result, Ok, Err, refl, sym, ap, subst, ◌∙◌, append_assoc, arith, lit<}
-use Rattle.std.specs.Prelude.{◌==◌, Bool, true, false, map, codes}
+use Rattle.std.proofs.Common.{◌≡◌, ℕ, zero, suc, ◌<◌, List, [], ◌∷◌, ◌++◌, length, Option, Some, Result, Ok, Err, refl, sym, ap, subst, ◌∙◌, append_assoc, arith, lit<}
+use Rattle.std.specs.Prelude.{◌==◌, Bool, true, false, codes}
 use Rattle.std.specs.List.{AllByRecursion, flat_map}
 use Rattle.std.proofs.lemmas.Bool.{eqb-true, eqb-false}
 use Rattle.std.proofs.lemmas.List.{append-nil, append_cancel_left}
 use Rattle.arachne_lang.specs.Tree.{Tree, Number, Source}
-use Rattle.arachne_lang.specs.Spelling.{numeral, spelling, after_spaces, line, header, text_of}
+use Rattle.arachne_lang.specs.Spelling.{numeral, spelling, line, header, text_of}
 use Rattle.arachne_lang.specs.Text.{NumbersFit, IsInRange, IsAccepted, StartsWith}
 use Rattle.arachne_lang.specs.Reading.{Halt, Reading, ◌>>=◌, word_at, number_at, expression_at, items_at, arrays_at, lines_at, source_at}
 use Rattle.arachne_lang.proofs.Numerals.{newline_is_no_digit}
-use Rattle.arachne_lang.proofs.Languages.{levels_behind, levels_then, levels_behind-append, first, Language, same_residual, Exact, Exact-residual, Exact-among, sequence, exact_sequence, exact_sequence_on, nothing_more, exact_nothing_more, behind_word, exact_word}
+use Rattle.arachne_lang.proofs.Languages.{levels_behind, first, Language, same_residual, Exact, Exact-residual, Exact-among, sequence, exact_sequence, exact_sequence_on, nothing_more, exact_nothing_more, behind_word, exact_word}
 use Rattle.arachne_lang.proofs.ExactNumber.{number_before, exact_number}
 use Rattle.arachne_lang.proofs.ExpressionTexts.{expression}
 use Rattle.arachne_lang.proofs.ExactExpression.{exact_expression}

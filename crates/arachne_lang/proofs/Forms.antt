@@ -2,15 +2,11 @@
 use Rattle.std.proofs.Common.{◌≡◌, ℕ, zero, suc, ◌+◌, ◌^◌, ◌<◌, List, [], ◌∷◌, ◌++◌, refl, sym, ap, ◌∙◌, append_assoc}
 use Rattle.std.specs.Prelude.{codes, max}
 use Rattle.std.proofs.lemmas.List.{append-nil}
-use Rattle.arachne_lang.specs.declared.program.Class.TheVariants as class
-use Rattle.arachne_lang.specs.declared.program.Operation.TheVariants as operation
-use Rattle.arachne_lang.specs.declared.program.Reduction.TheVariants as reduction
 use Rattle.arachne_lang.specs.declared.reading.heads.Head.{Head}
 use Rattle.arachne_lang.specs.declared.reading.heads.Head.TheVariants as head
 use Rattle.arachne_lang.specs.Tree.{Tree, Number, Variable, Length, Item, Binary, Choose, Bind, Tally, Hold, Fork, Fold, Sweep}
 use Rattle.arachne_lang.specs.Spelling.{numeral, spelling, operation_word, class_word, reduction_word, after_spaces}
 use Rattle.arachne_lang.specs.Text.{NumbersFit, nesting}
-use Rattle.arachne_lang.specs.Reading.{words_at, form_words, words_in_f, words_in_i, words_in_l, words_in_m, words_in_s, words_of_sweeps, sweeps_in_m}
 
 -- ---- so many trees more than one
 

@@ -1,6 +1,6 @@
 -- The words of the forms are read exactly.
-use Rattle.std.proofs.Common.{◌≡◌, ℕ, List, [], ◌∷◌, ◌++◌, Some, Result, Ok, refl, sym, ap, subst, ◌∙◌}
-use Rattle.std.specs.Prelude.{codes, true}
+use Rattle.std.proofs.Common.{◌≡◌, ℕ, List, [], ◌++◌, Some, Result, Ok, refl, sym, subst, ◌∙◌}
+use Rattle.std.specs.Prelude.{true}
 use Rattle.std.proofs.lemmas.List.{append-nil}
 use Rattle.arachne_lang.specs.declared.program.Class.TheVariants as class
 use Rattle.arachne_lang.specs.declared.program.Operation.TheVariants as operation

@@ -1,5 +1,5 @@
 -- Which texts are accepted, and the faults of the others.
-use Rattle.std.specs.Prelude.{ℕ, ◌≡◌, ◌+◌, ◌-◌, ◌*◌, ◌^◌, ◌<◌, ◌≤◌, ◌==◌, max, List, [], ◌∷◌, ◌++◌, length, take, count_by, slice_index, ◌⊎◌}
+use Rattle.std.specs.Prelude.{ℕ, ◌≡◌, ◌+◌, ◌-◌, ◌^◌, ◌<◌, ◌≤◌, ◌==◌, max, List, ◌++◌, length, take, count_by, slice_index, ◌⊎◌}
 use Rattle.std.specs.List.{AllByRecursion}
 use Rattle.arachne_lang.specs.declared.text_fault.TextFault.{TextFault}
 use Rattle.arachne_lang.specs.declared.text_fault.TextFault.TheVariants.{Memory, Header, Syntax, Number as Overflow, Nesting}
