@@ -26,7 +26,7 @@ pub record Suspended : Type 0 where
   pub holds : List ℕ
   -- the lines of the threads below it, as far as they were joined
   pub below : List ThreadLine
-  -- A bound on the steps that it and the threads that it will fork have left, without the one in which each finds that it has ended. Each step takes at least one.
+  -- A bound on the steps that it and the threads that it will fork have left, without one in which a thread does nothing but end. Each other step takes at least one.
   pub work : ℕ
 
 -- the name of the child that a join awaits: that of the newest fork that is not joined

@@ -8,8 +8,8 @@ abbrev pub total : (ℕ → ℕ) → ℕ → ℕ
 total f zero = 0
 total f (suc j) = total f j + f j
 
--- A step begins a node or a part of a sweep, or hands a value on. A turn of a fold or a sweep ends with a step that hands its value on, and each split of
--- a sweep takes three more. A sweep splits at most once less often than it has numbers.
+-- A bound: each beginning of a node or of a part of a sweep counts, and each handing of a value to a frame, though several are often one step. Each split of
+-- a sweep counts three more. A sweep splits at most once less often than it has numbers.
 abbrev pub work_of : List (List ℕ) → Tree → Environment → ℕ
 work_of arrays (Number n) env = 1
 work_of arrays (Variable k) env = 1

@@ -3,7 +3,7 @@ use crate::state::{Progress, State, Stop};
 use arachne_lang::Expr;
 use std::alloc::AllocError;
 
-/// The steps that begin an expression.
+/// How an expression is begun.
 impl<'p> State<'p> {
     ghost use Rattle.std.specs.Prelude.{◌≡◌, length, slice_index, IfOk, OnOk, OnErr};
     ghost use Rattle.arachne_lang.specs.Program.{source_of};

@@ -6,13 +6,12 @@ use std::alloc::AllocError;
 
 /// The steps that fork a child, and the answer to a fork.
 impl<'p> State<'p> {
-    ghost use Rattle.std.specs.Prelude.{◌≡◌, ◌+◌, ◌<◌, ◌^◌, None, Some, IfOk, OnErr};
+    ghost use Rattle.std.specs.Prelude.{◌≡◌, ◌+◌, ◌<◌, ◌^◌, IfOk, OnErr};
     ghost use Rattle.arachne_lang.specs.Program.{source_of};
     ghost use Rattle.arachne_machine.specs.declared.frame.Frame.TheVariants as frames;
     ghost use Rattle.arachne_machine.specs.declared.frame.Control.TheVariants as control;
-    ghost use Rattle.arachne_machine.specs.declared.pause.Pending.TheVariants as pause;
-    ghost use Rattle.arachne_machine.specs.Ending.{begun_work, work_left, locks_of};
-    ghost use Rattle.arachne_machine.specs.Steps.{pending_of, IsBeginning, IsNumbered, IsUnchanged, Goes, PushesFork, StopsAt};
+    ghost use Rattle.arachne_machine.specs.Ending.{begun_work, work_left};
+    ghost use Rattle.arachne_machine.specs.Steps.{IsBeginning, IsNumbered, IsUnchanged, PushesFork, StopsAt};
 
     /// A new child, whose number is the fork's. The own thread goes on with what it does meanwhile.
     pub fn fork(

@@ -3,9 +3,9 @@ use crate::state::{Progress, State, Stop};
 use arachne_lang::{Expr, Reduction};
 use std::alloc::AllocError;
 
-/// The steps that hand a value on.
+/// How a value is handed on.
 impl<'p> State<'p> {
-    ghost use Rattle.std.specs.Prelude.{◌≡◌, ◌+◌, ◌≤◌, ◌++◌, ◌∷◌, [], length, slice_index, take, vec_len, vec_capacity, None, IfOk, OnOk, OnErr};
+    ghost use Rattle.std.specs.Prelude.{◌≡◌, ◌+◌, ◌≤◌, ◌++◌, ◌∷◌, [], length, slice_index, vec_len, vec_capacity, None, IfOk, OnOk, OnErr};
     ghost use Rattle.arachne_lang.specs.Program.{source_of};
     ghost use Rattle.arachne_lang.specs.Value.{array_at, with_newest};
     ghost use Rattle.arachne_machine.specs.declared.state.State.{State as Thread};
@@ -14,7 +14,7 @@ impl<'p> State<'p> {
     ghost use Rattle.arachne_machine.specs.Ending.{without_newest};
     ghost use Rattle.arachne_machine.specs.Steps.{Becomes, IsUnchanged, IsPopped, IsPauseOrRange, IsOfRange, Enters, TurnsFold, TurnsSweep, StopsAt, Progresses, OnValue, giving};
 
-    /// Hands a value on from frame to frame, until the thread begins an expression or stops.
+    /// Hands a value on from frame to frame, until one of them says what the thread does next, or none is left.
     #[inline(always)]
     pub fn give(&mut self, mut value: u64) -> Result<Option<Stop<'p>>, AllocError>
         ensures ok { IfOk result (λ stop. StopsAt 1 (giving self.old value) stop self.new) }

@@ -116,7 +116,8 @@ impl<'p> State<'p> {
         Ok(None)
     }
 
-    /// One step: it begins an expression or a part of a sweep, and hands on the value that is known then.
+    /// One step: it begins an expression and hands on its value where that is known at once, or begins a part of a sweep, or hands on a
+    /// value that was left over.
     #[inline(always)]
     fn step(&mut self) -> Result<Option<Stop<'p>>, AllocError>
         requires running { pending_of self.old.control ≡ None }

@@ -1,4 +1,4 @@
-ghost use Rattle.std.specs.Prelude.{◌≡◌, None, Some, IfOk, OnOk};
+ghost use Rattle.std.specs.Prelude.{◌≡◌, ◌≤◌, None, Some, IfOk, OnOk};
 ghost use Rattle.arachne_machine.specs.declared.pause.Pending.TheVariants as pause;
 ghost use Rattle.arachne_machine.specs.Suspended.{Suspended};
 ghost use Rattle.arachne_machine.specs.Advance.{Advanced};
@@ -268,14 +268,26 @@ fn refused_calls_go_on(rt: HostRuntime) -> Result<(), Fail> {
     Ok(())
 }
 
-/// Advances by one step, which ends at no pause of the thread's own.
-fn cut(thread: &mut Thread) -> Result<(), Fail>
-    requires { thread.old.pending ≡ None }
+/// Advances by so many steps, which end at no pause of the thread's own.
+fn cut(thread: &mut Thread, budget: u32) -> Result<(), Fail>
+    requires running { thread.old.pending ≡ None }
+    requires some { 1 ≤ budget }
     ensures { OnOk result (thread.new.pending ≡ None) }
 {
-    match thread.advance(1)? {
+    match thread.advance(budget)? {
         Pause::Budget => Ok(()),
         _ => Err("a pause before its time")?,
+    }
+}
+
+/// Advances to the thread's end.
+fn ended(thread: &mut Thread, budget: u32) -> Result<(), Fail>
+    requires running { thread.old.pending ≡ None }
+    requires some { 1 ≤ budget }
+{
+    match thread.advance(budget)? {
+        Pause::Ended => Ok(()),
+        _ => Err("a sum of more than three steps")?,
     }
 }
 
@@ -285,12 +297,12 @@ fn a_sum_has_three_steps(rt: HostRuntime) -> Result<(), Fail> {
     let alloc = rt.alloc();
     let program = program(alloc, 0, "(add (num 1) (num 2))")?;
     let mut thread = Thread::start(alloc, &program, 0)?;
-    cut(&mut thread)?;
-    cut(&mut thread)?;
-    match thread.advance(1)? {
-        Pause::Ended => Ok(()),
-        _ => Err("a sum of more than three steps")?,
-    }
+    cut(&mut thread, 1)?;
+    cut(&mut thread, 1)?;
+    ended(&mut thread, 1)?;
+    let mut thread = Thread::start(alloc, &program, 0)?;
+    cut(&mut thread, 2)?;
+    ended(&mut thread, 2)
 }
 
 /// The class of the first fork of a program that has one.
