@@ -281,7 +281,7 @@ fn cut(thread: &mut Thread, budget: u32) -> Result<(), Fail>
 }
 
 /// Advances to the thread's end.
-fn ended(thread: &mut Thread, budget: u32) -> Result<(), Fail>
+fn end(thread: &mut Thread, budget: u32) -> Result<(), Fail>
     requires running { thread.old.pending ≡ None }
     requires some { 1 ≤ budget }
 {
@@ -299,10 +299,10 @@ fn a_sum_has_three_steps(rt: HostRuntime) -> Result<(), Fail> {
     let mut thread = Thread::start(alloc, &program, 0)?;
     cut(&mut thread, 1)?;
     cut(&mut thread, 1)?;
-    ended(&mut thread, 1)?;
+    end(&mut thread, 1)?;
     let mut thread = Thread::start(alloc, &program, 0)?;
     cut(&mut thread, 2)?;
-    ended(&mut thread, 2)
+    end(&mut thread, 2)
 }
 
 /// The class of the first fork of a program that has one.
