@@ -8,7 +8,7 @@ use Rattle.arachne_machine.specs.declared.pause.NotJoined.TheVariants as refused
 use Rattle.arachne_machine.specs.Outcome.{Finished}
 use Rattle.arachne_machine.specs.Suspended.{Suspended, SameThread, Forked, awaited}
 
--- What an advance does, by the pause that it gives. The budget bounds the steps.
+-- What an advance does, by the pause that it gives. That it makes no more steps than its budget is not said.
 abbrev pub Advanced : ℕ → Suspended → Pause → Suspended → Type 0
 -- the whole budget was used
 Advanced budget old pauses.Budget new =
