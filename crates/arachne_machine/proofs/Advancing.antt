@@ -1,5 +1,5 @@
 -- What callers see of an advance.
-use Rattle.std.proofs.Common.{ℕ, Option, None, Some, sym, ◌∙◌, arith}
+use Rattle.std.proofs.Common.{ℕ, Option, None, Some, sym, ◌∙◌}
 use Rattle.arachne_machine.specs.declared.state.State.{State}
 use Rattle.arachne_machine.specs.declared.state.Stop.{Stop}
 use Rattle.arachne_machine.specs.declared.state.Stop.TheVariants as stop
@@ -7,26 +7,29 @@ use Rattle.arachne_machine.specs.Advance.{Advanced}
 use Rattle.arachne_machine.specs.Stops.{pause_of, IsSoundStop}
 use Rattle.arachne_machine.specs.Steps.{StopsAt, suspended}
 use Rattle.arachne_machine.specs.Sound.{IsSound}
-use Rattle.arachne_machine.proofs.Soundness.{sound_goes, sound_fork, sound_child, same_thread, forked_seen, stopped_seen}
+use Rattle.arachne_machine.proofs.Soundness.{sound_goes, sound_fork, sound_child, same_thread, within_seen, forked_seen, stopped_seen}
 
 pub sound_after : (n : ℕ) (old new : State) (s : Option Stop) → IsSound old → StopsAt n old s new → IsSound new
 sound_after n old new None s h = sound_goes n old new s h.0
-sound_after n old new (Some (stop.Forks class child)) s h = sound_fork old new child.value _ s h
-sound_after n old new (Some stop.Joins) s h = sound_goes 1 old new s h.0
-sound_after n old new (Some (stop.Asks lock)) s h = sound_goes 1 old new s h.0
-sound_after n old new (Some (stop.Frees lock)) s h = sound_goes 1 old new s h.0
-sound_after n old new (Some (stop.Tallies ledger amount)) s h = sound_goes 1 old new s h.0
-sound_after n old new (Some stop.Ended) s h = sound_goes 0 old new s h.0
+sound_after n old new (Some (stop.Forks class child)) s h = sound_fork n old new child.value _ s h
+sound_after n old new (Some stop.Joins) s h = sound_goes h.0.made old new s h.0.goes
+sound_after n old new (Some (stop.Asks lock)) s h = sound_goes h.0.made old new s h.0.goes
+sound_after n old new (Some (stop.Frees lock)) s h = sound_goes h.0.made old new s h.0.goes
+sound_after n old new (Some (stop.Tallies ledger amount)) s h = sound_goes h.0.made old new s h.0.goes
+sound_after n old new (Some stop.Ended) s h = sound_goes h.0.made old new s h.0.goes
 
 pub sound_stop : (n : ℕ) (old new : State) (s : Option Stop) → IsSound old → StopsAt n old s new → IsSoundStop s
-sound_stop n old new (Some (stop.Forks class child)) s h = sound_child old new child.value _ s h
+sound_stop n old new (Some (stop.Forks class child)) s h = sound_child n old new child.value _ s h
 sound_stop n old new _ s h = tt
 
 pub advanced_seen : (n : ℕ) (old new : State) (s : Option Stop) → IsSound old → StopsAt n old s new → Advanced n (suspended old) (pause_of s) (suspended new)
 advanced_seen n old new None s h = (same_thread n old new h.0, h.2, h.1, h.0.work)
-advanced_seen n old new (Some (stop.Forks class child)) s h = forked_seen old new child.value _ s h
-advanced_seen n old new (Some stop.Joins) s h = (same_thread 1 old new h.0, h.2, h.1, stopped_seen 1 old new h.0 h.1, h.0.work)
-advanced_seen n old new (Some (stop.Asks lock)) s h = (same_thread 1 old new h.0, h.2, h.1, h.0.work)
-advanced_seen n old new (Some (stop.Frees lock)) s h = (same_thread 1 old new h.0, h.2, h.1, (h.3.0, sym h.2 ∙ h.3.1), h.0.work)
-advanced_seen n old new (Some (stop.Tallies ledger amount)) s h = (same_thread 1 old new h.0, h.2, h.1, h.0.work)
-advanced_seen n old new (Some stop.Ended) s h = (same_thread 0 old new h.0, sym h.3 ∙ h.4, h.4, h.1, h.2, omega (arith, h.0.work))
+advanced_seen n old new (Some (stop.Forks class child)) s h = forked_seen n old new child.value _ s h
+advanced_seen n old new (Some stop.Joins) s h =
+    (same_thread h.0.made old new h.0.goes, h.2, h.1, stopped_seen h.0.made old new h.0.goes h.1, within_seen 1 n old new h.0)
+advanced_seen n old new (Some (stop.Asks lock)) s h = (same_thread h.0.made old new h.0.goes, h.2, h.1, within_seen 1 n old new h.0)
+advanced_seen n old new (Some (stop.Frees lock)) s h =
+    (same_thread h.0.made old new h.0.goes, h.2, h.1, (h.3.0, sym h.2 ∙ h.3.1), within_seen 1 n old new h.0)
+advanced_seen n old new (Some (stop.Tallies ledger amount)) s h = (same_thread h.0.made old new h.0.goes, h.2, h.1, within_seen 1 n old new h.0)
+advanced_seen n old new (Some stop.Ended) s h =
+    (same_thread h.0.made old new h.0.goes, sym h.3 ∙ h.4, h.4, h.1, h.2, h.5, within_seen 1 n old new h.0)

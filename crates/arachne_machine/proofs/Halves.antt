@@ -12,7 +12,7 @@ use Rattle.arachne_lang.specs.Tree.{Tree}
 use Rattle.arachne_lang.specs.Value.{Environment, turns, with_newest, value_of, apply, operation_of, unit_of, wrapped}
 use Rattle.arachne_lang.specs.Effects.{Task, Reduce, Effects, forked, halves, turns_effects, effects_of, task_value, task_effects}
 use Rattle.arachne_machine.specs.Turns.{swept, swept_effects, swept_work, split_work}
-use Rattle.arachne_machine.specs.Work.{total, work_of}
+use Rattle.arachne_machine.specs.Work.{total, splits, work_of, work_of_parts}
 
 -- Values.
 reduction_assoc : (r : Reduction) (x y z : ℕ) → apply (operation_of r) (apply (operation_of r) x y) z ≡ apply (operation_of r) x (apply (operation_of r) y z)
@@ -153,15 +153,56 @@ total_after f m (suc k) =
     let next : m + suc k ≡ suc (m + k) = omega arith in
     ap (total f) next ∙ omega (arith, total_after f m k)
 
-pub work_split : (arrays : List (List ℕ)) (body : Tree) (env : Environment) (first n : ℕ) → 2 ≤ n →
-    split_work arrays body env first (n / 2) + split_work arrays body env (first + n / 2) (n - n / 2) + 2 ≤ split_work arrays body env first n
-work_split arrays body env first n two =
+-- The fuel does not matter here either.
+splits_none : (grain fuel n : ℕ) → n ≤ max 1 grain → splits grain fuel n ≡ 0
+splits_none grain zero n le = refl
+splits_none grain (suc fuel) n le =
+    let small : nat_le n (max 1 grain) ≡ true = search rules in
+    ap (λ b. if b then 0 else splits grain fuel (n / 2) + splits grain fuel (n - n / 2) + 1) small
+
+splits_some : (grain fuel n : ℕ) → max 1 grain < n → splits grain (suc fuel) n ≡ splits grain fuel (n / 2) + splits grain fuel (n - n / 2) + 1
+splits_some grain fuel n lt =
+    let large : nat_le n (max 1 grain) ≡ false = search rules in
+    ap (λ b. if b then 0 else splits grain fuel (n / 2) + splits grain fuel (n - n / 2) + 1) large
+
+splits_fuel : (grain fuel other n : ℕ) → n ≤ fuel → n ≤ other → splits grain fuel n ≡ splits grain other n
+splits_fuel grain zero other n le le' =
+    let small : n ≤ max 1 grain = omega arith in
+    splits_none grain zero n small ∙ sym (splits_none grain other n small)
+splits_fuel grain (suc fuel) zero n le le' =
+    let small : n ≤ max 1 grain = omega arith in
+    splits_none grain (suc fuel) n small ∙ sym (splits_none grain zero n small)
+splits_fuel grain (suc fuel) (suc other) n le le' =
+    elim (cases_lt (max 1 grain) n) [
+      | inl lt ↦
+          let here = fits n fuel (omega arith) le in
+          let there = fits n other (omega arith) le' in
+          splits_some grain fuel n lt
+          ∙ ap (λ x. x + splits grain fuel (n - n / 2) + 1) (splits_fuel grain fuel other (n / 2) here.0 there.0)
+          ∙ ap (λ x. splits grain other (n / 2) + x + 1) (splits_fuel grain fuel other (n - n / 2) here.1 there.1)
+          ∙ sym (splits_some grain other n lt)
+      | inr small ↦ splits_none grain (suc fuel) n small ∙ sym (splits_none grain (suc other) n small)
+    ]
+
+splits_halves : (grain n : ℕ) → max 1 grain < n → splits grain n n ≡ splits grain (n / 2) (n / 2) + splits grain (n - n / 2) (n - n / 2) + 1
+splits_halves grain n lt =
+    let some : n ≡ suc (n - 1) = omega arith in
+    let within = fits n (n - 1) (omega arith) (omega arith) in
+    ap (λ fuel. splits grain fuel n) some
+    ∙ splits_some grain (n - 1) n lt
+    ∙ ap (λ x. x + splits grain (n - 1) (n - n / 2) + 1) (splits_fuel grain (n - 1) (n / 2) (n / 2) within.0 (omega arith))
+    ∙ ap (λ x. splits grain (n / 2) (n / 2) + x + 1) (splits_fuel grain (n - 1) (n - n / 2) (n - n / 2) within.1 (omega arith))
+
+pub work_whole : (grain n : ℕ) → n ≤ max 1 grain → work_of_parts grain n ≡ 2
+work_whole grain n le = omega (arith, splits_none grain n n le)
+
+pub work_split : (arrays : List (List ℕ)) (body : Tree) (env : Environment) (grain first n : ℕ) → max 1 grain < n →
+    split_work arrays body env grain first (n / 2) + split_work arrays body env grain (first + n / 2) (n - n / 2) + 2 ≡ split_work arrays body env grain first n
+work_split arrays body env grain first n lt =
     let m = n / 2 in
-    let W : ℕ → ℕ = λ i. work_of arrays body (with_newest env i) + 1 in
+    let W : ℕ → ℕ = λ i. work_of arrays body (with_newest env i) in
     let whole : n ≡ m + (n - m) = omega arith in
     let both : swept_work arrays body env first n ≡ swept_work arrays body env first m + swept_work arrays body env (first + m) (n - m) =
     ap (swept_work arrays body env first) whole ∙ total_after (λ j. W (first + j)) m (n - m)
     ∙ ap (λ f. total (λ j. W (first + j)) m + total f (n - m)) (fun_ext (λ j. ap W (sym (add_assoc first m j)))) in
-    let some : 1 ≤ m = omega arith in
-    let more : 1 ≤ n - m = omega arith in
-    omega (arith, both, some, more, whole)
+    omega (arith, both, splits_halves grain n lt)

@@ -22,31 +22,31 @@ use Rattle.arachne_machine.specs.Account.{Account, after}
 use Rattle.arachne_machine.specs.Work.{work_of}
 use Rattle.arachne_machine.specs.Turns.{folded, folded_effects, folded_work, swept, swept_effects, swept_work}
 use Rattle.arachne_machine.specs.Ending.{Status, resume, resume_account, resume_work, begun, begun_account, begun_work, fork_awaited, lock_freed, forks_of, releases, frames_left, without_newest}
-use Rattle.arachne_machine.specs.Steps.{Becomes, IsUnchanged, IsPopped, Enters, TurnsFold, TurnsSweep, StopsAt, pending_of, giving}
-use Rattle.arachne_machine.proofs.Halves.{effects_whole}
-use Rattle.arachne_machine.proofs.Ranges.{folded-turn, folded-done, folded_effects-turn, folded_effects-done, folded_work-turn, swept-turn, swept-done, swept_effects-turn, swept_effects-done, swept_work-turn}
-use Rattle.arachne_machine.proofs.Outlooks.{StepOutlook, Step, steps_by, goes_on_by, framed_as, reshaped, later, alone, as_giving}
+use Rattle.arachne_machine.specs.Steps.{Becomes, IsUnchanged, IsPopped, Enters, Goes, GoesWithin, TurnsFold, TurnsSweep, StopsAt, pending_of, giving}
+use Rattle.arachne_machine.proofs.Halves.{effects_whole, work_whole}
+use Rattle.arachne_machine.proofs.Ranges.{folded-turn, folded-done, folded_effects-turn, folded_effects-done, folded_work-turn, folded_work-done, swept-turn, swept-done, swept_effects-turn, swept_effects-done, swept_work-turn, swept_work-done}
+use Rattle.arachne_machine.proofs.Outlooks.{StepOutlook, Step, at_of, work_at, steps_by, goes_on_by, framed_as, reshaped, later, alone, as_giving}
 
 -- The frame that a value is handed to is taken away, and the thread goes on: with this to do next, or with a new frame.
-pub hands_on : (before mid new : State) (v : ℕ) (f : Frame) (k' : Control) → IsPopped f before mid → mid.control ≡ Give v →
+pub hands_on : (steps : ℕ) (before mid new : State) (v : ℕ) (f : Frame) (k' : Control) → IsPopped f before mid → mid.control ≡ Give v →
     Becomes mid new mid.environment.items mid.frames.items k' → ((fs : List Frame) → frames_left k' fs ≡ fs) →
     fork_awaited k' ++ [] ≡ [] ++ forks_of (f ∷ []) → lock_freed k' ++ [] ≡ [] ++ releases (f ∷ []) → pending_of k' ≡ None →
-    StepOutlook (source_of mid.program.now) mid.own.name (Give v) (f ∷ []) mid.environment.items k' [] mid.environment.items → StopsAt 1 before None new
-hands_on before mid new v f k' popped gives b left forks locks pending same =
+    StepOutlook steps (source_of mid.program.now) mid.own.name (Give v) (f ∷ []) mid.environment.items k' [] mid.environment.items → StopsAt steps before None new
+hands_on steps before mid new v f k' popped gives b left forks locks pending same =
     let fs = mid.frames.items in
     let env = mid.environment.items in
-    goes_on_by mid before new (Give v) k' fs (f ∷ []) [] env env
+    goes_on_by steps mid before new (Give v) k' fs (f ∷ []) [] env env
     (framed_as mid before env (fs ++ f ∷ []) (fs ++ f ∷ []) mid.control (Give v) popped refl gives)
     (alone mid new env k' b) refl (left (fs ++ [])) forks locks pending same
 
 pub hands_to_part : (before mid new : State) (v : ℕ) (f g : Frame) (env' : List ℕ) (part : Bor Expr) → IsPopped f before mid → mid.control ≡ Give v →
     Becomes mid new env' (mid.frames.items ++ g ∷ []) (Begin part) →
     forks_of (g ∷ []) ≡ forks_of (f ∷ []) → releases (g ∷ []) ≡ releases (f ∷ []) →
-    StepOutlook (source_of mid.program.now) mid.own.name (Give v) (f ∷ []) mid.environment.items (Begin part) (g ∷ []) env' → StopsAt 1 before None new
+    StepOutlook 1 (source_of mid.program.now) mid.own.name (Give v) (f ∷ []) mid.environment.items (Begin part) (g ∷ []) env' → StopsAt 1 before None new
 hands_to_part before mid new v f g env' part popped gives b forks locks same =
     let fs = mid.frames.items in
     let env = mid.environment.items in
-    goes_on_by mid before new (Give v) (Begin part) fs (f ∷ []) (g ∷ []) env env'
+    goes_on_by 1 mid before new (Give v) (Begin part) fs (f ∷ []) (g ∷ []) env env'
     (framed_as mid before env (fs ++ f ∷ []) (fs ++ f ∷ []) mid.control (Give v) popped refl gives)
     b refl refl forks locks refl same
 
@@ -54,7 +54,7 @@ hands_to_part before mid new v f g env' part popped gives b forks locks same =
 pub hands_to_stop : (before mid new : State) (v : ℕ) (f : Frame) (k' : Control) → IsPopped f before mid → mid.control ≡ Give v →
     Becomes mid new mid.environment.items mid.frames.items k' → ((fs : List Frame) → frames_left k' fs ≡ fs) →
     fork_awaited k' ++ [] ≡ [] ++ forks_of (f ∷ []) →
-    StepOutlook (source_of mid.program.now) mid.own.name (Give v) (f ∷ []) mid.environment.items k' [] mid.environment.items →
+    StepOutlook 1 (source_of mid.program.now) mid.own.name (Give v) (f ∷ []) mid.environment.items k' [] mid.environment.items →
     Step 1 (Give v) k' mid.frames.items (f ∷ []) [] before new
 hands_to_stop before mid new v f k' popped gives b left forks same =
     let fs = mid.frames.items in
@@ -65,9 +65,9 @@ hands_to_stop before mid new v f k' popped gives b left forks same =
 
 -- Single frames.
 pub hand_index : (before mid new : State) (v a w : ℕ) → IsPopped (Index a) before mid → mid.control ≡ Give v →
-    w ≡ slice_index (array_at (source_of mid.program.now).arrays a) v → Becomes mid new mid.environment.items mid.frames.items (Give w) → StopsAt 1 before None new
+    w ≡ slice_index (array_at (source_of mid.program.now).arrays a) v → Becomes mid new mid.environment.items mid.frames.items (Give w) → StopsAt 0 before None new
 hand_index before mid new v a w popped gives is b =
-    hands_on before mid new v (Index a) (Give (slice_index (array_at (source_of mid.program.now).arrays a) v)) popped gives
+    hands_on 0 before mid new v (Index a) (Give (slice_index (array_at (source_of mid.program.now).arrays a) v)) popped gives
     (framed_as mid new mid.environment.items mid.frames.items mid.frames.items (Give w) (Give (slice_index (array_at (source_of mid.program.now).arrays a) v)) b refl (ap Give is))
     (λ fs. refl) refl refl refl
     (record { ending = refl; account = λ a any. refl; work = omega arith })
@@ -79,9 +79,9 @@ hand_right before mid new v operation right popped gives b =
     (record { ending = refl; account = λ a any. refl; work = omega arith })
 
 pub hand_apply : (before mid new : State) (v left w : ℕ) (operation : Operation) → IsPopped (Apply operation left) before mid → mid.control ≡ Give v →
-    w ≡ apply operation left v → Becomes mid new mid.environment.items mid.frames.items (Give w) → StopsAt 1 before None new
+    w ≡ apply operation left v → Becomes mid new mid.environment.items mid.frames.items (Give w) → StopsAt 0 before None new
 hand_apply before mid new v left w operation popped gives is b =
-    hands_on before mid new v (Apply operation left) (Give (apply operation left v)) popped gives
+    hands_on 0 before mid new v (Apply operation left) (Give (apply operation left v)) popped gives
     (framed_as mid new mid.environment.items mid.frames.items mid.frames.items (Give w) (Give (apply operation left v)) b refl (ap Give is))
     (λ fs. refl) refl refl refl
     (record { ending = refl; account = λ a any. refl; work = omega arith })
@@ -93,7 +93,7 @@ pub is_not_zero : (v : ℕ) → v ≢ 0 → (v == 0) ≡ false
 is_not_zero v h = search rules
 
 chosen : (source : Source) (name env : List ℕ) (v : ℕ) (first second : Bor Expr) (c : Bool) → (v == 0) ≡ c →
-    StepOutlook source name (Give v) (Branch first second ∷ []) env (Begin (if c then second else first)) [] env
+    StepOutlook 1 source name (Give v) (Branch first second ∷ []) env (Begin (if c then second else first)) [] env
 chosen source name env v first second true is = record {
   ending = ap (λ b. record { env = env; value = if b then value_of source.arrays (tree_of second.now) env else value_of source.arrays (tree_of first.now) env }) (sym is);
   account = λ a any. ap (λ b. after name (if b then effects_of source.arrays source.locks (tree_of second.now) env else effects_of source.arrays source.locks (tree_of first.now) env) a) (sym is);
@@ -112,7 +112,7 @@ chosen source name env v first second false is = record {
 pub hand_branch : (before mid new : State) (v : ℕ) (first second : Bor Expr) (c : Bool) → IsPopped (Branch first second) before mid → mid.control ≡ Give v → (v == 0) ≡ c →
     Becomes mid new mid.environment.items mid.frames.items (Begin (if c then second else first)) → StopsAt 1 before None new
 hand_branch before mid new v first second c popped gives is b =
-    hands_on before mid new v (Branch first second) (Begin (if c then second else first)) popped gives b
+    hands_on 1 before mid new v (Branch first second) (Begin (if c then second else first)) popped gives b
     (λ fs. refl) refl refl refl
     (chosen (source_of mid.program.now) mid.own.name mid.environment.items v first second c is)
 
@@ -127,14 +127,18 @@ hand_extend before mid new v body popped gives b =
     (record { ending = ap (λ e. record { env = e; value = w }) back; account = λ a any. refl; work = omega arith })
 
 pub hand_restore : (before mid new : State) (v n : ℕ) → IsPopped (Restore n) before mid → mid.control ≡ Give v →
-    Becomes mid new (take n mid.environment.items) mid.frames.items mid.control → StopsAt 1 before None new
+    Becomes mid new (take n mid.environment.items) mid.frames.items mid.control → StopsAt 0 before None new
 hand_restore before mid new v n popped gives b =
     let fs = mid.frames.items in
     let env = mid.environment.items in
-    goes_on_by mid before new (Give v) (Give v) fs (Restore n ∷ []) [] env (take n env)
+    goes_on_by 0 mid before new (Give v) (Give v) fs (Restore n ∷ []) [] env (take n env)
     (framed_as mid before env (fs ++ Restore n ∷ []) (fs ++ Restore n ∷ []) mid.control (Give v) popped refl gives)
     (framed_as mid new (take n env) (fs ++ []) (fs ++ []) mid.control (Give v) (alone mid new (take n env) mid.control b) refl gives) refl refl refl refl refl
     (record { ending = refl; account = λ a any. refl; work = omega arith })
+
+-- one step is within one
+pub once : (old new : State) → Goes 1 old new → GoesWithin 1 1 old new
+once old new g = record { made = 1; at_least = omega arith; at_most = omega arith; goes = g }
 
 -- Stops.
 pub hand_amount : (before mid new : State) (v ledger : ℕ) (body : Bor Expr) → IsPopped (Amount ledger body) before mid → mid.control ≡ Give v →
@@ -142,28 +146,28 @@ pub hand_amount : (before mid new : State) (v ledger : ℕ) (body : Bor Expr) �
 hand_amount before mid new v ledger body popped gives b =
     let s = hands_to_stop before mid new v (Amount ledger body) (Tallies ledger v body) popped gives b (λ fs. refl) refl
     (record { ending = refl; account = λ a any. refl; work = omega arith }) in
-    (s.goes, s.pending, s.locks ∙ sym s.old_locks)
+    (once before new s.goes, s.pending, s.locks ∙ sym s.old_locks)
 
 pub hand_release : (before mid new : State) (v lock : ℕ) → IsPopped (Release lock) before mid → mid.control ≡ Give v →
     Becomes mid new mid.environment.items mid.frames.items (Frees lock v) → StopsAt 1 before (Some (stop.Frees lock)) new
 hand_release before mid new v lock popped gives b =
     let s = hands_to_stop before mid new v (Release lock) (Frees lock v) popped gives b (λ fs. refl) refl
     (record { ending = refl; account = λ a any. refl; work = omega arith }) in
-    (s.goes, s.pending, s.locks ∙ sym s.old_locks, (releases mid.frames.items, s.locks))
+    (once before new s.goes, s.pending, s.locks ∙ sym s.old_locks, (releases mid.frames.items, s.locks))
 
 pub hand_join : (before mid new : State) (v number : ℕ) (next : Bor Expr) → IsPopped (Join number next) before mid → mid.control ≡ Give v →
     Becomes mid new mid.environment.items mid.frames.items (Awaits number v next) → StopsAt 1 before (Some stop.Joins) new
 hand_join before mid new v number next popped gives b =
     let s = hands_to_stop before mid new v (Join number next) (Awaits number v next) popped gives b (λ fs. refl) refl
     (record { ending = refl; account = λ a any. refl; work = omega arith }) in
-    (s.goes, s.pending, s.locks ∙ sym s.old_locks)
+    (once before new s.goes, s.pending, s.locks ∙ sym s.old_locks)
 
 pub hand_merge : (before mid new : State) (v number : ℕ) (reduction : Reduction) → IsPopped (Merge number reduction) before mid → mid.control ≡ Give v →
     Becomes mid new mid.environment.items mid.frames.items (AwaitsHalf number v reduction) → StopsAt 1 before (Some stop.Joins) new
 hand_merge before mid new v number reduction popped gives b =
     let s = hands_to_stop before mid new v (Merge number reduction) (AwaitsHalf number v reduction) popped gives b (λ fs. refl) refl
     (record { ending = refl; account = λ a any. refl; work = omega arith }) in
-    (s.goes, s.pending, s.locks ∙ sym s.old_locks)
+    (once before new s.goes, s.pending, s.locks ∙ sym s.old_locks)
 
 -- no frame is left
 pub ends : (old mid new : State) (v : ℕ) → IsUnchanged old mid → old.control ≡ Give v → mid.frames.items ≡ [] →
@@ -180,10 +184,17 @@ ends old mid new v same gives none b =
       frames_are = sym same.frames_are ∙ none;
       control_is = gives;
     } in
-    let s = steps_by 0 mid old new (Give v) (Ended v) [] [] [] env env back
+    let s = steps_by 1 mid old new (Give v) (Ended v) [] [] [] env env back
     (framed_as mid new env mid.frames.items [] (Ended v) (Ended v) b none refl) refl refl refl
     (record { ending = refl; account = λ a any. refl; work = omega arith }) in
-    (s.goes, s.pending, ap (λ k. fork_awaited k ++ forks_of new.frames.items) b.control_is ∙ ap forks_of (b.frames_are ∙ none), s.locks ∙ sym s.old_locks, s.locks)
+    (
+      once old new s.goes,
+      s.pending,
+      ap (λ k. fork_awaited k ++ forks_of new.frames.items) b.control_is ∙ ap forks_of (b.frames_are ∙ none),
+      s.locks ∙ sym s.old_locks,
+      s.locks,
+      work_at (source_of mid.program.now) mid.own.name (Ended v) mid.frames.items env new (at_of mid new (Ended v) mid.frames.items env b),
+    )
 
 -- Folds.
 pub hand_fold_to : (before mid new : State) (v : ℕ) (to first body : Bor Expr) → IsPopped (FoldTo to first body) before mid → mid.control ≡ Give v →
@@ -211,7 +222,7 @@ without-one env x =
 
 -- A turn of a fold that has a value so far, or its end.
 fold_turn : (source : Source) (name env : List ℕ) (v next end : ℕ) (body : Bor Expr) → next < end →
-    StepOutlook source name (Give v) (FoldStart next end body ∷ []) env (Begin body) (FoldTurn (next + 1) end body ∷ []) (with_newest (with_newest env next) v)
+    StepOutlook 1 source name (Give v) (FoldStart next end body ∷ []) env (Begin body) (FoldTurn (next + 1) end body ∷ []) (with_newest (with_newest env next) v)
 fold_turn source name env v next end body lt =
     let A = source.arrays in
     let L = source.locks in
@@ -231,11 +242,11 @@ fold_turn source name env v next end body lt =
     }
 
 fold_end : (source : Source) (name env : List ℕ) (v next end : ℕ) (body : Bor Expr) → end ≤ next →
-    StepOutlook source name (Give v) (FoldStart next end body ∷ []) env (Give v) [] env
+    StepOutlook 1 source name (Give v) (FoldStart next end body ∷ []) env (Give v) [] env
 fold_end source name env v next end body le = record {
   ending = ap (λ x. record { env = env; value = x }) (sym (folded-done source.arrays (tree_of body.now) env next end v le));
   account = λ a any. sym (folded_effects-done source.arrays source.locks (tree_of body.now) env next end v name a le);
-  work = omega arith;
+  work = omega (arith, folded_work-done source.arrays (tree_of body.now) env next end v le);
 }
 
 pub hand_fold_start : (before mid new : State) (v from to : ℕ) (body : Bor Expr) → IsPopped (FoldStart from to body) before mid → mid.control ≡ Give v →
@@ -247,13 +258,13 @@ hand_fold_start before mid new v from to body popped gives turns =
     elim (cases_lt from to) [
       | inl lt ↦ hands_to_part before mid new v (FoldStart from to body) (FoldTurn (from + 1) to body) (with_newest (with_newest env from) v) body popped gives
           (turns.turn lt) refl refl (fold_turn source name env v from to body lt)
-      | inr le ↦ hands_on before mid new v (FoldStart from to body) (Give v) popped gives (turns.done le) (λ fs. refl) refl refl refl
+      | inr le ↦ hands_on 1 before mid new v (FoldStart from to body) (Give v) popped gives (turns.done le) (λ fs. refl) refl refl refl
           (fold_end source name env v from to body le)
     ]
 
 fold_on : (source : Source) (name env : List ℕ) (v next end : ℕ) (body : Bor Expr) (k' : Control) (gs' : List Frame) (env' : List ℕ) →
-    StepOutlook source name (Give v) (FoldStart next end body ∷ []) (without_newest 2 env) k' gs' env' →
-    StepOutlook source name (Give v) (FoldTurn next end body ∷ []) env k' gs' env'
+    StepOutlook 1 source name (Give v) (FoldStart next end body ∷ []) (without_newest 2 env) k' gs' env' →
+    StepOutlook 1 source name (Give v) (FoldTurn next end body ∷ []) env k' gs' env'
 fold_on source name env v next end body k' gs' env' s = record { ending = s.ending; account = s.account; work = s.work }
 
 pub fold_giving : (t new : State) (v next end : ℕ) (body : Bor Expr) (so_far : ℕ) → TurnsFold t new next end body so_far → TurnsFold (giving t v) new next end body so_far
@@ -275,7 +286,7 @@ hand_fold_turn before mid outer new v next end body k popped gives dropped turns
     let f = FoldTurn next end body in
     let popped_off = framed_as mid before env (fs ++ f ∷ []) (fs ++ f ∷ []) mid.control (Give v) popped refl gives in
     elim (cases_lt next end) [
-      | inl lt ↦ goes_on_by mid before new (Give v) (Begin body) fs (f ∷ []) (FoldTurn (next + 1) end body ∷ []) env (with_newest (with_newest less next) v)
+      | inl lt ↦ goes_on_by 1 mid before new (Give v) (Begin body) fs (f ∷ []) (FoldTurn (next + 1) end body ∷ []) env (with_newest (with_newest less next) v)
           popped_off
           (reshaped mid new (with_newest (with_newest outer.environment.items next) v) (with_newest (with_newest less next) v)
           (outer.frames.items ++ FoldTurn (next + 1) end body ∷ []) (fs ++ FoldTurn (next + 1) end body ∷ []) (Begin body) (Begin body)
@@ -284,7 +295,7 @@ hand_fold_turn before mid outer new v next end body k popped gives dropped turns
           (ap (λ e. with_newest (with_newest e next) v) dropped.environment_is) (ap (λ l. l ++ FoldTurn (next + 1) end body ∷ []) dropped.frames_are) refl)
           refl refl refl refl refl (fold_on source name env v next end body (Begin body) (FoldTurn (next + 1) end body ∷ []) (with_newest (with_newest less next) v)
           (fold_turn source name less v next end body lt))
-      | inr le ↦ goes_on_by mid before new (Give v) (Give v) fs (f ∷ []) [] env less
+      | inr le ↦ goes_on_by 1 mid before new (Give v) (Give v) fs (f ∷ []) [] env less
           popped_off
           (alone mid new less (Give v)
           (reshaped mid new outer.environment.items less outer.frames.items fs (Give v) (Give v)
@@ -303,7 +314,7 @@ hand_sweep_to before mid new v reduction grain to body popped gives b =
 pub hand_sweep_start : (before mid new : State) (v : ℕ) (reduction : Reduction) (grain first : ℕ) (body : Bor Expr) → IsPopped (SweepStart reduction grain first body) before mid → mid.control ≡ Give v →
     Becomes mid new mid.environment.items mid.frames.items (Cover (record { reduction = reduction; grain = grain; first = first; end = v; body = body })) → StopsAt 1 before None new
 hand_sweep_start before mid new v reduction grain first body popped gives b =
-    hands_on before mid new v (SweepStart reduction grain first body) (Cover (record { reduction = reduction; grain = grain; first = first; end = v; body = body })) popped gives b
+    hands_on 1 before mid new v (SweepStart reduction grain first body) (Cover (record { reduction = reduction; grain = grain; first = first; end = v; body = body })) popped gives b
     (λ fs. refl) refl refl refl
     (record { ending = refl; account = λ a any. refl; work = omega arith })
 
@@ -313,7 +324,7 @@ record Sweeps (source : Source) (name : List ℕ) (env : List ℕ) (reduction : 
   pub account : (a : Account) →
       resume_account source name gs' (begun source name k' env') (begun_account source name k' env' a)
       ≡ after name (swept_effects source.arrays source.locks body env next (end - next)) a
-  pub work : begun_work source name k' env' + resume_work source name gs' (begun source name k' env') ≤ swept_work source.arrays body env next (end - next)
+  pub work : begun_work source name k' env' + resume_work source name gs' (begun source name k' env') ≡ swept_work source.arrays body env next (end - next) + 1
 
 sweep_turn : (source : Source) (name env : List ℕ) (reduction : Reduction) (next end x : ℕ) (body : Bor Expr) → next < end →
     Sweeps source name env reduction next end x (tree_of body.now) (Begin body) (SweepTurn reduction (next + 1) end x body ∷ []) (with_newest env next)
@@ -340,12 +351,12 @@ sweep_end : (source : Source) (name env : List ℕ) (reduction : Reduction) (nex
 sweep_end source name env reduction next end x body le = record {
   ending = ap (λ y. record { env = env; value = y }) (sym (swept-done source.arrays reduction body env next end x le));
   account = λ a. sym (swept_effects-done source.arrays source.locks body env next end name a le);
-  work = omega arith;
+  work = omega (arith, swept_work-done source.arrays body env next end le);
 }
 
 sweep_on : (source : Source) (name env less : List ℕ) (v so_far : ℕ) (reduction : Reduction) (next end : ℕ) (body : Bor Expr) (k' : Control) (gs' : List Frame) (env' : List ℕ) → less ≡ without_newest 1 env →
     Sweeps source name less reduction next end (apply (operation_of reduction) so_far v) (tree_of body.now) k' gs' env' →
-    StepOutlook source name (Give v) (SweepTurn reduction next end so_far body ∷ []) env k' gs' env'
+    StepOutlook 1 source name (Give v) (SweepTurn reduction next end so_far body ∷ []) env k' gs' env'
 sweep_on source name env less v so_far reduction next end body k' gs' env' is s =
     let s' = subst (λ e. Sweeps source name e reduction next end (apply (operation_of reduction) so_far v) (tree_of body.now) k' gs' env') is s in
     record { ending = s'.ending; account = λ a any. s'.account a; work = omega (arith, s'.work) }
@@ -364,7 +375,7 @@ hand_sweep_turn before mid outer new v reduction next end so_far w body k popped
     let f = SweepTurn reduction next end so_far body in
     let popped_off = framed_as mid before env (fs ++ f ∷ []) (fs ++ f ∷ []) mid.control (Give v) popped refl gives in
     elim (cases_lt next end) [
-      | inl lt ↦ goes_on_by mid before new (Give v) (Begin body) fs (f ∷ []) (SweepTurn reduction (next + 1) end x body ∷ []) env (with_newest less next)
+      | inl lt ↦ goes_on_by 1 mid before new (Give v) (Begin body) fs (f ∷ []) (SweepTurn reduction (next + 1) end x body ∷ []) env (with_newest less next)
           popped_off
           (reshaped mid new (with_newest outer.environment.items next) (with_newest less next)
           (outer.frames.items ++ SweepTurn reduction (next + 1) end w body ∷ []) (fs ++ SweepTurn reduction (next + 1) end x body ∷ []) (Begin body) (Begin body)
@@ -375,7 +386,7 @@ hand_sweep_turn before mid outer new v reduction next end so_far w body k popped
           refl refl refl refl refl
           (sweep_on source name env less v so_far reduction next end body (Begin body) (SweepTurn reduction (next + 1) end x body ∷ []) (with_newest less next) refl
           (sweep_turn source name less reduction next end x body lt))
-      | inr le ↦ goes_on_by mid before new (Give v) (Give x) fs (f ∷ []) [] env less
+      | inr le ↦ goes_on_by 1 mid before new (Give v) (Give x) fs (f ∷ []) [] env less
           popped_off
           (alone mid new less (Give x)
           (reshaped mid new outer.environment.items less outer.frames.items fs (Give w) (Give x)
@@ -388,12 +399,12 @@ hand_sweep_turn before mid outer new v reduction next end so_far w body k popped
 -- A part of a sweep that is not split.
 covered : (source : Source) (name env : List ℕ) (stretch : Stretch) (k' : Control) (gs' : List Frame) (env' : List ℕ) → stretch.end - stretch.first ≤ max 1 stretch.grain →
     Sweeps source name env stretch.reduction stretch.first stretch.end (unit_of stretch.reduction) (tree_of stretch.body.now) k' gs' env' →
-    StepOutlook source name (Cover stretch) [] env k' gs' env'
+    StepOutlook 1 source name (Cover stretch) [] env k' gs' env'
 covered source name env stretch k' gs' env' le s = record {
   ending = s.ending;
   account = λ a any. s.account a
       ∙ ap (λ e. after name e a) (sym (effects_whole source.arrays source.locks stretch.reduction stretch.grain (tree_of stretch.body.now) env stretch.first (stretch.end - stretch.first) le));
-  work = omega (arith, s.work);
+  work = omega (arith, s.work, work_whole stretch.grain (stretch.end - stretch.first) le);
 }
 
 pub covers : (old mid new : State) (stretch : Stretch) (u : ℕ) → IsUnchanged old mid → old.control ≡ Cover stretch → stretch.end - stretch.first ≤ max 1 stretch.grain →
@@ -416,7 +427,7 @@ covers old mid new stretch u same covering le is turns =
     } in
     let turn = SweepTurn stretch.reduction (stretch.first + 1) stretch.end x stretch.body in
     elim (cases_lt stretch.first stretch.end) [
-      | inl lt ↦ goes_on_by mid old new (Cover stretch) (Begin stretch.body) fs [] (turn ∷ []) env (with_newest env stretch.first)
+      | inl lt ↦ goes_on_by 1 mid old new (Cover stretch) (Begin stretch.body) fs [] (turn ∷ []) env (with_newest env stretch.first)
           (alone mid old env (Cover stretch) back)
           (reshaped mid new (with_newest env stretch.first) (with_newest env stretch.first)
           (fs ++ SweepTurn stretch.reduction (stretch.first + 1) stretch.end u stretch.body ∷ []) (fs ++ turn ∷ []) (Begin stretch.body) (Begin stretch.body)
@@ -424,7 +435,7 @@ covers old mid new stretch u same covering le is turns =
           refl refl refl refl refl
           (covered source name env stretch (Begin stretch.body) (turn ∷ []) (with_newest env stretch.first) le
           (sweep_turn source name env stretch.reduction stretch.first stretch.end x stretch.body lt))
-      | inr over ↦ goes_on_by mid old new (Cover stretch) (Give x) fs [] [] env env
+      | inr over ↦ goes_on_by 1 mid old new (Cover stretch) (Give x) fs [] [] env env
           (alone mid old env (Cover stretch) back)
           (alone mid new env (Give x) (reshaped mid new env env fs fs (Give u) (Give x) (turns.done over) refl refl (ap Give is)))
           refl refl refl refl refl

@@ -1,5 +1,5 @@
 -- What begins an expression leaves what it comes to as it was.
-use Rattle.std.proofs.Common.{◌≡◌, ◌≤◌, ℕ, ◌+◌, ◌-◌, List, [], ◌∷◌, ◌++◌, length, None, refl, ap, sym, ◌∙◌, arith, subst}
+use Rattle.std.proofs.Common.{◌≡◌, ℕ, ◌+◌, ◌-◌, List, [], ◌∷◌, ◌++◌, length, None, refl, ap, sym, ◌∙◌, arith, subst}
 use Rattle.std.specs.Prelude.{slice_index, ◌==◌, if◌then◌else◌}
 use Rattle.std.specs.Borrow.{Bor}
 use Rattle.arachne_lang.specs.declared.program.Expr.{Expr}
@@ -22,66 +22,66 @@ use Rattle.arachne_machine.specs.Steps.{Becomes, StopsAt}
 use Rattle.arachne_machine.proofs.Accounts.{after-nothing, after-sequence}
 use Rattle.arachne_machine.proofs.Outlooks.{StepOutlook, Step, steps_by, as_it_is, framed_as, alone}
 
--- An expression of this tree comes to the same by these frames and this to do next.
-pub record Opens (source : Source) (name : List ℕ) (tree : Tree) (env : List ℕ) (k' : Control) (gs' : List Frame) : Type 0 where
+-- An expression of this tree comes to the same in so many steps, by these frames and this to do next.
+pub record Opens (steps : ℕ) (source : Source) (name : List ℕ) (tree : Tree) (env : List ℕ) (k' : Control) (gs' : List Frame) : Type 0 where
   pub ending : resume source name gs' (begun source name k' env) ≡ record { env = env; value = value_of source.arrays tree env }
   pub account : (a : Account) →
       resume_account source name gs' (begun source name k' env) (begun_account source name k' env a) ≡ after name (effects_of source.arrays source.locks tree env) a
-  pub work : begun_work source name k' env + resume_work source name gs' (begun source name k' env) + 1 ≤ work_of source.arrays tree env
+  pub work : begun_work source name k' env + resume_work source name gs' (begun source name k' env) + steps ≡ work_of source.arrays tree env
 
-opened : (source : Source) (name : List ℕ) (expr : Bor Expr) (env : List ℕ) (k' : Control) (gs' : List Frame) → Opens source name (tree_of expr.now) env k' gs' →
-    StepOutlook source name (Begin expr) [] env k' gs' env
-opened source name expr env k' gs' o = record {
+opened : (steps : ℕ) (source : Source) (name : List ℕ) (expr : Bor Expr) (env : List ℕ) (k' : Control) (gs' : List Frame) → Opens steps source name (tree_of expr.now) env k' gs' →
+    StepOutlook steps source name (Begin expr) [] env k' gs' env
+opened steps source name expr env k' gs' o = record {
   ending = o.ending;
   account = λ a any. o.account a;
   work = omega (arith, o.work);
 }
 
 -- so it goes in a thread
-pub begins_by : (old new : State) (expr : Bor Expr) (tree : Tree) (k' : Control) (gs' : List Frame) → old.control ≡ Begin expr → tree_of expr.now ≡ tree →
+pub begins_by : (steps : ℕ) (old new : State) (expr : Bor Expr) (tree : Tree) (k' : Control) (gs' : List Frame) → old.control ≡ Begin expr → tree_of expr.now ≡ tree →
     Becomes old new old.environment.items (old.frames.items ++ gs') k' →
     ((fs : List Frame) → frames_left k' fs ≡ fs) →
     fork_awaited k' ++ forks_of gs' ≡ [] →
-    Opens (source_of old.program.now) old.own.name tree old.environment.items k' gs' → Step 1 (Begin expr) k' old.frames.items [] gs' old new
-begins_by old new expr tree k' gs' begins is_tree b left forks o =
+    Opens steps (source_of old.program.now) old.own.name tree old.environment.items k' gs' → Step steps (Begin expr) k' old.frames.items [] gs' old new
+begins_by steps old new expr tree k' gs' begins is_tree b left forks o =
     let source = source_of old.program.now in
     let name = old.own.name in
     let fs = old.frames.items in
     let env = old.environment.items in
-    let same = subst (λ t. Opens source name t env k' gs') (sym is_tree) o in
-    steps_by 1 old old new (Begin expr) k' fs [] gs' env env
+    let same = subst (λ t. Opens steps source name t env k' gs') (sym is_tree) o in
+    steps_by steps old old new (Begin expr) k' fs [] gs' env env
     (framed_as old old env (fs ++ []) (fs ++ []) old.control (Begin expr) (alone old old env old.control (as_it_is old)) refl begins)
-    b refl (left (fs ++ gs')) forks (opened source name expr env k' gs' same)
+    b refl (left (fs ++ gs')) forks (opened steps source name expr env k' gs' same)
 
 pub goes_to_value : (old new : State) (expr : Bor Expr) (tree : Tree) (v : ℕ) → old.control ≡ Begin expr → tree_of expr.now ≡ tree →
     Becomes old new old.environment.items old.frames.items (Give v) →
-    Opens (source_of old.program.now) old.own.name tree old.environment.items (Give v) [] → StopsAt 1 old None new
+    Opens 0 (source_of old.program.now) old.own.name tree old.environment.items (Give v) [] → StopsAt 0 old None new
 goes_to_value old new expr tree v begins is_tree b o =
-    let s = begins_by old new expr tree (Give v) [] begins is_tree (alone old new old.environment.items (Give v) b) (λ fs. refl) refl o in
+    let s = begins_by 0 old new expr tree (Give v) [] begins is_tree (alone old new old.environment.items (Give v) b) (λ fs. refl) refl o in
     (s.goes, s.pending, s.locks ∙ sym s.old_locks)
 
 pub goes_to_part : (old new : State) (expr part : Bor Expr) (tree : Tree) (f : Frame) → old.control ≡ Begin expr → tree_of expr.now ≡ tree →
     Becomes old new old.environment.items (old.frames.items ++ f ∷ []) (Begin part) → forks_of (f ∷ []) ≡ [] → releases (f ∷ []) ≡ [] →
-    Opens (source_of old.program.now) old.own.name tree old.environment.items (Begin part) (f ∷ []) → StopsAt 1 old None new
+    Opens 1 (source_of old.program.now) old.own.name tree old.environment.items (Begin part) (f ∷ []) → StopsAt 1 old None new
 goes_to_part old new expr part tree f begins is_tree b forks locks o =
-    let s = begins_by old new expr tree (Begin part) (f ∷ []) begins is_tree b (λ fs. refl) forks o in
+    let s = begins_by 1 old new expr tree (Begin part) (f ∷ []) begins is_tree b (λ fs. refl) forks o in
     (s.goes, s.pending, s.locks ∙ ap (λ l. l ++ releases old.frames.items) locks ∙ sym s.old_locks)
 
-pub open_number : (source : Source) (name : List ℕ) (env : List ℕ) (n : ℕ) → Opens source name (Number n) env (Give n) []
+pub open_number : (source : Source) (name : List ℕ) (env : List ℕ) (n : ℕ) → Opens 0 source name (Number n) env (Give n) []
 open_number source name env n = record { ending = refl; account = λ a. sym (after-nothing name a); work = omega arith }
 
-pub open_variable : (source : Source) (name : List ℕ) (env : List ℕ) (n : ℕ) → Opens source name (Variable n) env (Give (slice_index env n)) []
+pub open_variable : (source : Source) (name : List ℕ) (env : List ℕ) (n : ℕ) → Opens 0 source name (Variable n) env (Give (slice_index env n)) []
 open_variable source name env n = record { ending = refl; account = λ a. sym (after-nothing name a); work = omega arith }
 
-pub open_length : (source : Source) (name : List ℕ) (env : List ℕ) (n : ℕ) → Opens source name (Length n) env (Give (length (array_at source.arrays n))) []
+pub open_length : (source : Source) (name : List ℕ) (env : List ℕ) (n : ℕ) → Opens 0 source name (Length n) env (Give (length (array_at source.arrays n))) []
 open_length source name env n = record { ending = refl; account = λ a. sym (after-nothing name a); work = omega arith }
 
 pub open_item : (source : Source) (name : List ℕ) (env : List ℕ) (n : ℕ) (index : Bor Expr) →
-    Opens source name (Item n (tree_of index.now)) env (Begin index) (Index n ∷ [])
+    Opens 1 source name (Item n (tree_of index.now)) env (Begin index) (Index n ∷ [])
 open_item source name env n index = record { ending = refl; account = λ a. refl; work = omega arith }
 
 pub open_binary : (source : Source) (name : List ℕ) (env : List ℕ) (operation : Operation) (left right : Bor Expr) →
-    Opens source name (Binary operation (tree_of left.now) (tree_of right.now)) env (Begin left) (Right operation right ∷ [])
+    Opens 1 source name (Binary operation (tree_of left.now) (tree_of right.now)) env (Begin left) (Right operation right ∷ [])
 open_binary source name env operation left right = record {
   ending = refl;
   account = λ a. sym (after-sequence name (effects_of source.arrays source.locks (tree_of left.now) env) (effects_of source.arrays source.locks (tree_of right.now) env) a);
@@ -89,7 +89,7 @@ open_binary source name env operation left right = record {
 }
 
 pub open_choice : (source : Source) (name : List ℕ) (env : List ℕ) (condition first second : Bor Expr) →
-    Opens source name (Choose (tree_of condition.now) (tree_of first.now) (tree_of second.now)) env (Begin condition) (Branch first second ∷ [])
+    Opens 1 source name (Choose (tree_of condition.now) (tree_of first.now) (tree_of second.now)) env (Begin condition) (Branch first second ∷ [])
 open_choice source name env condition first second = record {
   ending = refl;
   account = λ a. sym (after-sequence name (effects_of source.arrays source.locks (tree_of condition.now) env)
@@ -99,7 +99,7 @@ open_choice source name env condition first second = record {
 }
 
 pub open_binding : (source : Source) (name : List ℕ) (env : List ℕ) (bound body : Bor Expr) →
-    Opens source name (Bind (tree_of bound.now) (tree_of body.now)) env (Begin bound) (Extend body ∷ [])
+    Opens 1 source name (Bind (tree_of bound.now) (tree_of body.now)) env (Begin bound) (Extend body ∷ [])
 open_binding source name env bound body = record {
   ending = refl;
   account = λ a. sym (after-sequence name (effects_of source.arrays source.locks (tree_of bound.now) env)
@@ -108,7 +108,7 @@ open_binding source name env bound body = record {
 }
 
 pub open_tally : (source : Source) (name : List ℕ) (env : List ℕ) (ledger : ℕ) (amount body : Bor Expr) →
-    Opens source name (Tally ledger (tree_of amount.now) (tree_of body.now)) env (Begin amount) (Amount ledger body ∷ [])
+    Opens 1 source name (Tally ledger (tree_of amount.now) (tree_of body.now)) env (Begin amount) (Amount ledger body ∷ [])
 open_tally source name env ledger amount body =
     let e = effects_of source.arrays source.locks (tree_of amount.now) env in
     let t = tallied ledger (value_of source.arrays (tree_of amount.now) env) in
@@ -120,7 +120,7 @@ open_tally source name env ledger amount body =
     }
 
 pub open_hold : (source : Source) (name : List ℕ) (env : List ℕ) (lock : ℕ) (body : Bor Expr) →
-    Opens source name (Hold lock (tree_of body.now)) env (Asks lock body) (Release lock ∷ [])
+    Opens 1 source name (Hold lock (tree_of body.now)) env (Asks lock body) (Release lock ∷ [])
 open_hold source name env lock body = record {
   ending = refl;
   account = λ a. sym (after-sequence name (held lock) (effects_of source.arrays source.locks (tree_of body.now) env) a);
@@ -128,7 +128,7 @@ open_hold source name env lock body = record {
 }
 
 pub open_fold : (source : Source) (name : List ℕ) (env : List ℕ) (from to first body : Bor Expr) →
-    Opens source name (Fold (tree_of from.now) (tree_of to.now) (tree_of first.now) (tree_of body.now)) env (Begin from) (FoldTo to first body ∷ [])
+    Opens 1 source name (Fold (tree_of from.now) (tree_of to.now) (tree_of first.now) (tree_of body.now)) env (Begin from) (FoldTo to first body ∷ [])
 open_fold source name env from to first body =
     let A = source.arrays in
     let e = effects_of A source.locks (tree_of from.now) env in
@@ -145,7 +145,7 @@ open_fold source name env from to first body =
     }
 
 pub open_sweep : (source : Source) (name : List ℕ) (env : List ℕ) (reduction : Reduction) (grain : ℕ) (from to body : Bor Expr) →
-    Opens source name (Sweep reduction grain (tree_of from.now) (tree_of to.now) (tree_of body.now)) env (Begin from) (SweepTo reduction grain to body ∷ [])
+    Opens 1 source name (Sweep reduction grain (tree_of from.now) (tree_of to.now) (tree_of body.now)) env (Begin from) (SweepTo reduction grain to body ∷ [])
 open_sweep source name env reduction grain from to body =
     let A = source.arrays in
     let e = effects_of A source.locks (tree_of from.now) env in

@@ -1,5 +1,5 @@
 -- What the newest frames and what comes next come to, and so the whole thread.
-use Rattle.std.proofs.Common.{◌≡◌, ◌≤◌, ℕ, ◌+◌, List, [], ◌++◌, None, refl, ap, sym, ◌∙◌, arith, append_assoc}
+use Rattle.std.proofs.Common.{◌≡◌, ℕ, ◌+◌, List, [], ◌++◌, None, refl, ap, sym, ◌∙◌, arith, append_assoc}
 use Rattle.std.proofs.lemmas.List.{append-nil}
 use Rattle.arachne_lang.specs.Tree.{Source}
 use Rattle.arachne_lang.specs.Program.{source_of}
@@ -19,7 +19,7 @@ pub record SameOutlook (steps : ℕ) (fits : Account → Type 0) (taken : Accoun
       ≡ resume_account source name gs (begun source name k env) (begun_account source name k env a)
   pub work :
       begun_work source name k' env' + resume_work source name gs' (begun source name k' env') + steps
-      ≤ begun_work source name k env + resume_work source name gs (begun source name k env)
+      ≡ begun_work source name k env + resume_work source name gs (begun source name k env)
 
 -- the parts of a thread that its end depends on
 pub record IsAt (source : Source) (name : List ℕ) (k : Control) (fs : List Frame) (env : List ℕ) (t : State) : Type 0 where
@@ -73,7 +73,7 @@ locks_at source name k fs gs env t at =
 pub record SameEnd (steps : ℕ) (fits : Account → Type 0) (taken : Account → Account) (old new : State) : Type 0 where
   pub ending : ending new ≡ ending old
   pub account : (a : Account) → fits a → account_at_end new (taken a) ≡ account_at_end old a
-  pub work : work_left new + steps ≤ work_left old
+  pub work : work_left new + steps ≡ work_left old
 
 pub same_end : (steps : ℕ) (fits : Account → Type 0) (taken : Account → Account) (source : Source) (name : List ℕ) (k k' : Control) (fs gs gs' : List Frame) (env env' : List ℕ) (old new : State) →
     IsAt source name k (fs ++ gs) env old → IsAt source name k' (fs ++ gs') env' new →
@@ -112,9 +112,9 @@ Any a = Unit {0}
 abbrev pub itself : Account → Account
 itself a = a
 
--- An outlook of an own step.
-abbrev pub StepOutlook : Source → List ℕ → Control → List Frame → List ℕ → Control → List Frame → List ℕ → Type 0
-StepOutlook source name k gs env k' gs' env' = SameOutlook 1 Any itself source name k gs env k' gs' env'
+-- An outlook of so many steps of its own.
+abbrev pub StepOutlook : ℕ → Source → List ℕ → Control → List Frame → List ℕ → Control → List Frame → List ℕ → Type 0
+StepOutlook steps source name k gs env k' gs' env' = SameOutlook steps Any itself source name k gs env k' gs' env'
 
 pub at_of : (mid t : State) (k : Control) (fs : List Frame) (env : List ℕ) → Becomes mid t env fs k → IsAt (source_of mid.program.now) mid.own.name k fs env t
 at_of mid t k fs env b = record {
@@ -160,14 +160,14 @@ steps_by steps mid old new k k' fs gs gs' env env' b b' left left' forks same =
       old_locks = locks_at source name k fs gs env old at;
     }
 
--- a step that goes on
-pub goes_on_by : (mid old new : State) (k k' : Control) (fs gs gs' : List Frame) (env env' : List ℕ) →
+-- steps that go on
+pub goes_on_by : (steps : ℕ) (mid old new : State) (k k' : Control) (fs gs gs' : List Frame) (env env' : List ℕ) →
     Becomes mid old env (fs ++ gs) k → Becomes mid new env' (fs ++ gs') k' →
     frames_left k (fs ++ gs) ≡ fs ++ gs → frames_left k' (fs ++ gs') ≡ fs ++ gs' →
     fork_awaited k' ++ forks_of gs' ≡ fork_awaited k ++ forks_of gs → lock_freed k' ++ releases gs' ≡ lock_freed k ++ releases gs → pending_of k' ≡ None →
-    StepOutlook (source_of mid.program.now) mid.own.name k gs env k' gs' env' → StopsAt 1 old None new
-goes_on_by mid old new k k' fs gs gs' env env' b b' left left' forks locks pending same =
-    let s = steps_by 1 mid old new k k' fs gs gs' env env' b b' left left' forks same in
+    StepOutlook steps (source_of mid.program.now) mid.own.name k gs env k' gs' env' → StopsAt steps old None new
+goes_on_by steps mid old new k k' fs gs gs' env env' b b' left left' forks locks pending same =
+    let s = steps_by steps mid old new k k' fs gs gs' env env' b b' left left' forks same in
     (s.goes, s.pending ∙ pending, s.locks ∙ ap (λ l. l ++ releases fs) locks ∙ sym s.old_locks)
 
 -- a thread is what it is

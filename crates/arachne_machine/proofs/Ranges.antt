@@ -88,16 +88,19 @@ folded_effects-done arrays locks body env next end v name a le =
 
 pub folded_work-turn : (arrays : List (List ℕ)) (body : Tree) (env : Environment) (next end v : ℕ) → next < end →
     folded_work arrays body env next (end - next) v
-    ≡ work_of arrays body (with_newest (with_newest env next) v) + 1
+    ≡ work_of arrays body (with_newest (with_newest env next) v)
     + folded_work arrays body env (next + 1) (end - (next + 1)) (value_of arrays body (with_newest (with_newest env next) v))
 folded_work-turn arrays body env next end v lt =
-    let G : ℕ → ℕ → ℕ = λ i s. work_of arrays body (with_newest (with_newest env i) s) + 1 in
+    let G : ℕ → ℕ → ℕ = λ i s. work_of arrays body (with_newest (with_newest env i) s) in
     let n = end - (next + 1) in
     let first : next + 0 ≡ next = omega arith in
     ap (λ m. folded_work arrays body env next m v) (some_left next end lt)
     ∙ total-first (λ j. G (next + j) (folded arrays body env next j v)) n
     ∙ ap (λ i. G i v + total (λ j. G (next + suc j) (folded arrays body env next (suc j) v)) n) first
     ∙ ap (λ turn. G next v + total turn n) (shifted G arrays body env next v)
+
+pub folded_work-done : (arrays : List (List ℕ)) (body : Tree) (env : Environment) (next end v : ℕ) → end ≤ next → folded_work arrays body env next (end - next) v ≡ 0
+folded_work-done arrays body env next end v le = ap (λ n. folded_work arrays body env next n v) (none_left next end le)
 
 -- Sweeps.
 abbrev sweep_step : List (List ℕ) → Reduction → Tree → Environment → ℕ → ℕ → ℕ
@@ -133,12 +136,15 @@ swept_effects-done arrays locks body env next end name a le =
 
 pub swept_work-turn : (arrays : List (List ℕ)) (body : Tree) (env : Environment) (next end : ℕ) → next < end →
     swept_work arrays body env next (end - next)
-    ≡ work_of arrays body (with_newest env next) + 1 + swept_work arrays body env (next + 1) (end - (next + 1))
+    ≡ work_of arrays body (with_newest env next) + swept_work arrays body env (next + 1) (end - (next + 1))
 swept_work-turn arrays body env next end lt =
-    let G : ℕ → ℕ = λ i. work_of arrays body (with_newest env i) + 1 in
+    let G : ℕ → ℕ = λ i. work_of arrays body (with_newest env i) in
     let n = end - (next + 1) in
     let first : next + 0 ≡ next = omega arith in
     ap (λ m. swept_work arrays body env next m) (some_left next end lt)
     ∙ total-first (λ j. G (next + j)) n
     ∙ ap (λ i. G i + total (λ j. G (next + suc j)) n) first
     ∙ ap (λ turn. G next + total turn n) (fun_ext (λ j. ap G (counted next j)))
+
+pub swept_work-done : (arrays : List (List ℕ)) (body : Tree) (env : Environment) (next end : ℕ) → end ≤ next → swept_work arrays body env next (end - next) ≡ 0
+swept_work-done arrays body env next end le = ap (λ n. swept_work arrays body env next n) (none_left next end le)

@@ -13,14 +13,14 @@ use Rattle.arachne_machine.specs.declared.frame.Control.{Control}
 use Rattle.arachne_machine.specs.declared.frame.Control.TheVariants.{Begin, Give, Cover, Forked as Forks, Halved, Awaits, AwaitsHalf, Asks, Frees, Tallies, Ended}
 use Rattle.arachne_machine.specs.declared.pause.Pending.{Pending}
 use Rattle.arachne_machine.specs.declared.pause.Pending.TheVariants as pause
-use Rattle.arachne_machine.specs.Suspended.{own_line_of, SameThread, Forked, Joined, awaited}
+use Rattle.arachne_machine.specs.Suspended.{own_line_of, SameThread, MakesSteps, Forked, Joined, awaited}
 use Rattle.arachne_machine.specs.declared.state.State.{State}
 use Rattle.arachne_machine.specs.declared.state.Stop.{Stop}
 use Rattle.arachne_machine.specs.declared.state.Stop.TheVariants as stop
 use Rattle.arachne_machine.specs.Outcome.{Finished, named_holds, meaning_as, meaning_in, outcome_of, IsOfItsName}
 use Rattle.arachne_machine.specs.Account.{Account, untouched, after, with_fork, with_join}
 use Rattle.arachne_machine.specs.Ending.{child_task, ending, account_at_end, unjoined_of, locks_of, resume, resume_account, frames_left, begun, begun_account, fork_awaited, forks_of, lock_freed, releases}
-use Rattle.arachne_machine.specs.Steps.{Goes, GoesToFork, IsNew, Joins, KeepsOverJoin, Counts, StopsAt, IsUnchanged, pending_of, suspended}
+use Rattle.arachne_machine.specs.Steps.{Goes, GoesWithin, GoesToFork, IsNew, Joins, KeepsOverJoin, Counts, StopsAt, IsUnchanged, pending_of, suspended}
 use Rattle.arachne_machine.specs.Sound.{IsSound}
 use Rattle.arachne_machine.proofs.Accounts.{after-children}
 use Rattle.arachne_machine.proofs.Names.{task_below-child, slice_get-seam}
@@ -29,8 +29,8 @@ use Rattle.arachne_machine.proofs.Splitting.{child_task-found}
 use Rattle.arachne_machine.proofs.Tabulated.{tabulated-same, length-tabulated, added_is}
 
 -- steps after steps
-pub goes_on : (m n k : ℕ) (a b c : State) → Goes m a b → Goes n b c → k ≤ m + n → Goes k a c
-goes_on m n k a b c p q le = record {
+pub goes_on : (m n k : ℕ) (a b c : State) → Goes m a b → Goes n b c → k ≡ m + n → Goes k a c
+goes_on m n k a b c p q e = record {
   program = q.program ∙ p.program;
   own = q.own ∙ p.own;
   below = q.below ∙ p.below;
@@ -39,11 +39,23 @@ goes_on m n k a b c p q le = record {
   unjoined = q.unjoined ∙ p.unjoined;
   ending = q.ending ∙ p.ending;
   account = λ account. q.account account ∙ p.account account;
-  work = omega (arith, p.work, q.work);
+  work = omega (arith, p.work, q.work, e);
 }
 
-forks_after : (m : ℕ) (a b c child : State) (task : Task) → Goes m a b → locks_of b ≡ locks_of a → GoesToFork b c child task → GoesToFork a c child task
-forks_after m a b c child task p locks q =
+pub goes_on_within : (m least most : ℕ) (a b c : State) → Goes m a b → GoesWithin least most b c → GoesWithin least (m + most) a c
+goes_on_within m least most a b c p q = record {
+  made = m + q.made;
+  at_least = omega (arith, q.at_least);
+  at_most = omega (arith, q.at_most);
+  goes = goes_on m q.made (m + q.made) a b c p q.goes refl;
+}
+
+-- no fewer, and no more
+pub within_more : (least most more : ℕ) (a b : State) → GoesWithin least most a b → most ≤ more → GoesWithin least more a b
+within_more least most more a b w le = record { made = w.made; at_least = w.at_least; at_most = omega (arith, w.at_most, le); goes = w.goes }
+
+forks_after : (m n k : ℕ) (a b c child : State) (task : Task) → Goes m a b → locks_of b ≡ locks_of a → GoesToFork n b c child task → m + n ≤ k → GoesToFork k a c child task
+forks_after m n k a b c child task p locks q le =
     let source_is = ap (λ g. source_of g.now) p.program in
     let name_is = ap (λ o. o.name) p.own in
     let named : (task_of (source_of a.program.now) (a.own.name ++ a.forks ∷ []) ≡ Some task) → task_of (source_of b.program.now) (b.own.name ++ b.forks ∷ []) ≡ Some task =
@@ -66,22 +78,24 @@ forks_after m a b c child task p locks q =
       keeps = λ h. let kept = q.keeps (named h) in record {
         ending = kept.ending ∙ p.ending;
         account = λ account e. kept.account account (e ∙ sym p.forks) ∙ p.account account;
-        work = omega (arith, kept.work, p.work);
+        some = omega (arith, kept.some, p.work);
+        most = omega (arith, kept.most, p.work, le);
       };
     }
 
-pub goes_then_stops : (m n : ℕ) (a b c : State) (s : Stop) → Goes m a b → locks_of b ≡ locks_of a → StopsAt 1 b (Some s) c → StopsAt n a (Some s) c
-goes_then_stops m n a b c (stop.Forks class child) p l q = forks_after m a b c child.value _ p l q
-goes_then_stops m n a b c stop.Joins p l q = (goes_on m 1 1 a b c p q.0 (omega arith), q.1, q.2 ∙ l)
-goes_then_stops m n a b c (stop.Asks lock) p l q = (goes_on m 1 1 a b c p q.0 (omega arith), q.1, q.2 ∙ ap (λ x. lock ∷ x) l)
-goes_then_stops m n a b c (stop.Frees lock) p l q = (goes_on m 1 1 a b c p q.0 (omega arith), q.1, q.2 ∙ l, q.3)
-goes_then_stops m n a b c (stop.Tallies ledger amount) p l q = (goes_on m 1 1 a b c p q.0 (omega arith), q.1, q.2 ∙ l)
-goes_then_stops m n a b c stop.Ended p l q = (goes_on m 0 0 a b c p q.0 (omega arith), q.1, q.2, q.3 ∙ l, q.4)
+-- so it is where the thread stops
+pub goes_then_stops : (m n k : ℕ) (a b c : State) (s : Stop) → Goes m a b → locks_of b ≡ locks_of a → StopsAt n b (Some s) c → m + n ≤ k → StopsAt k a (Some s) c
+goes_then_stops m n k a b c (stop.Forks class child) p l q le = forks_after m n k a b c child.value _ p l q le
+goes_then_stops m n k a b c stop.Joins p l q le = (within_more 1 (m + n) k a c (goes_on_within m 1 n a b c p q.0) le, q.1, q.2 ∙ l)
+goes_then_stops m n k a b c (stop.Asks lock) p l q le = (within_more 1 (m + n) k a c (goes_on_within m 1 n a b c p q.0) le, q.1, q.2 ∙ ap (λ x. lock ∷ x) l)
+goes_then_stops m n k a b c (stop.Frees lock) p l q le = (within_more 1 (m + n) k a c (goes_on_within m 1 n a b c p q.0) le, q.1, q.2 ∙ l, q.3)
+goes_then_stops m n k a b c (stop.Tallies ledger amount) p l q le = (within_more 1 (m + n) k a c (goes_on_within m 1 n a b c p q.0) le, q.1, q.2 ∙ l)
+goes_then_stops m n k a b c stop.Ended p l q le = (within_more 1 (m + n) k a c (goes_on_within m 1 n a b c p q.0) le, q.1, q.2, q.3 ∙ l, q.4, q.5)
 
 -- the same, with or without a reason to stop
 pub goes_then_made : (a b c : State) (s : Option Stop) → Goes 0 a b → locks_of b ≡ locks_of a → StopsAt 1 b s c → StopsAt 1 a s c
-goes_then_made a b c None p l q = (goes_on 0 1 1 a b c p q.0 (omega arith), q.1, q.2 ∙ l)
-goes_then_made a b c (Some s) p l q = goes_then_stops 0 1 a b c s p l q
+goes_then_made a b c None p l q = (goes_on 0 1 1 a b c p q.0 refl, q.1, q.2 ∙ l)
+goes_then_made a b c (Some s) p l q = goes_then_stops 0 1 1 a b c s p l q (omega arith)
 
 -- a new thread of the task of its name is sound
 pub sound_new : (program : Program) (name : List ℕ) (tag : ℕ) (task : Task) (t : State) →
@@ -150,17 +164,17 @@ unfolding with_fork
 with_fork-children task a = refl
 
 -- the child that a sound thread forks has its task
-pub fork_has_task : (old new child : State) (task : Task) → IsSound old → GoesToFork old new child task →
+pub fork_has_task : (n : ℕ) (old new child : State) (task : Task) → IsSound old → GoesToFork n old new child task →
     task_of (source_of old.program.now) (old.own.name ++ old.forks ∷ []) ≡ Some task
-fork_has_task old new child task s g = next_task old s task (g.next_child s.account).0 (g.next_child s.account).1
+fork_has_task n old new child task s g = next_task old s task (g.next_child s.account).0 (g.next_child s.account).1
 
-pub sound_child : (old new child : State) (task : Task) → IsSound old → GoesToFork old new child task → IsSound child
-sound_child old new child task s g =
-    sound_new old.program.now (old.own.name ++ old.forks ∷ []) 0 task child g.fresh (fork_has_task old new child task s g)
+pub sound_child : (n : ℕ) (old new child : State) (task : Task) → IsSound old → GoesToFork n old new child task → IsSound child
+sound_child n old new child task s g =
+    sound_new old.program.now (old.own.name ++ old.forks ∷ []) 0 task child g.fresh (fork_has_task n old new child task s g)
 
-pub sound_fork : (old new child : State) (task : Task) → IsSound old → GoesToFork old new child task → IsSound new
-sound_fork old new child task s g =
-    let kept = g.keeps (fork_has_task old new child task s g) in
+pub sound_fork : (n : ℕ) (old new child : State) (task : Task) → IsSound old → GoesToFork n old new child task → IsSound new
+sound_fork n old new child task s g =
+    let kept = g.keeps (fork_has_task n old new child task s g) in
     let program_is = sym (ap (λ x. source_of x.now) g.program) in
     let own_is = sym g.own in
     record {
@@ -348,9 +362,12 @@ same_thread n old new g = record {
   below = g.below;
 }
 
-pub forked_seen : (old new child : State) (task : Task) → IsSound old → GoesToFork old new child task → Forked (suspended old) (suspended new) (suspended child)
-forked_seen old new child task s g =
-    let kept = g.keeps (fork_has_task old new child task s g) in
+pub within_seen : (least most : ℕ) (old new : State) → GoesWithin least most old new → MakesSteps least most (suspended old) (suspended new)
+within_seen least most old new w = record { at_least = omega (arith, w.at_least, w.goes.work); at_most = omega (arith, w.at_most, w.goes.work) }
+
+pub forked_seen : (n : ℕ) (old new child : State) (task : Task) → IsSound old → GoesToFork n old new child task → Forked n (suspended old) (suspended new) (suspended child)
+forked_seen n old new child task s g =
+    let kept = g.keeps (fork_has_task n old new child task s g) in
     record {
       program = ap (λ p. p.now) g.program;
       name = ap (λ o. o.name) g.own;
@@ -372,7 +389,8 @@ forked_seen old new child task s g =
         none_below = g.fresh.below;
         not_paused = g.fresh.pending;
       };
-      work = kept.work;
+      some = kept.some;
+      most = kept.most;
     }
 
 not_running : ◌≡◌ {A = Option Pending} None (Some pause.Joins) → ⊥

@@ -50,7 +50,7 @@ pub forks_by : (old new child : State) (begins k k' : Control) (f : Frame) (work
     ForksNext (source_of old.program.now) old.own.name (task_begun begins old.environment.items) k old.environment.items →
     (child_task (source_of old.program.now) old.own.name old.forks ≡ task_begun begins old.environment.items →
     ForkOutlook (source_of old.program.now) old.own.name old.forks (task_begun begins old.environment.items) work k old.environment.items k' f) →
-    GoesToFork old new child (task_begun child.control child.environment.items)
+    GoesToFork 1 old new child (task_begun child.control child.environment.items)
 forks_by old new child begins k k' f work is_k pushed left left' forks locks pending child_work next outlook =
     let source = source_of old.program.now in
     let name = old.own.name in
@@ -66,7 +66,7 @@ forks_by old new child begins k k' f work is_k pushed left left' forks locks pen
       frames_are = pushed.frames;
       environment_is = pushed.environment;
     } in
-    subst (GoesToFork old new child) (sym pushed.begun)
+    subst (GoesToFork 1 old new child) (sym pushed.begun)
     (record {
       program = pushed.program;
       own = pushed.own;
@@ -89,7 +89,7 @@ forks_by old new child begins k k' f work is_k pushed left left' forks locks pen
       keeps = λ has.
           let end = same_end (work + 1) (HasForked n) (with_fork task) source name k k' fs [] (f ∷ []) env env old new at at' (left (fs ++ [])) (left' (fs ++ f ∷ []))
           (outlook (child_task-found source name n task has)) in
-          record { ending = end.ending; account = end.account; work = omega (arith, end.work, child_work) };
+          record { ending = end.ending; account = end.account; some = omega (arith, end.work, child_work); most = omega (arith, end.work, child_work) };
     })
 
 -- The fork of an expression.
@@ -124,7 +124,7 @@ pub goes_to_fork : (old new child : State) (expr first during next : Bor Expr) (
     tree_of expr.now ≡ Fork class (tree_of first.now) (tree_of during.now) (tree_of next.now) →
     PushesFork old new child (Begin first) (Join old.forks next) (Forked during) →
     work_left child ≡ work_of (source_of old.program.now).arrays (tree_of first.now) old.environment.items →
-    GoesToFork old new child (task_begun child.control child.environment.items)
+    GoesToFork 1 old new child (task_begun child.control child.environment.items)
 goes_to_fork old new child expr first during next class begins h pushed work =
     let source = source_of old.program.now in
     let name = old.own.name in
@@ -146,7 +146,7 @@ half_outlook : (source : Source) (name env : List ℕ) (n : ℕ) (stretch : Stre
     middle ≡ stretch.first + (stretch.end - stretch.first) / 2 →
     child_task source name n ≡ stretch_task (record stretch { end = middle }) env →
     ForkOutlook source name n (stretch_task (record stretch { end = middle }) env)
-    (split_work source.arrays (tree_of stretch.body.now) env stretch.first (middle - stretch.first)) (Cover stretch) env
+    (split_work source.arrays (tree_of stretch.body.now) env stretch.grain stretch.first (middle - stretch.first)) (Cover stretch) env
     (Halved (record stretch { first = middle })) (Merge n stretch.reduction)
 half_outlook source name env n stretch middle lt is found =
     let A = source.arrays in
@@ -174,16 +174,16 @@ half_outlook source name env n stretch middle lt is found =
           ∙ sym (after-forked L name (R stretch.first m) (task_effects A L (R stretch.first m)) (task_effects A L (R (stretch.first + m) (count - m))) a)
           ∙ ap (λ x. after name x a) (sym (effects_split A L r stretch.grain t env stretch.first count lt));
       work =
-          let one = ap (split_work A t env stretch.first) left in
-          let two = ap (λ x. split_work A t env x (stretch.end - middle)) is ∙ ap (split_work A t env (stretch.first + m)) right in
-          omega (arith, one, two, work_split A t env stretch.first count (omega arith));
+          let one = ap (split_work A t env stretch.grain stretch.first) left in
+          let two = ap (λ x. split_work A t env stretch.grain x (stretch.end - middle)) is ∙ ap (split_work A t env stretch.grain (stretch.first + m)) right in
+          omega (arith, one, two, work_split A t env stretch.grain stretch.first count lt);
     }
 
 pub goes_to_half : (old new child : State) (stretch : Stretch) (middle : ℕ) → old.control ≡ Cover stretch → max 1 stretch.grain < stretch.end - stretch.first →
     middle ≡ stretch.first + (stretch.end - stretch.first) / 2 →
     PushesFork old new child (Cover (record stretch { end = middle })) (Merge old.forks stretch.reduction) (Halved (record stretch { first = middle })) →
-    work_left child ≡ split_work (source_of old.program.now).arrays (tree_of stretch.body.now) old.environment.items stretch.first (middle - stretch.first) →
-    GoesToFork old new child (task_begun child.control child.environment.items)
+    work_left child ≡ split_work (source_of old.program.now).arrays (tree_of stretch.body.now) old.environment.items stretch.grain stretch.first (middle - stretch.first) →
+    GoesToFork 1 old new child (task_begun child.control child.environment.items)
 goes_to_half old new child stretch middle covers lt is pushed work =
     let source = source_of old.program.now in
     let name = old.own.name in
@@ -198,7 +198,7 @@ goes_to_half old new child stretch middle covers lt is pushed work =
     let left : middle - stretch.first ≡ m = omega (arith, is) in
     let rest = (task_effects A L (R (stretch.first + m) (count - m))).children in
     forks_by old new child (Cover (record stretch { end = middle })) (Cover stretch) (Halved (record stretch { first = middle })) (Merge old.forks r)
-    (split_work A t env stretch.first (middle - stretch.first)) covers pushed
+    (split_work A t env stretch.grain stretch.first (middle - stretch.first)) covers pushed
     (λ fs. refl) (λ fs. refl) refl refl refl work
     (λ a. (
       rest,

@@ -40,9 +40,9 @@ rests_same program old new threads keys same running (newest, waits) = (
 )
 
 -- a child goes on, and the thread waits for it
-pub rests_fork : (program : Program) (old mid new child : Suspended) (threads : List Suspended) (keys : List (Program × List ℕ)) →
-    Forked old mid child → SameThread mid new → new.pending ≡ None → Rests program (old ∷ threads) keys → Rests program (child ∷ new ∷ threads) keys
-rests_fork program old mid new child threads keys forked same running (newest, waits) =
+pub rests_fork : (program : Program) (budget : ℕ) (old mid new child : Suspended) (threads : List Suspended) (keys : List (Program × List ℕ)) →
+    Forked budget old mid child → SameThread mid new → new.pending ≡ None → Rests program (old ∷ threads) keys → Rests program (child ∷ new ∷ threads) keys
+rests_fork program budget old mid new child threads keys forked same running (newest, waits) =
     let is_name : new.name ≡ old.name = same.name ∙ forked.name in (
       record {
         same_program = forked.fresh.same_program ∙ newest.same_program;

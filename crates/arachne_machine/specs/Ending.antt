@@ -142,36 +142,36 @@ accounted source name (Apply operation left) s account = account
 accounted source name (Release lock) s account = account
 accounted source name (Restore n) s account = account
 
--- the steps that it takes
+-- the steps that it takes beside the one in which a value is handed to it
 abbrev pub frame_work : Source → List ℕ → Frame → Status → ℕ
-frame_work source name (Index a) s = 1
-frame_work source name (Right operation right) s = work_of source.arrays (tree_of right.now) s.env + 2
-frame_work source name (Apply operation left) s = 1
+frame_work source name (Index a) s = 0
+frame_work source name (Right operation right) s = work_of source.arrays (tree_of right.now) s.env
+frame_work source name (Apply operation left) s = 0
 frame_work source name (Branch first second) s =
-    (if s.value == 0 then work_of source.arrays (tree_of second.now) s.env else work_of source.arrays (tree_of first.now) s.env) + 1
-frame_work source name (Extend body) s = work_of source.arrays (tree_of body.now) (with_newest s.env s.value) + 2
-frame_work source name (Amount ledger body) s = work_of source.arrays (tree_of body.now) s.env + 1
+    if s.value == 0 then work_of source.arrays (tree_of second.now) s.env else work_of source.arrays (tree_of first.now) s.env
+frame_work source name (Extend body) s = work_of source.arrays (tree_of body.now) (with_newest s.env s.value)
+frame_work source name (Amount ledger body) s = work_of source.arrays (tree_of body.now) s.env
 frame_work source name (Release lock) s = 1
-frame_work source name (Join number next) s = work_of source.arrays (tree_of next.now) (joined_env source name number s) + 2
+frame_work source name (Join number next) s = work_of source.arrays (tree_of next.now) (joined_env source name number s)
 frame_work source name (Merge number reduction) s = 1
 frame_work source name (FoldTo to first body) s =
     work_of source.arrays (tree_of to.now) s.env + work_of source.arrays (tree_of first.now) s.env
     + folded_work source.arrays (tree_of body.now) s.env s.value (value_of source.arrays (tree_of to.now) s.env - s.value)
-    (value_of source.arrays (tree_of first.now) s.env) + 3
+    (value_of source.arrays (tree_of first.now) s.env) + 1
 frame_work source name (FoldFirst from first body) s =
     work_of source.arrays (tree_of first.now) s.env
-    + folded_work source.arrays (tree_of body.now) s.env from (s.value - from) (value_of source.arrays (tree_of first.now) s.env) + 2
+    + folded_work source.arrays (tree_of body.now) s.env from (s.value - from) (value_of source.arrays (tree_of first.now) s.env) + 1
 frame_work source name (FoldStart from to body) s = folded_work source.arrays (tree_of body.now) s.env from (to - from) s.value + 1
 frame_work source name (FoldTurn next end body) s =
     folded_work source.arrays (tree_of body.now) (without_newest 2 s.env) next (end - next) s.value + 1
 frame_work source name (SweepTo reduction grain to body) s =
     work_of source.arrays (tree_of to.now) s.env
-    + split_work source.arrays (tree_of body.now) s.env s.value (value_of source.arrays (tree_of to.now) s.env - s.value) + 2
+    + split_work source.arrays (tree_of body.now) s.env grain s.value (value_of source.arrays (tree_of to.now) s.env - s.value)
 frame_work source name (SweepStart reduction grain from body) s =
-    split_work source.arrays (tree_of body.now) s.env from (s.value - from) + 1
+    split_work source.arrays (tree_of body.now) s.env grain from (s.value - from)
 frame_work source name (SweepTurn reduction next end so_far body) s =
     swept_work source.arrays (tree_of body.now) (without_newest 1 s.env) next (end - next) + 1
-frame_work source name (Restore n) s = 1
+frame_work source name (Restore n) s = 0
 
 -- the same for all frames, the newest of which is the last
 abbrev pub resume : Source → List ℕ → List Frame → Status → Status
@@ -242,19 +242,20 @@ begun_account source name (Tallies ledger amount body) env account =
     after name (effects_of source.arrays source.locks (tree_of body.now) env) (after name (tallied ledger amount) account)
 begun_account source name (Ended value) env account = account
 
+-- the steps that it takes; a value that is to be handed on is handed on in a step
 abbrev pub begun_work : Source → List ℕ → Control → Environment → ℕ
 begun_work source name (Begin expr) env = work_of source.arrays (tree_of expr.now) env
-begun_work source name (Give value) env = 0
+begun_work source name (Give value) env = 1
 begun_work source name (Cover stretch) env =
-    split_work source.arrays (tree_of stretch.body.now) env stretch.first (stretch.end - stretch.first)
+    split_work source.arrays (tree_of stretch.body.now) env stretch.grain stretch.first (stretch.end - stretch.first)
 begun_work source name (Forked expr) env = work_of source.arrays (tree_of expr.now) env
 begun_work source name (Halved stretch) env =
-    split_work source.arrays (tree_of stretch.body.now) env stretch.first (stretch.end - stretch.first)
+    split_work source.arrays (tree_of stretch.body.now) env stretch.grain stretch.first (stretch.end - stretch.first)
 begun_work source name (Awaits number during next) env =
-    work_of source.arrays (tree_of next.now) (joined_env source name number (record { env = env; value = during })) + 1
-begun_work source name (AwaitsHalf number right reduction) env = 0
+    work_of source.arrays (tree_of next.now) (joined_env source name number (record { env = env; value = during }))
+begun_work source name (AwaitsHalf number right reduction) env = 1
 begun_work source name (Asks lock body) env = work_of source.arrays (tree_of body.now) env
-begun_work source name (Frees lock value) env = 0
+begun_work source name (Frees lock value) env = 1
 begun_work source name (Tallies ledger amount body) env = work_of source.arrays (tree_of body.now) env
 begun_work source name (Ended value) env = 0
 

@@ -1,5 +1,5 @@
 -- What the steps of a thread do.
-use Rattle.std.specs.Prelude.{◌≡◌, ◌≤◌, ◌<◌, ℕ, ◌+◌, ◌==◌, if◌then◌else◌, false, List, [], ◌∷◌, ◌++◌, length, Option, None, Some}
+use Rattle.std.specs.Prelude.{◌≡◌, ◌≤◌, ◌<◌, ℕ, ◌+◌, ◌==◌, if◌then◌else◌, List, [], ◌∷◌, ◌++◌, length, Option, None, Some}
 use Rattle.arachne_lang.specs.declared.program.Program.{Program}
 use Rattle.arachne_lang.specs.declared.program.Reduction.{Reduction}
 use Rattle.arachne_lang.specs.declared.program.Expr.{Expr}
@@ -13,10 +13,8 @@ use Rattle.arachne_machine.specs.declared.frame.Frame.{Frame}
 use Rattle.arachne_machine.specs.declared.frame.Frame.TheVariants.{FoldTo, FoldFirst, FoldStart, FoldTurn, SweepTo, SweepStart, SweepTurn, Amount, Release, Join, Merge}
 use Rattle.arachne_machine.specs.declared.frame.Control.{Control}
 use Rattle.arachne_machine.specs.declared.frame.Control.TheVariants.{Begin, Give, Cover, Forked, Halved, Awaits, AwaitsHalf, Asks, Frees, Tallies, Ended}
-use Rattle.arachne_machine.specs.declared.line.ThreadLine.{ThreadLine}
 use Rattle.arachne_machine.specs.declared.pause.Pending.{Pending}
 use Rattle.arachne_machine.specs.declared.pause.Pending.TheVariants as pause
-use Rattle.arachne_machine.specs.declared.state.Own.{Own}
 use Rattle.arachne_machine.specs.declared.state.State.{State}
 use Rattle.arachne_machine.specs.declared.state.Stop.{Stop}
 use Rattle.arachne_machine.specs.declared.state.Stop.TheVariants as stop
@@ -108,7 +106,7 @@ pub record TurnsSweep (old new : State) (reduction : Reduction) (next end : ℕ)
       Becomes old new (with_newest old.environment.items next) (old.frames.items ++ SweepTurn reduction (next + 1) end so_far body ∷ []) (Begin body)
   pub done : end ≤ next → Becomes old new old.environment.items old.frames.items (Give so_far)
 
--- The steps made neither forks nor joins, and what the thread comes to is the same.
+-- So many steps made neither forks nor joins, and what the thread comes to is the same.
 pub record Goes (steps : ℕ) (old new : State) : Type 0 where
   pub program : new.program ≡ old.program
   pub own : new.own ≡ old.own
@@ -118,7 +116,14 @@ pub record Goes (steps : ℕ) (old new : State) : Type 0 where
   pub unjoined : unjoined_of new ≡ unjoined_of old
   pub ending : ending new ≡ ending old
   pub account : (account : Account) → account_at_end new account ≡ account_at_end old account
-  pub work : work_left new + steps ≤ work_left old
+  pub work : work_left new + steps ≡ work_left old
+
+-- at least so many such steps were made, and at most so many
+pub record GoesWithin (least most : ℕ) (old new : State) : Type 0 where
+  pub made : ℕ
+  pub at_least : least ≤ made
+  pub at_most : made ≤ most
+  pub goes : Goes made old new
 
 -- a thread of a task that has not begun
 pub record IsNew (program : Program) (name : List ℕ) (tag : ℕ) (task : Task) (t : State) : Type 0 where
@@ -135,13 +140,15 @@ pub record IsNew (program : Program) (name : List ℕ) (tag : ℕ) (task : Task)
   pub value : (ending t).value ≡ task_value (source_of program).arrays task
   pub account : account_at_end t untouched ≡ after name (task_effects (source_of program).arrays program.locks task) untouched
 
-pub record KeepsOverFork (old new child : State) (task : Task) : Type 0 where
+pub record KeepsOverFork (steps : ℕ) (old new child : State) (task : Task) : Type 0 where
   pub ending : ending new ≡ ending old
   pub account : (account : Account) → length account.children ≡ old.forks → account_at_end new (with_fork task account) ≡ account_at_end old account
-  pub work : work_left new + work_left child + 1 ≤ work_left old
+  pub some : work_left new + work_left child + 1 ≤ work_left old
+  pub most : work_left old ≤ work_left new + work_left child + steps
 
--- What the thread comes to is the same, if the child is the one of the fork's number, and the fork is one of those that were still to come.
-pub record GoesToFork (old new child : State) (task : Task) : Type 0 where
+-- At most so many steps were made, the last of which forked this child. What the thread comes to is the same, if the child is the one of the fork's number,
+-- and the fork is one of those that were still to come.
+pub record GoesToFork (steps : ℕ) (old new child : State) (task : Task) : Type 0 where
   pub program : new.program ≡ old.program
   pub own : new.own ≡ old.own
   pub below : new.below.items ≡ old.below.items
@@ -152,30 +159,31 @@ pub record GoesToFork (old new child : State) (task : Task) : Type 0 where
   pub pending : pending_of new.control ≡ Some pause.Forks
   pub fresh : IsNew old.program.now (old.own.name ++ old.forks ∷ []) 0 task child
   pub next_child : (account : Account) → (rest : List Task) × ((account_at_end old account).children ≡ account.children ++ task ∷ rest)
-  pub keeps : task_of (source_of old.program.now) (old.own.name ++ old.forks ∷ []) ≡ Some task → KeepsOverFork old new child task
+  pub keeps : task_of (source_of old.program.now) (old.own.name ++ old.forks ∷ []) ≡ Some task → KeepsOverFork steps old new child task
 
--- What is so after so many steps, or once the thread has stopped before.
+-- What is so after so many steps, or once the thread has stopped in one of them.
 abbrev pub StopsAt : ℕ → State → Option Stop → State → Type 0
 StopsAt steps old None new = Goes steps old new × (pending_of new.control ≡ None) × (locks_of new ≡ locks_of old)
-StopsAt steps old (Some (stop.Forks class child)) new = GoesToFork old new child.value (task_begun child.value.control child.value.environment.items)
-StopsAt steps old (Some stop.Joins) new = Goes 1 old new × (pending_of new.control ≡ Some pause.Joins) × (locks_of new ≡ locks_of old)
+StopsAt steps old (Some (stop.Forks class child)) new = GoesToFork steps old new child.value (task_begun child.value.control child.value.environment.items)
+StopsAt steps old (Some stop.Joins) new = GoesWithin 1 steps old new × (pending_of new.control ≡ Some pause.Joins) × (locks_of new ≡ locks_of old)
 StopsAt steps old (Some (stop.Asks lock)) new =
-    Goes 1 old new × (pending_of new.control ≡ Some (pause.Asks lock)) × (locks_of new ≡ lock ∷ locks_of old)
+    GoesWithin 1 steps old new × (pending_of new.control ≡ Some (pause.Asks lock)) × (locks_of new ≡ lock ∷ locks_of old)
 StopsAt steps old (Some (stop.Frees lock)) new =
-    Goes 1 old new × (pending_of new.control ≡ Some (pause.Frees lock)) × (locks_of new ≡ locks_of old)
+    GoesWithin 1 steps old new × (pending_of new.control ≡ Some (pause.Frees lock)) × (locks_of new ≡ locks_of old)
     × ((others : List ℕ) × (locks_of new ≡ lock ∷ others))
 StopsAt steps old (Some (stop.Tallies ledger amount)) new =
-    Goes 1 old new × (pending_of new.control ≡ Some (pause.Tallies ledger amount)) × (locks_of new ≡ locks_of old)
+    GoesWithin 1 steps old new × (pending_of new.control ≡ Some (pause.Tallies ledger amount)) × (locks_of new ≡ locks_of old)
 StopsAt steps old (Some stop.Ended) new =
-    Goes 0 old new × (pending_of new.control ≡ Some pause.Ended) × (unjoined_of new ≡ []) × (locks_of new ≡ locks_of old) × (locks_of new ≡ [])
+    GoesWithin 1 steps old new × (pending_of new.control ≡ Some pause.Ended) × (unjoined_of new ≡ []) × (locks_of new ≡ locks_of old) × (locks_of new ≡ [])
+    × (work_left new ≡ 0)
 
 -- the thread that hands on this value next
 abbrev pub giving : State → ℕ → State
 giving t value = record t { control = Give value }
 
--- What is so after a part of a step, with a value that is to be handed on or with none.
+-- What is so after a part of a step, with a value that is to be handed on in the same step, or once the step is made.
 abbrev pub Progresses : State → Progress → State → Type 0
-Progresses old (Value value) new = StopsAt 1 old None (giving new value)
+Progresses old (Value value) new = StopsAt 0 old None (giving new value)
 Progresses old (Made stop) new = StopsAt 1 old stop new
 
 abbrev pub OnValue : Progress → Type 0 → Type 0
@@ -209,7 +217,7 @@ pub record TakesIn (old : State) (outcome : Finished) (new : State) : Type 0 whe
 pub record KeepsOverJoin (old new : State) (number : ℕ) : Type 0 where
   pub ending : ending new ≡ ending old
   pub account : (account : Account) → account_at_end new (account_joined (source_of old.program.now) old.own.name number account) ≡ account_at_end old account
-  pub work : work_left new ≤ work_left old
+  pub work : work_left new ≡ work_left old
 
 -- The awaited child was joined. What the thread comes to is the same, if the child brought the value of its task.
 pub record Joins (old : State) (outcome : Finished) (new : State) : Type 0 where
@@ -239,7 +247,7 @@ pub record Counts (effects : Effects) (old new : State) : Type 0 where
   pub holds : (n : ℕ) (own : ℕ → ℕ) → old.own.holds.items ≡ tabulated n own → new.own.holds.items ≡ tabulated n (λ lock. own lock + effects.holds lock)
   pub ending : ending new ≡ ending old
   pub account : (account : Account) → account_at_end new (after old.own.name effects account) ≡ account_at_end old account
-  pub work : work_left new ≤ work_left old
+  pub work : work_left new ≡ work_left old
 
 -- a hold of this lock is counted, and the rest is as before
 pub record CountsHold (old new : State) (lock : ℕ) : Type 0 where

@@ -26,7 +26,7 @@ pub record Suspended : Type 0 where
   pub holds : List ℕ
   -- the lines of the threads below it, as far as they were joined
   pub below : List ThreadLine
-  -- A bound on the steps that it and the threads that it will fork have left, without one in which a thread does nothing but end. Each other step takes at least one.
+  -- the steps that it and the threads that it will fork have left
   pub work : ℕ
 
 -- the name of the child that a join awaits: that of the newest fork that is not joined
@@ -67,6 +67,11 @@ pub record SameThread (old new : Suspended) : Type 0 where
   pub unjoined : new.unjoined ≡ old.unjoined
   pub below : new.below ≡ old.below
 
+-- at least so many steps were made, and at most so many
+pub record MakesSteps (least most : ℕ) (old new : Suspended) : Type 0 where
+  pub at_least : new.work + least ≤ old.work
+  pub at_most : old.work ≤ new.work + most
+
 -- a thread of this name that has not begun
 pub record IsFresh (program : Program) (name : List ℕ) (tag : ℕ) (thread : Suspended) : Type 0 where
   pub same_program : thread.program ≡ program
@@ -80,8 +85,8 @@ pub record IsFresh (program : Program) (name : List ℕ) (tag : ℕ) (thread : S
   pub none_below : thread.below ≡ []
   pub not_paused : thread.pending ≡ None
 
--- It has forked this child, whose name is its own followed by the number of the fork.
-pub record Forked (old new child : Suspended) : Type 0 where
+-- In at most so many steps it has forked this child, whose name is its own followed by the number of the fork. The child's steps were among its own.
+pub record Forked (budget : ℕ) (old new child : Suspended) : Type 0 where
   pub program : new.program ≡ old.program
   pub name : new.name ≡ old.name
   pub tag : new.tag ≡ old.tag
@@ -91,7 +96,8 @@ pub record Forked (old new child : Suspended) : Type 0 where
   pub below : new.below ≡ old.below
   pub pending : new.pending ≡ Some pause.Forks
   pub fresh : IsFresh old.program (old.name ++ old.forks ∷ []) 0 child
-  pub work : new.work + child.work + 1 ≤ old.work
+  pub some : new.work + child.work + 1 ≤ old.work
+  pub most : old.work ≤ new.work + child.work + budget
 
 -- It has joined this outcome, which is that of the child that it awaited.
 pub record Joined (old : Suspended) (outcome : Finished) (new : Suspended) : Type 0 where
@@ -106,4 +112,4 @@ pub record Joined (old : Suspended) (outcome : Finished) (new : Suspended) : Typ
   pub holds : new.holds ≡ old.holds
   pub below : new.below ≡ old.below ++ outcome.lines
   pub pending : new.pending ≡ None
-  pub work : new.work ≤ old.work
+  pub work : new.work ≡ old.work

@@ -1,10 +1,10 @@
 -- So many turns of a fold or a sweep, from a number on.
-use Rattle.std.specs.Prelude.{ℕ, ◌+◌, ◌-◌, ◌*◌, List}
+use Rattle.std.specs.Prelude.{ℕ, ◌+◌, List}
 use Rattle.arachne_lang.specs.declared.program.Reduction.{Reduction}
 use Rattle.arachne_lang.specs.Tree.{Tree}
 use Rattle.arachne_lang.specs.Value.{Environment, with_newest, value_of, apply, operation_of, turns}
 use Rattle.arachne_lang.specs.Effects.{Effects, turns_effects, effects_of}
-use Rattle.arachne_machine.specs.Work.{total, work_of}
+use Rattle.arachne_machine.specs.Work.{total, work_of, work_of_parts}
 
 -- a fold's turns, from a value on
 abbrev pub folded : List (List ℕ) → Tree → Environment → ℕ → ℕ → ℕ → ℕ
@@ -16,7 +16,7 @@ folded_effects arrays locks body env from n value =
 
 abbrev pub folded_work : List (List ℕ) → Tree → Environment → ℕ → ℕ → ℕ → ℕ
 folded_work arrays body env from n value =
-    total (λ j. work_of arrays body (with_newest (with_newest env (from + j)) (folded arrays body env from j value)) + 1) n
+    total (λ j. work_of arrays body (with_newest (with_newest env (from + j)) (folded arrays body env from j value))) n
 
 -- a sweep's turns, where it is not split
 abbrev pub swept : List (List ℕ) → Reduction → Tree → Environment → ℕ → ℕ → ℕ → ℕ
@@ -27,8 +27,8 @@ abbrev pub swept_effects : List (List ℕ) → ℕ → Tree → Environment → 
 swept_effects arrays locks body env from n = turns_effects (λ j. effects_of arrays locks body (with_newest env (from + j))) n
 
 abbrev pub swept_work : List (List ℕ) → Tree → Environment → ℕ → ℕ → ℕ
-swept_work arrays body env from n = total (λ j. work_of arrays body (with_newest env (from + j)) + 1) n
+swept_work arrays body env from n = total (λ j. work_of arrays body (with_newest env (from + j))) n
 
 -- and where it may be split
-abbrev pub split_work : List (List ℕ) → Tree → Environment → ℕ → ℕ → ℕ
-split_work arrays body env from n = swept_work arrays body env from n + 3 * (n - 1) + 1
+abbrev pub split_work : List (List ℕ) → Tree → Environment → ℕ → ℕ → ℕ → ℕ
+split_work arrays body env grain from n = swept_work arrays body env from n + work_of_parts grain n

@@ -1,5 +1,5 @@
--- How many steps an expression takes at most, the steps of the threads that it forks among them.
-use Rattle.std.specs.Prelude.{ℕ, zero, suc, ◌+◌, ◌-◌, ◌*◌, ◌==◌, if◌then◌else◌, List}
+-- How many steps an expression takes, the steps of the threads that it forks among them.
+use Rattle.std.specs.Prelude.{ℕ, zero, suc, ◌+◌, ◌-◌, ◌*◌, ◌/◌, ◌==◌, max, nat_le, if◌then◌else◌, List}
 use Rattle.arachne_lang.specs.Tree.{Tree, Number, Variable, Length, Item, Binary, Choose, Bind, Tally, Hold, Fork, Fold, Sweep}
 use Rattle.arachne_lang.specs.Value.{Environment, with_newest, value_of, turns}
 
@@ -8,28 +8,38 @@ abbrev pub total : (ℕ → ℕ) → ℕ → ℕ
 total f zero = 0
 total f (suc j) = total f j + f j
 
--- A bound: each beginning of a node or of a part of a sweep counts, and each handing of a value to a frame, though several are often one step. Each split of
--- a sweep counts three more. A sweep splits at most once less often than it has numbers.
+-- How often a sweep of so many numbers is split. A fuel of their number is enough.
+abbrev pub splits : ℕ → ℕ → ℕ → ℕ
+splits grain zero n = 0
+splits grain (suc fuel) n = if nat_le n (max 1 grain) then 0 else splits grain fuel (n / 2) + splits grain fuel (n - n / 2) + 1
+
+-- The steps of a sweep beside those of its numbers. Each part that is not split is begun, and hands its value on; each split is made, and hands on what its
+-- halves come to; there is one more part than there are splits.
+abbrev pub work_of_parts : ℕ → ℕ → ℕ
+work_of_parts grain n = 4 * splits grain n n + 2
+
+-- A step begins a node, or a part of a sweep, and hands on the value that is known then. What a fold comes to, what a part of a sweep does, and what a hold
+-- or two halves leave is handed on in a step of its own.
 abbrev pub work_of : List (List ℕ) → Tree → Environment → ℕ
 work_of arrays (Number n) env = 1
 work_of arrays (Variable k) env = 1
 work_of arrays (Length a) env = 1
-work_of arrays (Item a index) env = work_of arrays index env + 2
-work_of arrays (Binary operation a b) env = work_of arrays a env + work_of arrays b env + 3
+work_of arrays (Item a index) env = work_of arrays index env + 1
+work_of arrays (Binary operation a b) env = work_of arrays a env + work_of arrays b env + 1
 work_of arrays (Choose condition first second) env =
-    work_of arrays condition env + (if value_of arrays condition env == 0 then work_of arrays second env else work_of arrays first env) + 2
-work_of arrays (Bind bound body) env = work_of arrays bound env + work_of arrays body (with_newest env (value_of arrays bound env)) + 3
-work_of arrays (Tally ledger amount body) env = work_of arrays amount env + work_of arrays body env + 2
+    work_of arrays condition env + (if value_of arrays condition env == 0 then work_of arrays second env else work_of arrays first env) + 1
+work_of arrays (Bind bound body) env = work_of arrays bound env + work_of arrays body (with_newest env (value_of arrays bound env)) + 1
+work_of arrays (Tally ledger amount body) env = work_of arrays amount env + work_of arrays body env + 1
 work_of arrays (Hold lock body) env = work_of arrays body env + 2
 work_of arrays (Fork class child during after) env =
     work_of arrays child env + work_of arrays during env
-    + work_of arrays after (with_newest (with_newest env (value_of arrays child env)) (value_of arrays during env)) + 3
+    + work_of arrays after (with_newest (with_newest env (value_of arrays child env)) (value_of arrays during env)) + 1
 work_of arrays (Fold from to first body) env =
     work_of arrays from env + work_of arrays to env + work_of arrays first env
     + total (λ j. work_of arrays body (with_newest (with_newest env (value_of arrays from env + j))
-    (turns (λ i so_far. value_of arrays body (with_newest (with_newest env (value_of arrays from env + i)) so_far)) j (value_of arrays first env))) + 1)
-    (value_of arrays to env - value_of arrays from env) + 4
+    (turns (λ i so_far. value_of arrays body (with_newest (with_newest env (value_of arrays from env + i)) so_far)) j (value_of arrays first env))))
+    (value_of arrays to env - value_of arrays from env) + 2
 work_of arrays (Sweep reduction grain from to body) env =
     work_of arrays from env + work_of arrays to env
-    + total (λ j. work_of arrays body (with_newest env (value_of arrays from env + j)) + 1) (value_of arrays to env - value_of arrays from env)
-    + 3 * (value_of arrays to env - value_of arrays from env - 1) + 4
+    + total (λ j. work_of arrays body (with_newest env (value_of arrays from env + j))) (value_of arrays to env - value_of arrays from env)
+    + work_of_parts grain (value_of arrays to env - value_of arrays from env) + 1

@@ -48,6 +48,7 @@ impl<'p> State<'p> {
         requires frames { vec_len self.old.frames + 1 ≤ vec_capacity self.old.frames }
         ensures made { (before : Thread) → IsPopped frame.entry before (giving self.old value) → Progresses before result self.new }
         ensures room { OnValue result (vec_len self.new.environment + 2 ≤ vec_capacity self.new.environment) }
+        ensures frames { OnValue result (vec_len self.new.frames ≤ vec_len self.old.frames) }
     {
         match frame {
             Frame::Index(array) => return Progress::Value(self.item(array, value)),

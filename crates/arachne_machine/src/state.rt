@@ -65,7 +65,7 @@ impl<'p> State<'p> {
     ghost use Rattle.arachne_machine.specs.Sound.{IsSound};
     ghost use Rattle.arachne_machine.specs.Ending.{work_left, begun_work, locks_of};
     ghost use Rattle.arachne_machine.specs.Suspended.{own_line_of};
-    ghost use Rattle.arachne_machine.specs.Steps.{pending_of, suspended, task_begun, IsBeginning, IsNumbered, IsUnchanged, Goes, IsNew, StopsAt};
+    ghost use Rattle.arachne_machine.specs.Steps.{pending_of, suspended, task_begun, IsBeginning, IsNumbered, IsUnchanged, GoesWithin, IsNew, StopsAt};
     ghost use Rattle.arachne_machine.specs.declared.pause.Pending.TheVariants as pause;
 
     /// A thread that begins like this.
@@ -104,7 +104,7 @@ impl<'p> State<'p> {
         requires running { pending_of self.old.control ≡ None }
         requires numbered { IsNumbered self.old }
         ensures ok { IfOk result (λ stop. StopsAt budget self.old stop self.new) }
-        ensures err { OnErr result (Goes 0 self.old self.new) }
+        ensures err { OnErr result (GoesWithin 0 budget self.old self.new) }
         ensures err_locks { OnErr result (locks_of self.new ≡ locks_of self.old) }
         ensures running { OnErr result (pending_of self.new.control ≡ None) }
     {

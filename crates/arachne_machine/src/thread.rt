@@ -1,8 +1,9 @@
 ghost use Rattle.std.specs.Prelude.{◌≡◌, ◌≢◌, ◌↔◌, ◌≤◌, ◌+◌, ℕ, [], ◌∷◌, None, Some, IfOk, OnOk, IfErr, OnErr};
-ghost use Rattle.arachne_machine.specs.Suspended.{SameThread, IsFresh, Joined, IsAsk, IsFree, IsTally, awaited, own_line_of, raised};
+ghost use Rattle.arachne_machine.specs.Suspended.{SameThread, MakesSteps, IsFresh, Joined, IsAsk, IsFree, IsTally, awaited, own_line_of, raised};
 ghost use Rattle.arachne_machine.specs.Advance.{Advanced, IsForeign, handed_back};
 ghost use Rattle.arachne_machine.specs.Stops.{pause_of, IsSoundStop};
 ghost use Rattle.arachne_lang.specs.Program.{source_of};
+ghost use Rattle.arachne_machine.specs.Work.{work_of};
 ghost use Rattle.arachne_machine.specs.declared.pause.Pending.TheVariants as pause;
 
 use crate::frame::Control;
@@ -39,7 +40,8 @@ impl<'p> Model for Thread<'p> {
 impl<'p> Thread<'p> {
     /// The root thread of a program.
     pub fn start(alloc: Global, program: &'p Program, tag: u64) -> Result<Thread<'p>, AllocError>
-        ensures { IfOk result (IsFresh program.now [] tag) }
+        ensures fresh { IfOk result (IsFresh program.now [] tag) }
+        ensures work { IfOk result (λ thread. thread.work ≡ work_of (source_of program.now).arrays (source_of program.now).root []) }
     {
         let root = Name::root(alloc);
         let begins = Control::Begin(&program.root);
@@ -79,7 +81,7 @@ impl<'p> Thread<'p> {
         ensures holds { self.new.holds ≡ self.old.holds }
         ensures err_same { OnErr result (SameThread self.old self.new) }
         ensures err_locks { OnErr result (self.new.locks ≡ self.old.locks) }
-        ensures err_work { OnErr result (self.new.work ≤ self.old.work) }
+        ensures err_work { OnErr result (MakesSteps 0 budget self.old self.new) }
         ensures err_pending { OnErr result (self.new.pending ≡ None) }
     {
         let stop = self.state.advance(budget)?;
@@ -107,7 +109,7 @@ impl<'p> Thread<'p> {
         ensures holds { (lock : ℕ) × (self.old.pending ≡ Some (pause.Asks lock)) × (self.new.holds ≡ raised self.old.holds lock 1) }
         ensures locks { self.new.locks ≡ self.old.locks }
         ensures pending { self.new.pending ≡ None }
-        ensures work { self.new.work ≤ self.old.work }
+        ensures work { self.new.work ≡ self.old.work }
     {
         self.state.granted();
     }
@@ -133,7 +135,7 @@ impl<'p> Thread<'p> {
         ensures holds { self.new.holds ≡ self.old.holds }
         ensures locks { self.new.locks ≡ self.old.locks }
         ensures pending { self.new.pending ≡ None }
-        ensures work { self.new.work ≤ self.old.work }
+        ensures work { self.new.work ≡ self.old.work }
     {
         self.state.tallied();
     }

@@ -9,6 +9,7 @@ use Rattle.arachne_machine.specs.Steps.{StopsAt}
 use Rattle.arachne_machine.proofs.Frames.{length-forks_of}
 use Rattle.arachne_machine.proofs.Outlooks.{given}
 use Rattle.arachne_machine.proofs.Openings.{begins_by, goes_to_value, goes_to_part, open_number, open_variable, open_length, open_item, open_binary, open_choice, open_binding, open_tally, open_hold, open_fold, open_sweep}
+use Rattle.arachne_machine.proofs.Handings.{once}
 use Rattle.arachne_machine.proofs.Splitting.{goes_to_fork}
 use Rattle.arachne_machine.proofs.state.State.begin.Goals.{in-Item+in_ok-enter-in-Item, in-Binary+in_ok-enter-in-Binary, in-If+in_ok-enter-in-If, in-Let+in_ok-enter-in-Let, in-Tally+in_ok-enter-in-Tally, in-Fold+in_ok-enter-in-Fold, in-Sweep+in_ok-enter-in-Sweep}
 use Rattle.arachne_machine.proofs.state.State.begin.Goals as goal
@@ -43,10 +44,10 @@ returns-in-Hold-clause-ok c =
     let t = c.args.self.now in
     let body = c.deref-in-Hold.result in
     let lock = c.in-Hold.lock in
-    let s = begins_by t c.ask.new.self c.args.expr (Hold lock (tree_of body.now)) (Asks lock body) (Release lock ∷ []) c.requires.begins
+    let s = begins_by 1 t c.ask.new.self c.args.expr (Hold lock (tree_of body.now)) (Asks lock body) (Release lock ∷ []) c.requires.begins
     (rw c.deref-in-Hold.ensures (ap tree_of c.in-Hold.is)) c.in_ok-ask-in-Hold.ensures.ok (λ fs. refl) refl
     (open_hold (source_of t.program.now) t.own.name t.environment.items lock body) in
-    (s.goes, s.pending, s.locks ∙ ap (λ l. lock ∷ l) (sym s.old_locks))
+    (once t _ s.goes, s.pending, s.locks ∙ ap (λ l. lock ∷ l) (sym s.old_locks))
 
 pub returns-in-Fork-clause-ok : goal.returns-in-Fork-clause-ok
 returns-in-Fork-clause-ok c =

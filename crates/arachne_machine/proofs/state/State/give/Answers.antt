@@ -1,4 +1,4 @@
-use Rattle.std.proofs.Common.{◌+◌, ◌≤◌, Some, refl, sym, ◌∙◌, arith}
+use Rattle.std.proofs.Common.{[], ◌∷◌, length, length-append, Some, refl, ap, sym, ◌∙◌, arith}
 use Rattle.std.proofs.lemmas.List.{append-nil, nil_from_length}
 use Rattle.arachne_machine.specs.declared.state.Stop.TheVariants as stop
 use Rattle.arachne_machine.specs.Steps.{IsPopped, giving}
@@ -23,12 +23,7 @@ hand-requires-clause-environment c = c.loop-frame.invariant.room
 
 pub loop-frame-smaller : goal.loop-frame-smaller
 loop-frame-smaller c =
-    let t = c.loop-frame.self in
-    let before = giving t c.loop-frame.value in
-    let popped : IsPopped c.in-Some.frame before (giving (record t { frames = c.pop.new.self }) c.loop-frame.value) =
-    record { program = refl; own = refl; below = refl; sums = refl; forks = refl; environment_is = refl; frames_are = c.in-Some.ensures.items; control_is = refl } in
-    let next = c.in-Value.ensures.made before popped in
-    omega (arith, next.0.work)
+    omega (arith, ap length c.in-Some.ensures.items, length-append c.pop.new.self.items (c.in-Some.frame ∷ []), c.pop.new.self.ok.0, c.loop-frame.self.frames.ok.0, c.in-Value.ensures.frames)
 
 pub loop-frame-preserved : goal.loop-frame-preserved
 loop-frame-preserved c =
@@ -38,7 +33,7 @@ loop-frame-preserved c =
     record { program = refl; own = refl; below = refl; sums = refl; forks = refl; environment_is = refl; frames_are = c.in-Some.ensures.items; control_is = refl } in
     let next = c.in-Value.ensures.made before popped in
     record {
-      goes = goes_on 0 1 0 _ before _ c.loop-frame.invariant.goes next.0 (omega arith);
+      goes = goes_on 0 0 0 _ before _ c.loop-frame.invariant.goes next.0 refl;
       locks = next.2 ∙ c.loop-frame.invariant.locks;
       room = c.in-Value.ensures.room;
     }

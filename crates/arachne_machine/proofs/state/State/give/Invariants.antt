@@ -1,5 +1,5 @@
 use Rattle.std.proofs.Common.{◌≡◌, ◌≤◌, ◌+◌, vec_len, vec_capacity}
-use Rattle.arachne_machine.specs.Ending.{locks_of, work_left}
+use Rattle.arachne_machine.specs.Ending.{locks_of}
 use Rattle.arachne_machine.specs.Steps.{Goes, giving}
 use Rattle.arachne_machine.proofs.state.State.give.Given as goal
 
@@ -11,4 +11,4 @@ invariant-loop-frame l = record {
 }
 
 abbrev pub decreases-loop-frame : goal.decreases-loop-frame
-decreases-loop-frame l = work_left (giving l.self l.value)
+decreases-loop-frame l = vec_len l.self.frames

@@ -1,9 +1,9 @@
-use Rattle.std.proofs.Common.{◌≡◌, refl, sym, subst, arith}
+use Rattle.std.proofs.Common.{◌≡◌, refl, sym, subst}
 use Rattle.arachne_machine.specs.declared.state.State.{State}
 use Rattle.arachne_machine.specs.Ending.{locks_of}
 use Rattle.arachne_machine.specs.Steps.{Goes, giving}
 use Rattle.arachne_machine.proofs.Outlooks.{as_it_is}
-use Rattle.arachne_machine.proofs.Soundness.{goes_nowhere, goes_on, goes_then_made}
+use Rattle.arachne_machine.proofs.Soundness.{goes_nowhere, goes_then_made}
 use Rattle.arachne_machine.proofs.state.State.step.Goals.{in-Begin+in_ok-value-in-Begin+in-Value, in-Give}
 use Rattle.arachne_machine.proofs.state.State.step.Goals as goal
 
@@ -22,7 +22,7 @@ returns-clause-ok c =
           let new = giving w.begin.new.self w.in-Value.value in
           subst (λ x. Follows t (giving x v)) (sym w.self-is)
           (subst (λ y. Follows t (giving w.begin.new.self y)) (sym w.value-is)
-          (record { goes = goes_on 1 0 0 t new new begun.0 (goes_nowhere new new (as_it_is new)) (omega arith); locks = begun.2 }))
+          (record { goes = begun.0; locks = begun.2 }))
       | in-Give w ↦
           subst (λ x. Follows t (giving x v)) (sym w.self-is)
           (subst (λ y. Follows t (giving t y)) (sym w.value-is)
