@@ -12,3 +12,4 @@ pub mod Joining
 pub mod Soundness
 pub mod Advancing
 pub mod Waiting
+pub mod WorkedSteps
