@@ -186,8 +186,7 @@ ends old mid new v same gives none b =
     } in
     let s = steps_by 1 mid old new (Give v) (Ended v) [] [] [] env env back
     (framed_as mid new env mid.frames.items [] (Ended v) (Ended v) b none refl) refl refl refl
-    (record { ending = refl; account = λ a any. refl; work = omega arith }) in
-    (
+    (record { ending = refl; account = λ a any. refl; work = omega arith }) in (
       once old new s.goes,
       s.pending,
       ap (λ k. fork_awaited k ++ forks_of new.frames.items) b.control_is ∙ ap forks_of (b.frames_are ∙ none),
