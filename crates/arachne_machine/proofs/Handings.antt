@@ -22,6 +22,7 @@ use Rattle.arachne_machine.specs.Account.{Account, after}
 use Rattle.arachne_machine.specs.Work.{work_of}
 use Rattle.arachne_machine.specs.Turns.{folded, folded_effects, folded_work, swept, swept_effects, swept_work}
 use Rattle.arachne_machine.specs.Ending.{Status, resume, resume_account, resume_work, begun, begun_account, begun_work, fork_awaited, lock_freed, forks_of, releases, frames_left, without_newest}
+use Rattle.arachne_machine.specs.Faultless.{IsFaultless, GoesWithoutFault}
 use Rattle.arachne_machine.specs.Steps.{Becomes, IsUnchanged, IsPopped, Enters, Goes, GoesWithin, TurnsFold, TurnsSweep, StopsAt, pending_of, giving}
 use Rattle.arachne_machine.proofs.Halves.{effects_whole, work_whole}
 use Rattle.arachne_machine.proofs.Ranges.{folded-turn, folded-done, folded_effects-turn, folded_effects-done, folded_work-turn, folded_work-done, swept-turn, swept-done, swept_effects-turn, swept_effects-done, swept_work-turn, swept_work-done}
@@ -70,13 +71,13 @@ hand_index before mid new v a w popped gives is b =
     hands_on 0 before mid new v (Index a) (Give (slice_index (array_at (source_of mid.program.now).arrays a) v)) popped gives
     (framed_as mid new mid.environment.items mid.frames.items mid.frames.items (Give w) (Give (slice_index (array_at (source_of mid.program.now).arrays a) v)) b refl (ap Give is))
     (λ fs. refl) refl refl refl
-    (record { ending = refl; account = λ a any. refl; work = omega arith })
+    (record { ending = refl; account = λ a any. refl; work = omega arith; faultless = λ held h. (tt, tt) })
 
 pub hand_right : (before mid new : State) (v : ℕ) (operation : Operation) (right : Bor Expr) → IsPopped (Right operation right) before mid → mid.control ≡ Give v →
     Enters mid new (Apply operation v) (Begin right) → StopsAt 1 before None new
 hand_right before mid new v operation right popped gives b =
     hands_to_part before mid new v (Right operation right) (Apply operation v) mid.environment.items right popped gives b refl refl
-    (record { ending = refl; account = λ a any. refl; work = omega arith })
+    (record { ending = refl; account = λ a any. refl; work = omega arith; faultless = λ held h. ((tt, tt), h.0.0) })
 
 pub hand_apply : (before mid new : State) (v left w : ℕ) (operation : Operation) → IsPopped (Apply operation left) before mid → mid.control ≡ Give v →
     w ≡ apply operation left v → Becomes mid new mid.environment.items mid.frames.items (Give w) → StopsAt 0 before None new
@@ -84,7 +85,7 @@ hand_apply before mid new v left w operation popped gives is b =
     hands_on 0 before mid new v (Apply operation left) (Give (apply operation left v)) popped gives
     (framed_as mid new mid.environment.items mid.frames.items mid.frames.items (Give w) (Give (apply operation left v)) b refl (ap Give is))
     (λ fs. refl) refl refl refl
-    (record { ending = refl; account = λ a any. refl; work = omega arith })
+    (record { ending = refl; account = λ a any. refl; work = omega arith; faultless = λ held h. (tt, tt) })
 
 pub is_zero : (v : ℕ) → v ≡ 0 → (v == 0) ≡ true
 is_zero v h = ap (λ x. x == 0) h
@@ -100,6 +101,7 @@ chosen source name env v first second true is = record {
   work =
       let e = ap (λ b. if b then work_of source.arrays (tree_of second.now) env else work_of source.arrays (tree_of first.now) env) is in
       omega (arith, e);
+  faultless = λ held h. (tt, h.0.0.1);
 }
 chosen source name env v first second false is = record {
   ending = ap (λ b. record { env = env; value = if b then value_of source.arrays (tree_of second.now) env else value_of source.arrays (tree_of first.now) env }) (sym is);
@@ -107,6 +109,7 @@ chosen source name env v first second false is = record {
   work =
       let e = ap (λ b. if b then work_of source.arrays (tree_of second.now) env else work_of source.arrays (tree_of first.now) env) is in
       omega (arith, e);
+  faultless = λ held h. (tt, h.0.0.0);
 }
 
 pub hand_branch : (before mid new : State) (v : ℕ) (first second : Bor Expr) (c : Bool) → IsPopped (Branch first second) before mid → mid.control ≡ Give v → (v == 0) ≡ c →
@@ -124,7 +127,7 @@ hand_extend before mid new v body popped gives b =
     let back : take (length env) (env ++ v ∷ []) ≡ env = take-append_seam env (v ∷ []) in
     let w = value_of source.arrays (tree_of body.now) (with_newest env v) in
     hands_to_part before mid new v (Extend body) (Restore (length env)) (with_newest env v) body popped gives b refl refl
-    (record { ending = ap (λ e. record { env = e; value = w }) back; account = λ a any. refl; work = omega arith })
+    (record { ending = ap (λ e. record { env = e; value = w }) back; account = λ a any. refl; work = omega arith; faultless = λ held h. ((tt, tt), h.0.0) })
 
 pub hand_restore : (before mid new : State) (v n : ℕ) → IsPopped (Restore n) before mid → mid.control ≡ Give v →
     Becomes mid new (take n mid.environment.items) mid.frames.items mid.control → StopsAt 0 before None new
@@ -134,7 +137,7 @@ hand_restore before mid new v n popped gives b =
     goes_on_by 0 mid before new (Give v) (Give v) fs (Restore n ∷ []) [] env (take n env)
     (framed_as mid before env (fs ++ Restore n ∷ []) (fs ++ Restore n ∷ []) mid.control (Give v) popped refl gives)
     (framed_as mid new (take n env) (fs ++ []) (fs ++ []) mid.control (Give v) (alone mid new (take n env) mid.control b) refl gives) refl refl refl refl refl
-    (record { ending = refl; account = λ a any. refl; work = omega arith })
+    (record { ending = refl; account = λ a any. refl; work = omega arith; faultless = λ held h. (tt, tt) })
 
 -- one step is within one
 pub once : (old new : State) → Goes 1 old new → GoesWithin 1 1 old new
@@ -145,28 +148,28 @@ pub hand_amount : (before mid new : State) (v ledger : ℕ) (body : Bor Expr) �
     Becomes mid new mid.environment.items mid.frames.items (Tallies ledger v body) → StopsAt 1 before (Some (stop.Tallies ledger v)) new
 hand_amount before mid new v ledger body popped gives b =
     let s = hands_to_stop before mid new v (Amount ledger body) (Tallies ledger v body) popped gives b (λ fs. refl) refl
-    (record { ending = refl; account = λ a any. refl; work = omega arith }) in
+    (record { ending = refl; account = λ a any. refl; work = omega arith; faultless = λ held h. (tt, h.0.0) }) in
     (once before new s.goes, s.pending, s.locks ∙ sym s.old_locks)
 
 pub hand_release : (before mid new : State) (v lock : ℕ) → IsPopped (Release lock) before mid → mid.control ≡ Give v →
     Becomes mid new mid.environment.items mid.frames.items (Frees lock v) → StopsAt 1 before (Some (stop.Frees lock)) new
 hand_release before mid new v lock popped gives b =
     let s = hands_to_stop before mid new v (Release lock) (Frees lock v) popped gives b (λ fs. refl) refl
-    (record { ending = refl; account = λ a any. refl; work = omega arith }) in
+    (record { ending = refl; account = λ a any. refl; work = omega arith; faultless = λ held h. (tt, h.0.0) }) in
     (once before new s.goes, s.pending, s.locks ∙ sym s.old_locks, (releases mid.frames.items, s.locks))
 
 pub hand_join : (before mid new : State) (v number : ℕ) (next : Bor Expr) → IsPopped (Join number next) before mid → mid.control ≡ Give v →
     Becomes mid new mid.environment.items mid.frames.items (Awaits number v next) → StopsAt 1 before (Some stop.Joins) new
 hand_join before mid new v number next popped gives b =
     let s = hands_to_stop before mid new v (Join number next) (Awaits number v next) popped gives b (λ fs. refl) refl
-    (record { ending = refl; account = λ a any. refl; work = omega arith }) in
+    (record { ending = refl; account = λ a any. refl; work = omega arith; faultless = λ held h. (tt, h.0.0) }) in
     (once before new s.goes, s.pending, s.locks ∙ sym s.old_locks)
 
 pub hand_merge : (before mid new : State) (v number : ℕ) (reduction : Reduction) → IsPopped (Merge number reduction) before mid → mid.control ≡ Give v →
     Becomes mid new mid.environment.items mid.frames.items (AwaitsHalf number v reduction) → StopsAt 1 before (Some stop.Joins) new
 hand_merge before mid new v number reduction popped gives b =
     let s = hands_to_stop before mid new v (Merge number reduction) (AwaitsHalf number v reduction) popped gives b (λ fs. refl) refl
-    (record { ending = refl; account = λ a any. refl; work = omega arith }) in
+    (record { ending = refl; account = λ a any. refl; work = omega arith; faultless = λ held h. (tt, h.0.0) }) in
     (once before new s.goes, s.pending, s.locks ∙ sym s.old_locks)
 
 -- no frame is left
@@ -186,7 +189,7 @@ ends old mid new v same gives none b =
     } in
     let s = steps_by 1 mid old new (Give v) (Ended v) [] [] [] env env back
     (framed_as mid new env mid.frames.items [] (Ended v) (Ended v) b none refl) refl refl refl
-    (record { ending = refl; account = λ a any. refl; work = omega arith }) in (
+    (record { ending = refl; account = λ a any. refl; work = omega arith; faultless = λ held h. (tt, tt) }) in (
       once old new s.goes,
       s.pending,
       ap (λ k. fork_awaited k ++ forks_of new.frames.items) b.control_is ∙ ap forks_of (b.frames_are ∙ none),
@@ -200,13 +203,13 @@ pub hand_fold_to : (before mid new : State) (v : ℕ) (to first body : Bor Expr)
     Enters mid new (FoldFirst v first body) (Begin to) → StopsAt 1 before None new
 hand_fold_to before mid new v to first body popped gives b =
     hands_to_part before mid new v (FoldTo to first body) (FoldFirst v first body) mid.environment.items to popped gives b refl refl
-    (record { ending = refl; account = λ a any. refl; work = omega arith })
+    (record { ending = refl; account = λ a any. refl; work = omega arith; faultless = λ held h. (((h.0.0.1, h.0.0.2), tt), h.0.0.0) })
 
 pub hand_fold_first : (before mid new : State) (v from : ℕ) (first body : Bor Expr) → IsPopped (FoldFirst from first body) before mid → mid.control ≡ Give v →
     Enters mid new (FoldStart from v body) (Begin first) → StopsAt 1 before None new
 hand_fold_first before mid new v from first body popped gives b =
     hands_to_part before mid new v (FoldFirst from first body) (FoldStart from v body) mid.environment.items first popped gives b refl refl
-    (record { ending = refl; account = λ a any. refl; work = omega arith })
+    (record { ending = refl; account = λ a any. refl; work = omega arith; faultless = λ held h. ((h.0.0.1, tt), h.0.0.0) })
 
 without-two : (env : List ℕ) (x y : ℕ) → without_newest 2 (with_newest (with_newest env x) y) ≡ env
 without-two env x y =
@@ -238,6 +241,7 @@ fold_turn source name env v next end body lt =
       work =
           let e = ap (λ e. folded_work A t e (next + 1) n w) back in
           omega (arith, e, folded_work-turn A t env next end v lt);
+      faultless = λ held h. ((h.0.0, tt), h.0.0);
     }
 
 fold_end : (source : Source) (name env : List ℕ) (v next end : ℕ) (body : Bor Expr) → end ≤ next →
@@ -246,6 +250,7 @@ fold_end source name env v next end body le = record {
   ending = ap (λ x. record { env = env; value = x }) (sym (folded-done source.arrays (tree_of body.now) env next end v le));
   account = λ a any. sym (folded_effects-done source.arrays source.locks (tree_of body.now) env next end v name a le);
   work = omega (arith, folded_work-done source.arrays (tree_of body.now) env next end v le);
+  faultless = λ held h. (tt, tt);
 }
 
 pub hand_fold_start : (before mid new : State) (v from to : ℕ) (body : Bor Expr) → IsPopped (FoldStart from to body) before mid → mid.control ≡ Give v →
@@ -264,7 +269,7 @@ hand_fold_start before mid new v from to body popped gives turns =
 fold_on : (source : Source) (name env : List ℕ) (v next end : ℕ) (body : Bor Expr) (k' : Control) (gs' : List Frame) (env' : List ℕ) →
     StepOutlook 1 source name (Give v) (FoldStart next end body ∷ []) (without_newest 2 env) k' gs' env' →
     StepOutlook 1 source name (Give v) (FoldTurn next end body ∷ []) env k' gs' env'
-fold_on source name env v next end body k' gs' env' s = record { ending = s.ending; account = s.account; work = s.work }
+fold_on source name env v next end body k' gs' env' s = record { ending = s.ending; account = s.account; work = s.work; faultless = s.faultless }
 
 pub fold_giving : (t new : State) (v next end : ℕ) (body : Bor Expr) (so_far : ℕ) → TurnsFold t new next end body so_far → TurnsFold (giving t v) new next end body so_far
 fold_giving t new v next end body so_far turns = record {
@@ -308,14 +313,14 @@ pub hand_sweep_to : (before mid new : State) (v : ℕ) (reduction : Reduction) (
     Enters mid new (SweepStart reduction grain v body) (Begin to) → StopsAt 1 before None new
 hand_sweep_to before mid new v reduction grain to body popped gives b =
     hands_to_part before mid new v (SweepTo reduction grain to body) (SweepStart reduction grain v body) mid.environment.items to popped gives b refl refl
-    (record { ending = refl; account = λ a any. refl; work = omega arith })
+    (record { ending = refl; account = λ a any. refl; work = omega arith; faultless = λ held h. (((h.0.0.0, h.0.0.2), tt), h.0.0.1) })
 
 pub hand_sweep_start : (before mid new : State) (v : ℕ) (reduction : Reduction) (grain first : ℕ) (body : Bor Expr) → IsPopped (SweepStart reduction grain first body) before mid → mid.control ≡ Give v →
     Becomes mid new mid.environment.items mid.frames.items (Cover (record { reduction = reduction; grain = grain; first = first; end = v; body = body })) → StopsAt 1 before None new
 hand_sweep_start before mid new v reduction grain first body popped gives b =
     hands_on 1 before mid new v (SweepStart reduction grain first body) (Cover (record { reduction = reduction; grain = grain; first = first; end = v; body = body })) popped gives b
     (λ fs. refl) refl refl refl
-    (record { ending = refl; account = λ a any. refl; work = omega arith })
+    (record { ending = refl; account = λ a any. refl; work = omega arith; faultless = λ held h. (tt, h.0.0) })
 
 -- What a sweep that has a value so far comes to is what these frames and this come to.
 record Sweeps (source : Source) (name : List ℕ) (env : List ℕ) (reduction : Reduction) (next end x : ℕ) (body : Tree) (k' : Control) (gs' : List Frame) (env' : List ℕ) : Type 0 where
@@ -324,6 +329,7 @@ record Sweeps (source : Source) (name : List ℕ) (env : List ℕ) (reduction : 
       resume_account source name gs' (begun source name k' env') (begun_account source name k' env' a)
       ≡ after name (swept_effects source.arrays source.locks body env next (end - next)) a
   pub work : begun_work source name k' env' + resume_work source name gs' (begun source name k' env') ≡ swept_work source.arrays body env next (end - next) + 1
+  pub faultless : (held : Bool) → IsFaultless source held body → GoesWithoutFault source held gs' k'
 
 sweep_turn : (source : Source) (name env : List ℕ) (reduction : Reduction) (next end x : ℕ) (body : Bor Expr) → next < end →
     Sweeps source name env reduction next end x (tree_of body.now) (Begin body) (SweepTurn reduction (next + 1) end x body ∷ []) (with_newest env next)
@@ -343,6 +349,7 @@ sweep_turn source name env reduction next end x body lt =
       work =
           let e = ap (λ e. swept_work A t e (next + 1) n) back in
           omega (arith, e, swept_work-turn A t env next end lt);
+      faultless = λ held h. ((h, tt), h);
     }
 
 sweep_end : (source : Source) (name env : List ℕ) (reduction : Reduction) (next end x : ℕ) (body : Tree) → end ≤ next →
@@ -351,6 +358,7 @@ sweep_end source name env reduction next end x body le = record {
   ending = ap (λ y. record { env = env; value = y }) (sym (swept-done source.arrays reduction body env next end x le));
   account = λ a. sym (swept_effects-done source.arrays source.locks body env next end name a le);
   work = omega (arith, swept_work-done source.arrays body env next end le);
+  faultless = λ held h. (tt, tt);
 }
 
 sweep_on : (source : Source) (name env less : List ℕ) (v so_far : ℕ) (reduction : Reduction) (next end : ℕ) (body : Bor Expr) (k' : Control) (gs' : List Frame) (env' : List ℕ) → less ≡ without_newest 1 env →
@@ -358,7 +366,7 @@ sweep_on : (source : Source) (name env less : List ℕ) (v so_far : ℕ) (reduct
     StepOutlook 1 source name (Give v) (SweepTurn reduction next end so_far body ∷ []) env k' gs' env'
 sweep_on source name env less v so_far reduction next end body k' gs' env' is s =
     let s' = subst (λ e. Sweeps source name e reduction next end (apply (operation_of reduction) so_far v) (tree_of body.now) k' gs' env') is s in
-    record { ending = s'.ending; account = λ a any. s'.account a; work = omega (arith, s'.work) }
+    record { ending = s'.ending; account = λ a any. s'.account a; work = omega (arith, s'.work); faultless = λ held h. s'.faultless held h.0.0 }
 
 -- In the midst of a sweep, once its newest variable was dropped.
 pub hand_sweep_turn : (before mid outer new : State) (v : ℕ) (reduction : Reduction) (next end so_far w : ℕ) (body : Bor Expr) (k : Control) → IsPopped (SweepTurn reduction next end so_far body) before mid → mid.control ≡ Give v →
@@ -404,6 +412,7 @@ covered source name env stretch k' gs' env' le s = record {
   account = λ a any. s.account a
       ∙ ap (λ e. after name e a) (sym (effects_whole source.arrays source.locks stretch.reduction stretch.grain (tree_of stretch.body.now) env stretch.first (stretch.end - stretch.first) le));
   work = omega (arith, s.work, work_whole stretch.grain (stretch.end - stretch.first) le);
+  faultless = λ held h. s.faultless held h.1.1;
 }
 
 pub covers : (old mid new : State) (stretch : Stretch) (u : ℕ) → IsUnchanged old mid → old.control ≡ Cover stretch → stretch.end - stretch.first ≤ max 1 stretch.grain →

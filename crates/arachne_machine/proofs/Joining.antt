@@ -59,7 +59,7 @@ joins_by old new outcome n k k' gs' env' is_k is_name program own forks is_k' fr
       sums = sums;
       keeps = λ is_value.
           let end = same_end 0 Any (account_joined source name n) source name k k' fs [] gs' env env' old new at at' (left (fs ++ [])) (left' (fs ++ gs')) (outlook is_value) in
-          record { ending = end.ending; account = λ a. end.account a tt; work = omega (arith, end.work) };
+          record { ending = end.ending; account = λ a. end.account a tt; work = omega (arith, end.work); faultless = end.faultless };
     }
 
 take-two : (env : List ℕ) (x y : ℕ) → take (length env) (with_newest (with_newest env x) y) ≡ env
@@ -77,6 +77,7 @@ join_outlook source name env n v next =
       ending = ap (λ e. record { env = e; value = w }) back;
       account = λ a any. refl;
       work = omega arith;
+      faultless = λ held h. ((tt, tt), h.1.1);
     }
 
 pub joins_fork : (old new : State) (outcome : Finished) (n v : ℕ) (next : Bor Expr) → old.control ≡ Awaits n v next → outcome.name ≡ old.own.name ++ n ∷ [] →
@@ -111,6 +112,7 @@ joins_half old new outcome n right w reduction awaits is_name program own forks 
       ending = ap (λ x. record { env = env; value = x }) (is ∙ ap (λ x. apply (operation_of reduction) x right) is_value);
       account = λ a any. refl;
       work = omega arith;
+      faultless = λ held h. (tt, tt);
     })
 
 -- the name of the child that is awaited
@@ -160,6 +162,7 @@ counts_by old new effects k k' is_k is_k' program is_name tag below forks frames
       ending = end.ending;
       account = λ a. end.account a tt;
       work = omega (arith, end.work);
+      faultless = end.faultless;
     }
 
 pub counts_hold : (old new : State) (lock : ℕ) (body : Bor Expr) → old.control ≡ Asks lock body → new.control ≡ Begin body →
@@ -170,7 +173,7 @@ pub counts_hold : (old new : State) (lock : ℕ) (body : Bor Expr) → old.contr
     Counts (held lock) old new
 counts_hold old new lock body asks begins program is_name tag below forks frames environment sums holds =
     counts_by old new (held lock) (Asks lock body) (Begin body) asks begins program is_name tag below forks frames environment sums holds
-    (λ fs. refl) (λ fs. refl) refl refl refl (record { ending = refl; account = λ a any. refl; work = omega arith })
+    (λ fs. refl) (λ fs. refl) refl refl refl (record { ending = refl; account = λ a any. refl; work = omega arith; faultless = λ held h. (tt, h.1.1) })
 
 pub counts_tally : (old new : State) (ledger amount : ℕ) (body : Bor Expr) → old.control ≡ Tallies ledger amount body → new.control ≡ Begin body →
     new.program ≡ old.program → new.own.name ≡ old.own.name → new.own.tag ≡ old.own.tag → new.below.items ≡ old.below.items → new.forks ≡ old.forks →
@@ -180,7 +183,7 @@ pub counts_tally : (old new : State) (ledger amount : ℕ) (body : Bor Expr) →
     Counts (tallied ledger amount) old new
 counts_tally old new ledger amount body tallies begins program is_name tag below forks frames environment sums holds =
     counts_by old new (tallied ledger amount) (Tallies ledger amount body) (Begin body) tallies begins program is_name tag below forks frames environment sums holds
-    (λ fs. refl) (λ fs. refl) refl refl refl (record { ending = refl; account = λ a any. refl; work = omega arith })
+    (λ fs. refl) (λ fs. refl) refl refl refl (record { ending = refl; account = λ a any. refl; work = omega arith; faultless = λ held h. (tt, h.1.1) })
 
 -- An answer that counts nothing, and goes on.
 pub answers_by : (t : State) (k k' : Control) → t.control ≡ k → ((fs : List Frame) → frames_left k fs ≡ fs) → ((fs : List Frame) → frames_left k' fs ≡ fs) →
@@ -196,10 +199,10 @@ answers_by t k k' is left left' forks same =
     (alone t new env k' (given t k' k' refl)) (left (fs ++ [])) (left' (fs ++ [])) forks same
 
 pub frees_by : (t : State) (lock v : ℕ) → t.control ≡ Frees lock v → Step 0 (Frees lock v) (Give v) t.frames.items [] [] t (record t { control = Give v })
-frees_by t lock v is = answers_by t (Frees lock v) (Give v) is (λ fs. refl) (λ fs. refl) refl (record { ending = refl; account = λ a any. refl; work = omega arith })
+frees_by t lock v is = answers_by t (Frees lock v) (Give v) is (λ fs. refl) (λ fs. refl) refl (record { ending = refl; account = λ a any. refl; work = omega arith; faultless = λ held h. (tt, tt) })
 
 pub forked_by : (t : State) (during : Bor Expr) → t.control ≡ Forked during → Step 0 (Forked during) (Begin during) t.frames.items [] [] t (record t { control = Begin during })
-forked_by t during is = answers_by t (Forked during) (Begin during) is (λ fs. refl) (λ fs. refl) refl (record { ending = refl; account = λ a any. refl; work = omega arith })
+forked_by t during is = answers_by t (Forked during) (Begin during) is (λ fs. refl) (λ fs. refl) refl (record { ending = refl; account = λ a any. refl; work = omega arith; faultless = λ held h. (tt, h.1.1) })
 
 pub halved_by : (t : State) (right : Stretch) → t.control ≡ Halved right → Step 0 (Halved right) (Cover right) t.frames.items [] [] t (record t { control = Cover right })
-halved_by t right is = answers_by t (Halved right) (Cover right) is (λ fs. refl) (λ fs. refl) refl (record { ending = refl; account = λ a any. refl; work = omega arith })
+halved_by t right is = answers_by t (Halved right) (Cover right) is (λ fs. refl) (λ fs. refl) refl (record { ending = refl; account = λ a any. refl; work = omega arith; faultless = λ held h. (tt, h.1) })

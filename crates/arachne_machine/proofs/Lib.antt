@@ -4,6 +4,7 @@ pub mod Names
 pub mod Ranges
 pub mod Halves
 pub mod Frames
+pub mod Faultlessness
 pub mod Outlooks
 pub mod Openings
 pub mod Handings

@@ -1,5 +1,5 @@
 -- What the newest frames and what comes next come to, and so the whole thread.
-use Rattle.std.proofs.Common.{◌≡◌, ℕ, ◌+◌, List, [], ◌++◌, None, refl, ap, sym, ◌∙◌, arith, append_assoc}
+use Rattle.std.proofs.Common.{◌≡◌, ℕ, ◌+◌, Bool, false, List, [], ◌++◌, None, refl, subst, ap, sym, ◌∙◌, arith, append_assoc}
 use Rattle.std.proofs.lemmas.List.{append-nil}
 use Rattle.arachne_lang.specs.Tree.{Source}
 use Rattle.arachne_lang.specs.Program.{source_of}
@@ -8,7 +8,9 @@ use Rattle.arachne_machine.specs.declared.frame.Control.{Control}
 use Rattle.arachne_machine.specs.declared.state.State.{State}
 use Rattle.arachne_machine.specs.Account.{Account}
 use Rattle.arachne_machine.specs.Ending.{resume, resume_account, resume_work, begun, begun_account, begun_work, fork_awaited, lock_freed, forks_of, releases, frames_left, ending, account_at_end, work_left, unjoined_of, locks_of}
+use Rattle.arachne_machine.specs.Faultless.{GoesWithoutFault, IsWithoutFault}
 use Rattle.arachne_machine.specs.Steps.{Becomes, Goes, StopsAt, pending_of, giving}
+use Rattle.arachne_machine.proofs.Faultlessness.{faultless_above}
 use Rattle.arachne_machine.proofs.Frames.{resume-append, resume_account-append, resume_work-append, forks_of-append, releases-append}
 
 -- From what comes next, the newest frames and the environment to the new ones the end is the same, if the accounts that fit are taken like this.
@@ -20,6 +22,7 @@ pub record SameOutlook (steps : ℕ) (fits : Account → Type 0) (taken : Accoun
   pub work :
       begun_work source name k' env' + resume_work source name gs' (begun source name k' env') + steps
       ≡ begun_work source name k env + resume_work source name gs (begun source name k env)
+  pub faultless : (held : Bool) → GoesWithoutFault source held gs k → GoesWithoutFault source held gs' k'
 
 -- the parts of a thread that its end depends on
 pub record IsAt (source : Source) (name : List ℕ) (k : Control) (fs : List Frame) (env : List ℕ) (t : State) : Type 0 where
@@ -56,6 +59,19 @@ work_at source name k fs env t at =
     ∙ ap (λ x. begun_work source name k t.environment.items + resume_work source name (frames_left k x) (begun source name k t.environment.items)) at.frames_are
     ∙ ap (λ x. begun_work source name k x + resume_work source name (frames_left k fs) (begun source name k x)) at.environment_is
 
+-- what goes without fault there, and the thread
+pub faultless_at : (source : Source) (name : List ℕ) (k : Control) (fs : List Frame) (env : List ℕ) (t : State) → IsAt source name k fs env t →
+    IsWithoutFault t → GoesWithoutFault source false fs k
+faultless_at source name k fs env t at h =
+    subst (GoesWithoutFault source false fs) at.control_is
+    (subst (λ x. GoesWithoutFault source false x t.control) at.frames_are (subst (λ x. GoesWithoutFault x false t.frames.items t.control) at.source_is h))
+
+pub at_faultless : (source : Source) (name : List ℕ) (k : Control) (fs : List Frame) (env : List ℕ) (t : State) → IsAt source name k fs env t →
+    GoesWithoutFault source false fs k → IsWithoutFault t
+at_faultless source name k fs env t at h =
+    subst (λ x. GoesWithoutFault x false t.frames.items t.control) (sym at.source_is)
+    (subst (λ x. GoesWithoutFault source false x t.control) (sym at.frames_are) (subst (GoesWithoutFault source false fs) (sym at.control_is) h))
+
 -- its forks that are not joined and its locks
 pub unjoined_at : (source : Source) (name : List ℕ) (k : Control) (fs gs : List Frame) (env : List ℕ) (t : State) → IsAt source name k (fs ++ gs) env t →
     unjoined_of t ≡ (fork_awaited k ++ forks_of gs) ++ forks_of fs
@@ -74,6 +90,7 @@ pub record SameEnd (steps : ℕ) (fits : Account → Type 0) (taken : Account �
   pub ending : ending new ≡ ending old
   pub account : (a : Account) → fits a → account_at_end new (taken a) ≡ account_at_end old a
   pub work : work_left new + steps ≡ work_left old
+  pub faultless : IsWithoutFault old → IsWithoutFault new
 
 pub same_end : (steps : ℕ) (fits : Account → Type 0) (taken : Account → Account) (source : Source) (name : List ℕ) (k k' : Control) (fs gs gs' : List Frame) (env env' : List ℕ) (old new : State) →
     IsAt source name k (fs ++ gs) env old → IsAt source name k' (fs ++ gs') env' new →
@@ -104,6 +121,9 @@ same_end steps fits taken source name k k' fs gs gs' env env' old new at at' lef
           ap (λ l. resume_work source name l s) left ∙ resume_work-append source name fs gs s in
           let rest : resume_work source name fs (resume source name gs' s') ≡ resume_work source name fs (resume source name gs s) = ap (resume_work source name fs) same.ending in
           omega (arith, now, before, now_left, before_left, rest, same.work);
+      faultless = λ h.
+          at_faultless source name k' (fs ++ gs') env' new at'
+          (faultless_above source fs gs gs' k k' same.faultless (faultless_at source name k (fs ++ gs) env old at h));
     }
 
 abbrev pub Any : Account → Type 0
@@ -154,6 +174,7 @@ steps_by steps mid old new k k' fs gs gs' env env' b b' left left' forks same =
         ending = end.ending;
         account = λ a. end.account a tt;
         work = end.work;
+        faultless = end.faultless;
       };
       pending = ap pending_of b'.control_is;
       locks = locks_at source name k' fs gs' env' new at';

@@ -21,10 +21,12 @@ use Rattle.arachne_machine.specs.Outcome.{Finished, named_holds, meaning_as, mea
 use Rattle.arachne_machine.specs.Account.{Account, untouched, after, with_fork, with_join}
 use Rattle.arachne_machine.specs.Ending.{child_task, ending, account_at_end, unjoined_of, locks_of, resume, resume_account, frames_left, begun, begun_account, fork_awaited, forks_of, lock_freed, releases}
 use Rattle.arachne_machine.specs.Steps.{Goes, GoesWithin, GoesToFork, IsNew, Joins, KeepsOverJoin, Counts, StopsAt, IsUnchanged, pending_of, suspended}
+use Rattle.arachne_lang.specs.Checked.{IsChecked}
+use Rattle.arachne_machine.specs.Faultless.{IsWithoutFault}
 use Rattle.arachne_machine.specs.Sound.{IsSound}
 use Rattle.arachne_machine.proofs.Accounts.{after-children}
 use Rattle.arachne_machine.proofs.Names.{task_below-child, slice_get-seam}
-use Rattle.arachne_machine.proofs.Outlooks.{at_of, ending_at, account_at, work_at}
+use Rattle.arachne_machine.proofs.Outlooks.{at_of, ending_at, account_at, work_at, at_faultless}
 use Rattle.arachne_machine.proofs.Splitting.{child_task-found}
 use Rattle.arachne_machine.proofs.Tabulated.{tabulated-same, length-tabulated, added_is}
 
@@ -40,6 +42,7 @@ goes_on m n k a b c p q e = record {
   ending = q.ending ∙ p.ending;
   account = λ account. q.account account ∙ p.account account;
   work = omega (arith, p.work, q.work, e);
+  faultless = λ h. q.faultless (p.faultless h);
 }
 
 pub goes_on_within : (m least most : ℕ) (a b c : State) → Goes m a b → GoesWithin least most b c → GoesWithin least (m + most) a c
@@ -80,6 +83,7 @@ forks_after m n k a b c child task p locks q le =
         account = λ account e. kept.account account (e ∙ sym p.forks) ∙ p.account account;
         some = omega (arith, kept.some, p.work);
         most = omega (arith, kept.most, p.work, le);
+        faultless = λ h. kept.faultless (p.faultless h);
       };
     }
 
@@ -99,8 +103,8 @@ goes_then_made a b c (Some s) p l q = goes_then_stops 0 1 1 a b c s p l q (omega
 
 -- a new thread of the task of its name is sound
 pub sound_new : (program : Program) (name : List ℕ) (tag : ℕ) (task : Task) (t : State) →
-    IsNew program name tag task t → task_of (source_of program) name ≡ Some task → IsSound t
-sound_new program name tag task t new has =
+    IsNew program name tag task t → task_of (source_of program) name ≡ Some task → (IsChecked (source_of program) → IsWithoutFault t) → IsSound t
+sound_new program name tag task t new has faultless =
     let program_is = sym new.same_program in
     let name_is = sym new.has_name in
     record {
@@ -115,6 +119,7 @@ sound_new program name tag task t new has =
       whole = subst (λ x. account_at_end t untouched ≡ after x (task_effects (source_of t.program.now).arrays (source_of t.program.now).locks task) untouched) name_is
           (subst (λ x. account_at_end t untouched ≡ after name (task_effects (source_of x).arrays (source_of x).locks task) untouched) program_is new.account);
       numbered = omega (arith, new.forks);
+      faultless = λ checked. faultless (subst (λ x. IsChecked (source_of x)) new.same_program checked);
     }
 
 pub sound_goes : (n : ℕ) (old new : State) → IsSound old → Goes n old new → IsSound new
@@ -133,6 +138,7 @@ sound_goes n old new s g =
       whole = g.account s.account ∙ subst (λ x. account_at_end old s.account ≡ after x.name (task_effects (source_of new.program.now).arrays (source_of new.program.now).locks s.task) untouched) own_is
           (subst (λ x. account_at_end old s.account ≡ after old.own.name (task_effects x.arrays x.locks s.task) untouched) program_is s.whole);
       numbered = omega (arith, s.numbered, g.forks, ap length g.below, ap length g.unjoined);
+      faultless = λ checked. g.faultless (s.faultless (subst IsChecked (sym program_is) checked));
     }
 
 -- the task of a thread's child is the child of that number of its task
@@ -171,6 +177,7 @@ fork_has_task n old new child task s g = next_task old s task (g.next_child s.ac
 pub sound_child : (n : ℕ) (old new child : State) (task : Task) → IsSound old → GoesToFork n old new child task → IsSound child
 sound_child n old new child task s g =
     sound_new old.program.now (old.own.name ++ old.forks ∷ []) 0 task child g.fresh (fork_has_task n old new child task s g)
+    (λ checked. ((g.keeps (fork_has_task n old new child task s g)).faultless (s.faultless checked)).1)
 
 pub sound_fork : (n : ℕ) (old new child : State) (task : Task) → IsSound old → GoesToFork n old new child task → IsSound new
 sound_fork n old new child task s g =
@@ -190,6 +197,7 @@ sound_fork n old new child task s g =
       whole = kept.account s.account (sym s.forks) ∙ subst (λ x. account_at_end old s.account ≡ after x.name (task_effects (source_of new.program.now).arrays (source_of new.program.now).locks s.task) untouched) own_is
           (subst (λ x. account_at_end old s.account ≡ after old.own.name (task_effects x.arrays x.locks s.task) untouched) program_is s.whole);
       numbered = omega (arith, s.numbered, g.forks, ap length g.below, ap length g.unjoined);
+      faultless = λ checked. (kept.faultless (s.faultless (subst IsChecked (sym program_is) checked))).0;
     }
 
 none_some : (m : Meaning) → None ≡ Some m → ⊥
@@ -270,6 +278,7 @@ sound_join old new outcome s of_name same_source j =
       whole = kept.account s.account ∙ subst (λ x. account_at_end old s.account ≡ after x.name (task_effects (source_of new.program.now).arrays (source_of new.program.now).locks s.task) untouched) own_is
           (subst (λ x. account_at_end old s.account ≡ after name (task_effects x.arrays x.locks s.task) untouched) program_is s.whole);
       numbered = omega (arith, s.numbered, j.forks, ap length j.below, length-append old.below.items outcome.lines, ap length j.unjoined, length-map outcome.lines named_holds, ap length lines);
+      faultless = λ checked. kept.faultless (s.faultless (subst IsChecked (sym program_is) checked));
     }
 
 after-sums : (name : List ℕ) (e : Effects) (a : Account) → (after name e a).sums ≡ (λ l. a.sums l + e.sums l)
@@ -339,6 +348,7 @@ sound_counts old new effects s no_children no_lines g =
       whole = g.account s.account ∙ subst (λ x. account_at_end old s.account ≡ after x (task_effects (source_of new.program.now).arrays (source_of new.program.now).locks s.task) untouched) name_is
           (subst (λ x. account_at_end old s.account ≡ after old.own.name (task_effects x.arrays x.locks s.task) untouched) program_is s.whole);
       numbered = omega (arith, s.numbered, g.forks, ap length g.below, ap length g.unjoined);
+      faultless = λ checked. g.faultless (s.faultless (subst IsChecked (sym program_is) checked));
     }
 
 pub counted_seen : (old new : State) (effects : Effects) → Counts effects old new → SameThread (suspended old) (suspended new)
@@ -475,6 +485,7 @@ goes_nowhere old new u =
       ending = ending_at source name k fs env new at;
       account = λ a. account_at source name k fs env new a at;
       work = omega (arith, work_at source name k fs env new at);
+      faultless = at_faultless source name k fs env new at;
     }
 
 -- nor have its locks

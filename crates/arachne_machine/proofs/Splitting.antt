@@ -1,5 +1,5 @@
 -- A fork leaves what the thread comes to as it was, if the child is the one of its number.
-use Rattle.std.proofs.Common.{◌≡◌, ◌<◌, ℕ, ◌+◌, ◌-◌, ◌/◌, List, [], ◌∷◌, ◌++◌, length, Some, refl, ap, sym, ◌∙◌, subst, arith, append_assoc}
+use Rattle.std.proofs.Common.{◌≡◌, ◌<◌, ℕ, ◌+◌, ◌-◌, ◌/◌, List, [], ◌∷◌, ◌++◌, length, Bool, false, Some, refl, ap, sym, ◌∙◌, subst, arith, append_assoc}
 use Rattle.std.specs.Prelude.{unwrap_or, max}
 use Rattle.std.specs.Borrow.{Bor}
 use Rattle.std.proofs.lemmas.List.{append-nil}
@@ -21,11 +21,15 @@ use Rattle.arachne_machine.specs.Account.{Account, after, with_fork, with_join}
 use Rattle.arachne_machine.specs.Turns.{split_work}
 use Rattle.arachne_machine.specs.Work.{work_of}
 use Rattle.arachne_machine.specs.Ending.{child_task, stretch_task, resume_account, begun, begun_account, fork_awaited, lock_freed, forks_of, releases, frames_left, work_left}
+use Rattle.arachne_lang.specs.Checked.{node_faults}
+use Rattle.arachne_lang.specs.declared.check_fault.CheckFault.TheVariants as fault
+use Rattle.arachne_machine.specs.Faultless.{IsFaultless, IsFaultlessNext, held_by}
 use Rattle.arachne_machine.specs.Steps.{PushesFork, GoesToFork, task_begun, pending_of}
 use Rattle.arachne_machine.proofs.Accounts.{after-sequence, after-forked, after-children}
 use Rattle.arachne_machine.proofs.Frames.{Grows-frames}
 use Rattle.arachne_machine.proofs.Halves.{value_split, effects_split, work_split}
-use Rattle.arachne_machine.proofs.Outlooks.{SameOutlook, IsAt, account_at, unjoined_at, locks_at, same_end}
+use Rattle.arachne_machine.proofs.Faultlessness.{no_faults-append, within_none}
+use Rattle.arachne_machine.proofs.Outlooks.{SameOutlook, IsAt, account_at, faultless_at, unjoined_at, locks_at, same_end}
 
 -- the task of a child that is there
 pub child_task-found : (source : Source) (name : List ℕ) (n : ℕ) (task : Task) → task_of source (name ++ n ∷ []) ≡ Some task → child_task source name n ≡ task
@@ -47,11 +51,12 @@ pub forks_by : (old new child : State) (begins k k' : Control) (f : Frame) (work
     ((fs : List Frame) → frames_left k fs ≡ fs) → ((fs : List Frame) → frames_left k' fs ≡ fs) →
     fork_awaited k' ++ forks_of (f ∷ []) ≡ old.forks ∷ (fork_awaited k ++ []) → lock_freed k' ++ releases (f ∷ []) ≡ lock_freed k ++ [] → pending_of k' ≡ Some pause.Forks →
     work_left child ≡ work →
+    ((held : Bool) → IsFaultlessNext (source_of old.program.now) held k → IsFaultlessNext (source_of old.program.now) false begins) →
     ForksNext (source_of old.program.now) old.own.name (task_begun begins old.environment.items) k old.environment.items →
     (child_task (source_of old.program.now) old.own.name old.forks ≡ task_begun begins old.environment.items →
     ForkOutlook (source_of old.program.now) old.own.name old.forks (task_begun begins old.environment.items) work k old.environment.items k' f) →
     GoesToFork 1 old new child (task_begun child.control child.environment.items)
-forks_by old new child begins k k' f work is_k pushed left left' forks locks pending child_work next outlook =
+forks_by old new child begins k k' f work is_k pushed left left' forks locks pending child_work childs next outlook =
     let source = source_of old.program.now in
     let name = old.own.name in
     let fs = old.frames.items in
@@ -89,8 +94,28 @@ forks_by old new child begins k k' f work is_k pushed left left' forks locks pen
       keeps = λ has.
           let end = same_end (work + 1) (HasForked n) (with_fork task) source name k k' fs [] (f ∷ []) env env old new at at' (left (fs ++ [])) (left' (fs ++ f ∷ []))
           (outlook (child_task-found source name n task has)) in
-          record { ending = end.ending; account = end.account; some = omega (arith, end.work, child_work); most = omega (arith, end.work, child_work) };
+          record {
+            ending = end.ending;
+            account = end.account;
+            some = omega (arith, end.work, child_work);
+            most = omega (arith, end.work, child_work);
+            faultless = λ h. (
+              end.faultless h,
+              pushed.faultless (childs (held_by false (fs ++ [])) (faultless_at source name k (fs ++ []) env old at h).1),
+            );
+          };
     })
+
+-- the parts of a fork that has no fault
+fork_parts : (source : Source) (held : Bool) (child during next : Bor Expr) (class : Class) →
+    IsFaultless source held (Fork class (tree_of child.now) (tree_of during.now) (tree_of next.now)) →
+    (held ≡ false) × IsFaultless source held (tree_of child.now) × IsFaultless source held (tree_of during.now) × IsFaultless source held (tree_of next.now)
+fork_parts source held child during next class h =
+    let within = node_faults source held h.0 in
+    let last = node_faults source held (h.0 + 2) (tree_of next.now) in
+    let parts = no_faults-append (within (tree_of child.now) ++ within (tree_of during.now)) last h.1.1 in
+    let both = no_faults-append (within (tree_of child.now)) (within (tree_of during.now)) parts.0 in
+    (within_none held fault.WithinHold h.1.0, (h.0, both.0), (h.0, both.1), (h.0 + 2, parts.1))
 
 -- The fork of an expression.
 fork_outlook : (source : Source) (name env : List ℕ) (n : ℕ) (expr child during next : Bor Expr) (class : Class) → tree_of expr.now ≡ Fork class (tree_of child.now) (tree_of during.now) (tree_of next.now) →
@@ -118,6 +143,9 @@ fork_outlook source name env n expr child during next class h found =
           let e = ap (λ t. work_of A (tree_of next.now) (joined t)) found in
           let w = ap (λ t. work_of A t env) h in
           omega (arith, e, w);
+      faultless = λ held free.
+          let parts = fork_parts source held child during next class (subst (IsFaultless source held) h free.1) in
+          (((parts.0, parts.3), tt), (parts.0, parts.2));
     }
 
 pub goes_to_fork : (old new child : State) (expr first during next : Bor Expr) (class : Class) → old.control ≡ Begin expr →
@@ -134,6 +162,9 @@ goes_to_fork old new child expr first during next class begins h pushed work =
     let last = effects_of A source.locks (tree_of next.now) (with_newest (with_newest env (value_of A (tree_of first.now) env)) (value_of A (tree_of during.now) env)) in
     forks_by old new child (Begin first) (Begin expr) (Forked during) (Join old.forks next) (work_of A (tree_of first.now) env) begins pushed
     (λ fs. refl) (λ fs. refl) refl refl refl work
+    (λ held free.
+    let parts = fork_parts source held first during next class (subst (IsFaultless source held) h free) in
+    subst (λ b. IsFaultless source b (tree_of first.now)) parts.0 parts.1)
     (λ a. (
       meanwhile.children ++ last.children,
       ap (λ t. (after name (effects_of A source.locks t env) a).children) h
@@ -177,6 +208,7 @@ half_outlook source name env n stretch middle lt is found =
           let one = ap (split_work A t env stretch.grain stretch.first) left in
           let two = ap (λ x. split_work A t env stretch.grain x (stretch.end - middle)) is ∙ ap (split_work A t env stretch.grain (stretch.first + m)) right in
           omega (arith, one, two, work_split A t env stretch.grain stretch.first count lt);
+      faultless = λ held h. ((h.1.0, tt), h.1);
     }
 
 pub goes_to_half : (old new child : State) (stretch : Stretch) (middle : ℕ) → old.control ≡ Cover stretch → max 1 stretch.grain < stretch.end - stretch.first →
@@ -200,6 +232,7 @@ goes_to_half old new child stretch middle covers lt is pushed work =
     forks_by old new child (Cover (record stretch { end = middle })) (Cover stretch) (Halved (record stretch { first = middle })) (Merge old.forks r)
     (split_work A t env stretch.grain stretch.first (middle - stretch.first)) covers pushed
     (λ fs. refl) (λ fs. refl) refl refl refl work
+    (λ held free. (refl, subst (λ b. IsFaultless source b t) free.0 free.1))
     (λ a. (
       rest,
       after-children name (task_effects A L (R stretch.first count)) a

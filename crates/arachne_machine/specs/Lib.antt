@@ -9,6 +9,7 @@ pub mod Steps
 pub mod Stops
 pub mod Sound
 pub mod Alone
+pub mod Faultless
 pub use Rattle.arachne_lang.specs.Tree
 pub use Rattle.arachne_lang.specs.Program
 pub use Rattle.arachne_lang.specs.Value

@@ -1,5 +1,5 @@
 -- What the steps of a thread do.
-use Rattle.std.specs.Prelude.{◌≡◌, ◌≤◌, ◌<◌, ℕ, ◌+◌, ◌==◌, if◌then◌else◌, List, [], ◌∷◌, ◌++◌, length, Option, None, Some}
+use Rattle.std.specs.Prelude.{◌≡◌, ◌≤◌, ◌<◌, ℕ, ◌+◌, ◌==◌, if◌then◌else◌, false, List, [], ◌∷◌, ◌++◌, length, Option, None, Some}
 use Rattle.arachne_lang.specs.declared.program.Program.{Program}
 use Rattle.arachne_lang.specs.declared.program.Reduction.{Reduction}
 use Rattle.arachne_lang.specs.declared.program.Expr.{Expr}
@@ -23,6 +23,7 @@ use Rattle.arachne_machine.specs.declared.state.Progress.TheVariants.{Value, Mad
 use Rattle.arachne_machine.specs.Outcome.{Finished}
 use Rattle.arachne_machine.specs.Account.{Account, untouched, after, with_fork}
 use Rattle.arachne_machine.specs.Suspended.{Suspended}
+use Rattle.arachne_machine.specs.Faultless.{IsFaultlessNext, IsWithoutFault}
 use Rattle.arachne_machine.specs.Ending.{child_task, stretch_task, account_joined, ending, account_at_end, work_left, unjoined_of, locks_of}
 
 -- the pause that is not answered
@@ -117,6 +118,7 @@ pub record Goes (steps : ℕ) (old new : State) : Type 0 where
   pub ending : ending new ≡ ending old
   pub account : (account : Account) → account_at_end new account ≡ account_at_end old account
   pub work : work_left new + steps ≡ work_left old
+  pub faultless : IsWithoutFault old → IsWithoutFault new
 
 -- at least so many such steps were made, and at most so many
 pub record GoesWithin (least most : ℕ) (old new : State) : Type 0 where
@@ -145,6 +147,7 @@ pub record KeepsOverFork (steps : ℕ) (old new child : State) (task : Task) : T
   pub account : (account : Account) → length account.children ≡ old.forks → account_at_end new (with_fork task account) ≡ account_at_end old account
   pub some : work_left new + work_left child + 1 ≤ work_left old
   pub most : work_left old ≤ work_left new + work_left child + steps
+  pub faultless : IsWithoutFault old → IsWithoutFault new × IsWithoutFault child
 
 -- At most so many steps were made, the last of which forked this child. What the thread comes to is the same, if the child is the one of the fork's number,
 -- and the fork is one of those that were still to come.
@@ -202,6 +205,7 @@ pub record PushesFork (old new child : State) (begins : Control) (frame : Frame)
   pub control_is : new.control ≡ control
   pub fresh : IsNew old.program.now (old.own.name ++ old.forks ∷ []) 0 (task_begun begins old.environment.items) child
   pub begun : task_begun child.control child.environment.items ≡ task_begun begins old.environment.items
+  pub faultless : IsFaultlessNext (source_of old.program.now) false begins → IsWithoutFault child
 
 -- a child's sums and lines were taken in
 pub record TakesIn (old : State) (outcome : Finished) (new : State) : Type 0 where
@@ -218,6 +222,7 @@ pub record KeepsOverJoin (old new : State) (number : ℕ) : Type 0 where
   pub ending : ending new ≡ ending old
   pub account : (account : Account) → account_at_end new (account_joined (source_of old.program.now) old.own.name number account) ≡ account_at_end old account
   pub work : work_left new ≡ work_left old
+  pub faultless : IsWithoutFault old → IsWithoutFault new
 
 -- The awaited child was joined. What the thread comes to is the same, if the child brought the value of its task.
 pub record Joins (old : State) (outcome : Finished) (new : State) : Type 0 where
@@ -248,6 +253,7 @@ pub record Counts (effects : Effects) (old new : State) : Type 0 where
   pub ending : ending new ≡ ending old
   pub account : (account : Account) → account_at_end new (after old.own.name effects account) ≡ account_at_end old account
   pub work : work_left new ≡ work_left old
+  pub faultless : IsWithoutFault old → IsWithoutFault new
 
 -- a hold of this lock is counted, and the rest is as before
 pub record CountsHold (old new : State) (lock : ℕ) : Type 0 where

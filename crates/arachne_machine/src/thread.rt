@@ -4,6 +4,8 @@ ghost use Rattle.arachne_machine.specs.Advance.{Advanced, IsForeign, handed_back
 ghost use Rattle.arachne_machine.specs.Stops.{pause_of, IsSoundStop};
 ghost use Rattle.arachne_lang.specs.Program.{source_of};
 ghost use Rattle.arachne_machine.specs.Work.{work_of};
+ghost use Rattle.arachne_machine.specs.Faultless.{PausesWithin};
+ghost use Rattle.arachne_lang.specs.Checked.{IsChecked};
 ghost use Rattle.arachne_machine.specs.declared.pause.Pending.TheVariants as pause;
 
 use crate::frame::Control;
@@ -66,7 +68,8 @@ impl<'p> Thread<'p> {
 
     /// The pause that is not answered, if there is one.
     pub fn pending(&self) -> Option<Pending>
-        ensures { result ≡ self.now.pending }
+        ensures pending { result ≡ self.now.pending }
+        ensures within { IsChecked (source_of self.now.program) → PausesWithin self.now }
     {
         self.state.pending()
     }
@@ -79,6 +82,7 @@ impl<'p> Thread<'p> {
         ensures ok { IfOk result (λ pause. Advanced budget self.old pause self.new) }
         ensures sums { self.new.sums ≡ self.old.sums }
         ensures holds { self.new.holds ≡ self.old.holds }
+        ensures within { IfOk result (λ pause. IsChecked (source_of self.old.program) → PausesWithin self.new) }
         ensures err_same { OnErr result (SameThread self.old self.new) }
         ensures err_locks { OnErr result (self.new.locks ≡ self.old.locks) }
         ensures err_work { OnErr result (MakesSteps 0 budget self.old self.new) }

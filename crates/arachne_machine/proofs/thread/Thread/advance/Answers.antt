@@ -1,8 +1,10 @@
 use Rattle.std.proofs.Common.{sym, ap, ◌∙◌, subst}
 use Rattle.arachne_machine.specs.Advance.{Advanced}
+use Rattle.arachne_lang.specs.Program.{source_of}
+use Rattle.arachne_lang.specs.Checked.{IsChecked}
 use Rattle.arachne_machine.specs.Steps.{suspended}
 use Rattle.arachne_machine.specs.Sound.{IsSound}
-use Rattle.arachne_machine.proofs.Advancing.{sound_after, sound_stop, advanced_seen}
+use Rattle.arachne_machine.proofs.Advancing.{sound_after, sound_stop, advanced_seen, within_after}
 use Rattle.arachne_machine.proofs.thread.Thread.advance.Goals as goal
 
 pub pause_at-requires : goal.pause_at-requires
@@ -25,3 +27,10 @@ returns-clause-ok c =
     let seen = advanced_seen c.args.budget t new c.in_ok-stop.stop sound c.in_ok-stop.ensures.ok in
     subst (λ v. Advanced c.args.budget v c.pause_at.result (suspended new)) (ap suspended c.deref_mut.ensures.value ∙ c.self.view_is)
     (subst (λ p. Advanced c.args.budget (suspended t) p (suspended new)) (sym c.pause_at.ensures) seen)
+
+pub returns-clause-within : goal.returns-clause-within
+returns-clause-within c = λ checked.
+    let t = c.deref_mut.result.now in
+    let sound : IsSound t = subst IsSound (sym c.deref_mut.ensures.value) c.self.invariant in
+    let seen = ap suspended c.deref_mut.ensures.value ∙ c.self.view_is in
+    within_after c.args.budget t c.advance.new.self c.in_ok-stop.stop sound c.in_ok-stop.ensures.ok (subst (λ v. IsChecked (source_of v.program)) (sym seen) checked)

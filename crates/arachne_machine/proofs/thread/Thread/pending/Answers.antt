@@ -1,0 +1,11 @@
+use Rattle.std.proofs.Common.{sym, subst}
+use Rattle.arachne_lang.specs.Program.{source_of}
+use Rattle.arachne_lang.specs.Checked.{IsChecked}
+use Rattle.arachne_machine.specs.Faultless.{PausesWithin}
+use Rattle.arachne_machine.proofs.Faultlessness.{pauses_within}
+use Rattle.arachne_machine.proofs.thread.Thread.pending.Goals as goal
+
+pub returns-clause-within : goal.returns-clause-within
+returns-clause-within c = λ checked.
+    subst PausesWithin c.self.view_is
+    (pauses_within c.self.inside.state.value (c.self.invariant.faultless (subst (λ v. IsChecked (source_of v.program)) (sym c.self.view_is) checked)))
