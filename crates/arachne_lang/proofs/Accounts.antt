@@ -12,7 +12,7 @@ use Rattle.std.proofs.lemmas.Grind.{replicate_next}
 use Rattle.arachne_lang.specs.declared.evaluator.Own.{Own}
 use Rattle.arachne_lang.specs.declared.meaning.Line.{Line}
 use Rattle.arachne_lang.specs.Value.{wrapped}
-use Rattle.arachne_lang.specs.Effects.{Effects, Task, nothing, ◌⨾◌, tallied, held, forked, tabulated, line_of}
+use Rattle.arachne_lang.specs.Effects.{Effects, Child, nothing, ◌⨾◌, tallied, held, forked, tabulated, line_of}
 use Rattle.arachne_lang.specs.Evaluation.{Gains, HasDone, HasEnded}
 
 pub tabulated-same : (count : ℕ) (f g : ℕ → ℕ) → ((k : ℕ) → f k ≡ g k) → tabulated count f ≡ tabulated count g
@@ -149,7 +149,7 @@ HasDone-held lock own own₁ sums lines same_name same_forks gains = record {
 }
 
 -- A thread forks another, does something during its life, and the other has ended.
-pub HasDone-forked : (locks : ℕ) (task : Task) (child during : Effects) (own : Own) (sums : List ℕ) (lines : List Line) (own₁ : Own) (sums₁ : List ℕ) (lines₁ : List Line)
+pub HasDone-forked : (locks : ℕ) (task : Child) (child during : Effects) (own : Own) (sums : List ℕ) (lines : List Line) (own₁ : Own) (sums₁ : List ℕ) (lines₁ : List Line)
     (sums₂ : List ℕ) (lines₂ : List Line)
     → HasDone during (record own { forks = own.forks + 1 }) sums lines own₁ sums₁ lines₁
     → HasEnded locks child (own.name ++ own.forks ∷ []) sums₁ lines₁ sums₂ lines₂

@@ -13,7 +13,7 @@ use Rattle.arachne_lang.specs.declared.program.Operation.{Operation}
 use Rattle.arachne_lang.specs.declared.program.Reduction.{Reduction}
 use Rattle.arachne_lang.specs.Tree.{Tree, Source, Binary, Choose, Bind, Tally, Hold, Fork, Fold, Sweep}
 use Rattle.arachne_lang.specs.Value.{Environment, apply, operation_of, unit_of, value_of, with_newest}
-use Rattle.arachne_lang.specs.Effects.{Effects, Evaluate, Reduce, effects_of, ◌⨾◌, tallied, held, forked, tabulated, line_of}
+use Rattle.arachne_lang.specs.Effects.{Effects, Evaluate, half, effects_of, ◌⨾◌, tallied, held, forked, tabulated, line_of}
 use Rattle.arachne_lang.specs.Text.{nesting}
 use Rattle.arachne_lang.specs.Meaning.{meaning_of}
 use Rattle.arachne_lang.specs.Evaluation.{Gains, HasDone, HasEnded, IsEvaluated, IsRun, folded, folded_effects, IsFolded, reduced, reduced_effects, IsReduced, halved_effects, IsHalved, IsHalfRun, MaySplit}
@@ -132,10 +132,10 @@ module _ (program : Source) where
       record {
         value = last'.value;
         restored = last'.restored ∙ run.restored ∙ first.restored;
-        effects = HasDone-then (forked program.locks (Evaluate child env) (effects child env) (effects during env))
+        effects = HasDone-then (forked program.locks (record { class = class; task = Evaluate child env }) (effects child env) (effects during env))
             (effects after (with_newest (with_newest env (value child env)) (value during env)))
             own shared.sums.items shared.lines.items own₁ shared₂.sums.items shared₂.lines.items own₃ shared₃.sums.items shared₃.lines.items
-            (HasDone-forked program.locks (Evaluate child env) (effects child env) (effects during env) own shared.sums.items shared.lines.items
+            (HasDone-forked program.locks (record { class = class; task = Evaluate child env }) (effects child env) (effects during env) own shared.sums.items shared.lines.items
             own₁ shared₁.sums.items shared₁.lines.items shared₂.sums.items shared₂.lines.items first.effects ended)
             last'.effects;
       }
@@ -245,7 +245,7 @@ module _ (program : Source) where
 
   halved-long : (r : Reduction) (grain : ℕ) (body : Tree) (env : Environment) (fuel first n : ℕ) → max 1 grain < n
       → halved_effects program r grain body env (suc fuel) first n
-      ≡ forked program.locks (Reduce r grain body env first (n / 2)) (halved_effects program r grain body env fuel first (n / 2))
+      ≡ forked program.locks (half r grain body env first (n / 2)) (halved_effects program r grain body env fuel first (n / 2))
       (halved_effects program r grain body env fuel (first + n / 2) (n - n / 2))
   halved-long r grain body env fuel first n long =
       let is_not : nat_le n (max 1 grain) ≡ false = grind (arith, nat_tests) in
@@ -262,7 +262,7 @@ module _ (program : Source) where
   split-effects r grain body env (suc fuel) first n own shared own₁ shared₁ shared₂ long enough right left =
       let of_right = halved_effects program r grain body env fuel (first + n / 2) (n - n / 2) in
       let of_left = halved_effects program r grain body env fuel first (n / 2) in
-      let done = HasDone-forked program.locks (Reduce r grain body env first (n / 2)) of_left of_right own shared.sums.items shared.lines.items
+      let done = HasDone-forked program.locks (half r grain body env first (n / 2)) of_left of_right own shared.sums.items shared.lines.items
       own₁ shared₁.sums.items shared₁.lines.items shared₂.sums.items shared₂.lines.items (right fuel (omega arith)) (left fuel (omega arith)) in
       subst (λ (e : Effects). HasDone e own shared.sums.items shared.lines.items own₁ shared₂.sums.items shared₂.lines.items)
       (sym (halved-long r grain body env fuel first n long)) done

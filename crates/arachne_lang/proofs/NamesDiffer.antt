@@ -6,7 +6,7 @@ use Rattle.std.proofs.lemmas.List.{append_cancel_left, map-append}
 use Rattle.arachne_lang.specs.declared.meaning.Line.{Line}
 use Rattle.arachne_lang.specs.Tree.{Tree, Number, Variable, Length, Item, Binary, Choose, Bind, Tally, Hold, Fork, Fold, Sweep, Source}
 use Rattle.arachne_lang.specs.Value.{Environment, turns, value_of, with_newest}
-use Rattle.arachne_lang.specs.Effects.{Task, Evaluate, Reduce, Effects, effects_of, ◌⨾◌, tallied, held, forked, turns_effects, halves, line_of}
+use Rattle.arachne_lang.specs.Effects.{Child, Evaluate, Effects, effects_of, ◌⨾◌, tallied, held, forked, half, turns_effects, halves, line_of}
 use Rattle.arachne_lang.specs.Meaning.{meaning_of}
 
 abbrev Name : Type 0
@@ -125,7 +125,7 @@ HasNames-then a b first second = record {
       subst (AreNamed name next (next + length (a.children ++ b.children))) (sym (map-append (λ (line : Line). line.name) (a.lines name next) (b.lines name m))) both;
 }
 
-HasNames-forked : (locks : ℕ) (task : Task) (child during : Effects) → HasNames child → HasNames during → HasNames (forked locks task child during)
+HasNames-forked : (locks : ℕ) (task : Child) (child during : Effects) → HasNames child → HasNames during → HasNames (forked locks task child during)
 HasNames-forked locks task child during of_child of_during = record {
   named = λ name next.
       let own = name ++ next ∷ [] in
@@ -149,7 +149,7 @@ HasNames-if : (test : Bool) (a b : Effects) → HasNames a → HasNames b → Ha
 HasNames-if true a b first second = first
 HasNames-if false a b first second = second
 
-HasNames-halves : (locks : ℕ) (task : ℕ → ℕ → Task) (turn : ℕ → Effects) (grain : ℕ) → ((j : ℕ) → HasNames (turn j)) → (fuel first n : ℕ)
+HasNames-halves : (locks : ℕ) (task : ℕ → ℕ → Child) (turn : ℕ → Effects) (grain : ℕ) → ((j : ℕ) → HasNames (turn j)) → (fuel first n : ℕ)
     → HasNames (halves locks task turn grain fuel first n)
 HasNames-halves locks task turn grain each zero first n = HasNames-turns (λ j. turn (first + j)) (λ j. each (first + j)) n
 HasNames-halves locks task turn grain each (suc fuel) first n =
@@ -185,8 +185,8 @@ HasNames-effects_of arrays locks (Fork class child during after) env =
     let env' = with_newest (with_newest env (value_of arrays child env)) (value_of arrays during env) in
     let of_child = effects_of arrays locks child env in
     let of_during = effects_of arrays locks during env in
-    HasNames-then (forked locks (Evaluate child env) of_child of_during) (effects_of arrays locks after env')
-    (HasNames-forked locks (Evaluate child env) of_child of_during (HasNames-effects_of arrays locks child env) (HasNames-effects_of arrays locks during env))
+    HasNames-then (forked locks (record { class = class; task = Evaluate child env }) of_child of_during) (effects_of arrays locks after env')
+    (HasNames-forked locks (record { class = class; task = Evaluate child env }) of_child of_during (HasNames-effects_of arrays locks child env) (HasNames-effects_of arrays locks during env))
     (HasNames-effects_of arrays locks after env')
 HasNames-effects_of arrays locks (Fold from to first body) env =
     let low = value_of arrays from env in
@@ -202,9 +202,9 @@ HasNames-effects_of arrays locks (Sweep reduction grain from to body) env =
     let low = value_of arrays from env in
     let n = value_of arrays to env - low in
     let turn = λ (i : ℕ). effects_of arrays locks body (with_newest env i) in
-    HasNames-then (effects_of arrays locks from env ⨾ effects_of arrays locks to env) (halves locks (Reduce reduction grain body env) turn grain n low n)
+    HasNames-then (effects_of arrays locks from env ⨾ effects_of arrays locks to env) (halves locks (half reduction grain body env) turn grain n low n)
     (HasNames-then (effects_of arrays locks from env) (effects_of arrays locks to env) (HasNames-effects_of arrays locks from env) (HasNames-effects_of arrays locks to env))
-    (HasNames-halves locks (Reduce reduction grain body env) turn grain (λ i. HasNames-effects_of arrays locks body (with_newest env i)) n low n)
+    (HasNames-halves locks (half reduction grain body env) turn grain (λ i. HasNames-effects_of arrays locks body (with_newest env i)) n low n)
 
 pub names_differ : (program : Source) → AllPairs (λ a b. a ≢ b) (map (λ line. line.name) (meaning_of program).threads)
 names_differ program =

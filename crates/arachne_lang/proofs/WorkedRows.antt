@@ -1,15 +1,16 @@
 -- What the definitions give on programs that were worked out by hand.
 use Rattle.std.proofs.Common.{◌≡◌, ℕ, ◌-◌, ◌^◌, List, [], ◌∷◌, refl}
-use Rattle.std.specs.Prelude.{map, ◌++◌, length, codes, Ok, Err}
+use Rattle.std.specs.Prelude.{map, ◌++◌, length, codes, Some, Ok, Err}
 use Rattle.arachne_lang.specs.declared.check_fault.CheckFault.TheVariants as fault
 use Rattle.arachne_lang.specs.Spelling.{header, text_of}
 use Rattle.arachne_lang.specs.Checked.{verdict_of}
-use Rattle.arachne_lang.specs.declared.program.Class.TheVariants.{Normal}
+use Rattle.arachne_lang.specs.declared.program.Class.TheVariants.{Normal, Exclusive}
 use Rattle.arachne_lang.specs.declared.meaning.Line.{Line}
 use Rattle.arachne_lang.specs.declared.program.Operation.TheVariants.{Add, Sub}
 use Rattle.arachne_lang.specs.declared.program.Reduction.TheVariants.{Sum, Product, Least}
 use Rattle.arachne_lang.specs.Tree.{Tree, Number, Variable, Length, Item, Binary, Tally, Hold, Fork, Fold, Sweep, Source}
-use Rattle.arachne_lang.specs.Meaning.{meaning_of}
+use Rattle.arachne_lang.specs.Effects.{Evaluate, Reduce}
+use Rattle.arachne_lang.specs.Meaning.{meaning_of, child_of}
 
 -- a program with no arrays
 plain : ℕ → ℕ → Tree → Source
@@ -50,6 +51,15 @@ product_sweep : meaning_of (plain 0 0 (Sweep Product 1 (Number 1) (Number 6) (Va
     ≡ record { value = 120; totals = []; threads = map (λ name. thread name []) ([] ∷ (2 ∷ []) ∷ (1 ∷ []) ∷ (0 ∷ []) ∷ (0 ∷ 0 ∷ []) ∷ []) }
 unfolding plain thread
 product_sweep = refl
+
+fork_of_its_class : child_of (plain 0 0 (Fork Exclusive (Number 2) (Number 3) (Variable 0))) [] 0 ≡ Some (record { class = Exclusive; task = Evaluate (Number 2) [] })
+unfolding plain
+fork_of_its_class = refl
+
+split_is_normal : child_of (plain 0 0 (Sweep Sum 2 (Number 0) (Number 8) (Variable 0))) (0 ∷ []) 0
+    ≡ Some (record { class = Normal; task = Reduce Sum 2 (Variable 0) [] 0 2 })
+unfolding plain
+split_is_normal = refl
 
 fold_of_a_range : meaning_of (plain 0 0 (Fold (Number 1) (Number 4) (Number 0) (Binary Add (Variable 0) (Variable 1)))) ≡ record { value = 6; totals = []; threads = thread [] [] ∷ [] }
 unfolding plain thread

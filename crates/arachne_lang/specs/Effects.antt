@@ -1,6 +1,8 @@
 -- What the evaluation of an expression does beside its value: sums for the ledgers, holds of locks, and threads.
 use Rattle.std.specs.Prelude.{ℕ, zero, suc, ◌+◌, ◌-◌, ◌/◌, max, nat_le, ◌==◌, if◌then◌else◌, List, [], ◌∷◌, ◌++◌, length, Option, Some, option_and_then, slice_get}
 use Rattle.arachne_lang.specs.declared.meaning.Line.{Line}
+use Rattle.arachne_lang.specs.declared.program.Class.{Class}
+use Rattle.arachne_lang.specs.declared.program.Class.TheVariants.{Normal}
 use Rattle.arachne_lang.specs.declared.program.Reduction.{Reduction}
 use Rattle.arachne_lang.specs.Tree.{Tree, Number, Variable, Length, Item, Binary, Choose, Bind, Tally, Hold, Fork, Fold, Sweep}
 use Rattle.arachne_lang.specs.Value.{wrapped, apply, operation_of, unit_of, turns, Environment, with_newest, value_of}
@@ -10,13 +12,18 @@ pub data Task : Type 0 where
   Evaluate : Tree → Environment → Task
   Reduce : Reduction → ℕ → Tree → Environment → ℕ → ℕ → Task
 
+-- a thread that is forked: its class and its task
+pub record Child : Type 0 where
+  pub class : Class
+  pub task : Task
+
 pub record Effects : Type 0 where
   -- for each ledger, all that is added to it, by the children too
   pub sums : ℕ → ℕ
   -- for each lock, how often the own thread holds it
   pub holds : ℕ → ℕ
   -- what the own thread forks, in order
-  pub children : List Task
+  pub children : List Child
   -- the lines of the threads below the own one, whose name is given, and the number that its next fork gets
   pub lines : List ℕ → ℕ → List Line
 
@@ -49,18 +56,22 @@ tallied ledger amount = record nothing { sums = λ other. if other == ledger the
 abbrev pub held : ℕ → Effects
 held lock = record nothing { holds = λ other. if other == lock then 1 else 0 }
 
--- A child is forked for a task, this is done during its life, and the child is joined. The fork comes before those of during,
+-- A child is forked, which has these effects, this is done during its life, and the child is joined. The fork comes before those of during,
 -- and the lines of during stand before the child's own, which stands before those below it.
-abbrev pub forked : ℕ → Task → Effects → Effects → Effects
-forked locks task child during = record {
-  sums = λ ledger. child.sums ledger + during.sums ledger;
+abbrev pub forked : ℕ → Child → Effects → Effects → Effects
+forked locks child effects during = record {
+  sums = λ ledger. effects.sums ledger + during.sums ledger;
   holds = during.holds;
-  children = task ∷ during.children;
+  children = child ∷ during.children;
   lines = λ name next.
       during.lines name (next + 1)
-      ++ line_of locks (name ++ next ∷ []) child ∷ []
-      ++ child.lines (name ++ next ∷ []) 0;
+      ++ line_of locks (name ++ next ∷ []) effects ∷ []
+      ++ effects.lines (name ++ next ∷ []) 0;
 }
+
+-- The part of a sweep that is forked at a split is a normal thread.
+abbrev pub half : Reduction → ℕ → Tree → Environment → ℕ → ℕ → Child
+half reduction grain body env first n = record { class = Normal; task = Reduce reduction grain body env first n }
 
 -- the effects of so many turns, one after the other
 abbrev pub turns_effects : (ℕ → Effects) → ℕ → Effects
@@ -69,14 +80,14 @@ turns_effects turn (suc j) = turns_effects turn j ⨾ turn j
 
 -- The effects of a range of n numbers from a first one on. One that is longer than the grain is halved: the left half is forked, and the
 -- right half is done during its life. A fuel of n is enough.
-abbrev pub halves : ℕ → (ℕ → ℕ → Task) → (ℕ → Effects) → ℕ → ℕ → ℕ → ℕ → Effects
-halves locks task turn grain zero first n = turns_effects (λ j. turn (first + j)) n
-halves locks task turn grain (suc fuel) first n =
+abbrev pub halves : ℕ → (ℕ → ℕ → Child) → (ℕ → Effects) → ℕ → ℕ → ℕ → ℕ → Effects
+halves locks child turn grain zero first n = turns_effects (λ j. turn (first + j)) n
+halves locks child turn grain (suc fuel) first n =
     if nat_le n (max 1 grain)
     then turns_effects (λ j. turn (first + j)) n
-    else forked locks (task first (n / 2))
-    (halves locks task turn grain fuel first (n / 2))
-    (halves locks task turn grain fuel (first + n / 2) (n - n / 2))
+    else forked locks (child first (n / 2))
+    (halves locks child turn grain fuel first (n / 2))
+    (halves locks child turn grain fuel (first + n / 2) (n - n / 2))
 
 abbrev pub effects_of : List (List ℕ) → ℕ → Tree → Environment → Effects
 effects_of arrays locks (Number n) env = nothing
@@ -93,7 +104,7 @@ effects_of arrays locks (Tally ledger amount body) env =
     effects_of arrays locks amount env ⨾ tallied ledger (value_of arrays amount env) ⨾ effects_of arrays locks body env
 effects_of arrays locks (Hold lock body) env = held lock ⨾ effects_of arrays locks body env
 effects_of arrays locks (Fork class child during after) env =
-    forked locks (Evaluate child env) (effects_of arrays locks child env) (effects_of arrays locks during env)
+    forked locks (record { class = class; task = Evaluate child env }) (effects_of arrays locks child env) (effects_of arrays locks during env)
     ⨾ effects_of arrays locks after (with_newest (with_newest env (value_of arrays child env)) (value_of arrays during env))
 effects_of arrays locks (Fold from to first body) env =
     effects_of arrays locks from env ⨾ effects_of arrays locks to env ⨾ effects_of arrays locks first env
@@ -103,7 +114,7 @@ effects_of arrays locks (Fold from to first body) env =
     (value_of arrays to env - value_of arrays from env)
 effects_of arrays locks (Sweep reduction grain from to body) env =
     effects_of arrays locks from env ⨾ effects_of arrays locks to env
-    ⨾ halves locks (Reduce reduction grain body env) (λ i. effects_of arrays locks body (with_newest env i)) grain
+    ⨾ halves locks (half reduction grain body env) (λ i. effects_of arrays locks body (with_newest env i)) grain
     (value_of arrays to env - value_of arrays from env)
     (value_of arrays from env)
     (value_of arrays to env - value_of arrays from env)
@@ -117,10 +128,10 @@ task_value arrays (Reduce reduction grain body env first n) =
 abbrev pub task_effects : List (List ℕ) → ℕ → Task → Effects
 task_effects arrays locks (Evaluate tree env) = effects_of arrays locks tree env
 task_effects arrays locks (Reduce reduction grain body env first n) =
-    halves locks (Reduce reduction grain body env) (λ i. effects_of arrays locks body (with_newest env i)) grain n first n
+    halves locks (half reduction grain body env) (λ i. effects_of arrays locks body (with_newest env i)) grain n first n
 
 -- the task of the thread that the forks lead to from a task, if there is one
 abbrev pub task_below : List (List ℕ) → ℕ → Task → List ℕ → Option Task
 task_below arrays locks task [] = Some task
 task_below arrays locks task (k ∷ forks) =
-    option_and_then (λ child. task_below arrays locks child forks) (slice_get (task_effects arrays locks task).children k)
+    option_and_then (λ child. task_below arrays locks child.task forks) (slice_get (task_effects arrays locks task).children k)

@@ -7,7 +7,7 @@ use Rattle.arachne_lang.specs.declared.program.Reduction.{Reduction}
 use Rattle.arachne_lang.specs.Tree.{Tree, Source}
 use Rattle.arachne_lang.specs.Text.{nesting}
 use Rattle.arachne_lang.specs.Value.{Environment, value_of, turns, apply, operation_of, unit_of, with_newest}
-use Rattle.arachne_lang.specs.Effects.{Effects, Reduce, effects_of, turns_effects, halves, tabulated, line_of}
+use Rattle.arachne_lang.specs.Effects.{Effects, half, effects_of, turns_effects, halves, tabulated, line_of}
 
 -- Each index of an account has gained what is added there.
 abbrev pub Gains : (ℕ → ℕ) → List ℕ → List ℕ → Type 0
@@ -80,7 +80,7 @@ pub record IsReduced (program : Source) (reduction : Reduction) (body : Tree) (e
 -- the effects of a range that is halved down to the grain
 abbrev pub halved_effects : Source → Reduction → ℕ → Tree → Environment → ℕ → ℕ → ℕ → Effects
 halved_effects program reduction grain body environment fuel first n =
-    halves program.locks (Reduce reduction grain body environment) (λ i. effects_of program.arrays program.locks body (with_newest environment i)) grain fuel first n
+    halves program.locks (half reduction grain body environment) (λ i. effects_of program.arrays program.locks body (with_newest environment i)) grain fuel first n
 
 -- So many numbers were reduced by halves.
 pub record IsHalved (program : Source) (reduction : Reduction) (grain : ℕ) (body : Tree) (environment : Environment) (first n : ℕ) (own : Own) (shared : Shared) (answer : ℕ) (own' : Own) (shared' : Shared) : Type 0 where

@@ -1,9 +1,9 @@
 -- What a program means on one thread.
-use Rattle.std.specs.Prelude.{ℕ, List, [], ◌∷◌, Option}
+use Rattle.std.specs.Prelude.{ℕ, List, [], ◌∷◌, Option, option_and_then, slice_get}
 use Rattle.arachne_lang.specs.declared.meaning.Meaning.{Meaning}
 use Rattle.arachne_lang.specs.Tree.{Source}
 use Rattle.arachne_lang.specs.Value.{value_of}
-use Rattle.arachne_lang.specs.Effects.{Task, Evaluate, effects_of, task_below, line_of, tabulated}
+use Rattle.arachne_lang.specs.Effects.{Task, Evaluate, Child, effects_of, task_effects, task_below, line_of, tabulated}
 
 -- the value of the root, for each ledger its total, and the root's line before the lines of the threads below it
 abbrev pub meaning_of : Source → Meaning
@@ -15,6 +15,11 @@ meaning_of program =
       threads = line_of program.locks [] effects ∷ effects.lines [] 0;
     }
 
--- the task of the thread of this name
+-- the task of the thread of this name, if there is one
 abbrev pub task_of : Source → List ℕ → Option Task
 task_of program name = task_below program.arrays program.locks (Evaluate program.root []) name
+
+-- the thread that the thread of this name forks as the one of this number, if it does
+abbrev pub child_of : Source → List ℕ → ℕ → Option Child
+child_of program name number =
+    option_and_then (λ task. slice_get (task_effects program.arrays program.locks task).children number) (task_of program name)

@@ -3,15 +3,15 @@ use Rattle.std.proofs.Common.{◌≡◌, ℕ, ◌+◌, List, [], ◌∷◌, ◌+
 use Rattle.std.proofs.lemmas.List.{append-nil}
 use Rattle.std.proofs.Math.Path.{fun_ext}
 use Rattle.arachne_lang.specs.declared.meaning.Line.{Line}
-use Rattle.arachne_lang.specs.Effects.{Task, Effects, nothing, ◌⨾◌, forked, line_of}
+use Rattle.arachne_lang.specs.Effects.{Child, Effects, nothing, ◌⨾◌, forked, line_of}
 use Rattle.arachne_machine.specs.Account.{Account, after, with_fork, with_join}
 
-pub same_account : (s s' h h' : ℕ → ℕ) (c c' : List Task) (l l' : List Line) → s ≡ s' → h ≡ h' → c ≡ c' → l ≡ l' →
+pub same_account : (s s' h h' : ℕ → ℕ) (c c' : List Child) (l l' : List Line) → s ≡ s' → h ≡ h' → c ≡ c' → l ≡ l' →
     ◌≡◌ {A = Account} (record { sums = s; holds = h; children = c; lines = l }) (record { sums = s'; holds = h'; children = c'; lines = l' })
 same_account s s' h h' c c' l l' p q r t =
     let f : (ℕ → ℕ) → Account = λ x. record { sums = x; holds = h; children = c; lines = l } in
     let g : (ℕ → ℕ) → Account = λ x. record { sums = s'; holds = x; children = c; lines = l } in
-    let k : List Task → Account = λ x. record { sums = s'; holds = h'; children = x; lines = l } in
+    let k : List Child → Account = λ x. record { sums = s'; holds = h'; children = x; lines = l } in
     let m : List Line → Account = λ x. record { sums = s'; holds = h'; children = c'; lines = x } in
     ap f p ∙ ap g q ∙ ap k r ∙ ap m t
 
@@ -35,7 +35,7 @@ after-sequence name x y a =
     ∙ ap (λ n. (a.lines ++ x.lines name (length a.children)) ++ y.lines name n) (sym (length-append a.children x.children)))
 
 -- a fork, what is done meanwhile, and the join
-pub after-forked : (locks : ℕ) (name : List ℕ) (task : Task) (child during : Effects) (a : Account) →
+pub after-forked : (locks : ℕ) (name : List ℕ) (task : Child) (child during : Effects) (a : Account) →
     after name (forked locks task child during) a ≡ with_join locks name (length a.children) child (after name during (with_fork task a))
 unfolding after with_fork with_join
 after-forked locks name task child during a =

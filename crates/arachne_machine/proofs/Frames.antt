@@ -2,7 +2,7 @@
 use Rattle.std.proofs.Common.{◌≡◌, ◌≤◌, length-append, ℕ, ◌+◌, List, [], ◌∷◌, ◌++◌, length, refl, ap, sym, ◌∙◌, arith, append_assoc}
 use Rattle.std.proofs.lemmas.List.{append-nil}
 use Rattle.arachne_lang.specs.Tree.{Source}
-use Rattle.arachne_lang.specs.Effects.{Task, Effects, effects_of}
+use Rattle.arachne_lang.specs.Effects.{Child, Effects, effects_of}
 use Rattle.arachne_machine.specs.declared.frame.Frame.{Frame}
 use Rattle.arachne_machine.specs.declared.frame.Frame.TheVariants.{Index, Right, Apply, Branch, Extend, Amount, Release, Join, Merge, FoldTo, FoldFirst, FoldStart, FoldTurn, SweepTo, SweepStart, SweepTurn, Restore}
 use Rattle.arachne_machine.specs.Account.{Account, after, with_join}
@@ -39,14 +39,14 @@ releases-append [] gs = sym (append-nil (releases gs))
 releases-append (f ∷ fs) gs = ap (λ l. l ++ lock_of f) (releases-append fs gs) ∙ append_assoc (releases gs) (releases fs) (lock_of f)
 
 -- No frame takes away a child that was made.
-pub record Grows (old new : List Task) : Type 0 where
-  pub more : List Task
+pub record Grows (old new : List Child) : Type 0 where
+  pub more : List Child
   pub is : new ≡ old ++ more
 
-pub grows_on : (xs ys zs : List Task) → Grows xs ys → Grows ys zs → Grows xs zs
+pub grows_on : (xs ys zs : List Child) → Grows xs ys → Grows ys zs → Grows xs zs
 grows_on xs ys zs p q = record { more = p.more ++ q.more; is = q.is ∙ ap (λ l. l ++ q.more) p.is ∙ append_assoc xs p.more q.more }
 
-grows_none : (xs : List Task) → Grows xs xs
+grows_none : (xs : List Child) → Grows xs xs
 grows_none xs = record { more = []; is = sym (append-nil xs) }
 
 grows_after : (name : List ℕ) (e : Effects) (a : Account) → Grows a.children (after name e a).children

@@ -10,7 +10,7 @@ use Rattle.arachne_lang.specs.declared.program.Reduction.{Reduction}
 use Rattle.arachne_lang.specs.declared.program.Reduction.TheVariants.{Sum, Product, Parity, Least, Greatest}
 use Rattle.arachne_lang.specs.Tree.{Tree}
 use Rattle.arachne_lang.specs.Value.{Environment, turns, with_newest, value_of, apply, operation_of, unit_of, wrapped}
-use Rattle.arachne_lang.specs.Effects.{Task, Reduce, Effects, forked, halves, turns_effects, effects_of, task_value, task_effects}
+use Rattle.arachne_lang.specs.Effects.{Reduce, Child, Effects, forked, half, halves, turns_effects, effects_of, task_value, task_effects}
 use Rattle.arachne_machine.specs.Turns.{swept, swept_effects, swept_work, split_work}
 use Rattle.arachne_machine.specs.Work.{total, splits, work_of, work_of_parts}
 
@@ -83,7 +83,7 @@ value_split arrays r grain body env first m n le =
 pub fits : (n fuel : ℕ) → 2 ≤ n → n ≤ suc fuel → (n / 2 ≤ fuel) × (n - n / 2 ≤ fuel)
 fits n fuel two le = (omega arith, omega arith)
 
-pub halves_none : (locks : ℕ) (task : ℕ → ℕ → Task) (turn : ℕ → Effects) (grain fuel first n : ℕ) → n ≤ max 1 grain →
+pub halves_none : (locks : ℕ) (task : ℕ → ℕ → Child) (turn : ℕ → Effects) (grain fuel first n : ℕ) → n ≤ max 1 grain →
     halves locks task turn grain fuel first n ≡ turns_effects (λ j. turn (first + j)) n
 halves_none locks task turn grain zero first n le = refl
 halves_none locks task turn grain (suc fuel) first n le =
@@ -91,7 +91,7 @@ halves_none locks task turn grain (suc fuel) first n le =
     ap (λ b. if b then turns_effects (λ j. turn (first + j)) n
     else forked locks (task first (n / 2)) (halves locks task turn grain fuel first (n / 2)) (halves locks task turn grain fuel (first + n / 2) (n - n / 2))) small
 
-pub halves_split : (locks : ℕ) (task : ℕ → ℕ → Task) (turn : ℕ → Effects) (grain fuel first n : ℕ) → max 1 grain < n →
+pub halves_split : (locks : ℕ) (task : ℕ → ℕ → Child) (turn : ℕ → Effects) (grain fuel first n : ℕ) → max 1 grain < n →
     halves locks task turn grain (suc fuel) first n
     ≡ forked locks (task first (n / 2)) (halves locks task turn grain fuel first (n / 2)) (halves locks task turn grain fuel (first + n / 2) (n - n / 2))
 halves_split locks task turn grain fuel first n lt =
@@ -99,7 +99,7 @@ halves_split locks task turn grain fuel first n lt =
     ap (λ b. if b then turns_effects (λ j. turn (first + j)) n
     else forked locks (task first (n / 2)) (halves locks task turn grain fuel first (n / 2)) (halves locks task turn grain fuel (first + n / 2) (n - n / 2))) large
 
-halves_fuel : (locks : ℕ) (task : ℕ → ℕ → Task) (turn : ℕ → Effects) (grain fuel other first n : ℕ) → n ≤ fuel → n ≤ other →
+halves_fuel : (locks : ℕ) (task : ℕ → ℕ → Child) (turn : ℕ → Effects) (grain fuel other first n : ℕ) → n ≤ fuel → n ≤ other →
     halves locks task turn grain fuel first n ≡ halves locks task turn grain other first n
 halves_fuel locks task turn grain zero other first n le le' =
     let small : n ≤ max 1 grain = omega arith in
@@ -124,14 +124,14 @@ halves_fuel locks task turn grain (suc fuel) (suc other) first n le le' =
 pub effects_whole : (arrays : List (List ℕ)) (locks : ℕ) (r : Reduction) (grain : ℕ) (body : Tree) (env : Environment) (first n : ℕ) → n ≤ max 1 grain →
     task_effects arrays locks (Reduce r grain body env first n) ≡ swept_effects arrays locks body env first n
 effects_whole arrays locks r grain body env first n le =
-    halves_none locks (Reduce r grain body env) (λ i. effects_of arrays locks body (with_newest env i)) grain n first n le
+    halves_none locks (half r grain body env) (λ i. effects_of arrays locks body (with_newest env i)) grain n first n le
 
 pub effects_split : (arrays : List (List ℕ)) (locks : ℕ) (r : Reduction) (grain : ℕ) (body : Tree) (env : Environment) (first n : ℕ) → max 1 grain < n →
     task_effects arrays locks (Reduce r grain body env first n)
-    ≡ forked locks (Reduce r grain body env first (n / 2)) (task_effects arrays locks (Reduce r grain body env first (n / 2)))
+    ≡ forked locks (half r grain body env first (n / 2)) (task_effects arrays locks (Reduce r grain body env first (n / 2)))
     (task_effects arrays locks (Reduce r grain body env (first + n / 2) (n - n / 2)))
 effects_split arrays locks r grain body env first n lt =
-    let task = Reduce r grain body env in
+    let task = half r grain body env in
     let turn : ℕ → Effects = λ i. effects_of arrays locks body (with_newest env i) in
     let m = n / 2 in
     let some : n ≡ suc (n - 1) = omega arith in

@@ -4,13 +4,13 @@ use Rattle.std.proofs.lemmas.Option.{slice_get-get_or}
 use Rattle.std.proofs.Math.Seq.{get_or-append_seam}
 use lib.Pointwise.{pointwise}
 use Rattle.std.proofs.lemmas.List.{reverse-append, reverse-reverse}
-use Rattle.std.specs.Prelude.{option_and_then, slice_get, IsTrue, nat_eq}
+use Rattle.std.specs.Prelude.{option_and_then, option_map, slice_get, IsTrue, nat_eq}
 use Rattle.std.specs.Cmp.Lexicographic.{same_text, other_text}
-use Rattle.arachne_lang.specs.Effects.{Task, task_effects, task_below}
+use Rattle.arachne_lang.specs.Effects.{Task, Child, task_effects, task_below}
 
-then_some : (o : Option Task) → option_and_then (λ task. Some task) o ≡ o
+then_some : (o : Option Child) → option_and_then (λ child. Some child.task) o ≡ option_map (λ child. child.task) o
 then_some None = refl
-then_some (Some task) = refl
+then_some (Some child) = refl
 
 same_some : (x y : Task) → Some x ≡ Some y → x ≡ y
 same_some x y h = cc
@@ -20,15 +20,15 @@ none_some x h = cc
 
 -- the child of a thread is the child of that number of its task
 pub task_below-child : (arrays : List (List ℕ)) (locks : ℕ) (from : Task) (name : List ℕ) (k : ℕ) (task : Task) →
-    task_below arrays locks from name ≡ Some task → task_below arrays locks from (name ++ k ∷ []) ≡ slice_get (task_effects arrays locks task).children k
+    task_below arrays locks from name ≡ Some task → task_below arrays locks from (name ++ k ∷ []) ≡ option_map (λ child. child.task) (slice_get (task_effects arrays locks task).children k)
 task_below-child arrays locks from [] k task h =
-    then_some (slice_get (task_effects arrays locks from).children k) ∙ ap (λ t. slice_get (task_effects arrays locks t).children k) (same_some from task h)
+    then_some (slice_get (task_effects arrays locks from).children k) ∙ ap (λ t. option_map (λ child. child.task) (slice_get (task_effects arrays locks t).children k)) (same_some from task h)
 task_below-child arrays locks from (j ∷ name) k task h =
     elim (slice_get (task_effects arrays locks from).children j) as
-    (λ o. option_and_then (λ child. task_below arrays locks child name) o ≡ Some task →
-    option_and_then (λ child. task_below arrays locks child (name ++ k ∷ [])) o ≡ slice_get (task_effects arrays locks task).children k) [
+    (λ o. option_and_then (λ child. task_below arrays locks child.task name) o ≡ Some task →
+    option_and_then (λ child. task_below arrays locks child.task (name ++ k ∷ [])) o ≡ option_map (λ child. child.task) (slice_get (task_effects arrays locks task).children k)) [
       | None ↦ λ e. absurd (none_some task e)
-      | Some child ↦ λ e. task_below-child arrays locks child name k task e
+      | Some child ↦ λ e. task_below-child arrays locks child.task name k task e
     ] h
 
 -- what two lists with a last item each have in common
@@ -38,7 +38,7 @@ same_parts xs ys x y e =
     let t : reverse xs ≡ reverse ys = cc in
     (sym (reverse-reverse xs) ∙ ap reverse t ∙ reverse-reverse ys, cc)
 
-pub slice_get-seam : (xs : List Task) (y : Task) (ys : List Task) → slice_get (xs ++ y ∷ ys) (length xs) ≡ Some y
+pub slice_get-seam : (xs : List Child) (y : Child) (ys : List Child) → slice_get (xs ++ y ∷ ys) (length xs) ≡ Some y
 slice_get-seam xs y ys =
     slice_get-get_or (xs ++ y ∷ ys) (length xs) y (omega (arith, length-append xs (y ∷ ys))) ∙ ap (λ t. Some t) (get_or-append_seam xs y ys y)
 

@@ -1,14 +1,14 @@
 -- A sound thread stays sound, and ends in the outcome of its name.
 use Rattle.std.proofs.Common.{◌≡◌, ◌≤◌, ℕ, ◌+◌, List, [], ◌∷◌, ◌++◌, length, map, Option, None, Some, refl, ap, sym, ◌∙◌, subst, arith, rules, length-append}
-use Rattle.std.specs.Prelude.{option_map, slice_get, IsSome, OnOk, OnErr, Result, Ok, Err}
+use Rattle.std.specs.Prelude.{option_map, option_and_then, slice_get, IsSome, OnOk, OnErr, Result, Ok, Err}
 use Rattle.std.proofs.lemmas.List.{append-nil, map-append, length-map}
 use Rattle.arachne_lang.specs.declared.program.Program.{Program}
 use Rattle.arachne_lang.specs.declared.meaning.Meaning.{Meaning}
 use Rattle.arachne_lang.specs.declared.meaning.Line.{Line}
 use Rattle.arachne_lang.specs.Tree.{Source}
 use Rattle.arachne_lang.specs.Program.{source_of}
-use Rattle.arachne_lang.specs.Effects.{Task, Evaluate, Effects, task_value, task_effects, line_of, tabulated}
-use Rattle.arachne_lang.specs.Meaning.{task_of}
+use Rattle.arachne_lang.specs.Effects.{Task, Evaluate, Child, Effects, task_value, task_effects, line_of, tabulated}
+use Rattle.arachne_lang.specs.Meaning.{task_of, child_of}
 use Rattle.arachne_machine.specs.declared.frame.Control.{Control}
 use Rattle.arachne_machine.specs.declared.frame.Control.TheVariants.{Begin, Give, Cover, Forked as Forks, Halved, Awaits, AwaitsHalf, Asks, Frees, Tallies, Ended}
 use Rattle.arachne_machine.specs.declared.pause.Pending.{Pending}
@@ -57,16 +57,16 @@ goes_on_within m least most a b c p q = record {
 pub within_more : (least most more : ℕ) (a b : State) → GoesWithin least most a b → most ≤ more → GoesWithin least more a b
 within_more least most more a b w le = record { made = w.made; at_least = w.at_least; at_most = omega (arith, w.at_most, le); goes = w.goes }
 
-forks_after : (m n k : ℕ) (a b c child : State) (task : Task) → Goes m a b → locks_of b ≡ locks_of a → GoesToFork n b c child task → m + n ≤ k → GoesToFork k a c child task
-forks_after m n k a b c child task p locks q le =
+forks_after : (m n k : ℕ) (a b c child : State) (made : Child) → Goes m a b → locks_of b ≡ locks_of a → GoesToFork n b c child made → m + n ≤ k → GoesToFork k a c child made
+forks_after m n k a b c child made p locks q le =
     let source_is = ap (λ g. source_of g.now) p.program in
     let name_is = ap (λ o. o.name) p.own in
-    let named : (task_of (source_of a.program.now) (a.own.name ++ a.forks ∷ []) ≡ Some task) → task_of (source_of b.program.now) (b.own.name ++ b.forks ∷ []) ≡ Some task =
+    let named : (task_of (source_of a.program.now) (a.own.name ++ a.forks ∷ []) ≡ Some made.task) → task_of (source_of b.program.now) (b.own.name ++ b.forks ∷ []) ≡ Some made.task =
     λ h. ap (λ s. task_of s (b.own.name ++ b.forks ∷ [])) source_is ∙ ap (λ n. task_of (source_of a.program.now) (n ++ b.forks ∷ [])) name_is
     ∙ ap (λ k. task_of (source_of a.program.now) (a.own.name ++ k ∷ [])) p.forks ∙ h in
-    let new1 = subst (λ x. IsNew x (b.own.name ++ b.forks ∷ []) 0 task child) (ap (λ g. g.now) p.program) q.fresh in
-    let new2 = subst (λ x. IsNew a.program.now (x ++ b.forks ∷ []) 0 task child) name_is new1 in
-    let new3 = subst (λ x. IsNew a.program.now (a.own.name ++ x ∷ []) 0 task child) p.forks new2 in
+    let new1 = subst (λ x. IsNew x (b.own.name ++ b.forks ∷ []) 0 made.task child) (ap (λ g. g.now) p.program) q.fresh in
+    let new2 = subst (λ x. IsNew a.program.now (x ++ b.forks ∷ []) 0 made.task child) name_is new1 in
+    let new3 = subst (λ x. IsNew a.program.now (a.own.name ++ x ∷ []) 0 made.task child) p.forks new2 in
     record {
       program = q.program ∙ p.program;
       own = q.own ∙ p.own;
@@ -141,58 +141,64 @@ sound_goes n old new s g =
       faultless = λ checked. g.faultless (s.faultless (subst IsChecked (sym program_is) checked));
     }
 
--- the task of a thread's child is the child of that number of its task
-next_task : (t : State) (s : IsSound t) (task : Task) (rest : List Task) → (account_at_end t s.account).children ≡ s.account.children ++ task ∷ rest →
-    task_of (source_of t.program.now) (t.own.name ++ t.forks ∷ []) ≡ Some task
-next_task t s task rest e =
+-- the child that a thread forks next is the child of that number of its task
+next_made : (t : State) (s : IsSound t) (made : Child) (rest : List Child) → (account_at_end t s.account).children ≡ s.account.children ++ made ∷ rest →
+    slice_get (task_effects (source_of t.program.now).arrays (source_of t.program.now).locks s.task).children t.forks ≡ Some made
+next_made t s made rest e =
     let source = source_of t.program.now in
     let effects = task_effects source.arrays source.locks s.task in
-    let children : effects.children ≡ s.account.children ++ task ∷ rest =
+    let children : effects.children ≡ s.account.children ++ made ∷ rest =
     sym (after-children t.own.name effects untouched) ∙ sym (ap (λ a. a.children) s.whole) ∙ e in
-    task_below-child source.arrays source.locks (Evaluate source.root []) t.own.name t.forks s.task s.has_task
-    ∙ ap (λ l. slice_get l t.forks) children ∙ ap (λ k. slice_get (s.account.children ++ task ∷ rest) k) s.forks
-    ∙ slice_get-seam s.account.children task rest
+    ap (λ l. slice_get l t.forks) children ∙ ap (λ k. slice_get (s.account.children ++ made ∷ rest) k) s.forks
+    ∙ slice_get-seam s.account.children made rest
 
-with_fork-sums : (task : Task) (a : Account) → (with_fork task a).sums ≡ a.sums
+next_task : (t : State) (s : IsSound t) (made : Child) (rest : List Child) → (account_at_end t s.account).children ≡ s.account.children ++ made ∷ rest →
+    task_of (source_of t.program.now) (t.own.name ++ t.forks ∷ []) ≡ Some made.task
+next_task t s made rest e =
+    let source = source_of t.program.now in
+    task_below-child source.arrays source.locks (Evaluate source.root []) t.own.name t.forks s.task s.has_task
+    ∙ ap (option_map (λ child. child.task)) (next_made t s made rest e)
+
+with_fork-sums : (task : Child) (a : Account) → (with_fork task a).sums ≡ a.sums
 unfolding with_fork
 with_fork-sums task a = refl
 
-with_fork-holds : (task : Task) (a : Account) → (with_fork task a).holds ≡ a.holds
+with_fork-holds : (task : Child) (a : Account) → (with_fork task a).holds ≡ a.holds
 unfolding with_fork
 with_fork-holds task a = refl
 
-with_fork-lines : (task : Task) (a : Account) → (with_fork task a).lines ≡ a.lines
+with_fork-lines : (task : Child) (a : Account) → (with_fork task a).lines ≡ a.lines
 unfolding with_fork
 with_fork-lines task a = refl
 
-with_fork-children : (task : Task) (a : Account) → (with_fork task a).children ≡ a.children ++ task ∷ []
+with_fork-children : (task : Child) (a : Account) → (with_fork task a).children ≡ a.children ++ task ∷ []
 unfolding with_fork
 with_fork-children task a = refl
 
 -- the child that a sound thread forks has its task
-pub fork_has_task : (n : ℕ) (old new child : State) (task : Task) → IsSound old → GoesToFork n old new child task →
-    task_of (source_of old.program.now) (old.own.name ++ old.forks ∷ []) ≡ Some task
-fork_has_task n old new child task s g = next_task old s task (g.next_child s.account).0 (g.next_child s.account).1
+pub fork_has_task : (n : ℕ) (old new child : State) (made : Child) → IsSound old → GoesToFork n old new child made →
+    task_of (source_of old.program.now) (old.own.name ++ old.forks ∷ []) ≡ Some made.task
+fork_has_task n old new child made s g = next_task old s made (g.next_child s.account).0 (g.next_child s.account).1
 
-pub sound_child : (n : ℕ) (old new child : State) (task : Task) → IsSound old → GoesToFork n old new child task → IsSound child
-sound_child n old new child task s g =
-    sound_new old.program.now (old.own.name ++ old.forks ∷ []) 0 task child g.fresh (fork_has_task n old new child task s g)
-    (λ checked. ((g.keeps (fork_has_task n old new child task s g)).faultless (s.faultless checked)).1)
+pub sound_child : (n : ℕ) (old new child : State) (made : Child) → IsSound old → GoesToFork n old new child made → IsSound child
+sound_child n old new child made s g =
+    sound_new old.program.now (old.own.name ++ old.forks ∷ []) 0 made.task child g.fresh (fork_has_task n old new child made s g)
+    (λ checked. ((g.keeps (fork_has_task n old new child made s g)).faultless (s.faultless checked)).1)
 
-pub sound_fork : (n : ℕ) (old new child : State) (task : Task) → IsSound old → GoesToFork n old new child task → IsSound new
-sound_fork n old new child task s g =
-    let kept = g.keeps (fork_has_task n old new child task s g) in
+pub sound_fork : (n : ℕ) (old new child : State) (made : Child) → IsSound old → GoesToFork n old new child made → IsSound new
+sound_fork n old new child made s g =
+    let kept = g.keeps (fork_has_task n old new child made s g) in
     let program_is = sym (ap (λ x. source_of x.now) g.program) in
     let own_is = sym g.own in
     record {
       task = s.task;
       has_task = subst (λ x. task_of (source_of new.program.now) x.name ≡ Some s.task) own_is (subst (λ x. task_of x old.own.name ≡ Some s.task) program_is s.has_task);
-      account = with_fork task s.account;
-      sums = g.sums ∙ subst (λ x. old.sums.items ≡ tabulated x.ledgers s.account.sums) program_is s.sums ∙ ap (tabulated (source_of new.program.now).ledgers) (sym (with_fork-sums task s.account));
+      account = with_fork made s.account;
+      sums = g.sums ∙ subst (λ x. old.sums.items ≡ tabulated x.ledgers s.account.sums) program_is s.sums ∙ ap (tabulated (source_of new.program.now).ledgers) (sym (with_fork-sums made s.account));
       holds = subst (λ x. x.holds.items ≡ tabulated (source_of new.program.now).locks s.account.holds) own_is (subst (λ x. old.own.holds.items ≡ tabulated x.locks s.account.holds) program_is s.holds)
-          ∙ ap (tabulated (source_of new.program.now).locks) (sym (with_fork-holds task s.account));
-      lines = ap (map named_holds) g.below ∙ s.lines ∙ sym (with_fork-lines task s.account);
-      forks = omega (arith, g.forks, s.forks, length-append s.account.children (task ∷ []), ap length (with_fork-children task s.account));
+          ∙ ap (tabulated (source_of new.program.now).locks) (sym (with_fork-holds made s.account));
+      lines = ap (map named_holds) g.below ∙ s.lines ∙ sym (with_fork-lines made s.account);
+      forks = omega (arith, g.forks, s.forks, length-append s.account.children (made ∷ []), ap length (with_fork-children made s.account));
       value = ap (λ x. x.value) kept.ending ∙ subst (λ x. (ending old).value ≡ task_value x.arrays s.task) program_is s.value;
       whole = kept.account s.account (sym s.forks) ∙ subst (λ x. account_at_end old s.account ≡ after x.name (task_effects (source_of new.program.now).arrays (source_of new.program.now).locks s.task) untouched) own_is
           (subst (λ x. account_at_end old s.account ≡ after old.own.name (task_effects x.arrays x.locks s.task) untouched) program_is s.whole);
@@ -375,9 +381,19 @@ same_thread n old new g = record {
 pub within_seen : (least most : ℕ) (old new : State) → GoesWithin least most old new → MakesSteps least most (suspended old) (suspended new)
 within_seen least most old new w = record { at_least = omega (arith, w.at_least, w.goes.work); at_most = omega (arith, w.at_most, w.goes.work) }
 
-pub forked_seen : (n : ℕ) (old new child : State) (task : Task) → IsSound old → GoesToFork n old new child task → Forked n (suspended old) (suspended new) (suspended child)
-forked_seen n old new child task s g =
-    let kept = g.keeps (fork_has_task n old new child task s g) in
+-- the child that it forks has the class that the program gives to that fork
+class_made : (old new child : State) (n : ℕ) (made : Child) (s : IsSound old) → GoesToFork n old new child made →
+    option_map (λ x. x.class) (child_of (source_of old.program.now) old.own.name old.forks) ≡ Some made.class
+class_made old new child n made s g =
+    let source = source_of old.program.now in
+    let forks : Task → Option Child = λ task. slice_get (task_effects source.arrays source.locks task).children old.forks in
+    ap (λ o. option_map (λ x. x.class) (option_and_then forks o)) s.has_task
+    ∙ ap (option_map (λ x. x.class)) (next_made old s made (g.next_child s.account).0 (g.next_child s.account).1)
+
+pub forked_seen : (n : ℕ) (old new child : State) (made : Child) → IsSound old → GoesToFork n old new child made →
+    Forked n made.class (suspended old) (suspended new) (suspended child)
+forked_seen n old new child made s g =
+    let kept = g.keeps (fork_has_task n old new child made s g) in
     record {
       program = ap (λ p. p.now) g.program;
       name = ap (λ o. o.name) g.own;
@@ -399,6 +415,7 @@ forked_seen n old new child task s g =
         none_below = g.fresh.below;
         not_paused = g.fresh.pending;
       };
+      of_class = class_made old new child n made s g;
       some = kept.some;
       most = kept.most;
     }

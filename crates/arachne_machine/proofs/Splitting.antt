@@ -4,11 +4,12 @@ use Rattle.std.specs.Prelude.{unwrap_or, max}
 use Rattle.std.specs.Borrow.{Bor}
 use Rattle.std.proofs.lemmas.List.{append-nil}
 use Rattle.arachne_lang.specs.declared.program.Class.{Class}
+use Rattle.arachne_lang.specs.declared.program.Class.TheVariants.{Normal}
 use Rattle.arachne_lang.specs.declared.program.Expr.{Expr}
 use Rattle.arachne_lang.specs.Tree.{Fork, Number, Source}
 use Rattle.arachne_lang.specs.Program.{source_of, tree_of}
 use Rattle.arachne_lang.specs.Value.{value_of, with_newest, apply, operation_of}
-use Rattle.arachne_lang.specs.Effects.{Task, Evaluate, Reduce, forked, effects_of, task_effects, task_value}
+use Rattle.arachne_lang.specs.Effects.{Task, Evaluate, Reduce, Child, forked, half, effects_of, task_effects, task_value}
 use Rattle.arachne_lang.specs.Meaning.{task_of}
 use Rattle.arachne_machine.specs.declared.frame.Stretch.{Stretch}
 use Rattle.arachne_machine.specs.declared.frame.Frame.{Frame}
@@ -40,29 +41,34 @@ child_task-found source name n task h = ap (λ o. unwrap_or o (Evaluate (Number 
 abbrev pub HasForked : ℕ → Account → Type 0
 HasForked n a = length a.children ≡ n
 
-abbrev pub ForkOutlook : Source → List ℕ → ℕ → Task → ℕ → Control → List ℕ → Control → Frame → Type 0
-ForkOutlook source name n task work k env k' f = SameOutlook (work + 1) (HasForked n) (with_fork task) source name k [] env k' (f ∷ []) env
+abbrev pub ForkOutlook : Source → List ℕ → ℕ → Child → ℕ → Control → List ℕ → Control → Frame → Type 0
+ForkOutlook source name n made work k env k' f = SameOutlook (work + 1) (HasForked n) (with_fork made) source name k [] env k' (f ∷ []) env
 
--- The task is the next of the children that are still to come.
-abbrev pub ForksNext : Source → List ℕ → Task → Control → List ℕ → Type 0
-ForksNext source name task k env = (a : Account) → (rest : List Task) × ((begun_account source name k env a).children ≡ a.children ++ task ∷ rest)
+-- This is the next of the children that are still to come.
+abbrev pub ForksNext : Source → List ℕ → Child → Control → List ℕ → Type 0
+ForksNext source name made k env = (a : Account) → (rest : List Child) × ((begun_account source name k env a).children ≡ a.children ++ made ∷ rest)
 
-pub forks_by : (old new child : State) (begins k k' : Control) (f : Frame) (work : ℕ) → old.control ≡ k → PushesFork old new child begins f k' →
+-- the child of this class that begins like this
+abbrev pub made_as : Class → Control → List ℕ → Child
+made_as class begins env = record { class = class; task = task_begun begins env }
+
+pub forks_by : (class : Class) (old new child : State) (begins k k' : Control) (f : Frame) (work : ℕ) → old.control ≡ k → PushesFork old new child begins f k' →
     ((fs : List Frame) → frames_left k fs ≡ fs) → ((fs : List Frame) → frames_left k' fs ≡ fs) →
     fork_awaited k' ++ forks_of (f ∷ []) ≡ old.forks ∷ (fork_awaited k ++ []) → lock_freed k' ++ releases (f ∷ []) ≡ lock_freed k ++ [] → pending_of k' ≡ Some pause.Forks →
     work_left child ≡ work →
     ((held : Bool) → IsFaultlessNext (source_of old.program.now) held k → IsFaultlessNext (source_of old.program.now) false begins) →
-    ForksNext (source_of old.program.now) old.own.name (task_begun begins old.environment.items) k old.environment.items →
+    ForksNext (source_of old.program.now) old.own.name (made_as class begins old.environment.items) k old.environment.items →
     (child_task (source_of old.program.now) old.own.name old.forks ≡ task_begun begins old.environment.items →
-    ForkOutlook (source_of old.program.now) old.own.name old.forks (task_begun begins old.environment.items) work k old.environment.items k' f) →
-    GoesToFork 1 old new child (task_begun child.control child.environment.items)
-forks_by old new child begins k k' f work is_k pushed left left' forks locks pending child_work childs next outlook =
+    ForkOutlook (source_of old.program.now) old.own.name old.forks (made_as class begins old.environment.items) work k old.environment.items k' f) →
+    GoesToFork 1 old new child (made_as class child.control child.environment.items)
+forks_by class old new child begins k k' f work is_k pushed left left' forks locks pending child_work childs next outlook =
     let source = source_of old.program.now in
     let name = old.own.name in
     let fs = old.frames.items in
     let env = old.environment.items in
     let n = old.forks in
     let task = task_begun begins env in
+    let made = made_as class begins env in
     let at : IsAt source name k (fs ++ []) env old = record { source_is = refl; name_is = refl; control_is = is_k; frames_are = sym (append-nil fs); environment_is = refl } in
     let at' : IsAt source name k' (fs ++ f ∷ []) env new = record {
       source_is = ap (λ p. source_of p.now) pushed.program;
@@ -71,7 +77,7 @@ forks_by old new child begins k k' f work is_k pushed left left' forks locks pen
       frames_are = pushed.frames;
       environment_is = pushed.environment;
     } in
-    subst (GoesToFork 1 old new child) (sym pushed.begun)
+    subst (λ t. GoesToFork 1 old new child (record { class = class; task = t })) (sym pushed.begun)
     (record {
       program = pushed.program;
       own = pushed.own;
@@ -89,10 +95,10 @@ forks_by old new child begins k k' f work is_k pushed left left' forks locks pen
           let grown = Grows-frames source name (fs ++ []) s b in (
             one.0 ++ grown.more,
             ap (λ x. x.children) (account_at source name k (fs ++ []) env old a at ∙ ap (λ l. resume_account source name l s b) (left (fs ++ [])))
-                ∙ grown.is ∙ ap (λ l. l ++ grown.more) one.1 ∙ append_assoc a.children (task ∷ one.0) grown.more,
+                ∙ grown.is ∙ ap (λ l. l ++ grown.more) one.1 ∙ append_assoc a.children (made ∷ one.0) grown.more,
           );
       keeps = λ has.
-          let end = same_end (work + 1) (HasForked n) (with_fork task) source name k k' fs [] (f ∷ []) env env old new at at' (left (fs ++ [])) (left' (fs ++ f ∷ []))
+          let end = same_end (work + 1) (HasForked n) (with_fork made) source name k k' fs [] (f ∷ []) env env old new at at' (left (fs ++ [])) (left' (fs ++ f ∷ []))
           (outlook (child_task-found source name n task has)) in
           record {
             ending = end.ending;
@@ -120,11 +126,12 @@ fork_parts source held child during next class h =
 -- The fork of an expression.
 fork_outlook : (source : Source) (name env : List ℕ) (n : ℕ) (expr child during next : Bor Expr) (class : Class) → tree_of expr.now ≡ Fork class (tree_of child.now) (tree_of during.now) (tree_of next.now) →
     child_task source name n ≡ Evaluate (tree_of child.now) env →
-    ForkOutlook source name n (Evaluate (tree_of child.now) env) (work_of source.arrays (tree_of child.now) env) (Begin expr) env (Forked during) (Join n next)
+    ForkOutlook source name n (record { class = class; task = Evaluate (tree_of child.now) env }) (work_of source.arrays (tree_of child.now) env) (Begin expr) env (Forked during) (Join n next)
 fork_outlook source name env n expr child during next class h found =
     let A = source.arrays in
     let L = source.locks in
     let task = Evaluate (tree_of child.now) env in
+    let made : Child = record { class = class; task = task } in
     let v = value_of A (tree_of during.now) env in
     let joined : Task → List ℕ = λ t. with_newest (with_newest env (task_value A t)) v in
     let childs = effects_of A L (tree_of child.now) env in
@@ -134,10 +141,10 @@ fork_outlook source name env n expr child during next class h found =
       ending = ap (λ t. record { env = env; value = value_of A (tree_of next.now) (joined t) }) found
           ∙ ap (λ t. record { env = env; value = value_of A t env }) (sym h);
       account = λ a e.
-          ap (λ t. after name (effects_of A L (tree_of next.now) (joined t)) (with_join L name n (task_effects A L t) (after name meanwhile (with_fork task a)))) found
-          ∙ ap (λ m. after name last (with_join L name m childs (after name meanwhile (with_fork task a)))) (sym e)
-          ∙ ap (after name last) (sym (after-forked L name task childs meanwhile a))
-          ∙ sym (after-sequence name (forked L task childs meanwhile) last a)
+          ap (λ t. after name (effects_of A L (tree_of next.now) (joined t)) (with_join L name n (task_effects A L t) (after name meanwhile (with_fork made a)))) found
+          ∙ ap (λ m. after name last (with_join L name m childs (after name meanwhile (with_fork made a)))) (sym e)
+          ∙ ap (after name last) (sym (after-forked L name made childs meanwhile a))
+          ∙ sym (after-sequence name (forked L made childs meanwhile) last a)
           ∙ ap (λ t. after name (effects_of A L t env) a) (sym h);
       work =
           let e = ap (λ t. work_of A (tree_of next.now) (joined t)) found in
@@ -152,7 +159,7 @@ pub goes_to_fork : (old new child : State) (expr first during next : Bor Expr) (
     tree_of expr.now ≡ Fork class (tree_of first.now) (tree_of during.now) (tree_of next.now) →
     PushesFork old new child (Begin first) (Join old.forks next) (Forked during) →
     work_left child ≡ work_of (source_of old.program.now).arrays (tree_of first.now) old.environment.items →
-    GoesToFork 1 old new child (task_begun child.control child.environment.items)
+    GoesToFork 1 old new child (made_as class child.control child.environment.items)
 goes_to_fork old new child expr first during next class begins h pushed work =
     let source = source_of old.program.now in
     let name = old.own.name in
@@ -160,7 +167,7 @@ goes_to_fork old new child expr first during next class begins h pushed work =
     let A = source.arrays in
     let meanwhile = effects_of A source.locks (tree_of during.now) env in
     let last = effects_of A source.locks (tree_of next.now) (with_newest (with_newest env (value_of A (tree_of first.now) env)) (value_of A (tree_of during.now) env)) in
-    forks_by old new child (Begin first) (Begin expr) (Forked during) (Join old.forks next) (work_of A (tree_of first.now) env) begins pushed
+    forks_by class old new child (Begin first) (Begin expr) (Forked during) (Join old.forks next) (work_of A (tree_of first.now) env) begins pushed
     (λ fs. refl) (λ fs. refl) refl refl refl work
     (λ held free.
     let parts = fork_parts source held first during next class (subst (IsFaultless source held) h free) in
@@ -176,7 +183,7 @@ goes_to_fork old new child expr first during next class begins h pushed work =
 half_outlook : (source : Source) (name env : List ℕ) (n : ℕ) (stretch : Stretch) (middle : ℕ) → max 1 stretch.grain < stretch.end - stretch.first →
     middle ≡ stretch.first + (stretch.end - stretch.first) / 2 →
     child_task source name n ≡ stretch_task (record stretch { end = middle }) env →
-    ForkOutlook source name n (stretch_task (record stretch { end = middle }) env)
+    ForkOutlook source name n (record { class = Normal; task = stretch_task (record stretch { end = middle }) env })
     (split_work source.arrays (tree_of stretch.body.now) env stretch.grain stretch.first (middle - stretch.first)) (Cover stretch) env
     (Halved (record stretch { first = middle })) (Merge n stretch.reduction)
 half_outlook source name env n stretch middle lt is found =
@@ -187,9 +194,10 @@ half_outlook source name env n stretch middle lt is found =
     let count = stretch.end - stretch.first in
     let m = count / 2 in
     let R : ℕ → ℕ → Task = Reduce r stretch.grain t env in
+    let H : ℕ → ℕ → Child = half r stretch.grain t env in
     let left : middle - stretch.first ≡ m = omega (arith, is) in
     let right : stretch.end - middle ≡ count - m = omega (arith, is) in
-    let task = R stretch.first (middle - stretch.first) in
+    let made = H stretch.first (middle - stretch.first) in
     let here : R stretch.first (middle - stretch.first) ≡ R stretch.first m = ap (R stretch.first) left in
     let there : R middle (stretch.end - middle) ≡ R (stretch.first + m) (count - m) = ap (λ x. R x (stretch.end - middle)) is ∙ ap (R (stretch.first + m)) right in
     record {
@@ -198,11 +206,11 @@ half_outlook source name env n stretch middle lt is found =
           ∙ ap (λ x. record { env = env; value = apply (operation_of r) (task_value A (R stretch.first m)) (task_value A x) }) there
           ∙ ap (λ x. record { env = env; value = x }) (sym (value_split A r stretch.grain t env stretch.first m count (omega arith)));
       account = λ a e.
-          ap (λ x. with_join L name n (task_effects A L x) (after name (task_effects A L (R middle (stretch.end - middle))) (with_fork task a))) (found ∙ here)
-          ∙ ap (λ x. with_join L name n (task_effects A L (R stretch.first m)) (after name (task_effects A L x) (with_fork task a))) there
-          ∙ ap (λ x. with_join L name n (task_effects A L (R stretch.first m)) (after name (task_effects A L (R (stretch.first + m) (count - m))) (with_fork x a))) here
-          ∙ ap (λ x. with_join L name x (task_effects A L (R stretch.first m)) (after name (task_effects A L (R (stretch.first + m) (count - m))) (with_fork (R stretch.first m) a))) (sym e)
-          ∙ sym (after-forked L name (R stretch.first m) (task_effects A L (R stretch.first m)) (task_effects A L (R (stretch.first + m) (count - m))) a)
+          ap (λ x. with_join L name n (task_effects A L x) (after name (task_effects A L (R middle (stretch.end - middle))) (with_fork made a))) (found ∙ here)
+          ∙ ap (λ x. with_join L name n (task_effects A L (R stretch.first m)) (after name (task_effects A L x) (with_fork made a))) there
+          ∙ ap (λ x. with_join L name n (task_effects A L (R stretch.first m)) (after name (task_effects A L (R (stretch.first + m) (count - m))) (with_fork x a))) (ap (H stretch.first) left)
+          ∙ ap (λ x. with_join L name x (task_effects A L (R stretch.first m)) (after name (task_effects A L (R (stretch.first + m) (count - m))) (with_fork (H stretch.first m) a))) (sym e)
+          ∙ sym (after-forked L name (H stretch.first m) (task_effects A L (R stretch.first m)) (task_effects A L (R (stretch.first + m) (count - m))) a)
           ∙ ap (λ x. after name x a) (sym (effects_split A L r stretch.grain t env stretch.first count lt));
       work =
           let one = ap (split_work A t env stretch.grain stretch.first) left in
@@ -215,7 +223,7 @@ pub goes_to_half : (old new child : State) (stretch : Stretch) (middle : ℕ) �
     middle ≡ stretch.first + (stretch.end - stretch.first) / 2 →
     PushesFork old new child (Cover (record stretch { end = middle })) (Merge old.forks stretch.reduction) (Halved (record stretch { first = middle })) →
     work_left child ≡ split_work (source_of old.program.now).arrays (tree_of stretch.body.now) old.environment.items stretch.grain stretch.first (middle - stretch.first) →
-    GoesToFork 1 old new child (task_begun child.control child.environment.items)
+    GoesToFork 1 old new child (made_as Normal child.control child.environment.items)
 goes_to_half old new child stretch middle covers lt is pushed work =
     let source = source_of old.program.now in
     let name = old.own.name in
@@ -229,7 +237,7 @@ goes_to_half old new child stretch middle covers lt is pushed work =
     let R : ℕ → ℕ → Task = Reduce r stretch.grain t env in
     let left : middle - stretch.first ≡ m = omega (arith, is) in
     let rest = (task_effects A L (R (stretch.first + m) (count - m))).children in
-    forks_by old new child (Cover (record stretch { end = middle })) (Cover stretch) (Halved (record stretch { first = middle })) (Merge old.forks r)
+    forks_by Normal old new child (Cover (record stretch { end = middle })) (Cover stretch) (Halved (record stretch { first = middle })) (Merge old.forks r)
     (split_work A t env stretch.grain stretch.first (middle - stretch.first)) covers pushed
     (λ fs. refl) (λ fs. refl) refl refl refl work
     (λ held free. (refl, subst (λ b. IsFaultless source b t) free.0 free.1))
@@ -237,6 +245,6 @@ goes_to_half old new child stretch middle covers lt is pushed work =
       rest,
       after-children name (task_effects A L (R stretch.first count)) a
           ∙ ap (λ e. a.children ++ e.children) (effects_split A L r stretch.grain t env stretch.first count lt)
-          ∙ ap (λ k. a.children ++ R stretch.first k ∷ rest) (sym left),
+          ∙ ap (λ k. a.children ++ half r stretch.grain t env stretch.first k ∷ rest) (sym left),
     ))
     (half_outlook source name env old.forks stretch middle lt is)

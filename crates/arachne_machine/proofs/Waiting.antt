@@ -2,6 +2,7 @@
 use Rattle.std.proofs.Common.{◌≡◌, ◌<◌, ℕ, List, [], ◌∷◌, ◌++◌, length, map, reverse, None, Some, refl, ap, sym, ◌∙◌, subst, arith}
 use Rattle.std.specs.Prelude.{slice_get, option_map, IsSome}
 use Rattle.std.proofs.lemmas.List.{length-map, length-reverse, reverse-append}
+use Rattle.arachne_lang.specs.declared.program.Class.{Class}
 use Rattle.arachne_lang.specs.declared.program.Program.{Program}
 use Rattle.arachne_machine.specs.Outcome.{Finished}
 use Rattle.arachne_machine.specs.Suspended.{Suspended, SameThread, IsFresh, Forked, Joined, awaited}
@@ -40,9 +41,9 @@ rests_same program old new threads keys same running (newest, waits) = (
 )
 
 -- a child goes on, and the thread waits for it
-pub rests_fork : (program : Program) (budget : ℕ) (old mid new child : Suspended) (threads : List Suspended) (keys : List (Program × List ℕ)) →
-    Forked budget old mid child → SameThread mid new → new.pending ≡ None → Rests program (old ∷ threads) keys → Rests program (child ∷ new ∷ threads) keys
-rests_fork program budget old mid new child threads keys forked same running (newest, waits) =
+pub rests_fork : (program : Program) (budget : ℕ) (class : Class) (old mid new child : Suspended) (threads : List Suspended) (keys : List (Program × List ℕ)) →
+    Forked budget class old mid child → SameThread mid new → new.pending ≡ None → Rests program (old ∷ threads) keys → Rests program (child ∷ new ∷ threads) keys
+rests_fork program budget class old mid new child threads keys forked same running (newest, waits) =
     let is_name : new.name ≡ old.name = same.name ∙ forked.name in (
       record {
         same_program = forked.fresh.same_program ∙ newest.same_program;

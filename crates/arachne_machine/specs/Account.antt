@@ -1,7 +1,7 @@
 -- What a thread has done so far beside its value.
 use Rattle.std.specs.Prelude.{ℕ, ◌+◌, List, [], ◌∷◌, ◌++◌, length}
 use Rattle.arachne_lang.specs.declared.meaning.Line.{Line}
-use Rattle.arachne_lang.specs.Effects.{Task, Effects, line_of}
+use Rattle.arachne_lang.specs.Effects.{Child, Effects, line_of}
 
 pub record Account : Type 0 where
   -- for each ledger, all that was added to it, by the joined children too
@@ -9,7 +9,7 @@ pub record Account : Type 0 where
   -- for each lock, how often the thread held it
   pub holds : ℕ → ℕ
   -- what it has forked, in order
-  pub children : List Task
+  pub children : List Child
   -- the lines of the threads below it, as far as they were joined
   pub lines : List Line
 
@@ -25,9 +25,9 @@ after name effects account = record {
   lines = account.lines ++ effects.lines name (length account.children);
 }
 
--- after a fork for a task
-unfoldable pub with_fork : Task → Account → Account
-with_fork task account = record account { children = account.children ++ task ∷ [] }
+-- after a fork
+unfoldable pub with_fork : Child → Account → Account
+with_fork child account = record account { children = account.children ++ child ∷ [] }
 
 -- after the join of the child of this number, which had these effects
 unfoldable pub with_join : ℕ → List ℕ → ℕ → Effects → Account → Account

@@ -14,7 +14,7 @@ abbrev pub Advanced : ℕ → Suspended → Pause → Suspended → Type 0
 Advanced budget old pauses.Budget new =
     SameThread old new × (new.locks ≡ old.locks) × (new.pending ≡ None) × (new.work + budget ≡ old.work)
 -- a child was forked
-Advanced budget old (pauses.Forks class child) new = Forked budget old new child
+Advanced budget old (pauses.Forks class child) new = Forked budget class old new child
 -- a child is awaited, the one of the newest fork that is not joined
 Advanced budget old pauses.Joins new =
     SameThread old new × (new.locks ≡ old.locks) × (new.pending ≡ Some pause.Joins) × IsSome (awaited new) × MakesSteps 1 budget old new

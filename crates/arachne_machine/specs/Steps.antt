@@ -7,7 +7,7 @@ use Rattle.std.specs.Borrow.{Bor}
 use Rattle.arachne_lang.specs.Tree.{Number}
 use Rattle.arachne_lang.specs.Program.{source_of, tree_of}
 use Rattle.arachne_lang.specs.Value.{Environment, with_newest}
-use Rattle.arachne_lang.specs.Effects.{Task, Evaluate, Effects, task_value, task_effects, tabulated}
+use Rattle.arachne_lang.specs.Effects.{Task, Evaluate, Child, Effects, task_value, task_effects, tabulated}
 use Rattle.arachne_lang.specs.Meaning.{task_of}
 use Rattle.arachne_machine.specs.declared.frame.Frame.{Frame}
 use Rattle.arachne_machine.specs.declared.frame.Frame.TheVariants.{FoldTo, FoldFirst, FoldStart, FoldTurn, SweepTo, SweepStart, SweepTurn, Amount, Release, Join, Merge}
@@ -142,16 +142,16 @@ pub record IsNew (program : Program) (name : List ℕ) (tag : ℕ) (task : Task)
   pub value : (ending t).value ≡ task_value (source_of program).arrays task
   pub account : account_at_end t untouched ≡ after name (task_effects (source_of program).arrays program.locks task) untouched
 
-pub record KeepsOverFork (steps : ℕ) (old new child : State) (task : Task) : Type 0 where
+pub record KeepsOverFork (steps : ℕ) (old new child : State) (made : Child) : Type 0 where
   pub ending : ending new ≡ ending old
-  pub account : (account : Account) → length account.children ≡ old.forks → account_at_end new (with_fork task account) ≡ account_at_end old account
+  pub account : (account : Account) → length account.children ≡ old.forks → account_at_end new (with_fork made account) ≡ account_at_end old account
   pub some : work_left new + work_left child + 1 ≤ work_left old
   pub most : work_left old ≤ work_left new + work_left child + steps
   pub faultless : IsWithoutFault old → IsWithoutFault new × IsWithoutFault child
 
 -- At most so many steps were made, the last of which forked this child. What the thread comes to is the same, if the child is the one of the fork's number,
 -- and the fork is one of those that were still to come.
-pub record GoesToFork (steps : ℕ) (old new child : State) (task : Task) : Type 0 where
+pub record GoesToFork (steps : ℕ) (old new child : State) (made : Child) : Type 0 where
   pub program : new.program ≡ old.program
   pub own : new.own ≡ old.own
   pub below : new.below.items ≡ old.below.items
@@ -160,14 +160,15 @@ pub record GoesToFork (steps : ℕ) (old new child : State) (task : Task) : Type
   pub unjoined : unjoined_of new ≡ old.forks ∷ unjoined_of old
   pub locks : locks_of new ≡ locks_of old
   pub pending : pending_of new.control ≡ Some pause.Forks
-  pub fresh : IsNew old.program.now (old.own.name ++ old.forks ∷ []) 0 task child
-  pub next_child : (account : Account) → (rest : List Task) × ((account_at_end old account).children ≡ account.children ++ task ∷ rest)
-  pub keeps : task_of (source_of old.program.now) (old.own.name ++ old.forks ∷ []) ≡ Some task → KeepsOverFork steps old new child task
+  pub fresh : IsNew old.program.now (old.own.name ++ old.forks ∷ []) 0 made.task child
+  pub next_child : (account : Account) → (rest : List Child) × ((account_at_end old account).children ≡ account.children ++ made ∷ rest)
+  pub keeps : task_of (source_of old.program.now) (old.own.name ++ old.forks ∷ []) ≡ Some made.task → KeepsOverFork steps old new child made
 
 -- What is so after so many steps, or once the thread has stopped in one of them.
 abbrev pub StopsAt : ℕ → State → Option Stop → State → Type 0
 StopsAt steps old None new = Goes steps old new × (pending_of new.control ≡ None) × (locks_of new ≡ locks_of old)
-StopsAt steps old (Some (stop.Forks class child)) new = GoesToFork steps old new child.value (task_begun child.value.control child.value.environment.items)
+StopsAt steps old (Some (stop.Forks class child)) new =
+    GoesToFork steps old new child.value (record { class = class; task = task_begun child.value.control child.value.environment.items })
 StopsAt steps old (Some stop.Joins) new = GoesWithin 1 steps old new × (pending_of new.control ≡ Some pause.Joins) × (locks_of new ≡ locks_of old)
 StopsAt steps old (Some (stop.Asks lock)) new =
     GoesWithin 1 steps old new × (pending_of new.control ≡ Some (pause.Asks lock)) × (locks_of new ≡ lock ∷ locks_of old)

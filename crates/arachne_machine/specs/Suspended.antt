@@ -2,7 +2,10 @@
 use Rattle.std.specs.Prelude.{◌≡◌, ◌≤◌, ℕ, ◌+◌, List, [], ◌∷◌, ◌++◌, length, get_or, set, false, Option, None, Some, option_map, slice_get}
 use Rattle.arachne_lang.specs.Value.{wrapped}
 use Rattle.arachne_lang.specs.Effects.{tabulated}
+use Rattle.arachne_lang.specs.declared.program.Class.{Class}
 use Rattle.arachne_lang.specs.declared.program.Program.{Program}
+use Rattle.arachne_lang.specs.Program.{source_of}
+use Rattle.arachne_lang.specs.Meaning.{child_of}
 use Rattle.arachne_machine.specs.declared.line.ThreadLine.{ThreadLine}
 use Rattle.arachne_machine.specs.declared.pause.Pending.{Pending}
 use Rattle.arachne_machine.specs.declared.pause.Pending.TheVariants as pause
@@ -85,8 +88,9 @@ pub record IsFresh (program : Program) (name : List ℕ) (tag : ℕ) (thread : S
   pub none_below : thread.below ≡ []
   pub not_paused : thread.pending ≡ None
 
--- In at most so many steps it has forked this child, whose name is its own followed by the number of the fork. The child's steps were among its own.
-pub record Forked (budget : ℕ) (old new child : Suspended) : Type 0 where
+-- In at most so many steps it has forked this child, whose name is its own followed by the number of the fork, and whose class is the one that the program
+-- gives to that fork. The child's steps were among its own.
+pub record Forked (budget : ℕ) (class : Class) (old new child : Suspended) : Type 0 where
   pub program : new.program ≡ old.program
   pub name : new.name ≡ old.name
   pub tag : new.tag ≡ old.tag
@@ -96,6 +100,7 @@ pub record Forked (budget : ℕ) (old new child : Suspended) : Type 0 where
   pub below : new.below ≡ old.below
   pub pending : new.pending ≡ Some pause.Forks
   pub fresh : IsFresh old.program (old.name ++ old.forks ∷ []) 0 child
+  pub of_class : option_map (λ made. made.class) (child_of (source_of old.program) old.name old.forks) ≡ Some class
   pub some : new.work + child.work + 1 ≤ old.work
   pub most : old.work ≤ new.work + child.work + budget
 

@@ -25,7 +25,7 @@ returns-in_ok-push-in-Forks-2-clause-rests c =
     let first = pushed ts c.push-in-Forks.new.self.items new c.in_ok-push-in-Forks.ensures.items in
     let second = pushed c.push-in-Forks.new.self.items c.push-in-Forks-2.new.self.items child c.in_ok-push-in-Forks-2.ensures.items in
     subst (λ l. Rests p l keys) (sym (second ∙ ap (λ l. child ∷ l) first))
-    (rests_fork p c.args.budget c.args.thread mid new child (reverse ts) keys advanced c.forked.ensures.same c.forked.ensures.pending c.requires.rests)
+    (rests_fork p c.args.budget _ c.args.thread mid new child (reverse ts) keys advanced c.forked.ensures.same c.forked.ensures.pending c.requires.rests)
 
 pub returns-in_ok-push-in-Ok-clause-rests : goal.returns-in_ok-push-in-Ok-clause-rests
 returns-in_ok-push-in-Ok-clause-rests c =
