@@ -60,7 +60,7 @@ pub enum Progress<'p> {
 }
 
 impl<'p> State<'p> {
-    ghost use Rattle.std.specs.Prelude.{◌≡◌, ◌∷◌, IfOk, OnErr, None, Some, false};
+    ghost use Rattle.std.specs.Prelude.{◌≡◌, ◌-◌, ◌∷◌, IfOk, OnErr, None, Some, false};
     ghost use Rattle.arachne_lang.specs.Program.{source_of};
     ghost use Rattle.arachne_machine.specs.Sound.{IsSound};
     ghost use Rattle.arachne_machine.specs.Ending.{work_left, begun_work, locks_of};
@@ -106,7 +106,7 @@ impl<'p> State<'p> {
         requires running { pending_of self.old.control ≡ None }
         requires numbered { IsNumbered self.old }
         ensures ok { IfOk result (λ stop. StopsAt budget self.old stop self.new) }
-        ensures err { OnErr result (GoesWithin 0 budget self.old self.new) }
+        ensures err { OnErr result (GoesWithin 0 (budget - 1) self.old self.new) }
         ensures err_locks { OnErr result (locks_of self.new ≡ locks_of self.old) }
         ensures running { OnErr result (pending_of self.new.control ≡ None) }
     {

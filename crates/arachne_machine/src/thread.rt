@@ -1,4 +1,4 @@
-ghost use Rattle.std.specs.Prelude.{◌≡◌, ◌≢◌, ◌↔◌, ◌≤◌, ◌+◌, ℕ, [], ◌∷◌, None, Some, IfOk, OnOk, IfErr, OnErr};
+ghost use Rattle.std.specs.Prelude.{◌≡◌, ◌≢◌, ◌↔◌, ◌≤◌, ◌+◌, ◌-◌, ℕ, [], ◌∷◌, None, Some, IfOk, OnOk, IfErr, OnErr};
 ghost use Rattle.arachne_machine.specs.Suspended.{SameThread, MakesSteps, IsFresh, Joined, IsAsk, IsFree, IsTally, awaited, own_line_of, raised};
 ghost use Rattle.arachne_machine.specs.Advance.{Advanced, IsForeign, handed_back};
 ghost use Rattle.arachne_machine.specs.Stops.{pause_of, IsSoundStop};
@@ -85,7 +85,7 @@ impl<'p> Thread<'p> {
         ensures within { IfOk result (λ pause. IsChecked (source_of self.old.program) → PausesWithin self.new) }
         ensures err_same { OnErr result (SameThread self.old self.new) }
         ensures err_locks { OnErr result (self.new.locks ≡ self.old.locks) }
-        ensures err_work { OnErr result (MakesSteps 0 budget self.old self.new) }
+        ensures err_work { OnErr result (MakesSteps 0 (budget - 1) self.old self.new) }
         ensures err_pending { OnErr result (self.new.pending ≡ None) }
     {
         let stop = self.state.advance(budget)?;
