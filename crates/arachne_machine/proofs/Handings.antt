@@ -23,7 +23,7 @@ use Rattle.arachne_machine.specs.Work.{work_of}
 use Rattle.arachne_machine.specs.Turns.{folded, folded_effects, folded_work, swept, swept_effects, swept_work}
 use Rattle.arachne_machine.specs.Ending.{Status, resume, resume_account, resume_work, begun, begun_account, begun_work, fork_awaited, lock_freed, forks_of, releases, frames_left, without_newest}
 use Rattle.arachne_machine.specs.Faultless.{IsFaultless, GoesWithoutFault}
-use Rattle.arachne_machine.specs.Steps.{Becomes, IsUnchanged, IsPopped, Enters, Goes, GoesWithin, TurnsFold, TurnsSweep, StopsAt, pending_of, giving}
+use Rattle.arachne_machine.specs.Steps.{Becomes, IsUnchanged, IsPopped, Enters, Goes, GoesWithin, TurnsFold, TurnsSweep, AfterSteps, pending_of, giving}
 use Rattle.arachne_machine.proofs.Halves.{effects_whole, work_whole}
 use Rattle.arachne_machine.proofs.Ranges.{folded-turn, folded-done, folded_effects-turn, folded_effects-done, folded_work-turn, folded_work-done, swept-turn, swept-done, swept_effects-turn, swept_effects-done, swept_work-turn, swept_work-done}
 use Rattle.arachne_machine.proofs.Outlooks.{StepOutlook, Step, at_of, work_at, steps_by, goes_on_by, framed_as, reshaped, later, alone, as_giving}
@@ -32,7 +32,7 @@ use Rattle.arachne_machine.proofs.Outlooks.{StepOutlook, Step, at_of, work_at, s
 pub hands_on : (steps : ℕ) (before mid new : State) (v : ℕ) (f : Frame) (k' : Control) → IsPopped f before mid → mid.control ≡ Give v →
     Becomes mid new mid.environment.items mid.frames.items k' → ((fs : List Frame) → frames_left k' fs ≡ fs) →
     fork_awaited k' ++ [] ≡ [] ++ forks_of (f ∷ []) → lock_freed k' ++ [] ≡ [] ++ releases (f ∷ []) → pending_of k' ≡ None →
-    StepOutlook steps (source_of mid.program.now) mid.own.name (Give v) (f ∷ []) mid.environment.items k' [] mid.environment.items → StopsAt steps before None new
+    StepOutlook steps (source_of mid.program.now) mid.own.name (Give v) (f ∷ []) mid.environment.items k' [] mid.environment.items → AfterSteps steps before None new
 hands_on steps before mid new v f k' popped gives b left forks locks pending same =
     let fs = mid.frames.items in
     let env = mid.environment.items in
@@ -43,7 +43,7 @@ hands_on steps before mid new v f k' popped gives b left forks locks pending sam
 pub hands_to_part : (before mid new : State) (v : ℕ) (f g : Frame) (env' : List ℕ) (part : Bor Expr) → IsPopped f before mid → mid.control ≡ Give v →
     Becomes mid new env' (mid.frames.items ++ g ∷ []) (Begin part) →
     forks_of (g ∷ []) ≡ forks_of (f ∷ []) → releases (g ∷ []) ≡ releases (f ∷ []) →
-    StepOutlook 1 (source_of mid.program.now) mid.own.name (Give v) (f ∷ []) mid.environment.items (Begin part) (g ∷ []) env' → StopsAt 1 before None new
+    StepOutlook 1 (source_of mid.program.now) mid.own.name (Give v) (f ∷ []) mid.environment.items (Begin part) (g ∷ []) env' → AfterSteps 1 before None new
 hands_to_part before mid new v f g env' part popped gives b forks locks same =
     let fs = mid.frames.items in
     let env = mid.environment.items in
@@ -66,7 +66,7 @@ hands_to_stop before mid new v f k' popped gives b left forks same =
 
 -- Single frames.
 pub hand_index : (before mid new : State) (v a w : ℕ) → IsPopped (Index a) before mid → mid.control ≡ Give v →
-    w ≡ slice_index (array_at (source_of mid.program.now).arrays a) v → Becomes mid new mid.environment.items mid.frames.items (Give w) → StopsAt 0 before None new
+    w ≡ slice_index (array_at (source_of mid.program.now).arrays a) v → Becomes mid new mid.environment.items mid.frames.items (Give w) → AfterSteps 0 before None new
 hand_index before mid new v a w popped gives is b =
     hands_on 0 before mid new v (Index a) (Give (slice_index (array_at (source_of mid.program.now).arrays a) v)) popped gives
     (framed_as mid new mid.environment.items mid.frames.items mid.frames.items (Give w) (Give (slice_index (array_at (source_of mid.program.now).arrays a) v)) b refl (ap Give is))
@@ -74,13 +74,13 @@ hand_index before mid new v a w popped gives is b =
     (record { ending = refl; account = λ a any. refl; work = omega arith; faultless = λ held h. (tt, tt) })
 
 pub hand_right : (before mid new : State) (v : ℕ) (operation : Operation) (right : Bor Expr) → IsPopped (Right operation right) before mid → mid.control ≡ Give v →
-    Enters mid new (Apply operation v) (Begin right) → StopsAt 1 before None new
+    Enters mid new (Apply operation v) (Begin right) → AfterSteps 1 before None new
 hand_right before mid new v operation right popped gives b =
     hands_to_part before mid new v (Right operation right) (Apply operation v) mid.environment.items right popped gives b refl refl
     (record { ending = refl; account = λ a any. refl; work = omega arith; faultless = λ held h. ((tt, tt), h.0.0) })
 
 pub hand_apply : (before mid new : State) (v left w : ℕ) (operation : Operation) → IsPopped (Apply operation left) before mid → mid.control ≡ Give v →
-    w ≡ apply operation left v → Becomes mid new mid.environment.items mid.frames.items (Give w) → StopsAt 0 before None new
+    w ≡ apply operation left v → Becomes mid new mid.environment.items mid.frames.items (Give w) → AfterSteps 0 before None new
 hand_apply before mid new v left w operation popped gives is b =
     hands_on 0 before mid new v (Apply operation left) (Give (apply operation left v)) popped gives
     (framed_as mid new mid.environment.items mid.frames.items mid.frames.items (Give w) (Give (apply operation left v)) b refl (ap Give is))
@@ -113,14 +113,14 @@ chosen source name env v first second false is = record {
 }
 
 pub hand_branch : (before mid new : State) (v : ℕ) (first second : Bor Expr) (c : Bool) → IsPopped (Branch first second) before mid → mid.control ≡ Give v → (v == 0) ≡ c →
-    Becomes mid new mid.environment.items mid.frames.items (Begin (if c then second else first)) → StopsAt 1 before None new
+    Becomes mid new mid.environment.items mid.frames.items (Begin (if c then second else first)) → AfterSteps 1 before None new
 hand_branch before mid new v first second c popped gives is b =
     hands_on 1 before mid new v (Branch first second) (Begin (if c then second else first)) popped gives b
     (λ fs. refl) refl refl refl
     (chosen (source_of mid.program.now) mid.own.name mid.environment.items v first second c is)
 
 pub hand_extend : (before mid new : State) (v : ℕ) (body : Bor Expr) → IsPopped (Extend body) before mid → mid.control ≡ Give v →
-    Becomes mid new (with_newest mid.environment.items v) (mid.frames.items ++ Restore (length mid.environment.items) ∷ []) (Begin body) → StopsAt 1 before None new
+    Becomes mid new (with_newest mid.environment.items v) (mid.frames.items ++ Restore (length mid.environment.items) ∷ []) (Begin body) → AfterSteps 1 before None new
 hand_extend before mid new v body popped gives b =
     let env = mid.environment.items in
     let source = source_of mid.program.now in
@@ -130,7 +130,7 @@ hand_extend before mid new v body popped gives b =
     (record { ending = ap (λ e. record { env = e; value = w }) back; account = λ a any. refl; work = omega arith; faultless = λ held h. ((tt, tt), h.0.0) })
 
 pub hand_restore : (before mid new : State) (v n : ℕ) → IsPopped (Restore n) before mid → mid.control ≡ Give v →
-    Becomes mid new (take n mid.environment.items) mid.frames.items mid.control → StopsAt 0 before None new
+    Becomes mid new (take n mid.environment.items) mid.frames.items mid.control → AfterSteps 0 before None new
 hand_restore before mid new v n popped gives b =
     let fs = mid.frames.items in
     let env = mid.environment.items in
@@ -145,28 +145,28 @@ once old new g = record { made = 1; at_least = omega arith; at_most = omega arit
 
 -- Stops.
 pub hand_amount : (before mid new : State) (v ledger : ℕ) (body : Bor Expr) → IsPopped (Amount ledger body) before mid → mid.control ≡ Give v →
-    Becomes mid new mid.environment.items mid.frames.items (Tallies ledger v body) → StopsAt 1 before (Some (stop.Tallies ledger v)) new
+    Becomes mid new mid.environment.items mid.frames.items (Tallies ledger v body) → AfterSteps 1 before (Some (stop.Tallies ledger v)) new
 hand_amount before mid new v ledger body popped gives b =
     let s = hands_to_stop before mid new v (Amount ledger body) (Tallies ledger v body) popped gives b (λ fs. refl) refl
     (record { ending = refl; account = λ a any. refl; work = omega arith; faultless = λ held h. (tt, h.0.0) }) in
     (once before new s.goes, s.pending, s.locks ∙ sym s.old_locks)
 
 pub hand_release : (before mid new : State) (v lock : ℕ) → IsPopped (Release lock) before mid → mid.control ≡ Give v →
-    Becomes mid new mid.environment.items mid.frames.items (Frees lock v) → StopsAt 1 before (Some (stop.Frees lock)) new
+    Becomes mid new mid.environment.items mid.frames.items (Frees lock v) → AfterSteps 1 before (Some (stop.Frees lock)) new
 hand_release before mid new v lock popped gives b =
     let s = hands_to_stop before mid new v (Release lock) (Frees lock v) popped gives b (λ fs. refl) refl
     (record { ending = refl; account = λ a any. refl; work = omega arith; faultless = λ held h. (tt, h.0.0) }) in
     (once before new s.goes, s.pending, s.locks ∙ sym s.old_locks, (releases mid.frames.items, s.locks))
 
 pub hand_join : (before mid new : State) (v number : ℕ) (next : Bor Expr) → IsPopped (Join number next) before mid → mid.control ≡ Give v →
-    Becomes mid new mid.environment.items mid.frames.items (Awaits number v next) → StopsAt 1 before (Some stop.Joins) new
+    Becomes mid new mid.environment.items mid.frames.items (Awaits number v next) → AfterSteps 1 before (Some stop.Joins) new
 hand_join before mid new v number next popped gives b =
     let s = hands_to_stop before mid new v (Join number next) (Awaits number v next) popped gives b (λ fs. refl) refl
     (record { ending = refl; account = λ a any. refl; work = omega arith; faultless = λ held h. (tt, h.0.0) }) in
     (once before new s.goes, s.pending, s.locks ∙ sym s.old_locks)
 
 pub hand_merge : (before mid new : State) (v number : ℕ) (reduction : Reduction) → IsPopped (Merge number reduction) before mid → mid.control ≡ Give v →
-    Becomes mid new mid.environment.items mid.frames.items (AwaitsHalf number v reduction) → StopsAt 1 before (Some stop.Joins) new
+    Becomes mid new mid.environment.items mid.frames.items (AwaitsHalf number v reduction) → AfterSteps 1 before (Some stop.Joins) new
 hand_merge before mid new v number reduction popped gives b =
     let s = hands_to_stop before mid new v (Merge number reduction) (AwaitsHalf number v reduction) popped gives b (λ fs. refl) refl
     (record { ending = refl; account = λ a any. refl; work = omega arith; faultless = λ held h. (tt, h.0.0) }) in
@@ -174,7 +174,7 @@ hand_merge before mid new v number reduction popped gives b =
 
 -- no frame is left
 pub ends : (old mid new : State) (v : ℕ) → IsUnchanged old mid → old.control ≡ Give v → mid.frames.items ≡ [] →
-    Becomes mid new mid.environment.items mid.frames.items (Ended v) → StopsAt 1 old (Some stop.Ended) new
+    Becomes mid new mid.environment.items mid.frames.items (Ended v) → AfterSteps 1 old (Some stop.Ended) new
 ends old mid new v same gives none b =
     let env = mid.environment.items in
     let back : Becomes mid old env [] (Give v) = record {
@@ -200,13 +200,13 @@ ends old mid new v same gives none b =
 
 -- Folds.
 pub hand_fold_to : (before mid new : State) (v : ℕ) (to first body : Bor Expr) → IsPopped (FoldTo to first body) before mid → mid.control ≡ Give v →
-    Enters mid new (FoldFirst v first body) (Begin to) → StopsAt 1 before None new
+    Enters mid new (FoldFirst v first body) (Begin to) → AfterSteps 1 before None new
 hand_fold_to before mid new v to first body popped gives b =
     hands_to_part before mid new v (FoldTo to first body) (FoldFirst v first body) mid.environment.items to popped gives b refl refl
     (record { ending = refl; account = λ a any. refl; work = omega arith; faultless = λ held h. (((h.0.0.1, h.0.0.2), tt), h.0.0.0) })
 
 pub hand_fold_first : (before mid new : State) (v from : ℕ) (first body : Bor Expr) → IsPopped (FoldFirst from first body) before mid → mid.control ≡ Give v →
-    Enters mid new (FoldStart from v body) (Begin first) → StopsAt 1 before None new
+    Enters mid new (FoldStart from v body) (Begin first) → AfterSteps 1 before None new
 hand_fold_first before mid new v from first body popped gives b =
     hands_to_part before mid new v (FoldFirst from first body) (FoldStart from v body) mid.environment.items first popped gives b refl refl
     (record { ending = refl; account = λ a any. refl; work = omega arith; faultless = λ held h. ((h.0.0.1, tt), h.0.0.0) })
@@ -254,7 +254,7 @@ fold_end source name env v next end body le = record {
 }
 
 pub hand_fold_start : (before mid new : State) (v from to : ℕ) (body : Bor Expr) → IsPopped (FoldStart from to body) before mid → mid.control ≡ Give v →
-    TurnsFold mid new from to body v → StopsAt 1 before None new
+    TurnsFold mid new from to body v → AfterSteps 1 before None new
 hand_fold_start before mid new v from to body popped gives turns =
     let source = source_of mid.program.now in
     let name = mid.own.name in
@@ -280,7 +280,7 @@ fold_giving t new v next end body so_far turns = record {
 -- The same in the midst of a fold, once the two newest variables were dropped.
 pub hand_fold_turn : (before mid outer new : State) (v next end : ℕ) (body : Bor Expr) (k : Control) → IsPopped (FoldTurn next end body) before mid → mid.control ≡ Give v →
     Becomes mid outer (without_newest 2 mid.environment.items) mid.frames.items k →
-    TurnsFold outer new next end body v → StopsAt 1 before None new
+    TurnsFold outer new next end body v → AfterSteps 1 before None new
 hand_fold_turn before mid outer new v next end body k popped gives dropped turns =
     let source = source_of mid.program.now in
     let name = mid.own.name in
@@ -310,13 +310,13 @@ hand_fold_turn before mid outer new v next end body k popped gives dropped turns
 
 -- Sweeps.
 pub hand_sweep_to : (before mid new : State) (v : ℕ) (reduction : Reduction) (grain : ℕ) (to body : Bor Expr) → IsPopped (SweepTo reduction grain to body) before mid → mid.control ≡ Give v →
-    Enters mid new (SweepStart reduction grain v body) (Begin to) → StopsAt 1 before None new
+    Enters mid new (SweepStart reduction grain v body) (Begin to) → AfterSteps 1 before None new
 hand_sweep_to before mid new v reduction grain to body popped gives b =
     hands_to_part before mid new v (SweepTo reduction grain to body) (SweepStart reduction grain v body) mid.environment.items to popped gives b refl refl
     (record { ending = refl; account = λ a any. refl; work = omega arith; faultless = λ held h. (((h.0.0.0, h.0.0.2), tt), h.0.0.1) })
 
 pub hand_sweep_start : (before mid new : State) (v : ℕ) (reduction : Reduction) (grain first : ℕ) (body : Bor Expr) → IsPopped (SweepStart reduction grain first body) before mid → mid.control ≡ Give v →
-    Becomes mid new mid.environment.items mid.frames.items (Cover (record { reduction = reduction; grain = grain; first = first; end = v; body = body })) → StopsAt 1 before None new
+    Becomes mid new mid.environment.items mid.frames.items (Cover (record { reduction = reduction; grain = grain; first = first; end = v; body = body })) → AfterSteps 1 before None new
 hand_sweep_start before mid new v reduction grain first body popped gives b =
     hands_on 1 before mid new v (SweepStart reduction grain first body) (Cover (record { reduction = reduction; grain = grain; first = first; end = v; body = body })) popped gives b
     (λ fs. refl) refl refl refl
@@ -371,7 +371,7 @@ sweep_on source name env less v so_far reduction next end body k' gs' env' is s 
 -- In the midst of a sweep, once its newest variable was dropped.
 pub hand_sweep_turn : (before mid outer new : State) (v : ℕ) (reduction : Reduction) (next end so_far w : ℕ) (body : Bor Expr) (k : Control) → IsPopped (SweepTurn reduction next end so_far body) before mid → mid.control ≡ Give v →
     Becomes mid outer (without_newest 1 mid.environment.items) mid.frames.items k → w ≡ apply (operation_of reduction) so_far v →
-    TurnsSweep outer new reduction next end body w → StopsAt 1 before None new
+    TurnsSweep outer new reduction next end body w → AfterSteps 1 before None new
 hand_sweep_turn before mid outer new v reduction next end so_far w body k popped gives dropped is turns =
     let source = source_of mid.program.now in
     let name = mid.own.name in
@@ -416,7 +416,7 @@ covered source name env stretch k' gs' env' le s = record {
 }
 
 pub covers : (old mid new : State) (stretch : Stretch) (u : ℕ) → IsUnchanged old mid → old.control ≡ Cover stretch → stretch.end - stretch.first ≤ max 1 stretch.grain →
-    u ≡ unit_of stretch.reduction → TurnsSweep mid new stretch.reduction stretch.first stretch.end stretch.body u → StopsAt 1 old None new
+    u ≡ unit_of stretch.reduction → TurnsSweep mid new stretch.reduction stretch.first stretch.end stretch.body u → AfterSteps 1 old None new
 covers old mid new stretch u same covering le is turns =
     let source = source_of mid.program.now in
     let name = mid.own.name in

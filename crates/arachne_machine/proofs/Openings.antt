@@ -21,7 +21,7 @@ use Rattle.arachne_machine.specs.Account.{Account, after}
 use Rattle.arachne_machine.specs.Ending.{resume, resume_account, resume_work, begun, begun_account, begun_work, fork_awaited, forks_of, releases, frames_left}
 use Rattle.arachne_lang.specs.Checked.{node_faults, unless}
 use Rattle.arachne_machine.specs.Faultless.{IsFaultless, GoesWithoutFault}
-use Rattle.arachne_machine.specs.Steps.{Becomes, StopsAt}
+use Rattle.arachne_machine.specs.Steps.{Becomes, AfterSteps}
 use Rattle.arachne_machine.proofs.Accounts.{after-nothing, after-sequence}
 use Rattle.arachne_machine.proofs.Faultlessness.{no_faults-append, unless_none, or_else_none, less}
 use Rattle.arachne_machine.proofs.Outlooks.{StepOutlook, Step, steps_by, as_it_is, framed_as, alone}
@@ -61,14 +61,14 @@ begins_by steps old new expr tree k' gs' begins is_tree b left forks o =
 
 pub goes_to_value : (old new : State) (expr : Bor Expr) (tree : Tree) (v : ℕ) → old.control ≡ Begin expr → tree_of expr.now ≡ tree →
     Becomes old new old.environment.items old.frames.items (Give v) →
-    Opens 0 (source_of old.program.now) old.own.name tree old.environment.items (Give v) [] → StopsAt 0 old None new
+    Opens 0 (source_of old.program.now) old.own.name tree old.environment.items (Give v) [] → AfterSteps 0 old None new
 goes_to_value old new expr tree v begins is_tree b o =
     let s = begins_by 0 old new expr tree (Give v) [] begins is_tree (alone old new old.environment.items (Give v) b) (λ fs. refl) refl o in
     (s.goes, s.pending, s.locks ∙ sym s.old_locks)
 
 pub goes_to_part : (old new : State) (expr part : Bor Expr) (tree : Tree) (f : Frame) → old.control ≡ Begin expr → tree_of expr.now ≡ tree →
     Becomes old new old.environment.items (old.frames.items ++ f ∷ []) (Begin part) → forks_of (f ∷ []) ≡ [] → releases (f ∷ []) ≡ [] →
-    Opens 1 (source_of old.program.now) old.own.name tree old.environment.items (Begin part) (f ∷ []) → StopsAt 1 old None new
+    Opens 1 (source_of old.program.now) old.own.name tree old.environment.items (Begin part) (f ∷ []) → AfterSteps 1 old None new
 goes_to_part old new expr part tree f begins is_tree b forks locks o =
     let s = begins_by 1 old new expr tree (Begin part) (f ∷ []) begins is_tree b (λ fs. refl) forks o in
     (s.goes, s.pending, s.locks ∙ ap (λ l. l ++ releases old.frames.items) locks ∙ sym s.old_locks)

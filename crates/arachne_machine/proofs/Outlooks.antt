@@ -9,7 +9,7 @@ use Rattle.arachne_machine.specs.declared.state.State.{State}
 use Rattle.arachne_machine.specs.Account.{Account}
 use Rattle.arachne_machine.specs.Ending.{resume, resume_account, resume_work, begun, begun_account, begun_work, fork_awaited, lock_freed, forks_of, releases, frames_left, ending, account_at_end, work_left, unjoined_of, locks_of}
 use Rattle.arachne_machine.specs.Faultless.{GoesWithoutFault, IsWithoutFault}
-use Rattle.arachne_machine.specs.Steps.{Becomes, Goes, StopsAt, pending_of, giving}
+use Rattle.arachne_machine.specs.Steps.{Becomes, Goes, AfterSteps, pending_of, giving}
 use Rattle.arachne_machine.proofs.Faultlessness.{faultless_above}
 use Rattle.arachne_machine.proofs.Frames.{resume-append, resume_account-append, resume_work-append, forks_of-append, releases-append}
 
@@ -186,7 +186,7 @@ pub goes_on_by : (steps : ℕ) (mid old new : State) (k k' : Control) (fs gs gs'
     Becomes mid old env (fs ++ gs) k → Becomes mid new env' (fs ++ gs') k' →
     frames_left k (fs ++ gs) ≡ fs ++ gs → frames_left k' (fs ++ gs') ≡ fs ++ gs' →
     fork_awaited k' ++ forks_of gs' ≡ fork_awaited k ++ forks_of gs → lock_freed k' ++ releases gs' ≡ lock_freed k ++ releases gs → pending_of k' ≡ None →
-    StepOutlook steps (source_of mid.program.now) mid.own.name k gs env k' gs' env' → StopsAt steps old None new
+    StepOutlook steps (source_of mid.program.now) mid.own.name k gs env k' gs' env' → AfterSteps steps old None new
 goes_on_by steps mid old new k k' fs gs gs' env env' b b' left left' forks locks pending same =
     let s = steps_by steps mid old new k k' fs gs gs' env env' b b' left left' forks same in
     (s.goes, s.pending ∙ pending, s.locks ∙ ap (λ l. l ++ releases fs) locks ∙ sym s.old_locks)

@@ -20,7 +20,7 @@ use Rattle.arachne_machine.specs.declared.state.Stop.TheVariants as stop
 use Rattle.arachne_machine.specs.Outcome.{Finished, named_holds, meaning_as, meaning_in, outcome_of, IsOfItsName}
 use Rattle.arachne_machine.specs.Account.{Account, untouched, after, with_fork, with_join}
 use Rattle.arachne_machine.specs.Ending.{child_task, ending, account_at_end, unjoined_of, locks_of, resume, resume_account, frames_left, begun, begun_account, fork_awaited, forks_of, lock_freed, releases}
-use Rattle.arachne_machine.specs.Steps.{Goes, GoesWithin, GoesToFork, IsNew, Joins, KeepsOverJoin, Counts, StopsAt, IsUnchanged, pending_of, suspended}
+use Rattle.arachne_machine.specs.Steps.{Goes, GoesWithin, GoesToFork, IsNew, Joins, KeepsOverJoin, Counts, AfterSteps, IsUnchanged, pending_of, suspended}
 use Rattle.arachne_lang.specs.Checked.{IsChecked}
 use Rattle.arachne_machine.specs.Faultless.{IsWithoutFault}
 use Rattle.arachne_machine.specs.Sound.{IsSound}
@@ -81,14 +81,14 @@ forks_after m n k a b c child made p locks q le =
       keeps = λ h. let kept = q.keeps (named h) in record {
         ending = kept.ending ∙ p.ending;
         account = λ account e. kept.account account (e ∙ sym p.forks) ∙ p.account account;
-        some = omega (arith, kept.some, p.work);
-        most = omega (arith, kept.most, p.work, le);
+        at_least = omega (arith, kept.at_least, p.work);
+        at_most = omega (arith, kept.at_most, p.work, le);
         faultless = λ h. kept.faultless (p.faultless h);
       };
     }
 
 -- so it is where the thread stops
-pub goes_then_stops : (m n k : ℕ) (a b c : State) (s : Stop) → Goes m a b → locks_of b ≡ locks_of a → StopsAt n b (Some s) c → m + n ≤ k → StopsAt k a (Some s) c
+pub goes_then_stops : (m n k : ℕ) (a b c : State) (s : Stop) → Goes m a b → locks_of b ≡ locks_of a → AfterSteps n b (Some s) c → m + n ≤ k → AfterSteps k a (Some s) c
 goes_then_stops m n k a b c (stop.Forks class child) p l q le = forks_after m n k a b c child.value _ p l q le
 goes_then_stops m n k a b c stop.Joins p l q le = (within_more 1 (m + n) k a c (goes_on_within m 1 n a b c p q.0) le, q.1, q.2 ∙ l)
 goes_then_stops m n k a b c (stop.Asks lock) p l q le = (within_more 1 (m + n) k a c (goes_on_within m 1 n a b c p q.0) le, q.1, q.2 ∙ ap (λ x. lock ∷ x) l)
@@ -97,7 +97,7 @@ goes_then_stops m n k a b c (stop.Tallies ledger amount) p l q le = (within_more
 goes_then_stops m n k a b c stop.Ended p l q le = (within_more 1 (m + n) k a c (goes_on_within m 1 n a b c p q.0) le, q.1, q.2, q.3 ∙ l, q.4, q.5)
 
 -- the same, with or without a reason to stop
-pub goes_then_made : (a b c : State) (s : Option Stop) → Goes 0 a b → locks_of b ≡ locks_of a → StopsAt 1 b s c → StopsAt 1 a s c
+pub goes_then_made : (a b c : State) (s : Option Stop) → Goes 0 a b → locks_of b ≡ locks_of a → AfterSteps 1 b s c → AfterSteps 1 a s c
 goes_then_made a b c None p l q = (goes_on 0 1 1 a b c p q.0 refl, q.1, q.2 ∙ l)
 goes_then_made a b c (Some s) p l q = goes_then_stops 0 1 1 a b c s p l q (omega arith)
 
@@ -416,8 +416,8 @@ forked_seen n old new child made s g =
         not_paused = g.fresh.pending;
       };
       of_class = class_made old new child n made s g;
-      some = kept.some;
-      most = kept.most;
+      at_least = kept.at_least;
+      at_most = kept.at_most;
     }
 
 not_running : ◌≡◌ {A = Option Pending} None (Some pause.Joins) → ⊥

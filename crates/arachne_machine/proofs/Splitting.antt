@@ -103,8 +103,8 @@ forks_by class old new child begins k k' f work is_k pushed left left' forks loc
           record {
             ending = end.ending;
             account = end.account;
-            some = omega (arith, end.work, child_work);
-            most = omega (arith, end.work, child_work);
+            at_least = omega (arith, end.work, child_work);
+            at_most = omega (arith, end.work, child_work);
             faultless = λ h. (
               end.faultless h,
               pushed.faultless (childs (held_by false (fs ++ [])) (faultless_at source name k (fs ++ []) env old at h).1),

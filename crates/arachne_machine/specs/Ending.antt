@@ -142,7 +142,7 @@ accounted source name (Apply operation left) s account = account
 accounted source name (Release lock) s account = account
 accounted source name (Restore n) s account = account
 
--- the steps that it takes beside the one in which a value is handed to it
+-- the steps that a frame takes beside the one in which a value is handed to it
 abbrev pub frame_work : Source → List ℕ → Frame → Status → ℕ
 frame_work source name (Index a) s = 0
 frame_work source name (Right operation right) s = work_of source.arrays (tree_of right.now) s.env
@@ -242,7 +242,7 @@ begun_account source name (Tallies ledger amount body) env account =
     after name (effects_of source.arrays source.locks (tree_of body.now) env) (after name (tallied ledger amount) account)
 begun_account source name (Ended value) env account = account
 
--- the steps that it takes; a value that is to be handed on is handed on in a step
+-- the steps of what a thread does next; a value that only has to be handed on takes one
 abbrev pub begun_work : Source → List ℕ → Control → Environment → ℕ
 begun_work source name (Begin expr) env = work_of source.arrays (tree_of expr.now) env
 begun_work source name (Give value) env = 1

@@ -142,11 +142,12 @@ pub record IsNew (program : Program) (name : List ℕ) (tag : ℕ) (task : Task)
   pub value : (ending t).value ≡ task_value (source_of program).arrays task
   pub account : account_at_end t untouched ≡ after name (task_effects (source_of program).arrays program.locks task) untouched
 
+-- The thread comes to the same, if the child is counted with it until the join.
 pub record KeepsOverFork (steps : ℕ) (old new child : State) (made : Child) : Type 0 where
   pub ending : ending new ≡ ending old
   pub account : (account : Account) → length account.children ≡ old.forks → account_at_end new (with_fork made account) ≡ account_at_end old account
-  pub some : work_left new + work_left child + 1 ≤ work_left old
-  pub most : work_left old ≤ work_left new + work_left child + steps
+  pub at_least : work_left new + work_left child + 1 ≤ work_left old
+  pub at_most : work_left old ≤ work_left new + work_left child + steps
   pub faultless : IsWithoutFault old → IsWithoutFault new × IsWithoutFault child
 
 -- At most so many steps were made, the last of which forked this child. What the thread comes to is the same, if the child is the one of the fork's number,
@@ -164,20 +165,20 @@ pub record GoesToFork (steps : ℕ) (old new child : State) (made : Child) : Typ
   pub next_child : (account : Account) → (rest : List Child) × ((account_at_end old account).children ≡ account.children ++ made ∷ rest)
   pub keeps : task_of (source_of old.program.now) (old.own.name ++ old.forks ∷ []) ≡ Some made.task → KeepsOverFork steps old new child made
 
--- What is so after so many steps, or once the thread has stopped in one of them.
-abbrev pub StopsAt : ℕ → State → Option Stop → State → Type 0
-StopsAt steps old None new = Goes steps old new × (pending_of new.control ≡ None) × (locks_of new ≡ locks_of old)
-StopsAt steps old (Some (stop.Forks class child)) new =
+-- What is so after so many steps, or once the thread has stopped in one of them, at the latest in the last.
+abbrev pub AfterSteps : ℕ → State → Option Stop → State → Type 0
+AfterSteps steps old None new = Goes steps old new × (pending_of new.control ≡ None) × (locks_of new ≡ locks_of old)
+AfterSteps steps old (Some (stop.Forks class child)) new =
     GoesToFork steps old new child.value (record { class = class; task = task_begun child.value.control child.value.environment.items })
-StopsAt steps old (Some stop.Joins) new = GoesWithin 1 steps old new × (pending_of new.control ≡ Some pause.Joins) × (locks_of new ≡ locks_of old)
-StopsAt steps old (Some (stop.Asks lock)) new =
+AfterSteps steps old (Some stop.Joins) new = GoesWithin 1 steps old new × (pending_of new.control ≡ Some pause.Joins) × (locks_of new ≡ locks_of old)
+AfterSteps steps old (Some (stop.Asks lock)) new =
     GoesWithin 1 steps old new × (pending_of new.control ≡ Some (pause.Asks lock)) × (locks_of new ≡ lock ∷ locks_of old)
-StopsAt steps old (Some (stop.Frees lock)) new =
+AfterSteps steps old (Some (stop.Frees lock)) new =
     GoesWithin 1 steps old new × (pending_of new.control ≡ Some (pause.Frees lock)) × (locks_of new ≡ locks_of old)
     × ((others : List ℕ) × (locks_of new ≡ lock ∷ others))
-StopsAt steps old (Some (stop.Tallies ledger amount)) new =
+AfterSteps steps old (Some (stop.Tallies ledger amount)) new =
     GoesWithin 1 steps old new × (pending_of new.control ≡ Some (pause.Tallies ledger amount)) × (locks_of new ≡ locks_of old)
-StopsAt steps old (Some stop.Ended) new =
+AfterSteps steps old (Some stop.Ended) new =
     GoesWithin 1 steps old new × (pending_of new.control ≡ Some pause.Ended) × (unjoined_of new ≡ []) × (locks_of new ≡ locks_of old) × (locks_of new ≡ [])
     × (work_left new ≡ 0)
 
@@ -187,8 +188,8 @@ giving t value = record t { control = Give value }
 
 -- What is so after a part of a step, with a value that is to be handed on in the same step, or once the step is made.
 abbrev pub Progresses : State → Progress → State → Type 0
-Progresses old (Value value) new = StopsAt 0 old None (giving new value)
-Progresses old (Made stop) new = StopsAt 1 old stop new
+Progresses old (Value value) new = AfterSteps 0 old None (giving new value)
+Progresses old (Made stop) new = AfterSteps 1 old stop new
 
 abbrev pub OnValue : Progress → Type 0 → Type 0
 OnValue (Value value) A = A
@@ -219,6 +220,7 @@ pub record TakesIn (old : State) (outcome : Finished) (new : State) : Type 0 whe
   pub below : new.below.items ≡ old.below.items ++ outcome.lines
   pub sums : (n : ℕ) (own childs : ℕ → ℕ) → old.sums.items ≡ tabulated n own → outcome.sums ≡ tabulated n childs → new.sums.items ≡ tabulated n (λ ledger. own ledger + childs ledger)
 
+-- The thread comes to the same, now that the child of this number is counted.
 pub record KeepsOverJoin (old new : State) (number : ℕ) : Type 0 where
   pub ending : ending new ≡ ending old
   pub account : (account : Account) → account_at_end new (account_joined (source_of old.program.now) old.own.name number account) ≡ account_at_end old account

@@ -25,7 +25,7 @@ pub record Suspended : Type 0 where
   pub pending : Option Pending
   -- for each ledger, what it and the threads that it has joined have added to it, modulo 2 ^ 64
   pub sums : List ℕ
-  -- for each lock, how often it was granted
+  -- for each lock, how often it was granted, modulo 2 ^ 64
   pub holds : List ℕ
   -- the lines of the threads below it, as far as they were joined
   pub below : List ThreadLine
@@ -101,8 +101,8 @@ pub record Forked (budget : ℕ) (class : Class) (old new child : Suspended) : T
   pub pending : new.pending ≡ Some pause.Forks
   pub fresh : IsFresh old.program (old.name ++ old.forks ∷ []) 0 child
   pub of_class : option_map (λ made. made.class) (child_of (source_of old.program) old.name old.forks) ≡ Some class
-  pub some : new.work + child.work + 1 ≤ old.work
-  pub most : old.work ≤ new.work + child.work + budget
+  pub at_least : new.work + child.work + 1 ≤ old.work
+  pub at_most : old.work ≤ new.work + child.work + budget
 
 -- It has joined this outcome, which is that of the child that it awaited.
 pub record Joined (old : Suspended) (outcome : Finished) (new : Suspended) : Type 0 where

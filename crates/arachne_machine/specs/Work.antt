@@ -18,8 +18,8 @@ splits grain (suc fuel) n = if nat_le n (max 1 grain) then 0 else splits grain f
 abbrev pub work_of_parts : ℕ → ℕ → ℕ
 work_of_parts grain n = 4 * splits grain n n + 2
 
--- A step begins a node, or a part of a sweep, and hands on the value that is known then. What a fold comes to, what a part of a sweep does, and what a hold
--- or two halves leave is handed on in a step of its own.
+-- A step begins a node, or a part of a sweep, and hands on the value that is known then. What a fold or a part of a sweep comes to, the value of a hold's body,
+-- and what two halves make is handed on in a step of its own.
 abbrev pub work_of : List (List ℕ) → Tree → Environment → ℕ
 work_of arrays (Number n) env = 1
 work_of arrays (Variable k) env = 1

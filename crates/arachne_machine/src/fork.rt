@@ -4,14 +4,14 @@ use crate::tables::copied;
 use arachne_lang::{Class, Expr};
 use std::alloc::AllocError;
 
-/// The steps that fork a child, and the answer to a fork.
+/// The steps that fork a child, and those that begin a part of a sweep.
 impl<'p> State<'p> {
     ghost use Rattle.std.specs.Prelude.{◌≡◌, ◌+◌, ◌<◌, ◌^◌, IfOk, OnErr};
     ghost use Rattle.arachne_lang.specs.Program.{source_of};
     ghost use Rattle.arachne_machine.specs.declared.frame.Frame.TheVariants as frames;
     ghost use Rattle.arachne_machine.specs.declared.frame.Control.TheVariants as control;
     ghost use Rattle.arachne_machine.specs.Ending.{begun_work, work_left};
-    ghost use Rattle.arachne_machine.specs.Steps.{IsBeginning, IsNumbered, IsUnchanged, PushesFork, StopsAt};
+    ghost use Rattle.arachne_machine.specs.Steps.{IsBeginning, IsNumbered, IsUnchanged, PushesFork, AfterSteps};
 
     /// A new child, whose number is the fork's. The own thread goes on with what it does meanwhile.
     pub fn fork(
@@ -62,7 +62,7 @@ impl<'p> State<'p> {
     pub fn cover(&mut self, stretch: Stretch<'p>) -> Result<Option<Stop<'p>>, AllocError>
         requires covers { self.old.control ≡ control.Cover stretch }
         requires numbered { IsNumbered self.old }
-        ensures ok { IfOk result (λ stop. StopsAt 1 self.old stop self.new) }
+        ensures ok { IfOk result (λ stop. AfterSteps 1 self.old stop self.new) }
         ensures err { OnErr result (IsUnchanged self.old self.new) }
     {
         let count = stretch.end.saturating_sub(stretch.first);

@@ -12,12 +12,12 @@ impl<'p> State<'p> {
     ghost use Rattle.arachne_machine.specs.declared.frame.Frame.TheVariants as frames;
     ghost use Rattle.arachne_machine.specs.declared.frame.Control.TheVariants as control;
     ghost use Rattle.arachne_machine.specs.Ending.{without_newest};
-    ghost use Rattle.arachne_machine.specs.Steps.{Becomes, IsUnchanged, IsPopped, IsPauseOrRange, IsOfRange, Enters, TurnsFold, TurnsSweep, StopsAt, Progresses, OnValue, giving};
+    ghost use Rattle.arachne_machine.specs.Steps.{Becomes, IsUnchanged, IsPopped, IsPauseOrRange, IsOfRange, Enters, TurnsFold, TurnsSweep, AfterSteps, Progresses, OnValue, giving};
 
     /// Hands a value on from frame to frame, until one of them says what the thread does next, or none is left.
     #[inline(always)]
     pub fn give(&mut self, mut value: u64) -> Result<Option<Stop<'p>>, AllocError>
-        ensures ok { IfOk result (λ stop. StopsAt 1 (giving self.old value) stop self.new) }
+        ensures ok { IfOk result (λ stop. AfterSteps 1 (giving self.old value) stop self.new) }
         ensures err { OnErr result (IsUnchanged self.old self.new) }
     {
         self.environment.try_reserve(2)?;
@@ -75,7 +75,7 @@ impl<'p> State<'p> {
         requires later { IsPauseOrRange frame }
         requires environment { vec_len self.old.environment + 2 ≤ vec_capacity self.old.environment }
         requires frames { vec_len self.old.frames + 1 ≤ vec_capacity self.old.frames }
-        ensures { (before : Thread) → IsPopped frame.entry before (giving self.old value) → StopsAt 1 before result self.new }
+        ensures { (before : Thread) → IsPopped frame.entry before (giving self.old value) → AfterSteps 1 before result self.new }
     {
         match frame {
             Frame::Amount(ledger, body) => {
@@ -119,7 +119,7 @@ impl<'p> State<'p> {
         requires range { IsOfRange frame }
         requires environment { vec_len self.old.environment + 2 ≤ vec_capacity self.old.environment }
         requires frames { vec_len self.old.frames + 1 ≤ vec_capacity self.old.frames }
-        ensures { (before : Thread) → IsPopped frame.entry before (giving self.old value) → StopsAt 1 before None self.new }
+        ensures { (before : Thread) → IsPopped frame.entry before (giving self.old value) → AfterSteps 1 before None self.new }
     {
         match frame {
             Frame::FoldTo(to, first, body) => self.go_on(Frame::FoldFirst(value, first, body), to),

@@ -66,7 +66,7 @@ impl<'p> State<'p> {
     ghost use Rattle.arachne_machine.specs.Ending.{work_left, begun_work, locks_of};
     ghost use Rattle.arachne_machine.specs.Suspended.{own_line_of};
     ghost use Rattle.arachne_machine.specs.Faultless.{IsFaultlessNext, IsWithoutFault};
-    ghost use Rattle.arachne_machine.specs.Steps.{pending_of, suspended, task_begun, IsBeginning, IsNumbered, IsUnchanged, GoesWithin, IsNew, StopsAt};
+    ghost use Rattle.arachne_machine.specs.Steps.{pending_of, suspended, task_begun, IsBeginning, IsNumbered, IsUnchanged, GoesWithin, IsNew, AfterSteps};
     ghost use Rattle.arachne_machine.specs.declared.pause.Pending.TheVariants as pause;
 
     /// A thread that begins like this.
@@ -105,7 +105,7 @@ impl<'p> State<'p> {
     pub fn advance(&mut self, budget: u32) -> Result<Option<Stop<'p>>, AllocError>
         requires running { pending_of self.old.control ≡ None }
         requires numbered { IsNumbered self.old }
-        ensures ok { IfOk result (λ stop. StopsAt budget self.old stop self.new) }
+        ensures ok { IfOk result (λ stop. AfterSteps budget self.old stop self.new) }
         ensures err { OnErr result (GoesWithin 0 (budget - 1) self.old self.new) }
         ensures err_locks { OnErr result (locks_of self.new ≡ locks_of self.old) }
         ensures running { OnErr result (pending_of self.new.control ≡ None) }
@@ -124,7 +124,7 @@ impl<'p> State<'p> {
     fn step(&mut self) -> Result<Option<Stop<'p>>, AllocError>
         requires running { pending_of self.old.control ≡ None }
         requires numbered { IsNumbered self.old }
-        ensures ok { IfOk result (λ stop. StopsAt 1 self.old stop self.new) }
+        ensures ok { IfOk result (λ stop. AfterSteps 1 self.old stop self.new) }
         ensures err { OnErr result (IsUnchanged self.old self.new) }
     {
         let value = match self.control {

@@ -284,6 +284,7 @@ fn cut(thread: &mut Thread, budget: u32) -> Result<(), Fail>
 fn end(thread: &mut Thread, budget: u32) -> Result<(), Fail>
     requires running { thread.old.pending ≡ None }
     requires some { 1 ≤ budget }
+    ensures { OnOk result (thread.new.pending ≡ Some pause.Ended) }
 {
     match thread.advance(budget)? {
         Pause::Ended => Ok(()),
@@ -305,27 +306,47 @@ fn a_sum_has_three_steps(rt: HostRuntime) -> Result<(), Fail> {
     end(&mut thread, 2)
 }
 
-/// The class of the first fork of a program that has one.
-fn first_class(alloc: Global, program: &Program) -> Result<Class, Fail> {
-    let mut thread = Thread::start(alloc, program, 0)?;
-    match thread.advance(100)? {
-        Pause::Forks(class, _) => Ok(class),
-        _ => Err("no fork")?,
-    }
+/// Goes on through the pauses of a hold with a tally in it, and answers them.
+fn held_and_tallied(rt: &impl Abort, thread: &mut Thread) -> Result<(), Fail>
+    requires { thread.old.pending ≡ None }
+    ensures goes_on { OnOk result (thread.new.pending ≡ None) }
+{
+    let Pause::Asks(lock) = thread.advance(100)? else {
+        return Err("asks for no lock")?;
+    };
+    thread.granted();
+    let Pause::Tallies(ledger, amount) = thread.advance(100)? else {
+        return Err("adds to no ledger")?;
+    };
+    thread.tallied();
+    assert_eq!(rt; thread.pending(), None);
+    let Pause::Frees(freed) = thread.advance(100)? else {
+        return Err("frees no lock")?;
+    };
+    assert_eq!(rt; thread.pending(), Some(Pending::Frees(0)));
+    thread.freed();
+    assert_eq!(rt; (lock, ledger, amount, freed), (0, 0, 5, 0));
+    Ok(())
 }
 
-/// A fork has the class that is written, and a split of a sweep is normal.
+/// A thread and its outcome tell their name, tag and program, and what was counted.
 #[test]
-fn forks_have_their_class(rt: HostRuntime) -> Result<(), Fail> {
+fn hold_with_a_tally(rt: HostRuntime) -> Result<(), Fail> {
     let alloc = rt.alloc();
-    for (expression, class) in [
-        ("(fork n (num 1) (num 2) (num 3))", Class::Normal),
-        ("(fork x (num 1) (num 2) (num 3))", Class::Exclusive),
-        ("(sweep add 1 (num 0) (num 2) (var 0))", Class::Normal),
-    ] {
-        let program = program(alloc, 0, expression)?;
-        assert_eq!(rt; first_class(alloc, &program)?, class);
-    }
+    let program = program(alloc, 1, "(hold 0 (tally 0 (num 5) (num 1)))")?;
+    let mut thread = Thread::start(alloc, &program, 9)?;
+    assert_eq!(rt; thread.tag(), 9);
+    assert_eq!(rt; thread.program().root, program.root);
+    held_and_tallied(&rt, &mut thread)?;
+    end(&mut thread, 1)?;
+    let outcome = thread.finish();
+    assert!(rt; outcome.name().forks().is_empty());
+    assert_eq!(rt; outcome.program().locks, 1);
+    let Ok(parts) = outcome.into_parts() else {
+        return Err("memory was refused")?;
+    };
+    assert_eq!(rt; parts.sums.as_slice(), [5].as_slice());
+    assert_eq!(rt; parts.lines.as_slice()[0].holds.as_slice(), [1].as_slice());
     Ok(())
 }
 

@@ -5,7 +5,7 @@ use Rattle.arachne_lang.specs.Program.{source_of, tree_of}
 use Rattle.arachne_machine.specs.declared.frame.Frame.TheVariants.{Index, Right, Branch, Extend, Amount, Release, FoldTo, SweepTo}
 use Rattle.arachne_machine.specs.declared.frame.Control.TheVariants.{Give, Asks}
 use Rattle.arachne_machine.specs.Ending.{unjoined_of}
-use Rattle.arachne_machine.specs.Steps.{StopsAt}
+use Rattle.arachne_machine.specs.Steps.{AfterSteps}
 use Rattle.arachne_machine.proofs.Frames.{length-forks_of}
 use Rattle.arachne_machine.proofs.Outlooks.{given}
 use Rattle.arachne_machine.proofs.Openings.{begins_by, goes_to_value, goes_to_part, open_number, open_variable, open_length, open_item, open_binary, open_choice, open_binding, open_tally, open_hold, open_fold, open_sweep}
@@ -65,35 +65,35 @@ returns-clause-ok c =
     let name = t.own.name in
     let env = t.environment.items in
     elim c.match-expr.branch [
-      | in-Item+in_ok-enter-in-Item w ↦ subst (λ x. StopsAt 1 t None x) (sym w.self-is)
+      | in-Item+in_ok-enter-in-Item w ↦ subst (λ x. AfterSteps 1 t None x) (sym w.self-is)
           (goes_to_part t _ e w.deref.result (Item w.in-Item.array (tree_of w.deref.result.now)) (Index w.in-Item.array) b
           (rw w.deref.ensures (ap tree_of w.in-Item.is)) w.in_ok-enter-in-Item.ensures.ok refl refl (open_item source name env w.in-Item.array w.deref.result))
-      | in-Binary+in_ok-enter-in-Binary w ↦ subst (λ x. StopsAt 1 t None x) (sym w.self-is)
+      | in-Binary+in_ok-enter-in-Binary w ↦ subst (λ x. AfterSteps 1 t None x) (sym w.self-is)
           (let right = w.deref-in-Binary.result in
           let left = w.deref-in-Binary-2.result in
           goes_to_part t _ e left (Binary w.in-Binary.operation (tree_of left.now) (tree_of right.now)) (Right w.in-Binary.operation right) b
           (rw (w.deref-in-Binary.ensures, w.deref-in-Binary-2.ensures) (ap tree_of w.in-Binary.is)) w.in_ok-enter-in-Binary.ensures.ok refl refl
           (open_binary source name env w.in-Binary.operation left right))
-      | in-If+in_ok-enter-in-If w ↦ subst (λ x. StopsAt 1 t None x) (sym w.self-is)
+      | in-If+in_ok-enter-in-If w ↦ subst (λ x. AfterSteps 1 t None x) (sym w.self-is)
           (let first = w.deref-in-If.result in
           let second = w.deref-in-If-2.result in
           let condition = w.deref-in-If-3.result in
           goes_to_part t _ e condition (Choose (tree_of condition.now) (tree_of first.now) (tree_of second.now)) (Branch first second) b
           (rw (w.deref-in-If.ensures, w.deref-in-If-2.ensures, w.deref-in-If-3.ensures) (ap tree_of w.in-If.is)) w.in_ok-enter-in-If.ensures.ok refl refl
           (open_choice source name env condition first second))
-      | in-Let+in_ok-enter-in-Let w ↦ subst (λ x. StopsAt 1 t None x) (sym w.self-is)
+      | in-Let+in_ok-enter-in-Let w ↦ subst (λ x. AfterSteps 1 t None x) (sym w.self-is)
           (let body = w.deref-in-Let.result in
           let bound = w.deref-in-Let-2.result in
           goes_to_part t _ e bound (Bind (tree_of bound.now) (tree_of body.now)) (Extend body) b
           (rw (w.deref-in-Let.ensures, w.deref-in-Let-2.ensures) (ap tree_of w.in-Let.is)) w.in_ok-enter-in-Let.ensures.ok refl refl
           (open_binding source name env bound body))
-      | in-Tally+in_ok-enter-in-Tally w ↦ subst (λ x. StopsAt 1 t None x) (sym w.self-is)
+      | in-Tally+in_ok-enter-in-Tally w ↦ subst (λ x. AfterSteps 1 t None x) (sym w.self-is)
           (let body = w.deref-in-Tally.result in
           let amount = w.deref-in-Tally-2.result in
           goes_to_part t _ e amount (Tally w.in-Tally.ledger (tree_of amount.now) (tree_of body.now)) (Amount w.in-Tally.ledger body) b
           (rw (w.deref-in-Tally.ensures, w.deref-in-Tally-2.ensures) (ap tree_of w.in-Tally.is)) w.in_ok-enter-in-Tally.ensures.ok refl refl
           (open_tally source name env w.in-Tally.ledger amount body))
-      | in-Fold+in_ok-enter-in-Fold w ↦ subst (λ x. StopsAt 1 t None x) (sym w.self-is)
+      | in-Fold+in_ok-enter-in-Fold w ↦ subst (λ x. AfterSteps 1 t None x) (sym w.self-is)
           (let to = w.deref-in-Fold.result in
           let first = w.deref-in-Fold-2.result in
           let body = w.deref-in-Fold-3.result in
@@ -101,7 +101,7 @@ returns-clause-ok c =
           goes_to_part t _ e from (Fold (tree_of from.now) (tree_of to.now) (tree_of first.now) (tree_of body.now)) (FoldTo to first body) b
           (rw (w.deref-in-Fold.ensures, w.deref-in-Fold-2.ensures, w.deref-in-Fold-3.ensures, w.deref-in-Fold-4.ensures) (ap tree_of w.in-Fold.is))
           w.in_ok-enter-in-Fold.ensures.ok refl refl (open_fold source name env from to first body))
-      | in-Sweep+in_ok-enter-in-Sweep w ↦ subst (λ x. StopsAt 1 t None x) (sym w.self-is)
+      | in-Sweep+in_ok-enter-in-Sweep w ↦ subst (λ x. AfterSteps 1 t None x) (sym w.self-is)
           (let to = w.deref-in-Sweep.result in
           let body = w.deref-in-Sweep-2.result in
           let from = w.deref-in-Sweep-3.result in

@@ -1,5 +1,5 @@
 use Rattle.std.proofs.Common.{None, true, false, refl, sym, ap, subst}
-use Rattle.arachne_machine.specs.Steps.{IsPopped, StopsAt, giving}
+use Rattle.arachne_machine.specs.Steps.{IsPopped, AfterSteps, giving}
 use Rattle.arachne_machine.proofs.Outlooks.{given, as_giving, given_from}
 use Rattle.arachne_machine.proofs.Handings.{hand_index, hand_right, hand_apply, hand_branch, is_zero, is_not_zero, hand_extend, hand_restore}
 use Rattle.arachne_machine.specs.declared.frame.Control.TheVariants.{Begin}
@@ -28,16 +28,16 @@ returns-clause-made c = λ before popped.
     let v = c.args.value in
     let gives = giving t v in
     elim c.match-frame.branch [
-      | in-Right w ↦ subst (λ x. StopsAt 1 before None x) (sym w.self-is)
+      | in-Right w ↦ subst (λ x. AfterSteps 1 before None x) (sym w.self-is)
           (hand_right before gives _ v w.in-Right.operation w.in-Right.right (subst (λ f. IsPopped f before gives) w.in-Right.is popped) refl
           (as_giving t _ v _ _ _ w.go_on.ensures))
       | in-Branch w ↦
           let popped_off = subst (λ f. IsPopped f before gives) w.in-Branch.is popped in
-          subst (λ x. StopsAt 1 before None x) (sym w.self-is)
+          subst (λ x. AfterSteps 1 before None x) (sym w.self-is)
           (elim w.if-value-eq0.branch [
             | then-value-eq0 b ↦ hand_branch before gives _ v w.in-Branch.first w.in-Branch.second true popped_off refl (is_zero v b.if-value-eq0.true) (given_from t v _ _ (ap Begin b.self-is))
             | else-value-eq0 b ↦ hand_branch before gives _ v w.in-Branch.first w.in-Branch.second false popped_off refl (is_not_zero v b.if-value-eq0.false) (given_from t v _ _ (ap Begin b.self-is))
           ])
-      | in-Extend w ↦ subst (λ x. StopsAt 1 before None x) (sym w.self-is)
+      | in-Extend w ↦ subst (λ x. AfterSteps 1 before None x) (sym w.self-is)
           (hand_extend before gives _ v w.in-Extend.body (subst (λ f. IsPopped f before gives) w.in-Extend.is popped) refl (as_giving t _ v _ _ _ w.extend.ensures))
     ]
