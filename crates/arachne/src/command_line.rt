@@ -185,8 +185,8 @@ fn request_in(matches: &ArgMatches<'_>) -> Option<Request>
     }
 }
 
-#[tactic(auto, using(crate::proofs::CommandLines::asked_is_met, crate::proofs::CommandLines::taken_by_program))]
 /// What the words ask for, the first being the program's own name. The error has the text to show.
+#[tactic(auto, using(crate::proofs::CommandLines::asked_is_met, crate::proofs::CommandLines::taken_by_program))]
 pub fn read_words<'a, S: AsStr>(alloc: Global, words: &'a [S]) -> Result<Request, Error>
     ensures asked { IfOk result (λ request. asked_by (map S.text words.entry.now) ≡ Some request) }
     ensures allowed { IfOk result IsAllowed }

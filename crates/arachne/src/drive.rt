@@ -121,8 +121,8 @@ pub fn refuse_words<W: Write>(faults: &mut W, error: &io::Error) -> u8
 }
 
 /// Runs the program on the words of the command line, the first being its own name, and on these streams. The answer is the status:
-/// 0 where all went well, 1 where there was a fault, whose line is on the faults stream, and 2 where the words were not understood,
-/// where the text that says so is there. Nothing is on the output before all is known.
+/// 0 where all went well; 1 where there was a fault, whose line goes to the faults stream; and 2 where the words were not understood,
+/// which `clap`'s text on the faults stream explains. Nothing is on the output before all is known.
 pub fn drive<S: AsStr, R: Read, W: Write, E: Write>(
     alloc: Global,
     words: &[S],

@@ -17,11 +17,17 @@ mod tests;
 
 use fault::Fault;
 use std::process::ExitCode;
+use std::rt::HostRuntime;
 use std::{env, io};
 
 fn main(rt: HostRuntime) -> ExitCode {
+    run(&rt)
+}
+
+/// Runs the program on the words and the streams of its process.
+fn run(rt: &HostRuntime) -> ExitCode {
     let mut faults = rt.stderr();
-    let words = match env::args(&rt) {
+    let words = match env::args(rt) {
         Ok(words) => words,
         Err(error) => return ExitCode::from(drive::refuse_words(&mut faults, &error)),
     };
@@ -33,7 +39,7 @@ fn main(rt: HostRuntime) -> ExitCode {
         rt.alloc(),
         words.as_slice(),
         &mut rt.reader(),
-        &mut io::writer(&rt),
+        &mut io::writer(rt),
         &mut faults,
     );
     ExitCode::from(status)

@@ -19,7 +19,6 @@ pub fn read_samples(alloc: Global, text: &[u8]) -> Result<Vec<Sample>, TextFault
     // What is in range is read, unless memory is refused.
     ensures every_text { (samples : List Measured) → AreInRange samples → samples_text samples ≡ text.now
         → MatchResult result (λ read. read.items ≡ samples) (λ fault. fault ≡ TextFault.Memory) }
-
     // A fault is the first one of the text, unless memory is refused.
     ensures first_fault { IfErr result (λ fault. (fault ≡ TextFault.Memory) ⊎ IsFirstFault text.now fault) }
     // A text with a first fault is refused by it, unless memory is refused.

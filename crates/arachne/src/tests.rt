@@ -5,7 +5,7 @@ use arachne_lang::{CheckFault, TextFault};
 use std::alloc::Global;
 use std::io;
 use std::io::{ErrorKind, Read, Write};
-use std::process::Abort;
+use std::process::{Abort, ExitCode};
 use std::test::Fail;
 
 mod language;
@@ -32,6 +32,12 @@ fn run(alloc: Global, words: &[&str], mut input: &[u8]) -> Ended {
 /// The text of a program with no array, no ledger and no lock.
 fn text_of(alloc: Global, expr: &str) -> Result<String, Fail> {
     Ok(format!(in alloc; "arachne 1\nledgers 0\nlocks 0\n{expr}\n")?)
+}
+
+/// The words of a test's own process ask for nothing, so that the program has nothing to do but to refuse them.
+#[test]
+fn program_ends_with_the_status(rt: HostRuntime) {
+    assert_eq!(rt; crate::run(&rt), ExitCode::from(2));
 }
 
 #[test]

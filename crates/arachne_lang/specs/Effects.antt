@@ -27,7 +27,7 @@ pub record Effects : Type 0 where
   -- the lines of the threads below the own one, whose name is given, and the number that its next fork gets
   pub lines : List ℕ → ℕ → List Line
 
--- f of 0, of 1, and so on, so many
+-- f of 0, of 1, and so on, so many, each modulo 2 ^ 64
 abbrev pub tabulated : ℕ → (ℕ → ℕ) → List ℕ
 tabulated zero f = []
 tabulated (suc n) f = tabulated n f ++ wrapped (f n) ∷ []
@@ -79,7 +79,7 @@ turns_effects turn zero = nothing
 turns_effects turn (suc j) = turns_effects turn j ⨾ turn j
 
 -- The effects of a range of n numbers from a first one on. One that is longer than the grain is halved: the left half is forked, and the
--- right half is done during its life. A fuel of n is enough.
+-- right half is done during its life. The grain 0 counts as 1. A fuel of n is enough.
 abbrev pub halves : ℕ → (ℕ → ℕ → Child) → (ℕ → Effects) → ℕ → ℕ → ℕ → ℕ → Effects
 halves locks child turn grain zero first n = turns_effects (λ j. turn (first + j)) n
 halves locks child turn grain (suc fuel) first n =

@@ -35,7 +35,7 @@ pub fn parse(alloc: Global, text: &[u8]) -> Result<Program, TextFault>
     // What is accepted is read, unless want of memory is answered.
     ensures every_text { (source : Source) → IsAccepted source → text_of source ≡ text.now
         → MatchResult result (λ program. source_of program ≡ source) (λ fault. fault ≡ TextFault.Memory) }
-    // Where the header is missing no memory is taken, and that fault is the answer.
+    // Where the header is missing, that fault is the answer, even where memory is wanting.
     ensures no_header { ¬ StartsWith header text.now → result ≡ Err (Fault.Header 0) }
     // A fault is the first one of the text, unless want of memory is answered.
     ensures first_fault { IfErr result (λ fault. (fault ≡ TextFault.Memory) ⊎ IsFirstFault text.now fault) }
