@@ -1,4 +1,4 @@
--- What is so of the threads of a checked program: nothing that they will begin has a fault, and they hold one lock at a time.
+-- What is so of the threads of a checked program: nothing that they will begin has a fault, and they hold at most one lock.
 use Rattle.std.specs.Prelude.{◌≡◌, ◌≤◌, ◌<◌, ℕ, Bool, true, false, List, [], ◌∷◌, length, Option, None, Some}
 use Rattle.arachne_lang.specs.Tree.{Tree, Source}
 use Rattle.arachne_lang.specs.Program.{source_of, tree_of}
@@ -17,7 +17,7 @@ abbrev pub NoFaults : List (Option NodeFault) → Type 0
 NoFaults [] = Unit {0}
 NoFaults (node ∷ nodes) = (node ≡ None) × NoFaults nodes
 
--- No node of the expression has a fault, with so many variables, while a lock is held or none is.
+-- No node of the expression has a fault, with some number of variables, while a lock is held or none is.
 abbrev pub IsFaultless : Source → Bool → Tree → Type 0
 IsFaultless source held tree = (bound : ℕ) × NoFaults (node_faults source held bound tree)
 
