@@ -1,11 +1,12 @@
 use crate::drive::{drive, refuse, refuse_words};
 use crate::fault::Fault;
+use crate::process::run as run_process;
 use crate::stream::INPUT_LIMIT;
 use arachne_lang::{CheckFault, TextFault};
 use std::alloc::Global;
 use std::io;
 use std::io::{ErrorKind, Read, Write};
-use std::process::{Abort, ExitCode};
+use std::process::{Abort, ExitCode, Termination};
 use std::test::Fail;
 
 mod language;
@@ -37,7 +38,7 @@ fn text_of(alloc: Global, expr: &str) -> Result<String, Fail> {
 /// The words of a test's own process ask for nothing, so that the program has nothing to do but to refuse them.
 #[test]
 fn program_ends_with_the_status(rt: HostRuntime) {
-    assert_eq!(rt; crate::run(&rt), ExitCode::from(2));
+    assert_eq!(rt; run_process(&rt).report(&rt), ExitCode::from(2));
 }
 
 #[test]
