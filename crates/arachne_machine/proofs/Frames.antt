@@ -6,7 +6,7 @@ use Rattle.arachne_lang.specs.Effects.{Child, Effects, effects_of}
 use Rattle.arachne_machine.specs.declared.frame.Frame.{Frame}
 use Rattle.arachne_machine.specs.declared.frame.Frame.TheVariants.{Index, Right, Apply, Branch, Extend, Amount, Release, Join, Merge, FoldTo, FoldFirst, FoldStart, FoldTurn, SweepTo, SweepStart, SweepTurn, Restore}
 use Rattle.arachne_machine.specs.Account.{Account, after, with_join}
-use Rattle.arachne_machine.specs.Ending.{Status, unwind, accounted, account_joined, frame_work, resume, resume_account, resume_work, fork_of, forks_of, lock_of, releases}
+use Rattle.arachne_machine.specs.Ending.{Status, unwind, accounted, account_joined, frame_work, frame_pauses, resume, resume_account, resume_work, resume_pauses, fork_of, forks_of, lock_of, releases}
 use Rattle.arachne_lang.specs.Program.{tree_of}
 
 pub resume-append : (source : Source) (name : List ℕ) (fs gs : List Frame) (s : Status) →
@@ -29,6 +29,16 @@ resume_work-append source name (f ∷ fs) gs s =
     ap (frame_work source name f) (resume-append source name fs gs s) in
     let h = resume_work-append source name fs gs s in
     omega (arith, e, h)
+
+pub resume_pauses-append : (source : Source) (name : List ℕ) (fs gs : List Frame) (s : Status) →
+    resume_pauses source name (fs ++ gs) s ≡ resume_pauses source name gs s ++ resume_pauses source name fs (resume source name gs s)
+resume_pauses-append source name [] gs s = sym (append-nil (resume_pauses source name gs s))
+resume_pauses-append source name (f ∷ fs) gs s =
+    let s' = resume source name gs s in
+    let last = frame_pauses source name f (resume source name fs s') in
+    ap (λ x. resume_pauses source name (fs ++ gs) s ++ frame_pauses source name f x) (resume-append source name fs gs s)
+    ∙ ap (λ l. l ++ last) (resume_pauses-append source name fs gs s)
+    ∙ append_assoc (resume_pauses source name gs s) (resume_pauses source name fs s') last
 
 pub forks_of-append : (fs gs : List Frame) → forks_of (fs ++ gs) ≡ forks_of gs ++ forks_of fs
 forks_of-append [] gs = sym (append-nil (forks_of gs))

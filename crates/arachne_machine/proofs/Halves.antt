@@ -1,5 +1,5 @@
 -- A sweep that is split in halves comes to the same.
-use Rattle.std.proofs.Common.{◌≡◌, ◌≤◌, ◌<◌, ℕ, zero, suc, ◌+◌, ◌-◌, ◌*◌, ◌/◌, ◌^◌, List, true, false, inl, inr, refl, ap, sym, ◌∙◌, arith, rules}
+use Rattle.std.proofs.Common.{◌≡◌, ◌≤◌, ◌<◌, ℕ, zero, suc, ◌+◌, ◌-◌, ◌*◌, ◌/◌, ◌^◌, List, [], ◌∷◌, ◌++◌, true, false, inl, inr, refl, ap, sym, ◌∙◌, arith, rules}
 use Rattle.std.specs.Prelude.{min, max, nat_le, if◌then◌else◌}
 use Rattle.std.specs.Int.Bits.{xor_assoc, xor_zero_r}
 use Rattle.std.proofs.Math.Nat.{min-le_left, min-eq_left, max-zero, mod-mod, add-mod-mod, mod-add-mod, add_assoc, mul_assoc}
@@ -11,8 +11,11 @@ use Rattle.arachne_lang.specs.declared.program.Reduction.TheVariants.{Sum, Produ
 use Rattle.arachne_lang.specs.Tree.{Tree}
 use Rattle.arachne_lang.specs.Value.{Environment, turns, with_newest, value_of, apply, operation_of, unit_of, wrapped}
 use Rattle.arachne_lang.specs.Effects.{Reduce, Child, Effects, forked, half, halves, turns_effects, effects_of, task_value, task_effects}
-use Rattle.arachne_machine.specs.Turns.{swept, swept_effects, swept_work, split_work}
-use Rattle.arachne_machine.specs.Work.{total, splits, work_of, work_of_parts}
+use Rattle.arachne_machine.specs.declared.pause.Pending.TheVariants as pause
+use Rattle.arachne_machine.specs.Parts.{by_halves}
+use Rattle.arachne_machine.specs.Turns.{swept, swept_effects, swept_work, swept_pauses}
+use Rattle.arachne_machine.specs.Work.{task_work}
+use Rattle.arachne_machine.specs.Pauses.{task_pauses}
 
 -- Values.
 reduction_assoc : (r : Reduction) (x y z : ℕ) → apply (operation_of r) (apply (operation_of r) x y) z ≡ apply (operation_of r) x (apply (operation_of r) y z)
@@ -79,52 +82,84 @@ value_split arrays r grain body env first m n le =
     (fun_ext (λ j. fun_ext (λ s. ap (λ i. apply (operation_of r) s (V i)) (sym (add_assoc first m j)))))
     ∙ turns_apart r (λ j. V (first + m + j)) (n - m) left (unit_right r (λ j. V (first + j)) m)
 
--- Effects. The fuel does not matter, if it is enough.
-pub fits : (n fuel : ℕ) → 2 ≤ n → n ≤ suc fuel → (n / 2 ≤ fuel) × (n - n / 2 ≤ fuel)
+-- What is so by halves. The fuel does not matter, if it is enough.
+fits : (n fuel : ℕ) → 2 ≤ n → n ≤ suc fuel → (n / 2 ≤ fuel) × (n - n / 2 ≤ fuel)
 fits n fuel two le = (omega arith, omega arith)
 
-pub halves_none : (locks : ℕ) (task : ℕ → ℕ → Child) (turn : ℕ → Effects) (grain fuel first n : ℕ) → n ≤ max 1 grain →
-    halves locks task turn grain fuel first n ≡ turns_effects (λ j. turn (first + j)) n
-halves_none locks task turn grain zero first n le = refl
-halves_none locks task turn grain (suc fuel) first n le =
+by_halves-whole : {X : Type 0} (whole : ℕ → ℕ → X) (split : ℕ → ℕ → X → X → X) (grain fuel first n : ℕ) → n ≤ max 1 grain →
+    by_halves whole split grain fuel first n ≡ whole first n
+by_halves-whole whole split grain zero first n le = refl
+by_halves-whole whole split grain (suc fuel) first n le =
     let small : nat_le n (max 1 grain) ≡ true = search rules in
-    ap (λ b. if b then turns_effects (λ j. turn (first + j)) n
-    else forked locks (task first (n / 2)) (halves locks task turn grain fuel first (n / 2)) (halves locks task turn grain fuel (first + n / 2) (n - n / 2))) small
+    ap (λ b. if b then whole first n
+    else split first n (by_halves whole split grain fuel first (n / 2)) (by_halves whole split grain fuel (first + n / 2) (n - n / 2))) small
 
-pub halves_split : (locks : ℕ) (task : ℕ → ℕ → Child) (turn : ℕ → Effects) (grain fuel first n : ℕ) → max 1 grain < n →
-    halves locks task turn grain (suc fuel) first n
-    ≡ forked locks (task first (n / 2)) (halves locks task turn grain fuel first (n / 2)) (halves locks task turn grain fuel (first + n / 2) (n - n / 2))
-halves_split locks task turn grain fuel first n lt =
+by_halves-some : {X : Type 0} (whole : ℕ → ℕ → X) (split : ℕ → ℕ → X → X → X) (grain fuel first n : ℕ) → max 1 grain < n →
+    by_halves whole split grain (suc fuel) first n
+    ≡ split first n (by_halves whole split grain fuel first (n / 2)) (by_halves whole split grain fuel (first + n / 2) (n - n / 2))
+by_halves-some whole split grain fuel first n lt =
     let large : nat_le n (max 1 grain) ≡ false = search rules in
-    ap (λ b. if b then turns_effects (λ j. turn (first + j)) n
-    else forked locks (task first (n / 2)) (halves locks task turn grain fuel first (n / 2)) (halves locks task turn grain fuel (first + n / 2) (n - n / 2))) large
+    ap (λ b. if b then whole first n
+    else split first n (by_halves whole split grain fuel first (n / 2)) (by_halves whole split grain fuel (first + n / 2) (n - n / 2))) large
 
-halves_fuel : (locks : ℕ) (task : ℕ → ℕ → Child) (turn : ℕ → Effects) (grain fuel other first n : ℕ) → n ≤ fuel → n ≤ other →
-    halves locks task turn grain fuel first n ≡ halves locks task turn grain other first n
-halves_fuel locks task turn grain zero other first n le le' =
+by_halves-fuel : {X : Type 0} (whole : ℕ → ℕ → X) (split : ℕ → ℕ → X → X → X) (grain fuel other first n : ℕ) → n ≤ fuel → n ≤ other →
+    by_halves whole split grain fuel first n ≡ by_halves whole split grain other first n
+by_halves-fuel whole split grain zero other first n le le' =
     let small : n ≤ max 1 grain = omega arith in
-    halves_none locks task turn grain zero first n small ∙ sym (halves_none locks task turn grain other first n small)
-halves_fuel locks task turn grain (suc fuel) zero first n le le' =
+    by_halves-whole whole split grain zero first n small ∙ sym (by_halves-whole whole split grain other first n small)
+by_halves-fuel whole split grain (suc fuel) zero first n le le' =
     let small : n ≤ max 1 grain = omega arith in
-    halves_none locks task turn grain (suc fuel) first n small ∙ sym (halves_none locks task turn grain zero first n small)
-halves_fuel locks task turn grain (suc fuel) (suc other) first n le le' =
+    by_halves-whole whole split grain (suc fuel) first n small ∙ sym (by_halves-whole whole split grain zero first n small)
+by_halves-fuel whole split grain (suc fuel) (suc other) first n le le' =
     elim (cases_lt (max 1 grain) n) [
       | inl lt ↦
           let here = fits n fuel (omega arith) le in
           let there = fits n other (omega arith) le' in
-          halves_split locks task turn grain fuel first n lt
-          ∙ ap (λ x. forked locks (task first (n / 2)) x (halves locks task turn grain fuel (first + n / 2) (n - n / 2)))
-          (halves_fuel locks task turn grain fuel other first (n / 2) here.0 there.0)
-          ∙ ap (λ x. forked locks (task first (n / 2)) (halves locks task turn grain other first (n / 2)) x)
-          (halves_fuel locks task turn grain fuel other (first + n / 2) (n - n / 2) here.1 there.1)
-          ∙ sym (halves_split locks task turn grain other first n lt)
-      | inr small ↦ halves_none locks task turn grain (suc fuel) first n small ∙ sym (halves_none locks task turn grain (suc other) first n small)
+          by_halves-some whole split grain fuel first n lt
+          ∙ ap (λ x. split first n x (by_halves whole split grain fuel (first + n / 2) (n - n / 2)))
+          (by_halves-fuel whole split grain fuel other first (n / 2) here.0 there.0)
+          ∙ ap (split first n (by_halves whole split grain other first (n / 2)))
+          (by_halves-fuel whole split grain fuel other (first + n / 2) (n - n / 2) here.1 there.1)
+          ∙ sym (by_halves-some whole split grain other first n lt)
+      | inr small ↦ by_halves-whole whole split grain (suc fuel) first n small ∙ sym (by_halves-whole whole split grain (suc other) first n small)
     ]
+
+by_halves-split : {X : Type 0} (whole : ℕ → ℕ → X) (split : ℕ → ℕ → X → X → X) (grain first n : ℕ) → max 1 grain < n →
+    by_halves whole split grain n first n
+    ≡ split first n (by_halves whole split grain (n / 2) first (n / 2)) (by_halves whole split grain (n - n / 2) (first + n / 2) (n - n / 2))
+by_halves-split whole split grain first n lt =
+    let m = n / 2 in
+    let some : n ≡ suc (n - 1) = omega arith in
+    let within = fits n (n - 1) (omega arith) (omega arith) in
+    ap (λ fuel. by_halves whole split grain fuel first n) some
+    ∙ by_halves-some whole split grain (n - 1) first n lt
+    ∙ ap (λ x. split first n x (by_halves whole split grain (n - 1) (first + m) (n - m))) (by_halves-fuel whole split grain (n - 1) m first m within.0 (omega arith))
+    ∙ ap (split first n (by_halves whole split grain m first m))
+    (by_halves-fuel whole split grain (n - 1) (n - m) (first + m) (n - m) within.1 (omega arith))
+
+-- Effects.
+abbrev effects_whole_of : (ℕ → Effects) → ℕ → ℕ → Effects
+effects_whole_of turn first n = turns_effects (λ j. turn (first + j)) n
+
+abbrev effects_split_of : ℕ → (ℕ → ℕ → Child) → ℕ → ℕ → Effects → Effects → Effects
+effects_split_of locks task first n left right = forked locks (task first (n / 2)) left right
+
+halves-by_halves : (locks : ℕ) (task : ℕ → ℕ → Child) (turn : ℕ → Effects) (grain fuel first n : ℕ) →
+    halves locks task turn grain fuel first n ≡ by_halves (effects_whole_of turn) (effects_split_of locks task) grain fuel first n
+halves-by_halves locks task turn grain zero first n = refl
+halves-by_halves locks task turn grain (suc fuel) first n =
+    ap (λ x. if nat_le n (max 1 grain) then turns_effects (λ j. turn (first + j)) n
+    else forked locks (task first (n / 2)) x (halves locks task turn grain fuel (first + n / 2) (n - n / 2))) (halves-by_halves locks task turn grain fuel first (n / 2))
+    ∙ ap (λ x. if nat_le n (max 1 grain) then turns_effects (λ j. turn (first + j)) n
+    else forked locks (task first (n / 2)) (by_halves (effects_whole_of turn) (effects_split_of locks task) grain fuel first (n / 2)) x)
+    (halves-by_halves locks task turn grain fuel (first + n / 2) (n - n / 2))
 
 pub effects_whole : (arrays : List (List ℕ)) (locks : ℕ) (r : Reduction) (grain : ℕ) (body : Tree) (env : Environment) (first n : ℕ) → n ≤ max 1 grain →
     task_effects arrays locks (Reduce r grain body env first n) ≡ swept_effects arrays locks body env first n
 effects_whole arrays locks r grain body env first n le =
-    halves_none locks (half r grain body env) (λ i. effects_of arrays locks body (with_newest env i)) grain n first n le
+    let task = half r grain body env in
+    let turn : ℕ → Effects = λ i. effects_of arrays locks body (with_newest env i) in
+    halves-by_halves locks task turn grain n first n ∙ by_halves-whole (effects_whole_of turn) (effects_split_of locks task) grain n first n le
 
 pub effects_split : (arrays : List (List ℕ)) (locks : ℕ) (r : Reduction) (grain : ℕ) (body : Tree) (env : Environment) (first n : ℕ) → max 1 grain < n →
     task_effects arrays locks (Reduce r grain body env first n)
@@ -134,75 +169,29 @@ effects_split arrays locks r grain body env first n lt =
     let task = half r grain body env in
     let turn : ℕ → Effects = λ i. effects_of arrays locks body (with_newest env i) in
     let m = n / 2 in
-    let some : n ≡ suc (n - 1) = omega arith in
-    let within = fits n (n - 1) (omega arith) (omega arith) in
-    ap (λ fuel. halves locks task turn grain fuel first n) some
-    ∙ halves_split locks task turn grain (n - 1) first n lt
-    ∙ ap (λ x. forked locks (task first m) x (halves locks task turn grain (n - 1) (first + m) (n - m)))
-    (halves_fuel locks task turn grain (n - 1) m first m within.0 (omega arith))
-    ∙ ap (λ x. forked locks (task first m) (halves locks task turn grain m first m) x)
-    (halves_fuel locks task turn grain (n - 1) (n - m) (first + m) (n - m) within.1 (omega arith))
+    halves-by_halves locks task turn grain n first n
+    ∙ by_halves-split (effects_whole_of turn) (effects_split_of locks task) grain first n lt
+    ∙ ap (λ x. forked locks (task first m) x (by_halves (effects_whole_of turn) (effects_split_of locks task) grain (n - m) (first + m) (n - m)))
+    (sym (halves-by_halves locks task turn grain m first m))
+    ∙ ap (forked locks (task first m) (halves locks task turn grain m first m)) (sym (halves-by_halves locks task turn grain (n - m) (first + m) (n - m)))
 
--- Work.
-total_after : (f : ℕ → ℕ) (m k : ℕ) → total f (m + k) ≡ total f m + total (λ j. f (m + j)) k
-total_after f m zero =
-    let none : m + 0 ≡ m = omega arith in
-    let same : total f (m + 0) ≡ total f m = ap (total f) none in
-    omega (arith, same)
-total_after f m (suc k) =
-    let next : m + suc k ≡ suc (m + k) = omega arith in
-    ap (total f) next ∙ omega (arith, total_after f m k)
+-- Work and pauses.
+pub work_whole : (arrays : List (List ℕ)) (r : Reduction) (grain : ℕ) (body : Tree) (env : Environment) (first n : ℕ) → n ≤ max 1 grain →
+    task_work arrays (Reduce r grain body env first n) ≡ swept_work arrays body env first n + 2
+work_whole arrays r grain body env first n le = by_halves-whole (λ from k. swept_work arrays body env from k + 2) (λ from k left right. left + right + 2) grain n first n le
 
--- The fuel does not matter here either.
-splits_none : (grain fuel n : ℕ) → n ≤ max 1 grain → splits grain fuel n ≡ 0
-splits_none grain zero n le = refl
-splits_none grain (suc fuel) n le =
-    let small : nat_le n (max 1 grain) ≡ true = search rules in
-    ap (λ b. if b then 0 else splits grain fuel (n / 2) + splits grain fuel (n - n / 2) + 1) small
+pub work_split : (arrays : List (List ℕ)) (r : Reduction) (grain : ℕ) (body : Tree) (env : Environment) (first n : ℕ) → max 1 grain < n →
+    task_work arrays (Reduce r grain body env first n)
+    ≡ task_work arrays (Reduce r grain body env first (n / 2)) + task_work arrays (Reduce r grain body env (first + n / 2) (n - n / 2)) + 2
+work_split arrays r grain body env first n lt = by_halves-split (λ from k. swept_work arrays body env from k + 2) (λ from k left right. left + right + 2) grain first n lt
 
-splits_some : (grain fuel n : ℕ) → max 1 grain < n → splits grain (suc fuel) n ≡ splits grain fuel (n / 2) + splits grain fuel (n - n / 2) + 1
-splits_some grain fuel n lt =
-    let large : nat_le n (max 1 grain) ≡ false = search rules in
-    ap (λ b. if b then 0 else splits grain fuel (n / 2) + splits grain fuel (n - n / 2) + 1) large
+pub pauses_whole : (arrays : List (List ℕ)) (r : Reduction) (grain : ℕ) (body : Tree) (env : Environment) (first n : ℕ) → n ≤ max 1 grain →
+    task_pauses arrays (Reduce r grain body env first n) ≡ swept_pauses arrays body env first n
+pauses_whole arrays r grain body env first n le =
+    by_halves-whole (swept_pauses arrays body env) (λ from k left right. pause.Forks ∷ (right ++ pause.Joins ∷ [])) grain n first n le
 
-splits_fuel : (grain fuel other n : ℕ) → n ≤ fuel → n ≤ other → splits grain fuel n ≡ splits grain other n
-splits_fuel grain zero other n le le' =
-    let small : n ≤ max 1 grain = omega arith in
-    splits_none grain zero n small ∙ sym (splits_none grain other n small)
-splits_fuel grain (suc fuel) zero n le le' =
-    let small : n ≤ max 1 grain = omega arith in
-    splits_none grain (suc fuel) n small ∙ sym (splits_none grain zero n small)
-splits_fuel grain (suc fuel) (suc other) n le le' =
-    elim (cases_lt (max 1 grain) n) [
-      | inl lt ↦
-          let here = fits n fuel (omega arith) le in
-          let there = fits n other (omega arith) le' in
-          splits_some grain fuel n lt
-          ∙ ap (λ x. x + splits grain fuel (n - n / 2) + 1) (splits_fuel grain fuel other (n / 2) here.0 there.0)
-          ∙ ap (λ x. splits grain other (n / 2) + x + 1) (splits_fuel grain fuel other (n - n / 2) here.1 there.1)
-          ∙ sym (splits_some grain other n lt)
-      | inr small ↦ splits_none grain (suc fuel) n small ∙ sym (splits_none grain (suc other) n small)
-    ]
-
-splits_halves : (grain n : ℕ) → max 1 grain < n → splits grain n n ≡ splits grain (n / 2) (n / 2) + splits grain (n - n / 2) (n - n / 2) + 1
-splits_halves grain n lt =
-    let some : n ≡ suc (n - 1) = omega arith in
-    let within = fits n (n - 1) (omega arith) (omega arith) in
-    ap (λ fuel. splits grain fuel n) some
-    ∙ splits_some grain (n - 1) n lt
-    ∙ ap (λ x. x + splits grain (n - 1) (n - n / 2) + 1) (splits_fuel grain (n - 1) (n / 2) (n / 2) within.0 (omega arith))
-    ∙ ap (λ x. splits grain (n / 2) (n / 2) + x + 1) (splits_fuel grain (n - 1) (n - n / 2) (n - n / 2) within.1 (omega arith))
-
-pub work_whole : (grain n : ℕ) → n ≤ max 1 grain → work_of_parts grain n ≡ 2
-work_whole grain n le = omega (arith, splits_none grain n n le)
-
-pub work_split : (arrays : List (List ℕ)) (body : Tree) (env : Environment) (grain first n : ℕ) → max 1 grain < n →
-    split_work arrays body env grain first (n / 2) + split_work arrays body env grain (first + n / 2) (n - n / 2) + 2 ≡ split_work arrays body env grain first n
-work_split arrays body env grain first n lt =
-    let m = n / 2 in
-    let W : ℕ → ℕ = λ i. work_of arrays body (with_newest env i) in
-    let whole : n ≡ m + (n - m) = omega arith in
-    let both : swept_work arrays body env first n ≡ swept_work arrays body env first m + swept_work arrays body env (first + m) (n - m) =
-    ap (swept_work arrays body env first) whole ∙ total_after (λ j. W (first + j)) m (n - m)
-    ∙ ap (λ f. total (λ j. W (first + j)) m + total f (n - m)) (fun_ext (λ j. ap W (sym (add_assoc first m j)))) in
-    omega (arith, both, splits_halves grain n lt)
+pub pauses_split : (arrays : List (List ℕ)) (r : Reduction) (grain : ℕ) (body : Tree) (env : Environment) (first n : ℕ) → max 1 grain < n →
+    task_pauses arrays (Reduce r grain body env first n)
+    ≡ pause.Forks ∷ (task_pauses arrays (Reduce r grain body env (first + n / 2) (n - n / 2)) ++ pause.Joins ∷ [])
+pauses_split arrays r grain body env first n lt =
+    by_halves-split (swept_pauses arrays body env) (λ from k left right. pause.Forks ∷ (right ++ pause.Joins ∷ [])) grain first n lt

@@ -15,6 +15,8 @@ use Rattle.arachne_machine.specs.declared.frame.Frame.{Frame}
 use Rattle.arachne_machine.specs.declared.frame.Frame.TheVariants.{Restore}
 use Rattle.arachne_machine.specs.declared.frame.Control.{Control}
 use Rattle.arachne_machine.specs.declared.frame.Control.TheVariants.{Begin, Give, Cover, Forked, Halved, Awaits, AwaitsHalf, Asks, Frees, Tallies}
+use Rattle.arachne_machine.specs.declared.pause.Pending.{Pending}
+use Rattle.arachne_machine.specs.declared.pause.Pending.TheVariants as pause
 use Rattle.arachne_machine.specs.declared.state.State.{State}
 use Rattle.arachne_machine.specs.Outcome.{Finished}
 use Rattle.arachne_machine.specs.Account.{after}
@@ -31,7 +33,7 @@ joins_by : (old new : State) (outcome : Finished) (n : ℕ) (k k' : Control) (gs
     ((fs : List Frame) → frames_left k fs ≡ fs) → ((fs : List Frame) → frames_left k' fs ≡ fs) →
     fork_awaited k ++ [] ≡ n ∷ (fork_awaited k' ++ forks_of gs') → lock_freed k' ++ releases gs' ≡ lock_freed k ++ [] → pending_of k' ≡ None →
     (outcome.value ≡ task_value (source_of old.program.now).arrays (child_task (source_of old.program.now) old.own.name n) →
-    SameOutlook 0 Any (account_joined (source_of old.program.now) old.own.name n) (source_of old.program.now) old.own.name k [] old.environment.items k' gs' env') →
+    SameOutlook 0 (pause.Joins ∷ []) Any (account_joined (source_of old.program.now) old.own.name n) (source_of old.program.now) old.own.name k [] old.environment.items k' gs' env') →
     Joins old outcome new
 joins_by old new outcome n k k' gs' env' is_k is_name program own forks is_k' frames environment below sums left left' joined locks pending outlook =
     let source = source_of old.program.now in
@@ -58,8 +60,8 @@ joins_by old new outcome n k k' gs' env' is_k is_name program own forks is_k' fr
       below = below;
       sums = sums;
       keeps = λ is_value.
-          let end = same_end 0 Any (account_joined source name n) source name k k' fs [] gs' env env' old new at at' (left (fs ++ [])) (left' (fs ++ gs')) (outlook is_value) in
-          record { ending = end.ending; account = λ a. end.account a tt; work = omega (arith, end.work); faultless = end.faultless };
+          let end = same_end 0 (pause.Joins ∷ []) Any (account_joined source name n) source name k k' fs [] gs' env env' old new at at' (left (fs ++ [])) (left' (fs ++ gs')) (outlook is_value) in
+          record { ending = end.ending; account = λ a. end.account a tt; work = omega (arith, end.work); pauses = end.pauses; faultless = end.faultless };
     }
 
 take-two : (env : List ℕ) (x y : ℕ) → take (length env) (with_newest (with_newest env x) y) ≡ env
@@ -67,7 +69,7 @@ take-two env x y = ap (take (length env)) (append_assoc env (x ∷ []) (y ∷ []
 
 -- The child's value becomes the newest variable but one.
 join_outlook : (source : Source) (name env : List ℕ) (n v : ℕ) (next : Bor Expr) →
-    SameOutlook 0 Any (account_joined source name n) source name (Awaits n v next) [] env (Begin next) (Restore (length env) ∷ []) (joined_env source name n (record { env = env; value = v }))
+    SameOutlook 0 (pause.Joins ∷ []) Any (account_joined source name n) source name (Awaits n v next) [] env (Begin next) (Restore (length env) ∷ []) (joined_env source name n (record { env = env; value = v }))
 join_outlook source name env n v next =
     let x = task_value source.arrays (child_task source name n) in
     let inner = with_newest (with_newest env x) v in
@@ -77,6 +79,7 @@ join_outlook source name env n v next =
       ending = ap (λ e. record { env = e; value = w }) back;
       account = λ a any. refl;
       work = omega arith;
+      pauses = refl;
       faultless = λ held h. ((tt, tt), h.1.1);
     }
 
@@ -93,7 +96,7 @@ joins_fork old new outcome n v next awaits is_name program own forks control fra
     let env = old.environment.items in
     joins_by old new outcome n (Awaits n v next) (Begin next) (Restore (length env) ∷ []) (with_newest (with_newest env outcome.value) v) awaits is_name
     program own forks control frames environment below sums (λ fs. refl) (λ fs. refl) refl refl refl
-    (λ is_value. subst (λ x. SameOutlook 0 Any (account_joined source name n) source name (Awaits n v next) [] env (Begin next) (Restore (length env) ∷ []) (with_newest (with_newest env x) v))
+    (λ is_value. subst (λ x. SameOutlook 0 (pause.Joins ∷ []) Any (account_joined source name n) source name (Awaits n v next) [] env (Begin next) (Restore (length env) ∷ []) (with_newest (with_newest env x) v))
     (sym is_value) (join_outlook source name env n v next))
 
 pub joins_half : (old new : State) (outcome : Finished) (n right w : ℕ) (reduction : Reduction) → old.control ≡ AwaitsHalf n right reduction → outcome.name ≡ old.own.name ++ n ∷ [] →
@@ -112,6 +115,7 @@ joins_half old new outcome n right w reduction awaits is_name program own forks 
       ending = ap (λ x. record { env = env; value = x }) (is ∙ ap (λ x. apply (operation_of reduction) x right) is_value);
       account = λ a any. refl;
       work = omega arith;
+      pauses = refl;
       faultless = λ held h. (tt, tt);
     })
 
@@ -123,16 +127,16 @@ awaited_child t n k name is_control one is_awaited =
     cc
 
 -- An answer that counts, and goes on.
-counts_by : (old new : State) (effects : Effects) (k k' : Control) → old.control ≡ k → new.control ≡ k' →
+counts_by : (old new : State) (answered : Pending) (effects : Effects) (k k' : Control) → old.control ≡ k → new.control ≡ k' →
     new.program ≡ old.program → new.own.name ≡ old.own.name → new.own.tag ≡ old.own.tag → new.below.items ≡ old.below.items → new.forks ≡ old.forks →
     new.frames.items ≡ old.frames.items → new.environment.items ≡ old.environment.items →
     ((n : ℕ) (own : ℕ → ℕ) → old.sums.items ≡ tabulated n own → new.sums.items ≡ tabulated n (λ ledger. own ledger + effects.sums ledger)) →
     ((n : ℕ) (own : ℕ → ℕ) → old.own.holds.items ≡ tabulated n own → new.own.holds.items ≡ tabulated n (λ lock. own lock + effects.holds lock)) →
     ((fs : List Frame) → frames_left k fs ≡ fs) → ((fs : List Frame) → frames_left k' fs ≡ fs) →
     fork_awaited k' ≡ fork_awaited k → lock_freed k' ≡ lock_freed k → pending_of k' ≡ None →
-    SameOutlook 0 Any (after old.own.name effects) (source_of old.program.now) old.own.name k [] old.environment.items k' [] old.environment.items →
-    Counts effects old new
-counts_by old new effects k k' is_k is_k' program is_name tag below forks frames environment sums holds left left' awaits locks pending outlook =
+    SameOutlook 0 (answered ∷ []) Any (after old.own.name effects) (source_of old.program.now) old.own.name k [] old.environment.items k' [] old.environment.items →
+    Counts answered effects old new
+counts_by old new answered effects k k' is_k is_k' program is_name tag below forks frames environment sums holds left left' awaits locks pending outlook =
     let source = source_of old.program.now in
     let name = old.own.name in
     let fs = old.frames.items in
@@ -145,7 +149,7 @@ counts_by old new effects k k' is_k is_k' program is_name tag below forks frames
       frames_are = frames ∙ sym (append-nil fs);
       environment_is = environment;
     } in
-    let end = same_end 0 Any (after name effects) source name k k' fs [] [] env env old new at at' (left (fs ++ [])) (left' (fs ++ [])) outlook in
+    let end = same_end 0 (answered ∷ []) Any (after name effects) source name k k' fs [] [] env env old new at at' (left (fs ++ [])) (left' (fs ++ [])) outlook in
     record {
       program = program;
       name = is_name;
@@ -162,6 +166,7 @@ counts_by old new effects k k' is_k is_k' program is_name tag below forks frames
       ending = end.ending;
       account = λ a. end.account a tt;
       work = omega (arith, end.work);
+      pauses = end.pauses;
       faultless = end.faultless;
     }
 
@@ -170,39 +175,17 @@ pub counts_hold : (old new : State) (lock : ℕ) (body : Bor Expr) → old.contr
     new.frames.items ≡ old.frames.items → new.environment.items ≡ old.environment.items →
     ((n : ℕ) (own : ℕ → ℕ) → old.sums.items ≡ tabulated n own → new.sums.items ≡ tabulated n (λ ledger. own ledger + (held lock).sums ledger)) →
     ((n : ℕ) (own : ℕ → ℕ) → old.own.holds.items ≡ tabulated n own → new.own.holds.items ≡ tabulated n (λ other. own other + (held lock).holds other)) →
-    Counts (held lock) old new
+    Counts (pause.Asks lock) (held lock) old new
 counts_hold old new lock body asks begins program is_name tag below forks frames environment sums holds =
-    counts_by old new (held lock) (Asks lock body) (Begin body) asks begins program is_name tag below forks frames environment sums holds
-    (λ fs. refl) (λ fs. refl) refl refl refl (record { ending = refl; account = λ a any. refl; work = omega arith; faultless = λ held h. (tt, h.1.1) })
+    counts_by old new (pause.Asks lock) (held lock) (Asks lock body) (Begin body) asks begins program is_name tag below forks frames environment sums holds
+    (λ fs. refl) (λ fs. refl) refl refl refl (record { ending = refl; account = λ a any. refl; work = omega arith; pauses = refl; faultless = λ held h. (tt, h.1.1) })
 
 pub counts_tally : (old new : State) (ledger amount : ℕ) (body : Bor Expr) → old.control ≡ Tallies ledger amount body → new.control ≡ Begin body →
     new.program ≡ old.program → new.own.name ≡ old.own.name → new.own.tag ≡ old.own.tag → new.below.items ≡ old.below.items → new.forks ≡ old.forks →
     new.frames.items ≡ old.frames.items → new.environment.items ≡ old.environment.items →
     ((n : ℕ) (own : ℕ → ℕ) → old.sums.items ≡ tabulated n own → new.sums.items ≡ tabulated n (λ other. own other + (tallied ledger amount).sums other)) →
     ((n : ℕ) (own : ℕ → ℕ) → old.own.holds.items ≡ tabulated n own → new.own.holds.items ≡ tabulated n (λ lock. own lock + (tallied ledger amount).holds lock)) →
-    Counts (tallied ledger amount) old new
+    Counts (pause.Tallies ledger amount) (tallied ledger amount) old new
 counts_tally old new ledger amount body tallies begins program is_name tag below forks frames environment sums holds =
-    counts_by old new (tallied ledger amount) (Tallies ledger amount body) (Begin body) tallies begins program is_name tag below forks frames environment sums holds
-    (λ fs. refl) (λ fs. refl) refl refl refl (record { ending = refl; account = λ a any. refl; work = omega arith; faultless = λ held h. (tt, h.1.1) })
-
--- An answer that counts nothing, and goes on.
-pub answers_by : (t : State) (k k' : Control) → t.control ≡ k → ((fs : List Frame) → frames_left k fs ≡ fs) → ((fs : List Frame) → frames_left k' fs ≡ fs) →
-    fork_awaited k' ++ [] ≡ fork_awaited k ++ [] →
-    SameOutlook 0 Any itself (source_of t.program.now) t.own.name k [] t.environment.items k' [] t.environment.items →
-    Step 0 k k' t.frames.items [] [] t (record t { control = k' })
-answers_by t k k' is left left' forks same =
-    let fs = t.frames.items in
-    let env = t.environment.items in
-    let new = record t { control = k' } in
-    steps_by 0 t t new k k' fs [] [] env env
-    (framed_as t t env (fs ++ []) (fs ++ []) t.control k (alone t t env t.control (as_it_is t)) refl is)
-    (alone t new env k' (given t k' k' refl)) (left (fs ++ [])) (left' (fs ++ [])) forks same
-
-pub frees_by : (t : State) (lock v : ℕ) → t.control ≡ Frees lock v → Step 0 (Frees lock v) (Give v) t.frames.items [] [] t (record t { control = Give v })
-frees_by t lock v is = answers_by t (Frees lock v) (Give v) is (λ fs. refl) (λ fs. refl) refl (record { ending = refl; account = λ a any. refl; work = omega arith; faultless = λ held h. (tt, tt) })
-
-pub forked_by : (t : State) (during : Bor Expr) → t.control ≡ Forked during → Step 0 (Forked during) (Begin during) t.frames.items [] [] t (record t { control = Begin during })
-forked_by t during is = answers_by t (Forked during) (Begin during) is (λ fs. refl) (λ fs. refl) refl (record { ending = refl; account = λ a any. refl; work = omega arith; faultless = λ held h. (tt, h.1.1) })
-
-pub halved_by : (t : State) (right : Stretch) → t.control ≡ Halved right → Step 0 (Halved right) (Cover right) t.frames.items [] [] t (record t { control = Cover right })
-halved_by t right is = answers_by t (Halved right) (Cover right) is (λ fs. refl) (λ fs. refl) refl (record { ending = refl; account = λ a any. refl; work = omega arith; faultless = λ held h. (tt, h.1) })
+    counts_by old new (pause.Tallies ledger amount) (tallied ledger amount) (Tallies ledger amount body) (Begin body) tallies begins program is_name tag below forks frames environment sums holds
+    (λ fs. refl) (λ fs. refl) refl refl refl (record { ending = refl; account = λ a any. refl; work = omega arith; pauses = refl; faultless = λ held h. (tt, h.1.1) })

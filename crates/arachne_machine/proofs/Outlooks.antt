@@ -1,20 +1,23 @@
 -- What the newest frames and what comes next come to, and so the whole thread.
-use Rattle.std.proofs.Common.{◌≡◌, ℕ, ◌+◌, Bool, false, List, [], ◌++◌, None, refl, subst, ap, sym, ◌∙◌, arith, append_assoc}
+use Rattle.std.proofs.Common.{◌≡◌, ℕ, ◌+◌, Bool, false, List, [], ◌∷◌, ◌++◌, None, refl, subst, ap, sym, ◌∙◌, arith, append_assoc}
 use Rattle.std.proofs.lemmas.List.{append-nil}
 use Rattle.arachne_lang.specs.Tree.{Source}
 use Rattle.arachne_lang.specs.Program.{source_of}
 use Rattle.arachne_machine.specs.declared.frame.Frame.{Frame}
 use Rattle.arachne_machine.specs.declared.frame.Control.{Control}
+use Rattle.arachne_machine.specs.declared.pause.Pending.{Pending}
+use Rattle.arachne_machine.specs.declared.pause.Pending.TheVariants as pause
 use Rattle.arachne_machine.specs.declared.state.State.{State}
 use Rattle.arachne_machine.specs.Account.{Account}
-use Rattle.arachne_machine.specs.Ending.{resume, resume_account, resume_work, begun, begun_account, begun_work, fork_awaited, lock_freed, forks_of, releases, frames_left, ending, account_at_end, work_left, unjoined_of, locks_of}
+use Rattle.arachne_machine.specs.Ending.{Status, resume, resume_account, resume_work, resume_pauses, begun, begun_account, begun_work, begun_pauses, fork_awaited, lock_freed, forks_of, releases, frames_left, ending, account_at_end, work_left, pauses_left, unjoined_of, locks_of}
 use Rattle.arachne_machine.specs.Faultless.{GoesWithoutFault, IsWithoutFault}
 use Rattle.arachne_machine.specs.Steps.{Becomes, Goes, AfterSteps, pending_of, giving}
 use Rattle.arachne_machine.proofs.Faultlessness.{faultless_above}
-use Rattle.arachne_machine.proofs.Frames.{resume-append, resume_account-append, resume_work-append, forks_of-append, releases-append}
+use Rattle.arachne_machine.proofs.Frames.{resume-append, resume_account-append, resume_work-append, resume_pauses-append, forks_of-append, releases-append}
 
--- From what comes next, the newest frames and the environment to the new ones the end is the same, if the accounts that fit are taken like this.
-pub record SameOutlook (steps : ℕ) (fits : Account → Type 0) (taken : Account → Account) (source : Source) (name : List ℕ) (k : Control) (gs : List Frame) (env : List ℕ) (k' : Control) (gs' : List Frame) (env' : List ℕ) : Type 0 where
+-- From what comes next, the newest frames and the environment to the new ones the end is the same, if the accounts that fit are taken like this, and these
+-- pauses are answered.
+pub record SameOutlook (steps : ℕ) (answered : List Pending) (fits : Account → Type 0) (taken : Account → Account) (source : Source) (name : List ℕ) (k : Control) (gs : List Frame) (env : List ℕ) (k' : Control) (gs' : List Frame) (env' : List ℕ) : Type 0 where
   pub ending : resume source name gs' (begun source name k' env') ≡ resume source name gs (begun source name k env)
   pub account : (a : Account) → fits a →
       resume_account source name gs' (begun source name k' env') (begun_account source name k' env' (taken a))
@@ -22,6 +25,9 @@ pub record SameOutlook (steps : ℕ) (fits : Account → Type 0) (taken : Accoun
   pub work :
       begun_work source name k' env' + resume_work source name gs' (begun source name k' env') + steps
       ≡ begun_work source name k env + resume_work source name gs (begun source name k env)
+  pub pauses :
+      answered ++ (begun_pauses source name k' env' ++ resume_pauses source name gs' (begun source name k' env'))
+      ≡ begun_pauses source name k env ++ resume_pauses source name gs (begun source name k env)
   pub faultless : (held : Bool) → GoesWithoutFault source held gs k → GoesWithoutFault source held gs' k'
 
 -- the parts of a thread that its end depends on
@@ -59,6 +65,33 @@ work_at source name k fs env t at =
     ∙ ap (λ x. begun_work source name k t.environment.items + resume_work source name (frames_left k x) (begun source name k t.environment.items)) at.frames_are
     ∙ ap (λ x. begun_work source name k x + resume_work source name (frames_left k fs) (begun source name k x)) at.environment_is
 
+-- the pauses of what comes next and the newest frames, and those of the frames below
+abbrev pauses_by : Source → List ℕ → Control → List Frame → List Frame → List ℕ → List Pending
+pauses_by source name k fs gs env =
+    let s = begun source name k env in
+    (begun_pauses source name k env ++ resume_pauses source name gs s) ++ (resume_pauses source name fs (resume source name gs s) ++ pause.Ended ∷ [])
+
+in_two : (xs ys zs ends : List Pending) → (xs ++ (ys ++ zs)) ++ ends ≡ (xs ++ ys) ++ (zs ++ ends)
+in_two xs ys zs ends = ap (λ l. l ++ ends) (sym (append_assoc xs ys zs)) ∙ append_assoc (xs ++ ys) zs ends
+
+pauses_at : (source : Source) (name : List ℕ) (k : Control) (fs gs : List Frame) (env : List ℕ) (t : State) → IsAt source name k (fs ++ gs) env t →
+    frames_left k (fs ++ gs) ≡ fs ++ gs → pauses_left t ≡ pauses_by source name k fs gs env
+pauses_at source name k fs gs env t at left =
+    let s = begun source name k env in
+    let b = begun_pauses source name k env in
+    ap (λ x. begun_pauses x t.own.name t.control t.environment.items
+    ++ resume_pauses x t.own.name (frames_left t.control t.frames.items) (begun x t.own.name t.control t.environment.items) ++ pause.Ended ∷ []) at.source_is
+    ∙ ap (λ x. begun_pauses source x t.control t.environment.items
+    ++ resume_pauses source x (frames_left t.control t.frames.items) (begun source x t.control t.environment.items) ++ pause.Ended ∷ []) at.name_is
+    ∙ ap (λ x. begun_pauses source name x t.environment.items
+    ++ resume_pauses source name (frames_left x t.frames.items) (begun source name x t.environment.items) ++ pause.Ended ∷ []) at.control_is
+    ∙ ap (λ x. begun_pauses source name k t.environment.items
+    ++ resume_pauses source name (frames_left k x) (begun source name k t.environment.items) ++ pause.Ended ∷ []) at.frames_are
+    ∙ ap (λ x. begun_pauses source name k x ++ resume_pauses source name (frames_left k (fs ++ gs)) (begun source name k x) ++ pause.Ended ∷ []) at.environment_is
+    ∙ ap (λ l. b ++ resume_pauses source name l s ++ pause.Ended ∷ []) left
+    ∙ ap (λ l. b ++ l ++ pause.Ended ∷ []) (resume_pauses-append source name fs gs s)
+    ∙ in_two b (resume_pauses source name gs s) (resume_pauses source name fs (resume source name gs s)) (pause.Ended ∷ [])
+
 -- what goes without fault there, and the thread
 pub faultless_at : (source : Source) (name : List ℕ) (k : Control) (fs : List Frame) (env : List ℕ) (t : State) → IsAt source name k fs env t →
     IsWithoutFault t → GoesWithoutFault source false fs k
@@ -86,17 +119,18 @@ locks_at source name k fs gs env t at =
     ∙ ap (λ x. lock_freed k ++ x) (releases-append fs gs) ∙ sym (append_assoc (lock_freed k) (releases gs) (releases fs))
 
 -- So two threads that are at these parts come to the same.
-pub record SameEnd (steps : ℕ) (fits : Account → Type 0) (taken : Account → Account) (old new : State) : Type 0 where
+pub record SameEnd (steps : ℕ) (answered : List Pending) (fits : Account → Type 0) (taken : Account → Account) (old new : State) : Type 0 where
   pub ending : ending new ≡ ending old
   pub account : (a : Account) → fits a → account_at_end new (taken a) ≡ account_at_end old a
   pub work : work_left new + steps ≡ work_left old
+  pub pauses : answered ++ pauses_left new ≡ pauses_left old
   pub faultless : IsWithoutFault old → IsWithoutFault new
 
-pub same_end : (steps : ℕ) (fits : Account → Type 0) (taken : Account → Account) (source : Source) (name : List ℕ) (k k' : Control) (fs gs gs' : List Frame) (env env' : List ℕ) (old new : State) →
+pub same_end : (steps : ℕ) (answered : List Pending) (fits : Account → Type 0) (taken : Account → Account) (source : Source) (name : List ℕ) (k k' : Control) (fs gs gs' : List Frame) (env env' : List ℕ) (old new : State) →
     IsAt source name k (fs ++ gs) env old → IsAt source name k' (fs ++ gs') env' new →
     frames_left k (fs ++ gs) ≡ fs ++ gs → frames_left k' (fs ++ gs') ≡ fs ++ gs' →
-    SameOutlook steps fits taken source name k gs env k' gs' env' → SameEnd steps fits taken old new
-same_end steps fits taken source name k k' fs gs gs' env env' old new at at' left left' same =
+    SameOutlook steps answered fits taken source name k gs env k' gs' env' → SameEnd steps answered fits taken old new
+same_end steps answered fits taken source name k k' fs gs gs' env env' old new at at' left left' same =
     let s = begun source name k env in
     let s' = begun source name k' env' in
     record {
@@ -121,6 +155,14 @@ same_end steps fits taken source name k k' fs gs gs' env env' old new at at' lef
           ap (λ l. resume_work source name l s) left ∙ resume_work-append source name fs gs s in
           let rest : resume_work source name fs (resume source name gs' s') ≡ resume_work source name fs (resume source name gs s) = ap (resume_work source name fs) same.ending in
           omega (arith, now, before, now_left, before_left, rest, same.work);
+      pauses =
+          let below : Status → List Pending = λ x. resume_pauses source name fs x ++ pause.Ended ∷ [] in
+          let first = begun_pauses source name k' env' ++ resume_pauses source name gs' s' in
+          ap (λ l. answered ++ l) (pauses_at source name k' fs gs' env' new at' left')
+          ∙ sym (append_assoc answered first (below (resume source name gs' s')))
+          ∙ ap (λ l. l ++ below (resume source name gs' s')) same.pauses
+          ∙ ap (λ x. (begun_pauses source name k env ++ resume_pauses source name gs s) ++ below x) same.ending
+          ∙ sym (pauses_at source name k fs gs env old at left);
       faultless = λ h.
           at_faultless source name k' (fs ++ gs') env' new at'
           (faultless_above source fs gs gs' k k' same.faultless (faultless_at source name k (fs ++ gs) env old at h));
@@ -134,7 +176,7 @@ itself a = a
 
 -- An outlook of so many steps of its own.
 abbrev pub StepOutlook : ℕ → Source → List ℕ → Control → List Frame → List ℕ → Control → List Frame → List ℕ → Type 0
-StepOutlook steps source name k gs env k' gs' env' = SameOutlook steps Any itself source name k gs env k' gs' env'
+StepOutlook steps source name k gs env k' gs' env' = SameOutlook steps [] Any itself source name k gs env k' gs' env'
 
 pub at_of : (mid t : State) (k : Control) (fs : List Frame) (env : List ℕ) → Becomes mid t env fs k → IsAt (source_of mid.program.now) mid.own.name k fs env t
 at_of mid t k fs env b = record {
@@ -147,7 +189,7 @@ at_of mid t k fs env b = record {
 
 -- a step of a thread, the frames below these being as before
 pub record Step (steps : ℕ) (k k' : Control) (fs gs gs' : List Frame) (old new : State) : Type 0 where
-  pub goes : Goes steps old new
+  pub goes : Goes steps [] old new
   pub pending : pending_of new.control ≡ pending_of k'
   pub locks : locks_of new ≡ (lock_freed k' ++ releases gs') ++ releases fs
   pub old_locks : locks_of old ≡ (lock_freed k ++ releases gs) ++ releases fs
@@ -156,13 +198,13 @@ pub steps_by : (steps : ℕ) (mid old new : State) (k k' : Control) (fs gs gs' :
     Becomes mid old env (fs ++ gs) k → Becomes mid new env' (fs ++ gs') k' →
     frames_left k (fs ++ gs) ≡ fs ++ gs → frames_left k' (fs ++ gs') ≡ fs ++ gs' →
     fork_awaited k' ++ forks_of gs' ≡ fork_awaited k ++ forks_of gs →
-    SameOutlook steps Any itself (source_of mid.program.now) mid.own.name k gs env k' gs' env' → Step steps k k' fs gs gs' old new
+    StepOutlook steps (source_of mid.program.now) mid.own.name k gs env k' gs' env' → Step steps k k' fs gs gs' old new
 steps_by steps mid old new k k' fs gs gs' env env' b b' left left' forks same =
     let source = source_of mid.program.now in
     let name = mid.own.name in
     let at = at_of mid old k (fs ++ gs) env b in
     let at' = at_of mid new k' (fs ++ gs') env' b' in
-    let end = same_end steps Any itself source name k k' fs gs gs' env env' old new at at' left left' same in
+    let end = same_end steps [] Any itself source name k k' fs gs gs' env env' old new at at' left left' same in
     record {
       goes = record {
         program = b'.program ∙ sym b.program;
@@ -174,6 +216,7 @@ steps_by steps mid old new k k' fs gs gs' env env' b b' left left' forks same =
         ending = end.ending;
         account = λ a. end.account a tt;
         work = end.work;
+        pauses = end.pauses;
         faultless = end.faultless;
       };
       pending = ap pending_of b'.control_is;

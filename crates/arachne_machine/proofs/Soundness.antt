@@ -31,7 +31,7 @@ use Rattle.arachne_machine.proofs.Splitting.{child_task-found}
 use Rattle.arachne_machine.proofs.Tabulated.{tabulated-same, length-tabulated, added_is}
 
 -- steps after steps
-pub goes_on : (m n k : ℕ) (a b c : State) → Goes m a b → Goes n b c → k ≡ m + n → Goes k a c
+pub goes_on : (m n k : ℕ) (a b c : State) → Goes m [] a b → Goes n [] b c → k ≡ m + n → Goes k [] a c
 goes_on m n k a b c p q e = record {
   program = q.program ∙ p.program;
   own = q.own ∙ p.own;
@@ -42,10 +42,11 @@ goes_on m n k a b c p q e = record {
   ending = q.ending ∙ p.ending;
   account = λ account. q.account account ∙ p.account account;
   work = omega (arith, p.work, q.work, e);
+  pauses = q.pauses ∙ p.pauses;
   faultless = λ h. q.faultless (p.faultless h);
 }
 
-pub goes_on_within : (m least most : ℕ) (a b c : State) → Goes m a b → GoesWithin least most b c → GoesWithin least (m + most) a c
+pub goes_on_within : (m least most : ℕ) (a b c : State) → Goes m [] a b → GoesWithin least most b c → GoesWithin least (m + most) a c
 goes_on_within m least most a b c p q = record {
   made = m + q.made;
   at_least = omega (arith, q.at_least);
@@ -57,7 +58,7 @@ goes_on_within m least most a b c p q = record {
 pub within_more : (least most more : ℕ) (a b : State) → GoesWithin least most a b → most ≤ more → GoesWithin least more a b
 within_more least most more a b w le = record { made = w.made; at_least = w.at_least; at_most = omega (arith, w.at_most, le); goes = w.goes }
 
-forks_after : (m n k : ℕ) (a b c child : State) (made : Child) → Goes m a b → locks_of b ≡ locks_of a → GoesToFork n b c child made → m + n ≤ k → GoesToFork k a c child made
+forks_after : (m n k : ℕ) (a b c child : State) (made : Child) → Goes m [] a b → locks_of b ≡ locks_of a → GoesToFork n b c child made → m + n ≤ k → GoesToFork k a c child made
 forks_after m n k a b c child made p locks q le =
     let source_is = ap (λ g. source_of g.now) p.program in
     let name_is = ap (λ o. o.name) p.own in
@@ -83,12 +84,13 @@ forks_after m n k a b c child made p locks q le =
         account = λ account e. kept.account account (e ∙ sym p.forks) ∙ p.account account;
         at_least = omega (arith, kept.at_least, p.work);
         at_most = omega (arith, kept.at_most, p.work, le);
+        pauses = kept.pauses ∙ p.pauses;
         faultless = λ h. kept.faultless (p.faultless h);
       };
     }
 
 -- so it is where the thread stops
-pub goes_then_stops : (m n k : ℕ) (a b c : State) (s : Stop) → Goes m a b → locks_of b ≡ locks_of a → AfterSteps n b (Some s) c → m + n ≤ k → AfterSteps k a (Some s) c
+pub goes_then_stops : (m n k : ℕ) (a b c : State) (s : Stop) → Goes m [] a b → locks_of b ≡ locks_of a → AfterSteps n b (Some s) c → m + n ≤ k → AfterSteps k a (Some s) c
 goes_then_stops m n k a b c (stop.Forks class child) p l q le = forks_after m n k a b c child.value _ p l q le
 goes_then_stops m n k a b c stop.Joins p l q le = (within_more 1 (m + n) k a c (goes_on_within m 1 n a b c p q.0) le, q.1, q.2 ∙ l)
 goes_then_stops m n k a b c (stop.Asks lock) p l q le = (within_more 1 (m + n) k a c (goes_on_within m 1 n a b c p q.0) le, q.1, q.2 ∙ ap (λ x. lock ∷ x) l)
@@ -97,7 +99,7 @@ goes_then_stops m n k a b c (stop.Tallies ledger amount) p l q le = (within_more
 goes_then_stops m n k a b c stop.Ended p l q le = (within_more 1 (m + n) k a c (goes_on_within m 1 n a b c p q.0) le, q.1, q.2, q.3 ∙ l, q.4, q.5)
 
 -- the same, with or without a reason to stop
-pub goes_then_made : (a b c : State) (s : Option Stop) → Goes 0 a b → locks_of b ≡ locks_of a → AfterSteps 1 b s c → AfterSteps 1 a s c
+pub goes_then_made : (a b c : State) (s : Option Stop) → Goes 0 [] a b → locks_of b ≡ locks_of a → AfterSteps 1 b s c → AfterSteps 1 a s c
 goes_then_made a b c None p l q = (goes_on 0 1 1 a b c p q.0 refl, q.1, q.2 ∙ l)
 goes_then_made a b c (Some s) p l q = goes_then_stops 0 1 1 a b c s p l q (omega arith)
 
@@ -122,8 +124,8 @@ sound_new program name tag task t new has faultless =
       faultless = λ checked. faultless (subst (λ x. IsChecked (source_of x)) new.same_program checked);
     }
 
-pub sound_goes : (n : ℕ) (old new : State) → IsSound old → Goes n old new → IsSound new
-sound_goes n old new s g =
+pub sound_goes : (n : ℕ) (answered : List Pending) (old new : State) → IsSound old → Goes n answered old new → IsSound new
+sound_goes n answered old new s g =
     let program_is = sym (ap (λ x. source_of x.now) g.program) in
     let own_is = sym g.own in
     record {
@@ -334,8 +336,8 @@ sound_end t v s ended =
     (ap (λ h. line h ∷ effects.lines name 0) (sym holds) ∙ ap (λ l. line t.own.holds.items ∷ l) (sym below)))
 
 -- A sound thread that counts effects of its own stays sound.
-pub sound_counts : (old new : State) (effects : Effects) → IsSound old → effects.children ≡ [] → ((name : List ℕ) (next : ℕ) → effects.lines name next ≡ []) → Counts effects old new → IsSound new
-sound_counts old new effects s no_children no_lines g =
+pub sound_counts : (old new : State) (answered : Pending) (effects : Effects) → IsSound old → effects.children ≡ [] → ((name : List ℕ) (next : ℕ) → effects.lines name next ≡ []) → Counts answered effects old new → IsSound new
+sound_counts old new answered effects s no_children no_lines g =
     let program_is = sym (ap (λ x. source_of x.now) g.program) in
     let name_is = sym g.name in
     let name = old.own.name in
@@ -357,8 +359,8 @@ sound_counts old new effects s no_children no_lines g =
       faultless = λ checked. g.faultless (s.faultless (subst IsChecked (sym program_is) checked));
     }
 
-pub counted_seen : (old new : State) (effects : Effects) → Counts effects old new → SameThread (suspended old) (suspended new)
-counted_seen old new effects g = record {
+pub counted_seen : (old new : State) (answered : Pending) (effects : Effects) → Counts answered effects old new → SameThread (suspended old) (suspended new)
+counted_seen old new answered effects g = record {
   program = ap (λ p. p.now) g.program;
   name = g.name;
   tag = g.tag;
@@ -368,7 +370,7 @@ counted_seen old new effects g = record {
 }
 
 -- What callers see of these steps.
-pub same_thread : (n : ℕ) (old new : State) → Goes n old new → SameThread (suspended old) (suspended new)
+pub same_thread : (n : ℕ) (old new : State) → Goes n [] old new → SameThread (suspended old) (suspended new)
 same_thread n old new g = record {
   program = ap (λ p. p.now) g.program;
   name = ap (λ o. o.name) g.own;
@@ -381,14 +383,13 @@ same_thread n old new g = record {
 pub within_seen : (least most : ℕ) (old new : State) → GoesWithin least most old new → MakesSteps least most (suspended old) (suspended new)
 within_seen least most old new w = record { at_least = omega (arith, w.at_least, w.goes.work); at_most = omega (arith, w.at_most, w.goes.work) }
 
--- the child that it forks has the class that the program gives to that fork
-class_made : (old new child : State) (n : ℕ) (made : Child) (s : IsSound old) → GoesToFork n old new child made →
-    option_map (λ x. x.class) (child_of (source_of old.program.now) old.own.name old.forks) ≡ Some made.class
-class_made old new child n made s g =
+-- the child that it forks is the one that the program has there
+child_made : (old new child : State) (n : ℕ) (made : Child) (s : IsSound old) → GoesToFork n old new child made →
+    child_of (source_of old.program.now) old.own.name old.forks ≡ Some made
+child_made old new child n made s g =
     let source = source_of old.program.now in
     let forks : Task → Option Child = λ task. slice_get (task_effects source.arrays source.locks task).children old.forks in
-    ap (λ o. option_map (λ x. x.class) (option_and_then forks o)) s.has_task
-    ∙ ap (option_map (λ x. x.class)) (next_made old s made (g.next_child s.account).0 (g.next_child s.account).1)
+    ap (option_and_then forks) s.has_task ∙ next_made old s made (g.next_child s.account).0 (g.next_child s.account).1
 
 pub forked_seen : (n : ℕ) (old new child : State) (made : Child) → IsSound old → GoesToFork n old new child made →
     Forked n made.class (suspended old) (suspended new) (suspended child)
@@ -415,7 +416,10 @@ forked_seen n old new child made s g =
         none_below = g.fresh.below;
         not_paused = g.fresh.pending;
       };
-      of_class = class_made old new child n made s g;
+      task = made.task;
+      made = child_made old new child n made s g;
+      work = g.fresh.work;
+      pauses = g.fresh.pauses;
       at_least = kept.at_least;
       at_most = kept.at_most;
     }
@@ -447,7 +451,7 @@ awaits_some (Frees lock value) name frames h = absurd (not_another (pause.Frees 
 awaits_some (Tallies ledger amount body) name frames h = absurd (not_another (pause.Tallies ledger amount) IsJoins tt (λ x. x) h)
 awaits_some (Ended value) name frames h = absurd (not_another pause.Ended IsJoins tt (λ x. x) h)
 
-pub stopped_seen : (n : ℕ) (old new : State) → Goes n old new → pending_of new.control ≡ Some pause.Joins → IsSome (awaited (suspended new))
+pub stopped_seen : (n : ℕ) (old new : State) → Goes n [] old new → pending_of new.control ≡ Some pause.Joins → IsSome (awaited (suspended new))
 stopped_seen n old new g h = awaits_some new.control new.own.name (forks_of new.frames.items) h
 
 pub joined_seen : (old new : State) (outcome : Finished) → IsSound old → IsOfItsName outcome → source_of outcome.program ≡ source_of old.program.now →
@@ -471,6 +475,7 @@ joined_seen old new outcome s of_name same_source j =
       below = j.below;
       pending = j.pending;
       work = (join_keeps old new outcome of_name same_source j).work;
+      pauses = sym (join_keeps old new outcome of_name same_source j).pauses;
     }
 
 -- both sums have an item for each ledger
@@ -483,8 +488,12 @@ same_length t outcome s of_name same_source =
     sym (ap (λ m. length m.totals) found.2) ∙ length-tabulated source.ledgers effects.sums ∙ ap (λ x. x.ledgers) same_source
     ∙ sym (length-tabulated (source_of t.program.now).ledgers s.account.sums) ∙ sym (ap length s.sums)
 
--- a sound thread in which nothing has changed but room
-pub goes_nowhere : (old new : State) → IsUnchanged old new → Goes 0 old new
+-- a thread in which nothing has changed but room looks the same
+pub unchanged_seen : (old new : State) → IsUnchanged old new → suspended new ≡ suspended old
+unchanged_seen old new u = cc
+
+-- and has made no step
+pub goes_nowhere : (old new : State) → IsUnchanged old new → Goes 0 [] old new
 goes_nowhere old new u =
     let source = source_of old.program.now in
     let name = old.own.name in
@@ -502,6 +511,7 @@ goes_nowhere old new u =
       ending = ending_at source name k fs env new at;
       account = λ a. account_at source name k fs env new a at;
       work = omega (arith, work_at source name k fs env new at);
+      pauses = ap (λ t. t.pauses) (unchanged_seen old new u);
       faultless = at_faultless source name k fs env new at;
     }
 
@@ -509,12 +519,8 @@ goes_nowhere old new u =
 pub locks_unchanged : (old new : State) → IsUnchanged old new → locks_of new ≡ locks_of old
 locks_unchanged old new u = ap (λ x. lock_freed x ++ releases new.frames.items) u.control_is ∙ ap (λ x. lock_freed old.control ++ releases x) u.frames_are
 
--- and it looks the same
-pub unchanged_seen : (old new : State) → IsUnchanged old new → suspended new ≡ suspended old
-unchanged_seen old new u = cc
-
 -- the join of the outcome of a child, or none
 pub sound_joined : {E : Type 0} (r : Result (Unit {0}) E) (old new : State) (outcome : Finished) → IsSound old → IsOfItsName outcome → source_of outcome.program ≡ source_of old.program.now →
     OnOk r (Joins old outcome new) → OnErr r (IsUnchanged old new) → IsSound new
 sound_joined (Ok done) old new outcome s of_name same_source j u = sound_join old new outcome s of_name same_source j
-sound_joined (Err e) old new outcome s of_name same_source j u = sound_goes 0 old new s (goes_nowhere old new u)
+sound_joined (Err e) old new outcome s of_name same_source j u = sound_goes 0 [] old new s (goes_nowhere old new u)

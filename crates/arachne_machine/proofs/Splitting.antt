@@ -19,8 +19,8 @@ use Rattle.arachne_machine.specs.declared.frame.Control.TheVariants.{Begin, Cove
 use Rattle.arachne_machine.specs.declared.pause.Pending.TheVariants as pause
 use Rattle.arachne_machine.specs.declared.state.State.{State}
 use Rattle.arachne_machine.specs.Account.{Account, after, with_fork, with_join}
-use Rattle.arachne_machine.specs.Turns.{split_work}
-use Rattle.arachne_machine.specs.Work.{work_of}
+use Rattle.arachne_machine.specs.Work.{work_of, task_work}
+use Rattle.arachne_machine.specs.Pauses.{pauses_of, task_pauses}
 use Rattle.arachne_machine.specs.Ending.{child_task, stretch_task, resume_account, begun, begun_account, fork_awaited, lock_freed, forks_of, releases, frames_left, work_left}
 use Rattle.arachne_lang.specs.Checked.{node_faults}
 use Rattle.arachne_lang.specs.declared.check_fault.CheckFault.TheVariants as fault
@@ -28,7 +28,7 @@ use Rattle.arachne_machine.specs.Faultless.{IsFaultless, IsFaultlessNext, held_b
 use Rattle.arachne_machine.specs.Steps.{PushesFork, GoesToFork, task_begun, pending_of}
 use Rattle.arachne_machine.proofs.Accounts.{after-sequence, after-forked, after-children}
 use Rattle.arachne_machine.proofs.Frames.{Grows-frames}
-use Rattle.arachne_machine.proofs.Halves.{value_split, effects_split, work_split}
+use Rattle.arachne_machine.proofs.Halves.{value_split, effects_split, work_split, pauses_split}
 use Rattle.arachne_machine.proofs.Faultlessness.{no_faults-append, within_none}
 use Rattle.arachne_machine.proofs.Outlooks.{SameOutlook, IsAt, account_at, faultless_at, unjoined_at, locks_at, same_end}
 
@@ -41,8 +41,8 @@ child_task-found source name n task h = ap (λ o. unwrap_or o (Evaluate (Number 
 abbrev pub HasForked : ℕ → Account → Type 0
 HasForked n a = length a.children ≡ n
 
-abbrev pub ForkOutlook : Source → List ℕ → ℕ → Child → ℕ → Control → List ℕ → Control → Frame → Type 0
-ForkOutlook source name n made work k env k' f = SameOutlook (work + 1) (HasForked n) (with_fork made) source name k [] env k' (f ∷ []) env
+abbrev pub ForkOutlook : Source → List ℕ → ℕ → Child → Control → List ℕ → Control → Frame → Type 0
+ForkOutlook source name n made k env k' f = SameOutlook (task_work source.arrays made.task + 1) [] (HasForked n) (with_fork made) source name k [] env k' (f ∷ []) env
 
 -- This is the next of the children that are still to come.
 abbrev pub ForksNext : Source → List ℕ → Child → Control → List ℕ → Type 0
@@ -52,16 +52,15 @@ ForksNext source name made k env = (a : Account) → (rest : List Child) × ((be
 abbrev pub made_as : Class → Control → List ℕ → Child
 made_as class begins env = record { class = class; task = task_begun begins env }
 
-pub forks_by : (class : Class) (old new child : State) (begins k k' : Control) (f : Frame) (work : ℕ) → old.control ≡ k → PushesFork old new child begins f k' →
+pub forks_by : (class : Class) (old new child : State) (begins k k' : Control) (f : Frame) → old.control ≡ k → PushesFork old new child begins f k' →
     ((fs : List Frame) → frames_left k fs ≡ fs) → ((fs : List Frame) → frames_left k' fs ≡ fs) →
     fork_awaited k' ++ forks_of (f ∷ []) ≡ old.forks ∷ (fork_awaited k ++ []) → lock_freed k' ++ releases (f ∷ []) ≡ lock_freed k ++ [] → pending_of k' ≡ Some pause.Forks →
-    work_left child ≡ work →
     ((held : Bool) → IsFaultlessNext (source_of old.program.now) held k → IsFaultlessNext (source_of old.program.now) false begins) →
     ForksNext (source_of old.program.now) old.own.name (made_as class begins old.environment.items) k old.environment.items →
     (child_task (source_of old.program.now) old.own.name old.forks ≡ task_begun begins old.environment.items →
-    ForkOutlook (source_of old.program.now) old.own.name old.forks (made_as class begins old.environment.items) work k old.environment.items k' f) →
+    ForkOutlook (source_of old.program.now) old.own.name old.forks (made_as class begins old.environment.items) k old.environment.items k' f) →
     GoesToFork 1 old new child (made_as class child.control child.environment.items)
-forks_by class old new child begins k k' f work is_k pushed left left' forks locks pending child_work childs next outlook =
+forks_by class old new child begins k k' f is_k pushed left left' forks locks pending childs next outlook =
     let source = source_of old.program.now in
     let name = old.own.name in
     let fs = old.frames.items in
@@ -98,13 +97,14 @@ forks_by class old new child begins k k' f work is_k pushed left left' forks loc
                 ∙ grown.is ∙ ap (λ l. l ++ grown.more) one.1 ∙ append_assoc a.children (made ∷ one.0) grown.more,
           );
       keeps = λ has.
-          let end = same_end (work + 1) (HasForked n) (with_fork made) source name k k' fs [] (f ∷ []) env env old new at at' (left (fs ++ [])) (left' (fs ++ f ∷ []))
+          let end = same_end (task_work source.arrays task + 1) [] (HasForked n) (with_fork made) source name k k' fs [] (f ∷ []) env env old new at at' (left (fs ++ [])) (left' (fs ++ f ∷ []))
           (outlook (child_task-found source name n task has)) in
           record {
             ending = end.ending;
             account = end.account;
-            at_least = omega (arith, end.work, child_work);
-            at_most = omega (arith, end.work, child_work);
+            at_least = omega (arith, end.work, pushed.fresh.work);
+            at_most = omega (arith, end.work, pushed.fresh.work);
+            pauses = end.pauses;
             faultless = λ h. (
               end.faultless h,
               pushed.faultless (childs (held_by false (fs ++ [])) (faultless_at source name k (fs ++ []) env old at h).1),
@@ -126,7 +126,7 @@ fork_parts source held child during next class h =
 -- The fork of an expression.
 fork_outlook : (source : Source) (name env : List ℕ) (n : ℕ) (expr child during next : Bor Expr) (class : Class) → tree_of expr.now ≡ Fork class (tree_of child.now) (tree_of during.now) (tree_of next.now) →
     child_task source name n ≡ Evaluate (tree_of child.now) env →
-    ForkOutlook source name n (record { class = class; task = Evaluate (tree_of child.now) env }) (work_of source.arrays (tree_of child.now) env) (Begin expr) env (Forked during) (Join n next)
+    ForkOutlook source name n (record { class = class; task = Evaluate (tree_of child.now) env }) (Begin expr) env (Forked during) (Join n next)
 fork_outlook source name env n expr child during next class h found =
     let A = source.arrays in
     let L = source.locks in
@@ -150,6 +150,8 @@ fork_outlook source name env n expr child during next class h found =
           let e = ap (λ t. work_of A (tree_of next.now) (joined t)) found in
           let w = ap (λ t. work_of A t env) h in
           omega (arith, e, w);
+      pauses = ap (λ t. pause.Forks ∷ (pauses_of A (tree_of during.now) env ++ pause.Joins ∷ pauses_of A (tree_of next.now) (joined t))) found
+          ∙ ap (λ t. pauses_of A t env) (sym h) ∙ sym (append-nil (pauses_of A (tree_of expr.now) env));
       faultless = λ held free.
           let parts = fork_parts source held child during next class (subst (IsFaultless source held) h free.1) in
           (((parts.0, parts.3), tt), (parts.0, parts.2));
@@ -158,17 +160,16 @@ fork_outlook source name env n expr child during next class h found =
 pub goes_to_fork : (old new child : State) (expr first during next : Bor Expr) (class : Class) → old.control ≡ Begin expr →
     tree_of expr.now ≡ Fork class (tree_of first.now) (tree_of during.now) (tree_of next.now) →
     PushesFork old new child (Begin first) (Join old.forks next) (Forked during) →
-    work_left child ≡ work_of (source_of old.program.now).arrays (tree_of first.now) old.environment.items →
     GoesToFork 1 old new child (made_as class child.control child.environment.items)
-goes_to_fork old new child expr first during next class begins h pushed work =
+goes_to_fork old new child expr first during next class begins h pushed =
     let source = source_of old.program.now in
     let name = old.own.name in
     let env = old.environment.items in
     let A = source.arrays in
     let meanwhile = effects_of A source.locks (tree_of during.now) env in
     let last = effects_of A source.locks (tree_of next.now) (with_newest (with_newest env (value_of A (tree_of first.now) env)) (value_of A (tree_of during.now) env)) in
-    forks_by class old new child (Begin first) (Begin expr) (Forked during) (Join old.forks next) (work_of A (tree_of first.now) env) begins pushed
-    (λ fs. refl) (λ fs. refl) refl refl refl work
+    forks_by class old new child (Begin first) (Begin expr) (Forked during) (Join old.forks next) begins pushed
+    (λ fs. refl) (λ fs. refl) refl refl refl
     (λ held free.
     let parts = fork_parts source held first during next class (subst (IsFaultless source held) h free) in
     subst (λ b. IsFaultless source b (tree_of first.now)) parts.0 parts.1)
@@ -183,8 +184,7 @@ goes_to_fork old new child expr first during next class begins h pushed work =
 half_outlook : (source : Source) (name env : List ℕ) (n : ℕ) (stretch : Stretch) (middle : ℕ) → max 1 stretch.grain < stretch.end - stretch.first →
     middle ≡ stretch.first + (stretch.end - stretch.first) / 2 →
     child_task source name n ≡ stretch_task (record stretch { end = middle }) env →
-    ForkOutlook source name n (record { class = Normal; task = stretch_task (record stretch { end = middle }) env })
-    (split_work source.arrays (tree_of stretch.body.now) env stretch.grain stretch.first (middle - stretch.first)) (Cover stretch) env
+    ForkOutlook source name n (record { class = Normal; task = stretch_task (record stretch { end = middle }) env }) (Cover stretch) env
     (Halved (record stretch { first = middle })) (Merge n stretch.reduction)
 half_outlook source name env n stretch middle lt is found =
     let A = source.arrays in
@@ -213,18 +213,21 @@ half_outlook source name env n stretch middle lt is found =
           ∙ sym (after-forked L name (H stretch.first m) (task_effects A L (R stretch.first m)) (task_effects A L (R (stretch.first + m) (count - m))) a)
           ∙ ap (λ x. after name x a) (sym (effects_split A L r stretch.grain t env stretch.first count lt));
       work =
-          let one = ap (split_work A t env stretch.grain stretch.first) left in
-          let two = ap (λ x. split_work A t env stretch.grain x (stretch.end - middle)) is ∙ ap (split_work A t env stretch.grain (stretch.first + m)) right in
-          omega (arith, one, two, work_split A t env stretch.grain stretch.first count lt);
+          let one = ap (task_work A) here in
+          let two = ap (task_work A) there in
+          omega (arith, one, two, work_split A r stretch.grain t env stretch.first count lt);
+      pauses =
+          let whole = task_pauses A (R stretch.first count) in
+          ap (λ x. pause.Forks ∷ (task_pauses A x ++ pause.Joins ∷ [])) there
+          ∙ sym (pauses_split A r stretch.grain t env stretch.first count lt) ∙ sym (append-nil whole);
       faultless = λ held h. ((h.1.0, tt), h.1);
     }
 
 pub goes_to_half : (old new child : State) (stretch : Stretch) (middle : ℕ) → old.control ≡ Cover stretch → max 1 stretch.grain < stretch.end - stretch.first →
     middle ≡ stretch.first + (stretch.end - stretch.first) / 2 →
     PushesFork old new child (Cover (record stretch { end = middle })) (Merge old.forks stretch.reduction) (Halved (record stretch { first = middle })) →
-    work_left child ≡ split_work (source_of old.program.now).arrays (tree_of stretch.body.now) old.environment.items stretch.grain stretch.first (middle - stretch.first) →
     GoesToFork 1 old new child (made_as Normal child.control child.environment.items)
-goes_to_half old new child stretch middle covers lt is pushed work =
+goes_to_half old new child stretch middle covers lt is pushed =
     let source = source_of old.program.now in
     let name = old.own.name in
     let env = old.environment.items in
@@ -237,9 +240,8 @@ goes_to_half old new child stretch middle covers lt is pushed work =
     let R : ℕ → ℕ → Task = Reduce r stretch.grain t env in
     let left : middle - stretch.first ≡ m = omega (arith, is) in
     let rest = (task_effects A L (R (stretch.first + m) (count - m))).children in
-    forks_by Normal old new child (Cover (record stretch { end = middle })) (Cover stretch) (Halved (record stretch { first = middle })) (Merge old.forks r)
-    (split_work A t env stretch.grain stretch.first (middle - stretch.first)) covers pushed
-    (λ fs. refl) (λ fs. refl) refl refl refl work
+    forks_by Normal old new child (Cover (record stretch { end = middle })) (Cover stretch) (Halved (record stretch { first = middle })) (Merge old.forks r) covers pushed
+    (λ fs. refl) (λ fs. refl) refl refl refl
     (λ held free. (refl, subst (λ b. IsFaultless source b t) free.0 free.1))
     (λ a. (
       rest,

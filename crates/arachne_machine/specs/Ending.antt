@@ -12,8 +12,11 @@ use Rattle.arachne_machine.specs.declared.frame.Frame.TheVariants.{Index, Right,
 use Rattle.arachne_machine.specs.declared.frame.Control.{Control}
 use Rattle.arachne_machine.specs.declared.frame.Control.TheVariants.{Begin, Give, Cover, Forked, Halved, Awaits, AwaitsHalf, Asks, Frees, Tallies, Ended}
 use Rattle.arachne_machine.specs.declared.state.State.{State}
-use Rattle.arachne_machine.specs.Work.{work_of}
-use Rattle.arachne_machine.specs.Turns.{folded, folded_effects, folded_work, swept, swept_effects, swept_work, split_work}
+use Rattle.arachne_machine.specs.declared.pause.Pending.{Pending}
+use Rattle.arachne_machine.specs.declared.pause.Pending.TheVariants as pause
+use Rattle.arachne_machine.specs.Work.{work_of, task_work}
+use Rattle.arachne_machine.specs.Pauses.{pauses_of, task_pauses}
+use Rattle.arachne_machine.specs.Turns.{folded, folded_effects, folded_work, folded_pauses, swept, swept_effects, swept_work, swept_pauses}
 use Rattle.arachne_machine.specs.Account.{Account, after, with_join}
 
 -- the environment and the value that a part of the evaluation leaves
@@ -166,12 +169,42 @@ frame_work source name (FoldTurn next end body) s =
     folded_work source.arrays (tree_of body.now) (without_newest 2 s.env) next (end - next) s.value + 1
 frame_work source name (SweepTo reduction grain to body) s =
     work_of source.arrays (tree_of to.now) s.env
-    + split_work source.arrays (tree_of body.now) s.env grain s.value (value_of source.arrays (tree_of to.now) s.env - s.value)
+    + task_work source.arrays (Reduce reduction grain (tree_of body.now) s.env s.value (value_of source.arrays (tree_of to.now) s.env - s.value))
 frame_work source name (SweepStart reduction grain from body) s =
-    split_work source.arrays (tree_of body.now) s.env grain from (s.value - from)
+    task_work source.arrays (Reduce reduction grain (tree_of body.now) s.env from (s.value - from))
 frame_work source name (SweepTurn reduction next end so_far body) s =
     swept_work source.arrays (tree_of body.now) (without_newest 1 s.env) next (end - next) + 1
 frame_work source name (Restore n) s = 0
+
+-- the pauses of a frame once a value was handed to it
+abbrev pub frame_pauses : Source → List ℕ → Frame → Status → List Pending
+frame_pauses source name (Index a) s = []
+frame_pauses source name (Right operation right) s = pauses_of source.arrays (tree_of right.now) s.env
+frame_pauses source name (Apply operation left) s = []
+frame_pauses source name (Branch first second) s =
+    if s.value == 0 then pauses_of source.arrays (tree_of second.now) s.env else pauses_of source.arrays (tree_of first.now) s.env
+frame_pauses source name (Extend body) s = pauses_of source.arrays (tree_of body.now) (with_newest s.env s.value)
+frame_pauses source name (Amount ledger body) s = pause.Tallies ledger s.value ∷ pauses_of source.arrays (tree_of body.now) s.env
+frame_pauses source name (Release lock) s = pause.Frees lock ∷ []
+frame_pauses source name (Join number next) s = pause.Joins ∷ pauses_of source.arrays (tree_of next.now) (joined_env source name number s)
+frame_pauses source name (Merge number reduction) s = pause.Joins ∷ []
+frame_pauses source name (FoldTo to first body) s =
+    pauses_of source.arrays (tree_of to.now) s.env ++ (pauses_of source.arrays (tree_of first.now) s.env
+    ++ folded_pauses source.arrays (tree_of body.now) s.env s.value (value_of source.arrays (tree_of to.now) s.env - s.value)
+    (value_of source.arrays (tree_of first.now) s.env))
+frame_pauses source name (FoldFirst from first body) s =
+    pauses_of source.arrays (tree_of first.now) s.env
+    ++ folded_pauses source.arrays (tree_of body.now) s.env from (s.value - from) (value_of source.arrays (tree_of first.now) s.env)
+frame_pauses source name (FoldStart from to body) s = folded_pauses source.arrays (tree_of body.now) s.env from (to - from) s.value
+frame_pauses source name (FoldTurn next end body) s = folded_pauses source.arrays (tree_of body.now) (without_newest 2 s.env) next (end - next) s.value
+frame_pauses source name (SweepTo reduction grain to body) s =
+    pauses_of source.arrays (tree_of to.now) s.env
+    ++ task_pauses source.arrays (Reduce reduction grain (tree_of body.now) s.env s.value (value_of source.arrays (tree_of to.now) s.env - s.value))
+frame_pauses source name (SweepStart reduction grain from body) s =
+    task_pauses source.arrays (Reduce reduction grain (tree_of body.now) s.env from (s.value - from))
+frame_pauses source name (SweepTurn reduction next end so_far body) s =
+    swept_pauses source.arrays (tree_of body.now) (without_newest 1 s.env) next (end - next)
+frame_pauses source name (Restore n) s = []
 
 -- the same for all frames, the newest of which is the last
 abbrev pub resume : Source → List ℕ → List Frame → Status → Status
@@ -186,6 +219,10 @@ resume_account source name (frame ∷ frames) s account =
 abbrev pub resume_work : Source → List ℕ → List Frame → Status → ℕ
 resume_work source name [] s = 0
 resume_work source name (frame ∷ frames) s = frame_work source name frame (resume source name frames s) + resume_work source name frames s
+
+abbrev pub resume_pauses : Source → List ℕ → List Frame → Status → List Pending
+resume_pauses source name [] s = []
+resume_pauses source name (frame ∷ frames) s = resume_pauses source name frames s ++ frame_pauses source name frame (resume source name frames s)
 
 -- the forks among frames, the newest first
 abbrev pub fork_of : Frame → List ℕ
@@ -246,11 +283,9 @@ begun_account source name (Ended value) env account = account
 abbrev pub begun_work : Source → List ℕ → Control → Environment → ℕ
 begun_work source name (Begin expr) env = work_of source.arrays (tree_of expr.now) env
 begun_work source name (Give value) env = 1
-begun_work source name (Cover stretch) env =
-    split_work source.arrays (tree_of stretch.body.now) env stretch.grain stretch.first (stretch.end - stretch.first)
+begun_work source name (Cover stretch) env = task_work source.arrays (stretch_task stretch env)
 begun_work source name (Forked expr) env = work_of source.arrays (tree_of expr.now) env
-begun_work source name (Halved stretch) env =
-    split_work source.arrays (tree_of stretch.body.now) env stretch.grain stretch.first (stretch.end - stretch.first)
+begun_work source name (Halved stretch) env = task_work source.arrays (stretch_task stretch env)
 begun_work source name (Awaits number during next) env =
     work_of source.arrays (tree_of next.now) (joined_env source name number (record { env = env; value = during }))
 begun_work source name (AwaitsHalf number right reduction) env = 1
@@ -258,6 +293,21 @@ begun_work source name (Asks lock body) env = work_of source.arrays (tree_of bod
 begun_work source name (Frees lock value) env = 1
 begun_work source name (Tallies ledger amount body) env = work_of source.arrays (tree_of body.now) env
 begun_work source name (Ended value) env = 0
+
+-- the pauses of what a thread does next, the one that is not answered among them
+abbrev pub begun_pauses : Source → List ℕ → Control → Environment → List Pending
+begun_pauses source name (Begin expr) env = pauses_of source.arrays (tree_of expr.now) env
+begun_pauses source name (Give value) env = []
+begun_pauses source name (Cover stretch) env = task_pauses source.arrays (stretch_task stretch env)
+begun_pauses source name (Forked expr) env = pause.Forks ∷ pauses_of source.arrays (tree_of expr.now) env
+begun_pauses source name (Halved stretch) env = pause.Forks ∷ task_pauses source.arrays (stretch_task stretch env)
+begun_pauses source name (Awaits number during next) env =
+    pause.Joins ∷ pauses_of source.arrays (tree_of next.now) (joined_env source name number (record { env = env; value = during }))
+begun_pauses source name (AwaitsHalf number right reduction) env = pause.Joins ∷ []
+begun_pauses source name (Asks lock body) env = pause.Asks lock ∷ pauses_of source.arrays (tree_of body.now) env
+begun_pauses source name (Frees lock value) env = pause.Frees lock ∷ []
+begun_pauses source name (Tallies ledger amount body) env = pause.Tallies ledger amount ∷ pauses_of source.arrays (tree_of body.now) env
+begun_pauses source name (Ended value) env = []
 
 -- the fork whose child is awaited
 abbrev pub fork_awaited : Control → List ℕ
@@ -294,6 +344,14 @@ work_left t =
     let source = source_of t.program.now in
     begun_work source t.own.name t.control t.environment.items
     + resume_work source t.own.name (frames_left t.control t.frames.items) (begun source t.own.name t.control t.environment.items)
+
+-- the pauses that are left, in order; at the last it has ended
+abbrev pub pauses_left : State → List Pending
+pauses_left t =
+    let source = source_of t.program.now in
+    begun_pauses source t.own.name t.control t.environment.items
+    ++ resume_pauses source t.own.name (frames_left t.control t.frames.items) (begun source t.own.name t.control t.environment.items)
+    ++ pause.Ended ∷ []
 
 -- its forks that are not joined, the newest first
 abbrev pub unjoined_of : State → List ℕ

@@ -1,7 +1,9 @@
 pub mod Outcome
 pub mod Suspended
 pub mod Advance
+pub mod Parts
 pub mod Work
+pub mod Pauses
 pub mod Turns
 pub mod Account
 pub mod Ending

@@ -23,8 +23,10 @@ use Rattle.arachne_machine.specs.declared.state.Progress.TheVariants.{Value, Mad
 use Rattle.arachne_machine.specs.Outcome.{Finished}
 use Rattle.arachne_machine.specs.Account.{Account, untouched, after, with_fork}
 use Rattle.arachne_machine.specs.Suspended.{Suspended}
+use Rattle.arachne_machine.specs.Work.{task_work}
+use Rattle.arachne_machine.specs.Pauses.{task_pauses}
 use Rattle.arachne_machine.specs.Faultless.{IsFaultlessNext, IsWithoutFault}
-use Rattle.arachne_machine.specs.Ending.{child_task, stretch_task, account_joined, ending, account_at_end, work_left, unjoined_of, locks_of}
+use Rattle.arachne_machine.specs.Ending.{child_task, stretch_task, account_joined, ending, account_at_end, work_left, pauses_left, unjoined_of, locks_of}
 
 -- the pause that is not answered
 abbrev pub pending_of : Control → Option Pending
@@ -54,6 +56,7 @@ suspended t = record {
   holds = t.own.holds.items;
   below = t.below.items;
   work = work_left t;
+  pauses = pauses_left t;
 }
 
 -- A fork's number fits, since each fork that was joined has its line, and each other one its frame.
@@ -107,8 +110,8 @@ pub record TurnsSweep (old new : State) (reduction : Reduction) (next end : ℕ)
       Becomes old new (with_newest old.environment.items next) (old.frames.items ++ SweepTurn reduction (next + 1) end so_far body ∷ []) (Begin body)
   pub done : end ≤ next → Becomes old new old.environment.items old.frames.items (Give so_far)
 
--- So many steps made neither forks nor joins, and what the thread comes to is the same.
-pub record Goes (steps : ℕ) (old new : State) : Type 0 where
+-- So many steps made neither forks nor joins, and what the thread comes to is the same. These pauses were answered, the first of those that were left.
+pub record Goes (steps : ℕ) (answered : List Pending) (old new : State) : Type 0 where
   pub program : new.program ≡ old.program
   pub own : new.own ≡ old.own
   pub below : new.below.items ≡ old.below.items
@@ -118,6 +121,7 @@ pub record Goes (steps : ℕ) (old new : State) : Type 0 where
   pub ending : ending new ≡ ending old
   pub account : (account : Account) → account_at_end new account ≡ account_at_end old account
   pub work : work_left new + steps ≡ work_left old
+  pub pauses : answered ++ pauses_left new ≡ pauses_left old
   pub faultless : IsWithoutFault old → IsWithoutFault new
 
 -- at least so many such steps were made, and at most so many
@@ -125,7 +129,7 @@ pub record GoesWithin (least most : ℕ) (old new : State) : Type 0 where
   pub made : ℕ
   pub at_least : least ≤ made
   pub at_most : made ≤ most
-  pub goes : Goes made old new
+  pub goes : Goes made [] old new
 
 -- a thread of a task that has not begun
 pub record IsNew (program : Program) (name : List ℕ) (tag : ℕ) (task : Task) (t : State) : Type 0 where
@@ -139,6 +143,8 @@ pub record IsNew (program : Program) (name : List ℕ) (tag : ℕ) (task : Task)
   pub unjoined : unjoined_of t ≡ []
   pub locks : locks_of t ≡ []
   pub pending : pending_of t.control ≡ None
+  pub work : work_left t ≡ task_work (source_of program).arrays task
+  pub pauses : pauses_left t ≡ task_pauses (source_of program).arrays task ++ pause.Ended ∷ []
   pub value : (ending t).value ≡ task_value (source_of program).arrays task
   pub account : account_at_end t untouched ≡ after name (task_effects (source_of program).arrays program.locks task) untouched
 
@@ -148,6 +154,7 @@ pub record KeepsOverFork (steps : ℕ) (old new child : State) (made : Child) : 
   pub account : (account : Account) → length account.children ≡ old.forks → account_at_end new (with_fork made account) ≡ account_at_end old account
   pub at_least : work_left new + work_left child + 1 ≤ work_left old
   pub at_most : work_left old ≤ work_left new + work_left child + steps
+  pub pauses : pauses_left new ≡ pauses_left old
   pub faultless : IsWithoutFault old → IsWithoutFault new × IsWithoutFault child
 
 -- At most so many steps were made, the last of which forked this child. What the thread comes to is the same, if the child is the one of the fork's number,
@@ -167,7 +174,7 @@ pub record GoesToFork (steps : ℕ) (old new child : State) (made : Child) : Typ
 
 -- What is so after so many steps, or once the thread has stopped in one of them, at the latest in the last.
 abbrev pub AfterSteps : ℕ → State → Option Stop → State → Type 0
-AfterSteps steps old None new = Goes steps old new × (pending_of new.control ≡ None) × (locks_of new ≡ locks_of old)
+AfterSteps steps old None new = Goes steps [] old new × (pending_of new.control ≡ None) × (locks_of new ≡ locks_of old)
 AfterSteps steps old (Some (stop.Forks class child)) new =
     GoesToFork steps old new child.value (record { class = class; task = task_begun child.value.control child.value.environment.items })
 AfterSteps steps old (Some stop.Joins) new = GoesWithin 1 steps old new × (pending_of new.control ≡ Some pause.Joins) × (locks_of new ≡ locks_of old)
@@ -225,6 +232,7 @@ pub record KeepsOverJoin (old new : State) (number : ℕ) : Type 0 where
   pub ending : ending new ≡ ending old
   pub account : (account : Account) → account_at_end new (account_joined (source_of old.program.now) old.own.name number account) ≡ account_at_end old account
   pub work : work_left new ≡ work_left old
+  pub pauses : pause.Joins ∷ pauses_left new ≡ pauses_left old
   pub faultless : IsWithoutFault old → IsWithoutFault new
 
 -- The awaited child was joined. What the thread comes to is the same, if the child brought the value of its task.
@@ -241,8 +249,8 @@ pub record Joins (old : State) (outcome : Finished) (new : State) : Type 0 where
   pub sums : (n : ℕ) (own childs : ℕ → ℕ) → old.sums.items ≡ tabulated n own → outcome.sums ≡ tabulated n childs → new.sums.items ≡ tabulated n (λ ledger. own ledger + childs ledger)
   pub keeps : outcome.value ≡ task_value (source_of old.program.now).arrays (child_task (source_of old.program.now) old.own.name number) → KeepsOverJoin old new number
 
--- The thread has counted these effects of its own, which are neither forks nor lines, and goes on.
-pub record Counts (effects : Effects) (old new : State) : Type 0 where
+-- This pause was answered: the thread has counted these effects of its own, which are neither forks nor lines, and goes on.
+pub record Counts (answered : Pending) (effects : Effects) (old new : State) : Type 0 where
   pub program : new.program ≡ old.program
   pub name : new.own.name ≡ old.own.name
   pub tag : new.own.tag ≡ old.own.tag
@@ -256,6 +264,7 @@ pub record Counts (effects : Effects) (old new : State) : Type 0 where
   pub ending : ending new ≡ ending old
   pub account : (account : Account) → account_at_end new (after old.own.name effects account) ≡ account_at_end old account
   pub work : work_left new ≡ work_left old
+  pub pauses : answered ∷ pauses_left new ≡ pauses_left old
   pub faultless : IsWithoutFault old → IsWithoutFault new
 
 -- a hold of this lock is counted, and the rest is as before

@@ -1,7 +1,7 @@
 -- What callers see of a thread between two calls.
 use Rattle.std.specs.Prelude.{◌≡◌, ◌≤◌, ℕ, ◌+◌, List, [], ◌∷◌, ◌++◌, length, get_or, set, false, Option, None, Some, option_map, slice_get}
 use Rattle.arachne_lang.specs.Value.{wrapped}
-use Rattle.arachne_lang.specs.Effects.{tabulated}
+use Rattle.arachne_lang.specs.Effects.{Task, tabulated}
 use Rattle.arachne_lang.specs.declared.program.Class.{Class}
 use Rattle.arachne_lang.specs.declared.program.Program.{Program}
 use Rattle.arachne_lang.specs.Program.{source_of}
@@ -10,6 +10,8 @@ use Rattle.arachne_machine.specs.declared.line.ThreadLine.{ThreadLine}
 use Rattle.arachne_machine.specs.declared.pause.Pending.{Pending}
 use Rattle.arachne_machine.specs.declared.pause.Pending.TheVariants as pause
 use Rattle.arachne_machine.specs.Outcome.{Finished}
+use Rattle.arachne_machine.specs.Work.{task_work}
+use Rattle.arachne_machine.specs.Pauses.{task_pauses}
 
 pub record Suspended : Type 0 where
   pub program : Program
@@ -31,6 +33,8 @@ pub record Suspended : Type 0 where
   pub below : List ThreadLine
   -- the steps that it and the threads that it will fork have left
   pub work : ℕ
+  -- its pauses from now on, in order; the first is the one that is not answered, and the last is its end
+  pub pauses : List Pending
 
 -- the name of the child that a join awaits: that of the newest fork that is not joined
 abbrev pub awaited : Suspended → Option (List ℕ)
@@ -61,6 +65,15 @@ abbrev pub IsTally : Option Pending → Type 0
 IsTally (Some (pause.Tallies ledger amount)) = Unit {0}
 IsTally _ = ⊥
 
+-- the pause that is not answered is the first of those that are left
+abbrev pub IsNext : Option Pending → List Pending → Type 0
+IsNext None pauses = Unit {0}
+IsNext (Some next) pauses = (others : List Pending) × (pauses ≡ next ∷ others)
+
+-- the pause that was not answered was the first of those that were left, and the others are left now
+abbrev pub IsAnswered : Suspended → Suspended → Type 0
+IsAnswered old new = (answered : Pending) × (old.pending ≡ Some answered) × (old.pauses ≡ answered ∷ new.pauses)
+
 -- both are of one program, have one name and tag, and have made and joined the same forks; the rest may differ
 pub record SameThread (old new : Suspended) : Type 0 where
   pub program : new.program ≡ old.program
@@ -88,8 +101,8 @@ pub record IsFresh (program : Program) (name : List ℕ) (tag : ℕ) (thread : S
   pub none_below : thread.below ≡ []
   pub not_paused : thread.pending ≡ None
 
--- In at most so many steps it has forked this child, whose name is its own followed by the number of the fork, and whose class is the one that the program
--- gives to that fork. The child's steps were among its own.
+-- In at most so many steps it has forked this child, whose name is its own followed by the number of the fork, and whose class and task are those that the
+-- program gives to that fork. The child's steps were among its own.
 pub record Forked (budget : ℕ) (class : Class) (old new child : Suspended) : Type 0 where
   pub program : new.program ≡ old.program
   pub name : new.name ≡ old.name
@@ -100,7 +113,10 @@ pub record Forked (budget : ℕ) (class : Class) (old new child : Suspended) : T
   pub below : new.below ≡ old.below
   pub pending : new.pending ≡ Some pause.Forks
   pub fresh : IsFresh old.program (old.name ++ old.forks ∷ []) 0 child
-  pub of_class : option_map (λ made. made.class) (child_of (source_of old.program) old.name old.forks) ≡ Some class
+  pub task : Task
+  pub made : child_of (source_of old.program) old.name old.forks ≡ Some (record { class = class; task = task })
+  pub work : child.work ≡ task_work (source_of old.program).arrays task
+  pub pauses : child.pauses ≡ task_pauses (source_of old.program).arrays task ++ pause.Ended ∷ []
   pub at_least : new.work + child.work + 1 ≤ old.work
   pub at_most : old.work ≤ new.work + child.work + budget
 
@@ -118,3 +134,4 @@ pub record Joined (old : Suspended) (outcome : Finished) (new : Suspended) : Typ
   pub below : new.below ≡ old.below ++ outcome.lines
   pub pending : new.pending ≡ None
   pub work : new.work ≡ old.work
+  pub pauses : old.pauses ≡ pause.Joins ∷ new.pauses

@@ -1,22 +1,19 @@
 -- How many steps an expression takes, the steps of the threads that it forks among them.
-use Rattle.std.specs.Prelude.{ℕ, zero, suc, ◌+◌, ◌-◌, ◌*◌, ◌/◌, ◌==◌, max, nat_le, if◌then◌else◌, List}
+use Rattle.std.specs.Prelude.{ℕ, zero, suc, ◌+◌, ◌-◌, ◌==◌, if◌then◌else◌, List}
 use Rattle.arachne_lang.specs.Tree.{Tree, Number, Variable, Length, Item, Binary, Choose, Bind, Tally, Hold, Fork, Fold, Sweep}
 use Rattle.arachne_lang.specs.Value.{Environment, with_newest, value_of, turns}
+use Rattle.arachne_lang.specs.Effects.{Task, Evaluate, Reduce}
+use Rattle.arachne_machine.specs.Parts.{by_halves}
 
 -- the sum of f of 0, of 1, and so on, so many
 abbrev pub total : (ℕ → ℕ) → ℕ → ℕ
 total f zero = 0
 total f (suc j) = total f j + f j
 
--- How often a sweep of so many numbers is split. A fuel of their number is enough.
-abbrev pub splits : ℕ → ℕ → ℕ → ℕ
-splits grain zero n = 0
-splits grain (suc fuel) n = if nat_le n (max 1 grain) then 0 else splits grain fuel (n / 2) + splits grain fuel (n - n / 2) + 1
-
--- The steps of a sweep beside those of its numbers. Each part that is not split is begun, and hands its value on; each split is made, and hands on what its
--- halves come to; there is one more part than there are splits.
-abbrev pub work_of_parts : ℕ → ℕ → ℕ
-work_of_parts grain n = 4 * splits grain n n + 2
+-- The steps of n numbers of a sweep from a first one on, with those of each number. A part that is not split is begun, and hands its value on; each split is
+-- made, and hands on what its halves come to.
+abbrev pub work_of_part : (ℕ → ℕ) → ℕ → ℕ → ℕ → ℕ
+work_of_part turn grain first n = by_halves (λ from k. total (λ j. turn (from + j)) k + 2) (λ from k left right. left + right + 2) grain n first n
 
 -- A step begins a node, or a part of a sweep, and hands on the value that is known then. What a fold or a part of a sweep comes to, the value of a hold's body,
 -- and what two halves make is handed on in a step of its own.
@@ -41,5 +38,9 @@ work_of arrays (Fold from to first body) env =
     (value_of arrays to env - value_of arrays from env) + 2
 work_of arrays (Sweep reduction grain from to body) env =
     work_of arrays from env + work_of arrays to env
-    + total (λ j. work_of arrays body (with_newest env (value_of arrays from env + j))) (value_of arrays to env - value_of arrays from env)
-    + work_of_parts grain (value_of arrays to env - value_of arrays from env) + 1
+    + work_of_part (λ i. work_of arrays body (with_newest env i)) grain (value_of arrays from env) (value_of arrays to env - value_of arrays from env) + 1
+
+-- the steps of a task
+abbrev pub task_work : List (List ℕ) → Task → ℕ
+task_work arrays (Evaluate tree env) = work_of arrays tree env
+task_work arrays (Reduce reduction grain body env first n) = work_of_part (λ i. work_of arrays body (with_newest env i)) grain first n

@@ -4,7 +4,7 @@ use crate::tables::add_at;
 
 /// The answers to pauses that need no outcome. They take no memory.
 impl<'p> State<'p> {
-    ghost use Rattle.std.specs.Prelude.{◌≡◌, ◌∷◌, ℕ, None, Some};
+    ghost use Rattle.std.specs.Prelude.{◌≡◌, [], ◌∷◌, ℕ, None, Some};
     ghost use Rattle.arachne_lang.specs.Effects.{held, tallied};
     ghost use Rattle.arachne_machine.specs.declared.pause.Pending.TheVariants as pause;
     ghost use Rattle.arachne_machine.specs.Ending.{work_left, locks_of};
@@ -14,7 +14,7 @@ impl<'p> State<'p> {
     /// The child was taken: goes on with what is done meanwhile.
     pub fn forked(&mut self)
         requires { pending_of self.old.control ≡ Some pause.Forks }
-        ensures goes { Goes 0 self.old self.new }
+        ensures goes { Goes 0 (pause.Forks ∷ []) self.old self.new }
         ensures locks { locks_of self.new ≡ locks_of self.old }
         ensures pending { pending_of self.new.control ≡ None }
         ensures work { work_left self.new ≡ work_left self.old }
@@ -29,7 +29,7 @@ impl<'p> State<'p> {
     /// It holds the lock that it asked for, and goes on.
     pub fn granted(&mut self)
         requires { IsAsk (pending_of self.old.control) }
-        ensures { (lock : ℕ) × (pending_of self.old.control ≡ Some (pause.Asks lock)) × Counts (held lock) self.old self.new }
+        ensures { (lock : ℕ) × (pending_of self.old.control ≡ Some (pause.Asks lock)) × Counts (pause.Asks lock) (held lock) self.old self.new }
     {
         let Control::Asks { lock, body } = self.control else {
             unreachable!()
@@ -48,7 +48,7 @@ impl<'p> State<'p> {
     /// It has freed the lock, and goes on.
     pub fn freed(&mut self)
         requires { IsFree (pending_of self.old.control) }
-        ensures goes { Goes 0 self.old self.new }
+        ensures goes { (lock : ℕ) × (pending_of self.old.control ≡ Some (pause.Frees lock)) × Goes 0 (pause.Frees lock ∷ []) self.old self.new }
         ensures locks { (lock : ℕ) × (pending_of self.old.control ≡ Some (pause.Frees lock)) × (locks_of self.old ≡ lock ∷ locks_of self.new) }
         ensures pending { pending_of self.new.control ≡ None }
         ensures work { work_left self.new ≡ work_left self.old }
@@ -62,7 +62,7 @@ impl<'p> State<'p> {
     /// The amount was added to the ledger: adds it to the own sums, and goes on.
     pub fn tallied(&mut self)
         requires { IsTally (pending_of self.old.control) }
-        ensures { (ledger amount : ℕ) × (pending_of self.old.control ≡ Some (pause.Tallies ledger amount)) × Counts (tallied ledger amount) self.old self.new }
+        ensures { (ledger amount : ℕ) × (pending_of self.old.control ≡ Some (pause.Tallies ledger amount)) × Counts (pause.Tallies ledger amount) (tallied ledger amount) self.old self.new }
     {
         let Control::Tallies {
             ledger,

@@ -7,10 +7,8 @@ use std::alloc::AllocError;
 /// The steps that fork a child, and those that begin a part of a sweep.
 impl<'p> State<'p> {
     ghost use Rattle.std.specs.Prelude.{◌≡◌, ◌+◌, ◌<◌, ◌^◌, IfOk, OnErr};
-    ghost use Rattle.arachne_lang.specs.Program.{source_of};
     ghost use Rattle.arachne_machine.specs.declared.frame.Frame.TheVariants as frames;
     ghost use Rattle.arachne_machine.specs.declared.frame.Control.TheVariants as control;
-    ghost use Rattle.arachne_machine.specs.Ending.{begun_work, work_left};
     ghost use Rattle.arachne_machine.specs.Steps.{IsBeginning, IsNumbered, IsUnchanged, PushesFork, AfterSteps};
 
     /// A new child, whose number is the fork's. The own thread goes on with what it does meanwhile.
@@ -23,8 +21,6 @@ impl<'p> State<'p> {
         requires { self.old.forks + 1 < 2 ^ 64 }
         ensures ok { IfOk result (λ t. PushesFork self.old self.new t.value (control.Begin child.entry)
             (frames.Join self.old.forks after.entry) (control.Forked during.entry)) }
-        ensures work { IfOk result (λ t. work_left t.value
-            ≡ begun_work (source_of self.old.program.now) t.value.own.name (control.Begin child.entry) self.old.environment.items) }
         ensures err { OnErr result (IsUnchanged self.old self.new) }
     {
         let number = self.forks;
@@ -45,8 +41,6 @@ impl<'p> State<'p> {
         requires number { self.old.forks + 1 < 2 ^ 64 }
         requires begins { IsBeginning begins }
         ensures ok { IfOk result (λ t. PushesFork self.old self.new t.value begins.entry frame.entry next.entry) }
-        ensures work { IfOk result (λ t. work_left t.value
-            ≡ begun_work (source_of self.old.program.now) t.value.own.name begins.entry self.old.environment.items) }
         ensures err { OnErr result (IsUnchanged self.old self.new) }
     {
         let name = self.own.name.child(self.alloc, self.forks)?;
@@ -87,8 +81,6 @@ impl<'p> State<'p> {
         requires { self.old.forks + 1 < 2 ^ 64 }
         ensures ok { IfOk result (λ t. PushesFork self.old self.new t.value (control.Cover (record stretch.entry { end = middle }))
             (frames.Merge self.old.forks stretch.entry.reduction) (control.Halved (record stretch.entry { first = middle }))) }
-        ensures work { IfOk result (λ t. work_left t.value
-            ≡ begun_work (source_of self.old.program.now) t.value.own.name (control.Cover (record stretch.entry { end = middle })) self.old.environment.items) }
         ensures err { OnErr result (IsUnchanged self.old self.new) }
     {
         let left = Stretch {

@@ -63,7 +63,7 @@ impl<'p> State<'p> {
     ghost use Rattle.std.specs.Prelude.{◌≡◌, ◌-◌, ◌∷◌, IfOk, OnErr, None, Some, false};
     ghost use Rattle.arachne_lang.specs.Program.{source_of};
     ghost use Rattle.arachne_machine.specs.Sound.{IsSound};
-    ghost use Rattle.arachne_machine.specs.Ending.{work_left, begun_work, locks_of};
+    ghost use Rattle.arachne_machine.specs.Ending.{locks_of};
     ghost use Rattle.arachne_machine.specs.Suspended.{own_line_of};
     ghost use Rattle.arachne_machine.specs.Faultless.{IsFaultlessNext, IsWithoutFault};
     ghost use Rattle.arachne_machine.specs.Steps.{pending_of, suspended, task_begun, IsBeginning, IsNumbered, IsUnchanged, GoesWithin, IsNew, AfterSteps};
@@ -81,7 +81,6 @@ impl<'p> State<'p> {
         requires { IsBeginning control }
         ensures fresh { IfOk result (λ t. IsNew program.now name tag (task_begun control.entry environment.items) t.value) }
         ensures begins { IfOk result (λ t. task_begun t.value.control t.value.environment.items ≡ task_begun control.entry environment.items) }
-        ensures work { IfOk result (λ t. work_left t.value ≡ begun_work (source_of program.now) name control.entry environment.items) }
         ensures same { IfOk result (λ t. t.value.program ≡ program.entry) }
         ensures faultless { IfOk result (λ t. IsFaultlessNext (source_of program.now) false control.entry → IsWithoutFault t.value) }
     {

@@ -1,9 +1,10 @@
-ghost use Rattle.std.specs.Prelude.{◌≡◌, ◌≢◌, ◌↔◌, ◌≤◌, ◌+◌, ◌-◌, ℕ, [], ◌∷◌, None, Some, IfOk, OnOk, IfErr, OnErr};
-ghost use Rattle.arachne_machine.specs.Suspended.{SameThread, MakesSteps, IsFresh, Joined, IsAsk, IsFree, IsTally, awaited, own_line_of, raised};
+ghost use Rattle.std.specs.Prelude.{◌≡◌, ◌≢◌, ◌↔◌, ◌≤◌, ◌+◌, ◌-◌, ℕ, [], ◌∷◌, ◌++◌, None, Some, IfOk, OnOk, IfErr, OnErr};
+ghost use Rattle.arachne_machine.specs.Suspended.{SameThread, MakesSteps, IsFresh, IsNext, IsAnswered, Joined, IsAsk, IsFree, IsTally, awaited, own_line_of, raised};
 ghost use Rattle.arachne_machine.specs.Advance.{Advanced, IsForeign, handed_back};
 ghost use Rattle.arachne_machine.specs.Stops.{pause_of, IsSoundStop};
 ghost use Rattle.arachne_lang.specs.Program.{source_of};
 ghost use Rattle.arachne_machine.specs.Work.{work_of};
+ghost use Rattle.arachne_machine.specs.Pauses.{pauses_of};
 ghost use Rattle.arachne_machine.specs.Faultless.{PausesWithin};
 ghost use Rattle.arachne_lang.specs.Checked.{IsChecked};
 ghost use Rattle.arachne_machine.specs.declared.pause.Pending.TheVariants as pause;
@@ -44,6 +45,7 @@ impl<'p> Thread<'p> {
     pub fn start(alloc: Global, program: &'p Program, tag: u64) -> Result<Thread<'p>, AllocError>
         ensures fresh { IfOk result (IsFresh program.now [] tag) }
         ensures work { IfOk result (λ thread. thread.work ≡ work_of (source_of program.now).arrays (source_of program.now).root []) }
+        ensures pauses { IfOk result (λ thread. thread.pauses ≡ pauses_of (source_of program.now).arrays (source_of program.now).root [] ++ pause.Ended ∷ []) }
     {
         let root = Name::root(alloc);
         let begins = Control::Begin(&program.root);
@@ -69,6 +71,7 @@ impl<'p> Thread<'p> {
     /// The pause that is not answered, if there is one.
     pub fn pending(&self) -> Option<Pending>
         ensures pending { result ≡ self.now.pending }
+        ensures next { IsNext self.now.pending self.now.pauses }
         ensures within { IsChecked (source_of self.now.program) → PausesWithin self.now }
     {
         self.state.pending()
@@ -80,6 +83,8 @@ impl<'p> Thread<'p> {
         requires not_paused { self.old.pending ≡ None }
         requires some { 1 ≤ budget }
         ensures ok { IfOk result (λ pause. Advanced budget self.old pause self.new) }
+        ensures pauses { self.new.pauses ≡ self.old.pauses }
+        ensures next { IsNext self.new.pending self.new.pauses }
         ensures sums { self.new.sums ≡ self.old.sums }
         ensures holds { self.new.holds ≡ self.old.holds }
         ensures within { IfOk result (λ pause. IsChecked (source_of self.old.program) → PausesWithin self.new) }
@@ -101,6 +106,7 @@ impl<'p> Thread<'p> {
         ensures locks { self.new.locks ≡ self.old.locks }
         ensures pending { self.new.pending ≡ None }
         ensures work { self.new.work ≡ self.old.work }
+        ensures pauses { IsAnswered self.old self.new }
     {
         self.state.forked();
     }
@@ -114,6 +120,7 @@ impl<'p> Thread<'p> {
         ensures locks { self.new.locks ≡ self.old.locks }
         ensures pending { self.new.pending ≡ None }
         ensures work { self.new.work ≡ self.old.work }
+        ensures pauses { IsAnswered self.old self.new }
     {
         self.state.granted();
     }
@@ -127,6 +134,7 @@ impl<'p> Thread<'p> {
         ensures locks { (lock : ℕ) × (self.old.pending ≡ Some (pause.Frees lock)) × (self.old.locks ≡ lock ∷ self.new.locks) }
         ensures pending { self.new.pending ≡ None }
         ensures work { self.new.work ≡ self.old.work }
+        ensures pauses { IsAnswered self.old self.new }
     {
         self.state.freed();
     }
@@ -140,6 +148,7 @@ impl<'p> Thread<'p> {
         ensures locks { self.new.locks ≡ self.old.locks }
         ensures pending { self.new.pending ≡ None }
         ensures work { self.new.work ≡ self.old.work }
+        ensures pauses { IsAnswered self.old self.new }
     {
         self.state.tallied();
     }

@@ -54,7 +54,7 @@ returns-in-Fork-clause-ok c =
     goes_to_fork c.args.self.now c.fork.new.self c.in_ok-child-in-Fork.child.value c.args.expr c.deref-in-Fork.result c.deref-in-Fork-2.result c.deref-in-Fork-3.result
     c.in-Fork.class c.requires.begins
     (rw (c.deref-in-Fork.ensures, c.deref-in-Fork-2.ensures, c.deref-in-Fork-3.ensures) (ap tree_of c.in-Fork.is))
-    c.in_ok-child-in-Fork.ensures.ok c.in_ok-child-in-Fork.ensures.work
+    c.in_ok-child-in-Fork.ensures.ok
 
 pub returns-clause-ok : goal.returns-clause-ok
 returns-clause-ok c =

@@ -18,7 +18,7 @@ returns-then-count-max-clause-ok c =
     let s = c.args.stretch in
     let long : max 1 s.grain < s.end - s.first = omega (arith, c.if-count-max.true, c.max.ensures, c.saturating_sub-count.ensures) in
     goes_to_half c.args.self.now c.halve.new.self c.in_ok-child.child.value s (s.first + c.saturating_sub-count.result / 2) c.requires.covers long
-    (ap (λ n. s.first + n / 2) c.saturating_sub-count.ensures) c.in_ok-child.ensures.ok c.in_ok-child.ensures.work
+    (ap (λ n. s.first + n / 2) c.saturating_sub-count.ensures) c.in_ok-child.ensures.ok
 
 pub returns-clause-ok : goal.returns-clause-ok
 returns-clause-ok c =

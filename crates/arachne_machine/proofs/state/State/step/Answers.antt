@@ -1,4 +1,4 @@
-use Rattle.std.proofs.Common.{◌≡◌, refl, sym, subst}
+use Rattle.std.proofs.Common.{◌≡◌, [], refl, sym, subst}
 use Rattle.arachne_machine.specs.declared.state.State.{State}
 use Rattle.arachne_machine.specs.Ending.{locks_of}
 use Rattle.arachne_machine.specs.Steps.{Goes, giving}
@@ -8,7 +8,7 @@ use Rattle.arachne_machine.proofs.state.State.step.Goals.{in-Begin+in_ok-value-i
 use Rattle.arachne_machine.proofs.state.State.step.Goals as goal
 
 record Follows (old new : State) : Type 0 where
-  pub goes : Goes 0 old new
+  pub goes : Goes 0 [] old new
   pub locks : locks_of new ≡ locks_of old
 
 pub returns-clause-ok : goal.returns-clause-ok

@@ -1,6 +1,7 @@
 use Rattle.std.proofs.Common.{◌≡◌, refl, sym, ap, ◌∙◌, subst}
 use Rattle.arachne_lang.specs.Effects.{held}
 use Rattle.arachne_lang.specs.Program.{source_of}
+use Rattle.arachne_machine.specs.declared.pause.Pending.TheVariants as pause
 use Rattle.arachne_machine.specs.Suspended.{SameThread, IsAsk, raised}
 use Rattle.arachne_machine.specs.Steps.{suspended}
 use Rattle.arachne_machine.specs.Sound.{IsSound}
@@ -17,13 +18,13 @@ pub invariant_of-self : goal.invariant_of-self
 invariant_of-self c =
     let t = c.deref_mut.result.now in
     let sound : IsSound t = subst IsSound (sym c.deref_mut.ensures.value) c.self.invariant in
-    sound_counts t c.granted.new.self (held c.granted.ensures.0) sound refl (λ name next. refl) c.granted.ensures.2
+    sound_counts t c.granted.new.self (pause.Asks c.granted.ensures.0) (held c.granted.ensures.0) sound refl (λ name next. refl) c.granted.ensures.2
 
 pub returns-clause-same : goal.returns-clause-same
 returns-clause-same c =
     let t = c.deref_mut.result.now in
     let new = c.granted.new.self in
-    subst (λ v. SameThread v (suspended new)) (ap suspended c.deref_mut.ensures.value ∙ c.self.view_is) (counted_seen t new (held c.granted.ensures.0) c.granted.ensures.2)
+    subst (λ v. SameThread v (suspended new)) (ap suspended c.deref_mut.ensures.value ∙ c.self.view_is) (counted_seen t new (pause.Asks c.granted.ensures.0) (held c.granted.ensures.0) c.granted.ensures.2)
 
 pub returns-clause-locks : goal.returns-clause-locks
 returns-clause-locks c =
@@ -51,4 +52,12 @@ returns-clause-holds c =
       lock,
       sym (ap (λ v. v.pending) seen) ∙ c.granted.ensures.1,
       raised_is n sound.account.holds lock 1 _ _ sound.holds (c.granted.ensures.2.holds n sound.account.holds sound.holds) ∙ ap (λ v. raised v.holds lock 1) seen,
+    )
+
+pub returns-clause-pauses : goal.returns-clause-pauses
+returns-clause-pauses c =
+    let seen : suspended c.deref_mut.result.now ≡ c.args.self.now = ap suspended c.deref_mut.ensures.value ∙ c.self.view_is in (
+      pause.Asks c.granted.ensures.0,
+      sym (ap (λ v. v.pending) seen) ∙ c.granted.ensures.1,
+      sym (c.granted.ensures.2.pauses ∙ ap (λ v. v.pauses) seen),
     )

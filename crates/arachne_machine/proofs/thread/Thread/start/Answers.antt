@@ -1,8 +1,10 @@
-use Rattle.std.proofs.Common.{Some, ap, sym, ◌∙◌}
+use Rattle.std.proofs.Common.{[], ◌∷◌, ◌++◌, Some, ap, sym, ◌∙◌}
 use Rattle.arachne_lang.specs.Program.{source_of, tree_of}
 use Rattle.arachne_lang.specs.Effects.{Evaluate}
 use Rattle.arachne_lang.specs.Meaning.{task_of}
 use Rattle.arachne_machine.specs.Work.{work_of}
+use Rattle.arachne_machine.specs.Pauses.{pauses_of}
+use Rattle.arachne_machine.specs.declared.pause.Pending.TheVariants as pause
 use Rattle.arachne_machine.proofs.Faultlessness.{checked_root}
 use Rattle.arachne_machine.proofs.Soundness.{sound_new}
 use Rattle.arachne_machine.proofs.thread.Thread.start.Goals as goal
@@ -17,4 +19,9 @@ invariant_of-result c =
 pub returns-clause-work : goal.returns-clause-work
 returns-clause-work c =
     let source = source_of c.args.program.now in
-    c.in_ok-state.ensures.work ∙ ap (work_of source.arrays source.root) c.new-environment.ensures.items
+    c.in_ok-state.ensures.fresh.work ∙ ap (work_of source.arrays source.root) c.new-environment.ensures.items
+
+pub returns-clause-pauses : goal.returns-clause-pauses
+returns-clause-pauses c =
+    let source = source_of c.args.program.now in
+    c.in_ok-state.ensures.fresh.pauses ∙ ap (λ env. pauses_of source.arrays source.root env ++ pause.Ended ∷ []) c.new-environment.ensures.items

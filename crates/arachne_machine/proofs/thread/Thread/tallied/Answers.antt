@@ -1,6 +1,7 @@
 use Rattle.std.proofs.Common.{◌≡◌, refl, sym, ap, ◌∙◌, subst}
 use Rattle.arachne_lang.specs.Effects.{tallied}
 use Rattle.arachne_lang.specs.Program.{source_of}
+use Rattle.arachne_machine.specs.declared.pause.Pending.TheVariants as pause
 use Rattle.arachne_machine.specs.Suspended.{SameThread, IsTally, raised}
 use Rattle.arachne_machine.specs.Steps.{suspended}
 use Rattle.arachne_machine.specs.Sound.{IsSound}
@@ -17,13 +18,13 @@ pub invariant_of-self : goal.invariant_of-self
 invariant_of-self c =
     let t = c.deref_mut.result.now in
     let sound : IsSound t = subst IsSound (sym c.deref_mut.ensures.value) c.self.invariant in
-    sound_counts t c.tallied.new.self (tallied c.tallied.ensures.0 c.tallied.ensures.1) sound refl (λ name next. refl) c.tallied.ensures.3
+    sound_counts t c.tallied.new.self (pause.Tallies c.tallied.ensures.0 c.tallied.ensures.1) (tallied c.tallied.ensures.0 c.tallied.ensures.1) sound refl (λ name next. refl) c.tallied.ensures.3
 
 pub returns-clause-same : goal.returns-clause-same
 returns-clause-same c =
     let t = c.deref_mut.result.now in
     let new = c.tallied.new.self in
-    subst (λ v. SameThread v (suspended new)) (ap suspended c.deref_mut.ensures.value ∙ c.self.view_is) (counted_seen t new (tallied c.tallied.ensures.0 c.tallied.ensures.1) c.tallied.ensures.3)
+    subst (λ v. SameThread v (suspended new)) (ap suspended c.deref_mut.ensures.value ∙ c.self.view_is) (counted_seen t new (pause.Tallies c.tallied.ensures.0 c.tallied.ensures.1) (tallied c.tallied.ensures.0 c.tallied.ensures.1) c.tallied.ensures.3)
 
 pub returns-clause-locks : goal.returns-clause-locks
 returns-clause-locks c =
@@ -54,3 +55,11 @@ returns-clause-holds c =
     let sound : IsSound t = subst IsSound (sym c.deref_mut.ensures.value) c.self.invariant in
     let n = (source_of t.program.now).locks in
     kept_is n sound.account.holds _ _ sound.holds (c.tallied.ensures.3.holds n sound.account.holds sound.holds) ∙ ap (λ v. v.holds) seen
+
+pub returns-clause-pauses : goal.returns-clause-pauses
+returns-clause-pauses c =
+    let seen : suspended c.deref_mut.result.now ≡ c.args.self.now = ap suspended c.deref_mut.ensures.value ∙ c.self.view_is in (
+      pause.Tallies c.tallied.ensures.0 c.tallied.ensures.1,
+      sym (ap (λ v. v.pending) seen) ∙ c.tallied.ensures.2,
+      sym (c.tallied.ensures.3.pauses ∙ ap (λ v. v.pauses) seen),
+    )
