@@ -13,4 +13,4 @@ pub mod Joining
 pub mod Soundness
 pub mod Advancing
 pub mod Waiting
-pub mod WorkedSteps
+pub mod WorkedPrograms
