@@ -1,24 +1,29 @@
 -- What callers see of an advance.
-use Rattle.std.proofs.Common.{ℕ, List, [], ◌∷◌, ◌++◌, Option, None, Some, ◌≡◌, refl, sym, subst, ◌∙◌}
-use Rattle.arachne_lang.specs.Tree.{Source}
+use Rattle.std.proofs.Common.{ℕ, List, [], ◌∷◌, ◌++◌, Option, None, Some, inl, inr, ◌≡◌, refl, ap, sym, subst, ◌∙◌, arith}
+use Rattle.std.specs.Prelude.{max}
+use Rattle.std.proofs.lemmas.Bool.{cases_lt}
+use Rattle.arachne_lang.specs.Tree.{Tree, Source, Number, Variable, Length, Item, Binary, Choose, Bind, Tally, Hold, Fork, Fold, Sweep}
+use Rattle.arachne_lang.specs.Effects.{Task, Evaluate, Reduce}
+use Rattle.arachne_machine.specs.Trace.{Event, At, trace_of, task_trace}
+use Rattle.arachne_machine.proofs.Halves.{trace_whole, trace_split}
 use Rattle.arachne_machine.specs.declared.frame.Frame.{Frame}
 use Rattle.arachne_machine.specs.declared.frame.Control.{Control}
 use Rattle.arachne_machine.specs.declared.frame.Control.TheVariants.{Begin, Give, Cover, Forked, Halved, Awaits, AwaitsHalf, Asks, Frees, Tallies, Ended}
 use Rattle.arachne_machine.specs.declared.pause.Pending.TheVariants as pause
 use Rattle.arachne_machine.specs.Suspended.{IsNext}
-use Rattle.arachne_machine.specs.Ending.{begun, begun_pauses, resume_pauses, frames_left, pauses_left}
+use Rattle.arachne_machine.specs.Ending.{stretch_task, begun, begun_trace, resume_trace, frames_left, trace_left}
 use Rattle.arachne_machine.specs.declared.state.State.{State}
 use Rattle.arachne_machine.specs.declared.state.Stop.{Stop}
 use Rattle.arachne_machine.specs.declared.state.Stop.TheVariants as stop
 use Rattle.arachne_machine.specs.Advance.{Advanced}
 use Rattle.arachne_machine.specs.Stops.{pause_of, IsSoundStop}
 use Rattle.arachne_machine.specs.Steps.{AfterSteps, pending_of, suspended}
-use Rattle.arachne_lang.specs.Program.{source_of}
+use Rattle.arachne_lang.specs.Program.{source_of, tree_of}
 use Rattle.arachne_lang.specs.Checked.{IsChecked}
 use Rattle.arachne_machine.specs.Faultless.{PausesWithin}
 use Rattle.arachne_machine.specs.Sound.{IsSound}
 use Rattle.arachne_machine.proofs.Faultlessness.{pauses_within}
-use Rattle.arachne_machine.proofs.Soundness.{sound_goes, sound_fork, sound_child, fork_has_task, same_thread, within_seen, forked_seen, stopped_seen}
+use Rattle.arachne_machine.proofs.Soundness.{sound_goes, sound_fork, sound_child, same_thread, within_seen, forked_seen, stopped_seen}
 
 pub sound_after : (n : ℕ) (old new : State) (s : Option Stop) → IsSound old → AfterSteps n old s new → IsSound new
 sound_after n old new None s h = sound_goes n [] old new s h.0
@@ -34,7 +39,8 @@ sound_stop n old new (Some (stop.Forks class child)) s h = sound_child n old new
 sound_stop n old new _ s h = tt
 
 pub advanced_seen : (n : ℕ) (old new : State) (s : Option Stop) → IsSound old → AfterSteps n old s new → Advanced n (suspended old) (pause_of s) (suspended new)
-advanced_seen n old new None s h = (same_thread n old new h.0, h.2, h.1, h.0.work)
+advanced_seen n old new None s h =
+    (same_thread n old new h.0, h.2, h.1, record { made = n; at_least = omega arith; at_most = omega arith; work = h.0.work; trace = sym h.0.trace })
 advanced_seen n old new (Some (stop.Forks class child)) s h = forked_seen n old new child.value _ s h
 advanced_seen n old new (Some stop.Joins) s h =
     (same_thread h.0.made old new h.0.goes, h.2, h.1, stopped_seen h.0.made old new h.0.goes h.1, within_seen 1 n old new h.0)
@@ -58,29 +64,50 @@ pub within_after : (n : ℕ) (old new : State) (s : Option Stop) → IsSound old
 within_after n old new s sound h checked =
     pauses_within new ((sound_after n old new s sound h).faultless (subst (λ p. IsChecked (source_of p.now)) (sym (program_after n old new s h)) checked))
 
--- It leaves the pauses that were left, the next of which is the one at which it stops.
-pub pauses_after : (n : ℕ) (old new : State) (s : Option Stop) → IsSound old → AfterSteps n old s new → pauses_left new ≡ pauses_left old
-pauses_after n old new None s h = h.0.pauses
-pauses_after n old new (Some (stop.Forks class child)) s h = (h.keeps (fork_has_task n old new child.value _ s h)).pauses
-pauses_after n old new (Some stop.Joins) s h = h.0.goes.pauses
-pauses_after n old new (Some (stop.Asks lock)) s h = h.0.goes.pauses
-pauses_after n old new (Some (stop.Frees lock)) s h = h.0.goes.pauses
-pauses_after n old new (Some (stop.Tallies ledger amount)) s h = h.0.goes.pauses
-pauses_after n old new (Some stop.Ended) s h = h.0.goes.pauses
+-- a thread that goes on begins with a step
+trace_of-step : (arrays : List (List ℕ)) (tree : Tree) (env : List ℕ) → IsNext None (trace_of arrays tree env)
+trace_of-step arrays (Number n) env = (_, refl)
+trace_of-step arrays (Variable n) env = (_, refl)
+trace_of-step arrays (Length a) env = (_, refl)
+trace_of-step arrays (Item a index) env = (_, refl)
+trace_of-step arrays (Binary operation a b) env = (_, refl)
+trace_of-step arrays (Choose condition a b) env = (_, refl)
+trace_of-step arrays (Bind bound body) env = (_, refl)
+trace_of-step arrays (Tally ledger amount body) env = (_, refl)
+trace_of-step arrays (Hold lock body) env = (_, refl)
+trace_of-step arrays (Fork class child during next) env = (_, refl)
+trace_of-step arrays (Fold from to first body) env = (_, refl)
+trace_of-step arrays (Sweep reduction grain from to body) env = (_, refl)
 
-next_pause : (source : Source) (name : List ℕ) (fs : List Frame) (env : List ℕ) (k : Control) →
-    IsNext (pending_of k) (begun_pauses source name k env ++ resume_pauses source name (frames_left k fs) (begun source name k env) ++ pause.Ended ∷ [])
-next_pause source name fs env (Begin expr) = tt
-next_pause source name fs env (Give value) = tt
-next_pause source name fs env (Cover stretch) = tt
-next_pause source name fs env (Forked expr) = (_, refl)
-next_pause source name fs env (Halved stretch) = (_, refl)
-next_pause source name fs env (Awaits number during next) = (_, refl)
-next_pause source name fs env (AwaitsHalf number right reduction) = (_, refl)
-next_pause source name fs env (Asks lock body) = (_, refl)
-next_pause source name fs env (Frees lock value) = (_, refl)
-next_pause source name fs env (Tallies ledger amount body) = (_, refl)
-next_pause source name fs env (Ended value) = (_, refl)
+task_trace-step : (arrays : List (List ℕ)) (task : Task) → IsNext None (task_trace arrays task)
+task_trace-step arrays (Evaluate tree env) = trace_of-step arrays tree env
+task_trace-step arrays (Reduce reduction grain body env first n) = elim (cases_lt (max 1 grain) n) [
+  | inl lt ↦ (_, trace_split arrays reduction grain body env first n lt)
+  | inr le ↦ (_, trace_whole arrays reduction grain body env first n le)
+]
 
-pub pauses_next : (t : State) → IsNext (pending_of t.control) (pauses_left t)
-pauses_next t = next_pause (source_of t.program.now) t.own.name t.frames.items t.environment.items t.control
+step_first : (xs ys : List Event) → IsNext None xs → IsNext None (xs ++ ys)
+step_first xs ys first = (first.0 ++ ys, ap (λ l. l ++ ys) first.1)
+
+next_event : (source : Source) (name : List ℕ) (fs : List Frame) (env : List ℕ) (k : Control) →
+    IsNext (pending_of k) (begun_trace source name k env ++ resume_trace source name (frames_left k fs) (begun source name k env) ++ At pause.Ended ∷ [])
+next_event source name fs env (Begin expr) =
+    let t = trace_of source.arrays (tree_of expr.now) env in
+    let below = resume_trace source name fs (begun source name (Begin expr) env) in
+    step_first (t ++ below) (At pause.Ended ∷ []) (step_first t below (trace_of-step source.arrays (tree_of expr.now) env))
+next_event source name fs env (Give value) = (_, refl)
+next_event source name fs env (Cover stretch) =
+    let t = task_trace source.arrays (stretch_task stretch env) in
+    let below = resume_trace source name fs (begun source name (Cover stretch) env) in
+    step_first (t ++ below) (At pause.Ended ∷ []) (step_first t below (task_trace-step source.arrays (stretch_task stretch env)))
+next_event source name fs env (Forked expr) = (_, refl)
+next_event source name fs env (Halved stretch) = (_, refl)
+next_event source name fs env (Awaits number during next) = (_, refl)
+next_event source name fs env (AwaitsHalf number right reduction) = (_, refl)
+next_event source name fs env (Asks lock body) = (_, refl)
+next_event source name fs env (Frees lock value) = (_, refl)
+next_event source name fs env (Tallies ledger amount body) = (_, refl)
+next_event source name fs env (Ended value) = (_, refl)
+
+pub trace_next : (t : State) → IsNext (pending_of t.control) (trace_left t)
+trace_next t = next_event (source_of t.program.now) t.own.name t.frames.items t.environment.items t.control

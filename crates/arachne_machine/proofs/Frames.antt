@@ -1,13 +1,14 @@
 -- Laws of the frames: the newest is the last.
-use Rattle.std.proofs.Common.{◌≡◌, ◌≤◌, length-append, ℕ, ◌+◌, List, [], ◌∷◌, ◌++◌, length, refl, ap, sym, ◌∙◌, arith, append_assoc}
+use Rattle.std.proofs.Common.{◌≡◌, ◌≤◌, length-append, ℕ, zero, suc, ◌+◌, List, [], ◌∷◌, ◌++◌, length, refl, ap, sym, ◌∙◌, arith, append_assoc}
 use Rattle.std.proofs.lemmas.List.{append-nil}
 use Rattle.arachne_lang.specs.Tree.{Source}
 use Rattle.arachne_lang.specs.Effects.{Child, Effects, effects_of}
 use Rattle.arachne_machine.specs.declared.frame.Frame.{Frame}
 use Rattle.arachne_machine.specs.declared.frame.Frame.TheVariants.{Index, Right, Apply, Branch, Extend, Amount, Release, Join, Merge, FoldTo, FoldFirst, FoldStart, FoldTurn, SweepTo, SweepStart, SweepTurn, Restore}
 use Rattle.arachne_machine.specs.Account.{Account, after, with_join}
-use Rattle.arachne_machine.specs.Ending.{Status, unwind, accounted, account_joined, frame_work, frame_pauses, resume, resume_account, resume_work, resume_pauses, fork_of, forks_of, lock_of, releases}
+use Rattle.arachne_machine.specs.Ending.{Status, unwind, accounted, account_joined, frame_work, frame_trace, resume, resume_account, resume_work, resume_trace, fork_of, forks_of, lock_of, releases}
 use Rattle.arachne_lang.specs.Program.{tree_of}
+use Rattle.arachne_machine.specs.Trace.{Event, with_steps}
 
 pub resume-append : (source : Source) (name : List ℕ) (fs gs : List Frame) (s : Status) →
     resume source name (fs ++ gs) s ≡ resume source name fs (resume source name gs s)
@@ -30,15 +31,25 @@ resume_work-append source name (f ∷ fs) gs s =
     let h = resume_work-append source name fs gs s in
     omega (arith, e, h)
 
-pub resume_pauses-append : (source : Source) (name : List ℕ) (fs gs : List Frame) (s : Status) →
-    resume_pauses source name (fs ++ gs) s ≡ resume_pauses source name gs s ++ resume_pauses source name fs (resume source name gs s)
-resume_pauses-append source name [] gs s = sym (append-nil (resume_pauses source name gs s))
-resume_pauses-append source name (f ∷ fs) gs s =
+pub resume_trace-append : (source : Source) (name : List ℕ) (fs gs : List Frame) (s : Status) →
+    resume_trace source name (fs ++ gs) s ≡ resume_trace source name gs s ++ resume_trace source name fs (resume source name gs s)
+resume_trace-append source name [] gs s = sym (append-nil (resume_trace source name gs s))
+resume_trace-append source name (f ∷ fs) gs s =
     let s' = resume source name gs s in
-    let last = frame_pauses source name f (resume source name fs s') in
-    ap (λ x. resume_pauses source name (fs ++ gs) s ++ frame_pauses source name f x) (resume-append source name fs gs s)
-    ∙ ap (λ l. l ++ last) (resume_pauses-append source name fs gs s)
-    ∙ append_assoc (resume_pauses source name gs s) (resume_pauses source name fs s') last
+    let last = frame_trace source name f (resume source name fs s') in
+    ap (λ x. resume_trace source name (fs ++ gs) s ++ frame_trace source name f x) (resume-append source name fs gs s)
+    ∙ ap (λ l. l ++ last) (resume_trace-append source name fs gs s)
+    ∙ append_assoc (resume_trace source name gs s) (resume_trace source name fs s') last
+
+pub with_steps-append : (n : ℕ) (xs ys : List Event) → with_steps n (xs ++ ys) ≡ with_steps n xs ++ ys
+with_steps-append zero xs ys = refl
+with_steps-append (suc n) xs ys = ap (with_steps 1) (with_steps-append n xs ys)
+
+pub with_steps-add : (m n : ℕ) (events : List Event) → with_steps (m + n) events ≡ with_steps m (with_steps n events)
+with_steps-add zero n events = ap (λ k. with_steps k events) (omega arith)
+with_steps-add (suc m) n events =
+    let next : suc m + n ≡ suc (m + n) = omega arith in
+    ap (λ k. with_steps k events) next ∙ ap (with_steps 1) (with_steps-add m n events)
 
 pub forks_of-append : (fs gs : List Frame) → forks_of (fs ++ gs) ≡ forks_of gs ++ forks_of fs
 forks_of-append [] gs = sym (append-nil (forks_of gs))

@@ -13,9 +13,9 @@ use Rattle.arachne_lang.specs.Value.{Environment, turns, with_newest, value_of, 
 use Rattle.arachne_lang.specs.Effects.{Reduce, Child, Effects, forked, half, halves, turns_effects, effects_of, task_value, task_effects}
 use Rattle.arachne_machine.specs.declared.pause.Pending.TheVariants as pause
 use Rattle.arachne_machine.specs.Parts.{by_halves}
-use Rattle.arachne_machine.specs.Turns.{swept, swept_effects, swept_work, swept_pauses}
+use Rattle.arachne_machine.specs.Turns.{swept, swept_effects, swept_work, swept_trace}
 use Rattle.arachne_machine.specs.Work.{task_work}
-use Rattle.arachne_machine.specs.Pauses.{task_pauses}
+use Rattle.arachne_machine.specs.Trace.{Step, At, task_trace}
 
 -- Values.
 reduction_assoc : (r : Reduction) (x y z : ℕ) → apply (operation_of r) (apply (operation_of r) x y) z ≡ apply (operation_of r) x (apply (operation_of r) y z)
@@ -175,7 +175,7 @@ effects_split arrays locks r grain body env first n lt =
     (sym (halves-by_halves locks task turn grain m first m))
     ∙ ap (forked locks (task first m) (halves locks task turn grain m first m)) (sym (halves-by_halves locks task turn grain (n - m) (first + m) (n - m)))
 
--- Work and pauses.
+-- Work and traces.
 pub work_whole : (arrays : List (List ℕ)) (r : Reduction) (grain : ℕ) (body : Tree) (env : Environment) (first n : ℕ) → n ≤ max 1 grain →
     task_work arrays (Reduce r grain body env first n) ≡ swept_work arrays body env first n + 2
 work_whole arrays r grain body env first n le = by_halves-whole (λ from k. swept_work arrays body env from k + 2) (λ from k left right. left + right + 2) grain n first n le
@@ -185,13 +185,15 @@ pub work_split : (arrays : List (List ℕ)) (r : Reduction) (grain : ℕ) (body 
     ≡ task_work arrays (Reduce r grain body env first (n / 2)) + task_work arrays (Reduce r grain body env (first + n / 2) (n - n / 2)) + 2
 work_split arrays r grain body env first n lt = by_halves-split (λ from k. swept_work arrays body env from k + 2) (λ from k left right. left + right + 2) grain first n lt
 
-pub pauses_whole : (arrays : List (List ℕ)) (r : Reduction) (grain : ℕ) (body : Tree) (env : Environment) (first n : ℕ) → n ≤ max 1 grain →
-    task_pauses arrays (Reduce r grain body env first n) ≡ swept_pauses arrays body env first n
-pauses_whole arrays r grain body env first n le =
-    by_halves-whole (swept_pauses arrays body env) (λ from k left right. pause.Forks ∷ (right ++ pause.Joins ∷ [])) grain n first n le
+pub trace_whole : (arrays : List (List ℕ)) (r : Reduction) (grain : ℕ) (body : Tree) (env : Environment) (first n : ℕ) → n ≤ max 1 grain →
+    task_trace arrays (Reduce r grain body env first n) ≡ Step ∷ (swept_trace arrays body env first n ++ Step ∷ [])
+trace_whole arrays r grain body env first n le =
+    by_halves-whole (λ from k. Step ∷ (swept_trace arrays body env from k ++ Step ∷ [])) (λ from k left right. Step ∷ At pause.Forks ∷ (right ++ At pause.Joins ∷ Step ∷ []))
+    grain n first n le
 
-pub pauses_split : (arrays : List (List ℕ)) (r : Reduction) (grain : ℕ) (body : Tree) (env : Environment) (first n : ℕ) → max 1 grain < n →
-    task_pauses arrays (Reduce r grain body env first n)
-    ≡ pause.Forks ∷ (task_pauses arrays (Reduce r grain body env (first + n / 2) (n - n / 2)) ++ pause.Joins ∷ [])
-pauses_split arrays r grain body env first n lt =
-    by_halves-split (swept_pauses arrays body env) (λ from k left right. pause.Forks ∷ (right ++ pause.Joins ∷ [])) grain first n lt
+pub trace_split : (arrays : List (List ℕ)) (r : Reduction) (grain : ℕ) (body : Tree) (env : Environment) (first n : ℕ) → max 1 grain < n →
+    task_trace arrays (Reduce r grain body env first n)
+    ≡ Step ∷ At pause.Forks ∷ (task_trace arrays (Reduce r grain body env (first + n / 2) (n - n / 2)) ++ At pause.Joins ∷ Step ∷ [])
+trace_split arrays r grain body env first n lt =
+    by_halves-split (λ from k. Step ∷ (swept_trace arrays body env from k ++ Step ∷ [])) (λ from k left right. Step ∷ At pause.Forks ∷ (right ++ At pause.Joins ∷ Step ∷ []))
+    grain first n lt

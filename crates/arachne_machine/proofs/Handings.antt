@@ -21,13 +21,14 @@ use Rattle.arachne_machine.specs.declared.state.State.{State}
 use Rattle.arachne_machine.specs.declared.state.Stop.TheVariants as stop
 use Rattle.arachne_machine.specs.Account.{Account, after}
 use Rattle.arachne_machine.specs.Work.{work_of}
-use Rattle.arachne_machine.specs.Pauses.{pauses_of}
-use Rattle.arachne_machine.specs.Turns.{folded, folded_effects, folded_work, folded_pauses, swept, swept_effects, swept_work, swept_pauses}
-use Rattle.arachne_machine.specs.Ending.{Status, resume, resume_account, resume_work, resume_pauses, begun, begun_account, begun_work, begun_pauses, fork_awaited, lock_freed, forks_of, releases, frames_left, without_newest}
+use Rattle.arachne_machine.specs.Trace.{with_steps, trace_of}
+use Rattle.arachne_machine.specs.Trace as event
+use Rattle.arachne_machine.specs.Turns.{folded, folded_effects, folded_work, folded_trace, swept, swept_effects, swept_work, swept_trace}
+use Rattle.arachne_machine.specs.Ending.{Status, resume, resume_account, resume_work, resume_trace, begun, begun_account, begun_work, begun_trace, fork_awaited, lock_freed, forks_of, releases, frames_left, without_newest}
 use Rattle.arachne_machine.specs.Faultless.{IsFaultless, GoesWithoutFault}
 use Rattle.arachne_machine.specs.Steps.{Becomes, IsUnchanged, IsPopped, Enters, Goes, GoesWithin, TurnsFold, TurnsSweep, AfterSteps, pending_of, giving}
-use Rattle.arachne_machine.proofs.Halves.{effects_whole, work_whole, pauses_whole}
-use Rattle.arachne_machine.proofs.Ranges.{folded-turn, folded-done, folded_effects-turn, folded_effects-done, folded_work-turn, folded_work-done, folded_pauses-turn, folded_pauses-done, swept-turn, swept-done, swept_effects-turn, swept_effects-done, swept_work-turn, swept_work-done, swept_pauses-turn, swept_pauses-done}
+use Rattle.arachne_machine.proofs.Halves.{effects_whole, work_whole, trace_whole}
+use Rattle.arachne_machine.proofs.Ranges.{folded-turn, folded-done, folded_effects-turn, folded_effects-done, folded_work-turn, folded_work-done, folded_trace-turn, folded_trace-done, swept-turn, swept-done, swept_effects-turn, swept_effects-done, swept_work-turn, swept_work-done, swept_trace-turn, swept_trace-done}
 use Rattle.arachne_machine.proofs.Outlooks.{StepOutlook, Step, at_of, work_at, steps_by, goes_on_by, framed_as, reshaped, later, alone, as_giving}
 
 -- The frame that a value is handed to is taken away, and the thread goes on: with this to do next, or with a new frame.
@@ -73,13 +74,13 @@ hand_index before mid new v a w popped gives is b =
     hands_on 0 before mid new v (Index a) (Give (slice_index (array_at (source_of mid.program.now).arrays a) v)) popped gives
     (framed_as mid new mid.environment.items mid.frames.items mid.frames.items (Give w) (Give (slice_index (array_at (source_of mid.program.now).arrays a) v)) b refl (ap Give is))
     (λ fs. refl) refl refl refl
-    (record { ending = refl; account = λ a any. refl; work = omega arith; pauses = refl; faultless = λ held h. (tt, tt) })
+    (record { ending = refl; account = λ a any. refl; work = omega arith; trace = refl; faultless = λ held h. (tt, tt) })
 
 pub hand_right : (before mid new : State) (v : ℕ) (operation : Operation) (right : Bor Expr) → IsPopped (Right operation right) before mid → mid.control ≡ Give v →
     Enters mid new (Apply operation v) (Begin right) → AfterSteps 1 before None new
 hand_right before mid new v operation right popped gives b =
     hands_to_part before mid new v (Right operation right) (Apply operation v) mid.environment.items right popped gives b refl refl
-    (record { ending = refl; account = λ a any. refl; work = omega arith; pauses = append-nil (pauses_of (source_of mid.program.now).arrays (tree_of right.now) mid.environment.items); faultless = λ held h. ((tt, tt), h.0.0) })
+    (record { ending = refl; account = λ a any. refl; work = omega arith; trace = ap (with_steps 1) (append-nil (trace_of (source_of mid.program.now).arrays (tree_of right.now) mid.environment.items)); faultless = λ held h. ((tt, tt), h.0.0) })
 
 pub hand_apply : (before mid new : State) (v left w : ℕ) (operation : Operation) → IsPopped (Apply operation left) before mid → mid.control ≡ Give v →
     w ≡ apply operation left v → Becomes mid new mid.environment.items mid.frames.items (Give w) → AfterSteps 0 before None new
@@ -87,7 +88,7 @@ hand_apply before mid new v left w operation popped gives is b =
     hands_on 0 before mid new v (Apply operation left) (Give (apply operation left v)) popped gives
     (framed_as mid new mid.environment.items mid.frames.items mid.frames.items (Give w) (Give (apply operation left v)) b refl (ap Give is))
     (λ fs. refl) refl refl refl
-    (record { ending = refl; account = λ a any. refl; work = omega arith; pauses = refl; faultless = λ held h. (tt, tt) })
+    (record { ending = refl; account = λ a any. refl; work = omega arith; trace = refl; faultless = λ held h. (tt, tt) })
 
 pub is_zero : (v : ℕ) → v ≡ 0 → (v == 0) ≡ true
 is_zero v h = ap (λ x. x == 0) h
@@ -103,8 +104,8 @@ chosen source name env v first second true is = record {
   work =
       let e = ap (λ b. if b then work_of source.arrays (tree_of second.now) env else work_of source.arrays (tree_of first.now) env) is in
       omega (arith, e);
-  pauses = append-nil (pauses_of source.arrays (tree_of second.now) env)
-      ∙ ap (λ b. if b then pauses_of source.arrays (tree_of second.now) env else pauses_of source.arrays (tree_of first.now) env) (sym is);
+  trace = ap (with_steps 1) (append-nil (trace_of source.arrays (tree_of second.now) env)
+      ∙ ap (λ b. if b then trace_of source.arrays (tree_of second.now) env else trace_of source.arrays (tree_of first.now) env) (sym is));
   faultless = λ held h. (tt, h.0.0.1);
 }
 chosen source name env v first second false is = record {
@@ -113,8 +114,8 @@ chosen source name env v first second false is = record {
   work =
       let e = ap (λ b. if b then work_of source.arrays (tree_of second.now) env else work_of source.arrays (tree_of first.now) env) is in
       omega (arith, e);
-  pauses = append-nil (pauses_of source.arrays (tree_of first.now) env)
-      ∙ ap (λ b. if b then pauses_of source.arrays (tree_of second.now) env else pauses_of source.arrays (tree_of first.now) env) (sym is);
+  trace = ap (with_steps 1) (append-nil (trace_of source.arrays (tree_of first.now) env)
+      ∙ ap (λ b. if b then trace_of source.arrays (tree_of second.now) env else trace_of source.arrays (tree_of first.now) env) (sym is));
   faultless = λ held h. (tt, h.0.0.0);
 }
 
@@ -133,7 +134,7 @@ hand_extend before mid new v body popped gives b =
     let back : take (length env) (env ++ v ∷ []) ≡ env = take-append_seam env (v ∷ []) in
     let w = value_of source.arrays (tree_of body.now) (with_newest env v) in
     hands_to_part before mid new v (Extend body) (Restore (length env)) (with_newest env v) body popped gives b refl refl
-    (record { ending = ap (λ e. record { env = e; value = w }) back; account = λ a any. refl; work = omega arith; pauses = append-nil (pauses_of source.arrays (tree_of body.now) (with_newest env v)); faultless = λ held h. ((tt, tt), h.0.0) })
+    (record { ending = ap (λ e. record { env = e; value = w }) back; account = λ a any. refl; work = omega arith; trace = ap (with_steps 1) (append-nil (trace_of source.arrays (tree_of body.now) (with_newest env v))); faultless = λ held h. ((tt, tt), h.0.0) })
 
 pub hand_restore : (before mid new : State) (v n : ℕ) → IsPopped (Restore n) before mid → mid.control ≡ Give v →
     Becomes mid new (take n mid.environment.items) mid.frames.items mid.control → AfterSteps 0 before None new
@@ -143,7 +144,7 @@ hand_restore before mid new v n popped gives b =
     goes_on_by 0 mid before new (Give v) (Give v) fs (Restore n ∷ []) [] env (take n env)
     (framed_as mid before env (fs ++ Restore n ∷ []) (fs ++ Restore n ∷ []) mid.control (Give v) popped refl gives)
     (framed_as mid new (take n env) (fs ++ []) (fs ++ []) mid.control (Give v) (alone mid new (take n env) mid.control b) refl gives) refl refl refl refl refl
-    (record { ending = refl; account = λ a any. refl; work = omega arith; pauses = refl; faultless = λ held h. (tt, tt) })
+    (record { ending = refl; account = λ a any. refl; work = omega arith; trace = refl; faultless = λ held h. (tt, tt) })
 
 -- one step is within one
 pub once : (old new : State) → Goes 1 [] old new → GoesWithin 1 1 old new
@@ -154,28 +155,28 @@ pub hand_amount : (before mid new : State) (v ledger : ℕ) (body : Bor Expr) �
     Becomes mid new mid.environment.items mid.frames.items (Tallies ledger v body) → AfterSteps 1 before (Some (stop.Tallies ledger v)) new
 hand_amount before mid new v ledger body popped gives b =
     let s = hands_to_stop before mid new v (Amount ledger body) (Tallies ledger v body) popped gives b (λ fs. refl) refl
-    (record { ending = refl; account = λ a any. refl; work = omega arith; pauses = append-nil _; faultless = λ held h. (tt, h.0.0) }) in
+    (record { ending = refl; account = λ a any. refl; work = omega arith; trace = ap (with_steps 1) (append-nil _); faultless = λ held h. (tt, h.0.0) }) in
     (once before new s.goes, s.pending, s.locks ∙ sym s.old_locks)
 
 pub hand_release : (before mid new : State) (v lock : ℕ) → IsPopped (Release lock) before mid → mid.control ≡ Give v →
     Becomes mid new mid.environment.items mid.frames.items (Frees lock v) → AfterSteps 1 before (Some (stop.Frees lock)) new
 hand_release before mid new v lock popped gives b =
     let s = hands_to_stop before mid new v (Release lock) (Frees lock v) popped gives b (λ fs. refl) refl
-    (record { ending = refl; account = λ a any. refl; work = omega arith; pauses = refl; faultless = λ held h. (tt, h.0.0) }) in
+    (record { ending = refl; account = λ a any. refl; work = omega arith; trace = refl; faultless = λ held h. (tt, h.0.0) }) in
     (once before new s.goes, s.pending, s.locks ∙ sym s.old_locks, (releases mid.frames.items, s.locks))
 
 pub hand_join : (before mid new : State) (v number : ℕ) (next : Bor Expr) → IsPopped (Join number next) before mid → mid.control ≡ Give v →
     Becomes mid new mid.environment.items mid.frames.items (Awaits number v next) → AfterSteps 1 before (Some stop.Joins) new
 hand_join before mid new v number next popped gives b =
     let s = hands_to_stop before mid new v (Join number next) (Awaits number v next) popped gives b (λ fs. refl) refl
-    (record { ending = refl; account = λ a any. refl; work = omega arith; pauses = append-nil _; faultless = λ held h. (tt, h.0.0) }) in
+    (record { ending = refl; account = λ a any. refl; work = omega arith; trace = ap (with_steps 1) (append-nil _); faultless = λ held h. (tt, h.0.0) }) in
     (once before new s.goes, s.pending, s.locks ∙ sym s.old_locks)
 
 pub hand_merge : (before mid new : State) (v number : ℕ) (reduction : Reduction) → IsPopped (Merge number reduction) before mid → mid.control ≡ Give v →
     Becomes mid new mid.environment.items mid.frames.items (AwaitsHalf number v reduction) → AfterSteps 1 before (Some stop.Joins) new
 hand_merge before mid new v number reduction popped gives b =
     let s = hands_to_stop before mid new v (Merge number reduction) (AwaitsHalf number v reduction) popped gives b (λ fs. refl) refl
-    (record { ending = refl; account = λ a any. refl; work = omega arith; pauses = refl; faultless = λ held h. (tt, h.0.0) }) in
+    (record { ending = refl; account = λ a any. refl; work = omega arith; trace = refl; faultless = λ held h. (tt, h.0.0) }) in
     (once before new s.goes, s.pending, s.locks ∙ sym s.old_locks)
 
 -- no frame is left
@@ -195,7 +196,7 @@ ends old mid new v same gives none b =
     } in
     let s = steps_by 1 mid old new (Give v) (Ended v) [] [] [] env env back
     (framed_as mid new env mid.frames.items [] (Ended v) (Ended v) b none refl) refl refl refl
-    (record { ending = refl; account = λ a any. refl; work = omega arith; pauses = refl; faultless = λ held h. (tt, tt) }) in (
+    (record { ending = refl; account = λ a any. refl; work = omega arith; trace = refl; faultless = λ held h. (tt, tt) }) in (
       once old new s.goes,
       s.pending,
       ap (λ k. fork_awaited k ++ forks_of new.frames.items) b.control_is ∙ ap forks_of (b.frames_are ∙ none),
@@ -209,13 +210,13 @@ pub hand_fold_to : (before mid new : State) (v : ℕ) (to first body : Bor Expr)
     Enters mid new (FoldFirst v first body) (Begin to) → AfterSteps 1 before None new
 hand_fold_to before mid new v to first body popped gives b =
     hands_to_part before mid new v (FoldTo to first body) (FoldFirst v first body) mid.environment.items to popped gives b refl refl
-    (record { ending = refl; account = λ a any. refl; work = omega arith; pauses = refl; faultless = λ held h. (((h.0.0.1, h.0.0.2), tt), h.0.0.0) })
+    (record { ending = refl; account = λ a any. refl; work = omega arith; trace = refl; faultless = λ held h. (((h.0.0.1, h.0.0.2), tt), h.0.0.0) })
 
 pub hand_fold_first : (before mid new : State) (v from : ℕ) (first body : Bor Expr) → IsPopped (FoldFirst from first body) before mid → mid.control ≡ Give v →
     Enters mid new (FoldStart from v body) (Begin first) → AfterSteps 1 before None new
 hand_fold_first before mid new v from first body popped gives b =
     hands_to_part before mid new v (FoldFirst from first body) (FoldStart from v body) mid.environment.items first popped gives b refl refl
-    (record { ending = refl; account = λ a any. refl; work = omega arith; pauses = refl; faultless = λ held h. ((h.0.0.1, tt), h.0.0.0) })
+    (record { ending = refl; account = λ a any. refl; work = omega arith; trace = refl; faultless = λ held h. ((h.0.0.1, tt), h.0.0.0) })
 
 without-two : (env : List ℕ) (x y : ℕ) → without_newest 2 (with_newest (with_newest env x) y) ≡ env
 without-two env x y =
@@ -247,7 +248,9 @@ fold_turn source name env v next end body lt =
       work =
           let e = ap (λ e. folded_work A t e (next + 1) n w) back in
           omega (arith, e, folded_work-turn A t env next end v lt);
-      pauses = ap (λ e. pauses_of A t inner ++ folded_pauses A t e (next + 1) n w) back ∙ sym (folded_pauses-turn A t env next end v lt);
+      trace = ap (with_steps 1) (ap (λ e. trace_of A t inner ++ (folded_trace A t e (next + 1) n w ++ event.Step ∷ [])) back
+          ∙ sym (append_assoc (trace_of A t inner) (folded_trace A t env (next + 1) n w) (event.Step ∷ []))
+          ∙ ap (λ l. l ++ event.Step ∷ []) (sym (folded_trace-turn A t env next end v lt)));
       faultless = λ held h. ((h.0.0, tt), h.0.0);
     }
 
@@ -257,7 +260,7 @@ fold_end source name env v next end body le = record {
   ending = ap (λ x. record { env = env; value = x }) (sym (folded-done source.arrays (tree_of body.now) env next end v le));
   account = λ a any. sym (folded_effects-done source.arrays source.locks (tree_of body.now) env next end v name a le);
   work = omega (arith, folded_work-done source.arrays (tree_of body.now) env next end v le);
-  pauses = sym (folded_pauses-done source.arrays (tree_of body.now) env next end v le);
+  trace = ap (λ l. with_steps 1 (l ++ event.Step ∷ [])) (sym (folded_trace-done source.arrays (tree_of body.now) env next end v le));
   faultless = λ held h. (tt, tt);
 }
 
@@ -277,7 +280,7 @@ hand_fold_start before mid new v from to body popped gives turns =
 fold_on : (source : Source) (name env : List ℕ) (v next end : ℕ) (body : Bor Expr) (k' : Control) (gs' : List Frame) (env' : List ℕ) →
     StepOutlook 1 source name (Give v) (FoldStart next end body ∷ []) (without_newest 2 env) k' gs' env' →
     StepOutlook 1 source name (Give v) (FoldTurn next end body ∷ []) env k' gs' env'
-fold_on source name env v next end body k' gs' env' s = record { ending = s.ending; account = s.account; work = s.work; pauses = s.pauses; faultless = s.faultless }
+fold_on source name env v next end body k' gs' env' s = record { ending = s.ending; account = s.account; work = s.work; trace = s.trace; faultless = s.faultless }
 
 pub fold_giving : (t new : State) (v next end : ℕ) (body : Bor Expr) (so_far : ℕ) → TurnsFold t new next end body so_far → TurnsFold (giving t v) new next end body so_far
 fold_giving t new v next end body so_far turns = record {
@@ -321,14 +324,14 @@ pub hand_sweep_to : (before mid new : State) (v : ℕ) (reduction : Reduction) (
     Enters mid new (SweepStart reduction grain v body) (Begin to) → AfterSteps 1 before None new
 hand_sweep_to before mid new v reduction grain to body popped gives b =
     hands_to_part before mid new v (SweepTo reduction grain to body) (SweepStart reduction grain v body) mid.environment.items to popped gives b refl refl
-    (record { ending = refl; account = λ a any. refl; work = omega arith; pauses = refl; faultless = λ held h. (((h.0.0.0, h.0.0.2), tt), h.0.0.1) })
+    (record { ending = refl; account = λ a any. refl; work = omega arith; trace = refl; faultless = λ held h. (((h.0.0.0, h.0.0.2), tt), h.0.0.1) })
 
 pub hand_sweep_start : (before mid new : State) (v : ℕ) (reduction : Reduction) (grain first : ℕ) (body : Bor Expr) → IsPopped (SweepStart reduction grain first body) before mid → mid.control ≡ Give v →
     Becomes mid new mid.environment.items mid.frames.items (Cover (record { reduction = reduction; grain = grain; first = first; end = v; body = body })) → AfterSteps 1 before None new
 hand_sweep_start before mid new v reduction grain first body popped gives b =
     hands_on 1 before mid new v (SweepStart reduction grain first body) (Cover (record { reduction = reduction; grain = grain; first = first; end = v; body = body })) popped gives b
     (λ fs. refl) refl refl refl
-    (record { ending = refl; account = λ a any. refl; work = omega arith; pauses = append-nil _; faultless = λ held h. (tt, h.0.0) })
+    (record { ending = refl; account = λ a any. refl; work = omega arith; trace = ap (with_steps 1) (append-nil _); faultless = λ held h. (tt, h.0.0) })
 
 -- What a sweep that has a value so far comes to is what these frames and this come to.
 record Sweeps (source : Source) (name : List ℕ) (env : List ℕ) (reduction : Reduction) (next end x : ℕ) (body : Tree) (k' : Control) (gs' : List Frame) (env' : List ℕ) : Type 0 where
@@ -337,7 +340,7 @@ record Sweeps (source : Source) (name : List ℕ) (env : List ℕ) (reduction : 
       resume_account source name gs' (begun source name k' env') (begun_account source name k' env' a)
       ≡ after name (swept_effects source.arrays source.locks body env next (end - next)) a
   pub work : begun_work source name k' env' + resume_work source name gs' (begun source name k' env') ≡ swept_work source.arrays body env next (end - next) + 1
-  pub pauses : begun_pauses source name k' env' ++ resume_pauses source name gs' (begun source name k' env') ≡ swept_pauses source.arrays body env next (end - next)
+  pub trace : begun_trace source name k' env' ++ resume_trace source name gs' (begun source name k' env') ≡ swept_trace source.arrays body env next (end - next) ++ event.Step ∷ []
   pub faultless : (held : Bool) → IsFaultless source held body → GoesWithoutFault source held gs' k'
 
 sweep_turn : (source : Source) (name env : List ℕ) (reduction : Reduction) (next end x : ℕ) (body : Bor Expr) → next < end →
@@ -358,7 +361,9 @@ sweep_turn source name env reduction next end x body lt =
       work =
           let e = ap (λ e. swept_work A t e (next + 1) n) back in
           omega (arith, e, swept_work-turn A t env next end lt);
-      pauses = ap (λ e. pauses_of A t inner ++ swept_pauses A t e (next + 1) n) back ∙ sym (swept_pauses-turn A t env next end lt);
+      trace = ap (λ e. trace_of A t inner ++ (swept_trace A t e (next + 1) n ++ event.Step ∷ [])) back
+          ∙ sym (append_assoc (trace_of A t inner) (swept_trace A t env (next + 1) n) (event.Step ∷ []))
+          ∙ ap (λ l. l ++ event.Step ∷ []) (sym (swept_trace-turn A t env next end lt));
       faultless = λ held h. ((h, tt), h);
     }
 
@@ -368,7 +373,7 @@ sweep_end source name env reduction next end x body le = record {
   ending = ap (λ y. record { env = env; value = y }) (sym (swept-done source.arrays reduction body env next end x le));
   account = λ a. sym (swept_effects-done source.arrays source.locks body env next end name a le);
   work = omega (arith, swept_work-done source.arrays body env next end le);
-  pauses = sym (swept_pauses-done source.arrays body env next end le);
+  trace = ap (λ l. l ++ event.Step ∷ []) (sym (swept_trace-done source.arrays body env next end le));
   faultless = λ held h. (tt, tt);
 }
 
@@ -377,7 +382,7 @@ sweep_on : (source : Source) (name env less : List ℕ) (v so_far : ℕ) (reduct
     StepOutlook 1 source name (Give v) (SweepTurn reduction next end so_far body ∷ []) env k' gs' env'
 sweep_on source name env less v so_far reduction next end body k' gs' env' is s =
     let s' = subst (λ e. Sweeps source name e reduction next end (apply (operation_of reduction) so_far v) (tree_of body.now) k' gs' env') is s in
-    record { ending = s'.ending; account = λ a any. s'.account a; work = omega (arith, s'.work); pauses = s'.pauses; faultless = λ held h. s'.faultless held h.0.0 }
+    record { ending = s'.ending; account = λ a any. s'.account a; work = omega (arith, s'.work); trace = ap (with_steps 1) s'.trace; faultless = λ held h. s'.faultless held h.0.0 }
 
 -- In the midst of a sweep, once its newest variable was dropped.
 pub hand_sweep_turn : (before mid outer new : State) (v : ℕ) (reduction : Reduction) (next end so_far w : ℕ) (body : Bor Expr) (k : Control) → IsPopped (SweepTurn reduction next end so_far body) before mid → mid.control ≡ Give v →
@@ -423,8 +428,8 @@ covered source name env stretch k' gs' env' le s = record {
   account = λ a any. s.account a
       ∙ ap (λ e. after name e a) (sym (effects_whole source.arrays source.locks stretch.reduction stretch.grain (tree_of stretch.body.now) env stretch.first (stretch.end - stretch.first) le));
   work = omega (arith, s.work, work_whole source.arrays stretch.reduction stretch.grain (tree_of stretch.body.now) env stretch.first (stretch.end - stretch.first) le);
-  pauses = s.pauses
-      ∙ sym (pauses_whole source.arrays stretch.reduction stretch.grain (tree_of stretch.body.now) env stretch.first (stretch.end - stretch.first) le)
+  trace = ap (with_steps 1) s.trace
+      ∙ sym (trace_whole source.arrays stretch.reduction stretch.grain (tree_of stretch.body.now) env stretch.first (stretch.end - stretch.first) le)
       ∙ sym (append-nil _);
   faultless = λ held h. s.faultless held h.1.1;
 }

@@ -18,6 +18,7 @@ use Rattle.arachne_machine.specs.declared.frame.Control.TheVariants.{Begin, Give
 use Rattle.arachne_machine.specs.declared.pause.Pending.{Pending}
 use Rattle.arachne_machine.specs.declared.pause.Pending.TheVariants as pause
 use Rattle.arachne_machine.specs.declared.state.State.{State}
+use Rattle.arachne_machine.specs.Trace.{At}
 use Rattle.arachne_machine.specs.Outcome.{Finished}
 use Rattle.arachne_machine.specs.Account.{after}
 use Rattle.arachne_machine.specs.Ending.{child_task, joined_env, account_joined, fork_awaited, lock_freed, forks_of, releases, frames_left}
@@ -33,7 +34,7 @@ joins_by : (old new : State) (outcome : Finished) (n : ℕ) (k k' : Control) (gs
     ((fs : List Frame) → frames_left k fs ≡ fs) → ((fs : List Frame) → frames_left k' fs ≡ fs) →
     fork_awaited k ++ [] ≡ n ∷ (fork_awaited k' ++ forks_of gs') → lock_freed k' ++ releases gs' ≡ lock_freed k ++ [] → pending_of k' ≡ None →
     (outcome.value ≡ task_value (source_of old.program.now).arrays (child_task (source_of old.program.now) old.own.name n) →
-    SameOutlook 0 (pause.Joins ∷ []) Any (account_joined (source_of old.program.now) old.own.name n) (source_of old.program.now) old.own.name k [] old.environment.items k' gs' env') →
+    SameOutlook 0 0 (At pause.Joins ∷ []) Any (account_joined (source_of old.program.now) old.own.name n) (source_of old.program.now) old.own.name k [] old.environment.items k' gs' env') →
     Joins old outcome new
 joins_by old new outcome n k k' gs' env' is_k is_name program own forks is_k' frames environment below sums left left' joined locks pending outlook =
     let source = source_of old.program.now in
@@ -60,8 +61,8 @@ joins_by old new outcome n k k' gs' env' is_k is_name program own forks is_k' fr
       below = below;
       sums = sums;
       keeps = λ is_value.
-          let end = same_end 0 (pause.Joins ∷ []) Any (account_joined source name n) source name k k' fs [] gs' env env' old new at at' (left (fs ++ [])) (left' (fs ++ gs')) (outlook is_value) in
-          record { ending = end.ending; account = λ a. end.account a tt; work = omega (arith, end.work); pauses = end.pauses; faultless = end.faultless };
+          let end = same_end 0 0 (At pause.Joins ∷ []) Any (account_joined source name n) source name k k' fs [] gs' env env' old new at at' (left (fs ++ [])) (left' (fs ++ gs')) (outlook is_value) in
+          record { ending = end.ending; account = λ a. end.account a tt; work = omega (arith, end.work); trace = end.trace; faultless = end.faultless };
     }
 
 take-two : (env : List ℕ) (x y : ℕ) → take (length env) (with_newest (with_newest env x) y) ≡ env
@@ -69,7 +70,7 @@ take-two env x y = ap (take (length env)) (append_assoc env (x ∷ []) (y ∷ []
 
 -- The child's value becomes the newest variable but one.
 join_outlook : (source : Source) (name env : List ℕ) (n v : ℕ) (next : Bor Expr) →
-    SameOutlook 0 (pause.Joins ∷ []) Any (account_joined source name n) source name (Awaits n v next) [] env (Begin next) (Restore (length env) ∷ []) (joined_env source name n (record { env = env; value = v }))
+    SameOutlook 0 0 (At pause.Joins ∷ []) Any (account_joined source name n) source name (Awaits n v next) [] env (Begin next) (Restore (length env) ∷ []) (joined_env source name n (record { env = env; value = v }))
 join_outlook source name env n v next =
     let x = task_value source.arrays (child_task source name n) in
     let inner = with_newest (with_newest env x) v in
@@ -79,7 +80,7 @@ join_outlook source name env n v next =
       ending = ap (λ e. record { env = e; value = w }) back;
       account = λ a any. refl;
       work = omega arith;
-      pauses = refl;
+      trace = refl;
       faultless = λ held h. ((tt, tt), h.1.1);
     }
 
@@ -96,7 +97,7 @@ joins_fork old new outcome n v next awaits is_name program own forks control fra
     let env = old.environment.items in
     joins_by old new outcome n (Awaits n v next) (Begin next) (Restore (length env) ∷ []) (with_newest (with_newest env outcome.value) v) awaits is_name
     program own forks control frames environment below sums (λ fs. refl) (λ fs. refl) refl refl refl
-    (λ is_value. subst (λ x. SameOutlook 0 (pause.Joins ∷ []) Any (account_joined source name n) source name (Awaits n v next) [] env (Begin next) (Restore (length env) ∷ []) (with_newest (with_newest env x) v))
+    (λ is_value. subst (λ x. SameOutlook 0 0 (At pause.Joins ∷ []) Any (account_joined source name n) source name (Awaits n v next) [] env (Begin next) (Restore (length env) ∷ []) (with_newest (with_newest env x) v))
     (sym is_value) (join_outlook source name env n v next))
 
 pub joins_half : (old new : State) (outcome : Finished) (n right w : ℕ) (reduction : Reduction) → old.control ≡ AwaitsHalf n right reduction → outcome.name ≡ old.own.name ++ n ∷ [] →
@@ -115,7 +116,7 @@ joins_half old new outcome n right w reduction awaits is_name program own forks 
       ending = ap (λ x. record { env = env; value = x }) (is ∙ ap (λ x. apply (operation_of reduction) x right) is_value);
       account = λ a any. refl;
       work = omega arith;
-      pauses = refl;
+      trace = refl;
       faultless = λ held h. (tt, tt);
     })
 
@@ -134,7 +135,7 @@ counts_by : (old new : State) (answered : Pending) (effects : Effects) (k k' : C
     ((n : ℕ) (own : ℕ → ℕ) → old.own.holds.items ≡ tabulated n own → new.own.holds.items ≡ tabulated n (λ lock. own lock + effects.holds lock)) →
     ((fs : List Frame) → frames_left k fs ≡ fs) → ((fs : List Frame) → frames_left k' fs ≡ fs) →
     fork_awaited k' ≡ fork_awaited k → lock_freed k' ≡ lock_freed k → pending_of k' ≡ None →
-    SameOutlook 0 (answered ∷ []) Any (after old.own.name effects) (source_of old.program.now) old.own.name k [] old.environment.items k' [] old.environment.items →
+    SameOutlook 0 0 (At answered ∷ []) Any (after old.own.name effects) (source_of old.program.now) old.own.name k [] old.environment.items k' [] old.environment.items →
     Counts answered effects old new
 counts_by old new answered effects k k' is_k is_k' program is_name tag below forks frames environment sums holds left left' awaits locks pending outlook =
     let source = source_of old.program.now in
@@ -149,7 +150,7 @@ counts_by old new answered effects k k' is_k is_k' program is_name tag below for
       frames_are = frames ∙ sym (append-nil fs);
       environment_is = environment;
     } in
-    let end = same_end 0 (answered ∷ []) Any (after name effects) source name k k' fs [] [] env env old new at at' (left (fs ++ [])) (left' (fs ++ [])) outlook in
+    let end = same_end 0 0 (At answered ∷ []) Any (after name effects) source name k k' fs [] [] env env old new at at' (left (fs ++ [])) (left' (fs ++ [])) outlook in
     record {
       program = program;
       name = is_name;
@@ -166,7 +167,7 @@ counts_by old new answered effects k k' is_k is_k' program is_name tag below for
       ending = end.ending;
       account = λ a. end.account a tt;
       work = omega (arith, end.work);
-      pauses = end.pauses;
+      trace = end.trace;
       faultless = end.faultless;
     }
 
@@ -178,7 +179,7 @@ pub counts_hold : (old new : State) (lock : ℕ) (body : Bor Expr) → old.contr
     Counts (pause.Asks lock) (held lock) old new
 counts_hold old new lock body asks begins program is_name tag below forks frames environment sums holds =
     counts_by old new (pause.Asks lock) (held lock) (Asks lock body) (Begin body) asks begins program is_name tag below forks frames environment sums holds
-    (λ fs. refl) (λ fs. refl) refl refl refl (record { ending = refl; account = λ a any. refl; work = omega arith; pauses = refl; faultless = λ held h. (tt, h.1.1) })
+    (λ fs. refl) (λ fs. refl) refl refl refl (record { ending = refl; account = λ a any. refl; work = omega arith; trace = refl; faultless = λ held h. (tt, h.1.1) })
 
 pub counts_tally : (old new : State) (ledger amount : ℕ) (body : Bor Expr) → old.control ≡ Tallies ledger amount body → new.control ≡ Begin body →
     new.program ≡ old.program → new.own.name ≡ old.own.name → new.own.tag ≡ old.own.tag → new.below.items ≡ old.below.items → new.forks ≡ old.forks →
@@ -188,4 +189,4 @@ pub counts_tally : (old new : State) (ledger amount : ℕ) (body : Bor Expr) →
     Counts (pause.Tallies ledger amount) (tallied ledger amount) old new
 counts_tally old new ledger amount body tallies begins program is_name tag below forks frames environment sums holds =
     counts_by old new (pause.Tallies ledger amount) (tallied ledger amount) (Tallies ledger amount body) (Begin body) tallies begins program is_name tag below forks frames environment sums holds
-    (λ fs. refl) (λ fs. refl) refl refl refl (record { ending = refl; account = λ a any. refl; work = omega arith; pauses = refl; faultless = λ held h. (tt, h.1.1) })
+    (λ fs. refl) (λ fs. refl) refl refl refl (record { ending = refl; account = λ a any. refl; work = omega arith; trace = refl; faultless = λ held h. (tt, h.1.1) })

@@ -17,10 +17,10 @@ use Rattle.arachne_machine.specs.declared.frame.Control.{Control}
 use Rattle.arachne_machine.specs.declared.frame.Control.TheVariants.{Begin, Give, Asks}
 use Rattle.arachne_machine.specs.declared.state.State.{State}
 use Rattle.arachne_machine.specs.Work.{work_of}
-use Rattle.arachne_machine.specs.Pauses.{pauses_of}
+use Rattle.arachne_machine.specs.Trace.{with_steps, trace_of}
 use Rattle.arachne_machine.specs.Turns.{folded_effects}
 use Rattle.arachne_machine.specs.Account.{Account, after}
-use Rattle.arachne_machine.specs.Ending.{resume, resume_account, resume_work, resume_pauses, begun, begun_account, begun_work, begun_pauses, fork_awaited, forks_of, releases, frames_left}
+use Rattle.arachne_machine.specs.Ending.{resume, resume_account, resume_work, resume_trace, begun, begun_account, begun_work, begun_trace, fork_awaited, forks_of, releases, frames_left}
 use Rattle.arachne_lang.specs.Checked.{node_faults, unless}
 use Rattle.arachne_machine.specs.Faultless.{IsFaultless, GoesWithoutFault}
 use Rattle.arachne_machine.specs.Steps.{Becomes, AfterSteps}
@@ -34,7 +34,7 @@ pub record Opens (steps : ℕ) (source : Source) (name : List ℕ) (tree : Tree)
   pub account : (a : Account) →
       resume_account source name gs' (begun source name k' env) (begun_account source name k' env a) ≡ after name (effects_of source.arrays source.locks tree env) a
   pub work : begun_work source name k' env + resume_work source name gs' (begun source name k' env) + steps ≡ work_of source.arrays tree env
-  pub pauses : begun_pauses source name k' env ++ resume_pauses source name gs' (begun source name k' env) ≡ pauses_of source.arrays tree env
+  pub trace : with_steps steps (begun_trace source name k' env ++ resume_trace source name gs' (begun source name k' env)) ≡ trace_of source.arrays tree env
   pub faultless : (held : Bool) → IsFaultless source held tree → GoesWithoutFault source held gs' k'
 
 opened : (steps : ℕ) (source : Source) (name : List ℕ) (expr : Bor Expr) (env : List ℕ) (k' : Control) (gs' : List Frame) → Opens steps source name (tree_of expr.now) env k' gs' →
@@ -43,7 +43,7 @@ opened steps source name expr env k' gs' o = record {
   ending = o.ending;
   account = λ a any. o.account a;
   work = omega (arith, o.work);
-  pauses = o.pauses ∙ sym (append-nil (pauses_of source.arrays (tree_of expr.now) env));
+  trace = o.trace ∙ sym (append-nil (trace_of source.arrays (tree_of expr.now) env));
   faultless = λ held h. o.faultless held h.1;
 }
 
@@ -78,17 +78,17 @@ goes_to_part old new expr part tree f begins is_tree b forks locks o =
     (s.goes, s.pending, s.locks ∙ ap (λ l. l ++ releases old.frames.items) locks ∙ sym s.old_locks)
 
 pub open_number : (source : Source) (name : List ℕ) (env : List ℕ) (n : ℕ) → Opens 0 source name (Number n) env (Give n) []
-open_number source name env n = record { ending = refl; account = λ a. sym (after-nothing name a); work = omega arith; pauses = refl; faultless = λ held h. (tt, tt) }
+open_number source name env n = record { ending = refl; account = λ a. sym (after-nothing name a); work = omega arith; trace = refl; faultless = λ held h. (tt, tt) }
 
 pub open_variable : (source : Source) (name : List ℕ) (env : List ℕ) (n : ℕ) → Opens 0 source name (Variable n) env (Give (slice_index env n)) []
-open_variable source name env n = record { ending = refl; account = λ a. sym (after-nothing name a); work = omega arith; pauses = refl; faultless = λ held h. (tt, tt) }
+open_variable source name env n = record { ending = refl; account = λ a. sym (after-nothing name a); work = omega arith; trace = refl; faultless = λ held h. (tt, tt) }
 
 pub open_length : (source : Source) (name : List ℕ) (env : List ℕ) (n : ℕ) → Opens 0 source name (Length n) env (Give (length (array_at source.arrays n))) []
-open_length source name env n = record { ending = refl; account = λ a. sym (after-nothing name a); work = omega arith; pauses = refl; faultless = λ held h. (tt, tt) }
+open_length source name env n = record { ending = refl; account = λ a. sym (after-nothing name a); work = omega arith; trace = refl; faultless = λ held h. (tt, tt) }
 
 pub open_item : (source : Source) (name : List ℕ) (env : List ℕ) (n : ℕ) (index : Bor Expr) →
     Opens 1 source name (Item n (tree_of index.now)) env (Begin index) (Index n ∷ [])
-open_item source name env n index = record { ending = refl; account = λ a. refl; work = omega arith; pauses = append-nil (pauses_of source.arrays (tree_of index.now) env); faultless = λ held h. ((tt, tt), (h.0, h.1.1)) }
+open_item source name env n index = record { ending = refl; account = λ a. refl; work = omega arith; trace = ap (with_steps 1) (append-nil (trace_of source.arrays (tree_of index.now) env)); faultless = λ held h. ((tt, tt), (h.0, h.1.1)) }
 
 pub open_binary : (source : Source) (name : List ℕ) (env : List ℕ) (operation : Operation) (left right : Bor Expr) →
     Opens 1 source name (Binary operation (tree_of left.now) (tree_of right.now)) env (Begin left) (Right operation right ∷ [])
@@ -96,7 +96,7 @@ open_binary source name env operation left right = record {
   ending = refl;
   account = λ a. sym (after-sequence name (effects_of source.arrays source.locks (tree_of left.now) env) (effects_of source.arrays source.locks (tree_of right.now) env) a);
   work = omega arith;
-  pauses = refl;
+  trace = refl;
   faultless = λ held h.
       let parts = no_faults-append (node_faults source held h.0 (tree_of left.now)) (node_faults source held h.0 (tree_of right.now)) h.1.1 in
       (((h.0, parts.1), tt), (h.0, parts.0));
@@ -110,7 +110,7 @@ open_choice source name env condition first second = record {
       (if value_of source.arrays (tree_of condition.now) env == 0 then effects_of source.arrays source.locks (tree_of second.now) env
       else effects_of source.arrays source.locks (tree_of first.now) env) a);
   work = omega arith;
-  pauses = refl;
+  trace = refl;
   faultless = λ held h.
       let within = node_faults source held h.0 in
       let parts = no_faults-append (within (tree_of condition.now) ++ within (tree_of first.now)) (within (tree_of second.now)) h.1.1 in
@@ -125,7 +125,7 @@ open_binding source name env bound body = record {
   account = λ a. sym (after-sequence name (effects_of source.arrays source.locks (tree_of bound.now) env)
       (effects_of source.arrays source.locks (tree_of body.now) (with_newest env (value_of source.arrays (tree_of bound.now) env))) a);
   work = omega arith;
-  pauses = refl;
+  trace = refl;
   faultless = λ held h.
       let parts = no_faults-append (node_faults source held h.0 (tree_of bound.now)) (node_faults source held (h.0 + 1) (tree_of body.now)) h.1.1 in
       (((h.0 + 1, parts.1), tt), (h.0, parts.0));
@@ -141,7 +141,7 @@ open_tally source name env ledger amount body =
       ending = refl;
       account = λ a. ap (after name b) (sym (after-sequence name e t a)) ∙ sym (after-sequence name (e ⨾ t) b a);
       work = omega arith;
-      pauses = refl;
+      trace = refl;
       faultless = λ held h.
           let parts = no_faults-append (node_faults source held h.0 (tree_of amount.now)) (node_faults source held h.0 (tree_of body.now)) h.1.1 in
           let there = less ledger source.ledgers (unless_none (nat_lt ledger source.ledgers) fault.NoLedger h.1.0) in
@@ -154,7 +154,7 @@ open_hold source name env lock body = record {
   ending = refl;
   account = λ a. sym (after-sequence name (held lock) (effects_of source.arrays source.locks (tree_of body.now) env) a);
   work = omega arith;
-  pauses = refl;
+  trace = refl;
   faultless = λ held h.
       let judged = or_else_none held fault.WithinHold (unless (nat_lt lock source.locks) fault.NoLock) h.1.0 in
       let there = less lock source.locks (unless_none (nat_lt lock source.locks) fault.NoLock judged.1) in
@@ -176,7 +176,7 @@ open_fold source name env from to first body =
           ∙ ap (after name h) (sym (after-sequence name (e ⨾ f) g a))
           ∙ sym (after-sequence name (e ⨾ f ⨾ g) h a);
       work = omega arith;
-      pauses = refl;
+      trace = refl;
       faultless = λ held h.
           let within = node_faults source held h.0 in
           let turn = node_faults source held (h.0 + 2) (tree_of body.now) in
@@ -198,7 +198,7 @@ open_sweep source name env reduction grain from to body =
       ending = refl;
       account = λ a. ap (after name h) (sym (after-sequence name e f a)) ∙ sym (after-sequence name (e ⨾ f) h a);
       work = omega arith;
-      pauses = refl;
+      trace = refl;
       faultless = λ held h.
           let judged = or_else_none held fault.WithinHold (unless (nat_lt 0 grain) fault.NoGrain) h.1.0 in
           let within = node_faults source held h.0 in

@@ -5,29 +5,29 @@ use Rattle.arachne_lang.specs.Tree.{Source}
 use Rattle.arachne_lang.specs.Program.{source_of}
 use Rattle.arachne_machine.specs.declared.frame.Frame.{Frame}
 use Rattle.arachne_machine.specs.declared.frame.Control.{Control}
-use Rattle.arachne_machine.specs.declared.pause.Pending.{Pending}
+use Rattle.arachne_machine.specs.Trace.{Event, At, with_steps}
 use Rattle.arachne_machine.specs.declared.pause.Pending.TheVariants as pause
 use Rattle.arachne_machine.specs.declared.state.State.{State}
 use Rattle.arachne_machine.specs.Account.{Account}
-use Rattle.arachne_machine.specs.Ending.{Status, resume, resume_account, resume_work, resume_pauses, begun, begun_account, begun_work, begun_pauses, fork_awaited, lock_freed, forks_of, releases, frames_left, ending, account_at_end, work_left, pauses_left, unjoined_of, locks_of}
+use Rattle.arachne_machine.specs.Ending.{Status, resume, resume_account, resume_work, resume_trace, begun, begun_account, begun_work, begun_trace, fork_awaited, lock_freed, forks_of, releases, frames_left, ending, account_at_end, work_left, trace_left, unjoined_of, locks_of}
 use Rattle.arachne_machine.specs.Faultless.{GoesWithoutFault, IsWithoutFault}
 use Rattle.arachne_machine.specs.Steps.{Becomes, Goes, AfterSteps, pending_of, giving}
 use Rattle.arachne_machine.proofs.Faultlessness.{faultless_above}
-use Rattle.arachne_machine.proofs.Frames.{resume-append, resume_account-append, resume_work-append, resume_pauses-append, forks_of-append, releases-append}
+use Rattle.arachne_machine.proofs.Frames.{resume-append, resume_account-append, resume_work-append, resume_trace-append, with_steps-append, forks_of-append, releases-append}
 
 -- From what comes next, the newest frames and the environment to the new ones the end is the same, if the accounts that fit are taken like this, and these
--- pauses are answered.
-pub record SameOutlook (steps : ℕ) (answered : List Pending) (fits : Account → Type 0) (taken : Account → Account) (source : Source) (name : List ℕ) (k : Control) (gs : List Frame) (env : List ℕ) (k' : Control) (gs' : List Frame) (env' : List ℕ) : Type 0 where
+-- pauses are answered. So many of the steps that were left are handed to a child.
+pub record SameOutlook (steps handed : ℕ) (answered : List Event) (fits : Account → Type 0) (taken : Account → Account) (source : Source) (name : List ℕ) (k : Control) (gs : List Frame) (env : List ℕ) (k' : Control) (gs' : List Frame) (env' : List ℕ) : Type 0 where
   pub ending : resume source name gs' (begun source name k' env') ≡ resume source name gs (begun source name k env)
   pub account : (a : Account) → fits a →
       resume_account source name gs' (begun source name k' env') (begun_account source name k' env' (taken a))
       ≡ resume_account source name gs (begun source name k env) (begun_account source name k env a)
   pub work :
-      begun_work source name k' env' + resume_work source name gs' (begun source name k' env') + steps
+      begun_work source name k' env' + resume_work source name gs' (begun source name k' env') + handed + steps
       ≡ begun_work source name k env + resume_work source name gs (begun source name k env)
-  pub pauses :
-      answered ++ (begun_pauses source name k' env' ++ resume_pauses source name gs' (begun source name k' env'))
-      ≡ begun_pauses source name k env ++ resume_pauses source name gs (begun source name k env)
+  pub trace :
+      with_steps steps (answered ++ (begun_trace source name k' env' ++ resume_trace source name gs' (begun source name k' env')))
+      ≡ begun_trace source name k env ++ resume_trace source name gs (begun source name k env)
   pub faultless : (held : Bool) → GoesWithoutFault source held gs k → GoesWithoutFault source held gs' k'
 
 -- the parts of a thread that its end depends on
@@ -65,32 +65,32 @@ work_at source name k fs env t at =
     ∙ ap (λ x. begun_work source name k t.environment.items + resume_work source name (frames_left k x) (begun source name k t.environment.items)) at.frames_are
     ∙ ap (λ x. begun_work source name k x + resume_work source name (frames_left k fs) (begun source name k x)) at.environment_is
 
--- the pauses of what comes next and the newest frames, and those of the frames below
-abbrev pauses_by : Source → List ℕ → Control → List Frame → List Frame → List ℕ → List Pending
-pauses_by source name k fs gs env =
+-- the trace of what comes next and the newest frames, and that of the frames below
+abbrev trace_by : Source → List ℕ → Control → List Frame → List Frame → List ℕ → List Event
+trace_by source name k fs gs env =
     let s = begun source name k env in
-    (begun_pauses source name k env ++ resume_pauses source name gs s) ++ (resume_pauses source name fs (resume source name gs s) ++ pause.Ended ∷ [])
+    (begun_trace source name k env ++ resume_trace source name gs s) ++ (resume_trace source name fs (resume source name gs s) ++ At pause.Ended ∷ [])
 
-in_two : (xs ys zs ends : List Pending) → (xs ++ (ys ++ zs)) ++ ends ≡ (xs ++ ys) ++ (zs ++ ends)
+in_two : (xs ys zs ends : List Event) → (xs ++ (ys ++ zs)) ++ ends ≡ (xs ++ ys) ++ (zs ++ ends)
 in_two xs ys zs ends = ap (λ l. l ++ ends) (sym (append_assoc xs ys zs)) ∙ append_assoc (xs ++ ys) zs ends
 
-pauses_at : (source : Source) (name : List ℕ) (k : Control) (fs gs : List Frame) (env : List ℕ) (t : State) → IsAt source name k (fs ++ gs) env t →
-    frames_left k (fs ++ gs) ≡ fs ++ gs → pauses_left t ≡ pauses_by source name k fs gs env
-pauses_at source name k fs gs env t at left =
+trace_at : (source : Source) (name : List ℕ) (k : Control) (fs gs : List Frame) (env : List ℕ) (t : State) → IsAt source name k (fs ++ gs) env t →
+    frames_left k (fs ++ gs) ≡ fs ++ gs → trace_left t ≡ trace_by source name k fs gs env
+trace_at source name k fs gs env t at left =
     let s = begun source name k env in
-    let b = begun_pauses source name k env in
-    ap (λ x. begun_pauses x t.own.name t.control t.environment.items
-    ++ resume_pauses x t.own.name (frames_left t.control t.frames.items) (begun x t.own.name t.control t.environment.items) ++ pause.Ended ∷ []) at.source_is
-    ∙ ap (λ x. begun_pauses source x t.control t.environment.items
-    ++ resume_pauses source x (frames_left t.control t.frames.items) (begun source x t.control t.environment.items) ++ pause.Ended ∷ []) at.name_is
-    ∙ ap (λ x. begun_pauses source name x t.environment.items
-    ++ resume_pauses source name (frames_left x t.frames.items) (begun source name x t.environment.items) ++ pause.Ended ∷ []) at.control_is
-    ∙ ap (λ x. begun_pauses source name k t.environment.items
-    ++ resume_pauses source name (frames_left k x) (begun source name k t.environment.items) ++ pause.Ended ∷ []) at.frames_are
-    ∙ ap (λ x. begun_pauses source name k x ++ resume_pauses source name (frames_left k (fs ++ gs)) (begun source name k x) ++ pause.Ended ∷ []) at.environment_is
-    ∙ ap (λ l. b ++ resume_pauses source name l s ++ pause.Ended ∷ []) left
-    ∙ ap (λ l. b ++ l ++ pause.Ended ∷ []) (resume_pauses-append source name fs gs s)
-    ∙ in_two b (resume_pauses source name gs s) (resume_pauses source name fs (resume source name gs s)) (pause.Ended ∷ [])
+    let b = begun_trace source name k env in
+    ap (λ x. begun_trace x t.own.name t.control t.environment.items
+    ++ resume_trace x t.own.name (frames_left t.control t.frames.items) (begun x t.own.name t.control t.environment.items) ++ At pause.Ended ∷ []) at.source_is
+    ∙ ap (λ x. begun_trace source x t.control t.environment.items
+    ++ resume_trace source x (frames_left t.control t.frames.items) (begun source x t.control t.environment.items) ++ At pause.Ended ∷ []) at.name_is
+    ∙ ap (λ x. begun_trace source name x t.environment.items
+    ++ resume_trace source name (frames_left x t.frames.items) (begun source name x t.environment.items) ++ At pause.Ended ∷ []) at.control_is
+    ∙ ap (λ x. begun_trace source name k t.environment.items
+    ++ resume_trace source name (frames_left k x) (begun source name k t.environment.items) ++ At pause.Ended ∷ []) at.frames_are
+    ∙ ap (λ x. begun_trace source name k x ++ resume_trace source name (frames_left k (fs ++ gs)) (begun source name k x) ++ At pause.Ended ∷ []) at.environment_is
+    ∙ ap (λ l. b ++ resume_trace source name l s ++ At pause.Ended ∷ []) left
+    ∙ ap (λ l. b ++ l ++ At pause.Ended ∷ []) (resume_trace-append source name fs gs s)
+    ∙ in_two b (resume_trace source name gs s) (resume_trace source name fs (resume source name gs s)) (At pause.Ended ∷ [])
 
 -- what goes without fault there, and the thread
 pub faultless_at : (source : Source) (name : List ℕ) (k : Control) (fs : List Frame) (env : List ℕ) (t : State) → IsAt source name k fs env t →
@@ -119,18 +119,18 @@ locks_at source name k fs gs env t at =
     ∙ ap (λ x. lock_freed k ++ x) (releases-append fs gs) ∙ sym (append_assoc (lock_freed k) (releases gs) (releases fs))
 
 -- So two threads that are at these parts come to the same.
-pub record SameEnd (steps : ℕ) (answered : List Pending) (fits : Account → Type 0) (taken : Account → Account) (old new : State) : Type 0 where
+pub record SameEnd (steps handed : ℕ) (answered : List Event) (fits : Account → Type 0) (taken : Account → Account) (old new : State) : Type 0 where
   pub ending : ending new ≡ ending old
   pub account : (a : Account) → fits a → account_at_end new (taken a) ≡ account_at_end old a
-  pub work : work_left new + steps ≡ work_left old
-  pub pauses : answered ++ pauses_left new ≡ pauses_left old
+  pub work : work_left new + handed + steps ≡ work_left old
+  pub trace : with_steps steps (answered ++ trace_left new) ≡ trace_left old
   pub faultless : IsWithoutFault old → IsWithoutFault new
 
-pub same_end : (steps : ℕ) (answered : List Pending) (fits : Account → Type 0) (taken : Account → Account) (source : Source) (name : List ℕ) (k k' : Control) (fs gs gs' : List Frame) (env env' : List ℕ) (old new : State) →
+pub same_end : (steps handed : ℕ) (answered : List Event) (fits : Account → Type 0) (taken : Account → Account) (source : Source) (name : List ℕ) (k k' : Control) (fs gs gs' : List Frame) (env env' : List ℕ) (old new : State) →
     IsAt source name k (fs ++ gs) env old → IsAt source name k' (fs ++ gs') env' new →
     frames_left k (fs ++ gs) ≡ fs ++ gs → frames_left k' (fs ++ gs') ≡ fs ++ gs' →
-    SameOutlook steps answered fits taken source name k gs env k' gs' env' → SameEnd steps answered fits taken old new
-same_end steps answered fits taken source name k k' fs gs gs' env env' old new at at' left left' same =
+    SameOutlook steps handed answered fits taken source name k gs env k' gs' env' → SameEnd steps handed answered fits taken old new
+same_end steps handed answered fits taken source name k k' fs gs gs' env env' old new at at' left left' same =
     let s = begun source name k env in
     let s' = begun source name k' env' in
     record {
@@ -155,14 +155,15 @@ same_end steps answered fits taken source name k k' fs gs gs' env env' old new a
           ap (λ l. resume_work source name l s) left ∙ resume_work-append source name fs gs s in
           let rest : resume_work source name fs (resume source name gs' s') ≡ resume_work source name fs (resume source name gs s) = ap (resume_work source name fs) same.ending in
           omega (arith, now, before, now_left, before_left, rest, same.work);
-      pauses =
-          let below : Status → List Pending = λ x. resume_pauses source name fs x ++ pause.Ended ∷ [] in
-          let first = begun_pauses source name k' env' ++ resume_pauses source name gs' s' in
-          ap (λ l. answered ++ l) (pauses_at source name k' fs gs' env' new at' left')
-          ∙ sym (append_assoc answered first (below (resume source name gs' s')))
-          ∙ ap (λ l. l ++ below (resume source name gs' s')) same.pauses
-          ∙ ap (λ x. (begun_pauses source name k env ++ resume_pauses source name gs s) ++ below x) same.ending
-          ∙ sym (pauses_at source name k fs gs env old at left);
+      trace =
+          let below : Status → List Event = λ x. resume_trace source name fs x ++ At pause.Ended ∷ [] in
+          let first = begun_trace source name k' env' ++ resume_trace source name gs' s' in
+          ap (λ l. with_steps steps (answered ++ l)) (trace_at source name k' fs gs' env' new at' left')
+          ∙ ap (with_steps steps) (sym (append_assoc answered first (below (resume source name gs' s'))))
+          ∙ with_steps-append steps (answered ++ first) (below (resume source name gs' s'))
+          ∙ ap (λ l. l ++ below (resume source name gs' s')) same.trace
+          ∙ ap (λ x. (begun_trace source name k env ++ resume_trace source name gs s) ++ below x) same.ending
+          ∙ sym (trace_at source name k fs gs env old at left);
       faultless = λ h.
           at_faultless source name k' (fs ++ gs') env' new at'
           (faultless_above source fs gs gs' k k' same.faultless (faultless_at source name k (fs ++ gs) env old at h));
@@ -176,7 +177,7 @@ itself a = a
 
 -- An outlook of so many steps of its own.
 abbrev pub StepOutlook : ℕ → Source → List ℕ → Control → List Frame → List ℕ → Control → List Frame → List ℕ → Type 0
-StepOutlook steps source name k gs env k' gs' env' = SameOutlook steps [] Any itself source name k gs env k' gs' env'
+StepOutlook steps source name k gs env k' gs' env' = SameOutlook steps 0 [] Any itself source name k gs env k' gs' env'
 
 pub at_of : (mid t : State) (k : Control) (fs : List Frame) (env : List ℕ) → Becomes mid t env fs k → IsAt (source_of mid.program.now) mid.own.name k fs env t
 at_of mid t k fs env b = record {
@@ -204,7 +205,7 @@ steps_by steps mid old new k k' fs gs gs' env env' b b' left left' forks same =
     let name = mid.own.name in
     let at = at_of mid old k (fs ++ gs) env b in
     let at' = at_of mid new k' (fs ++ gs') env' b' in
-    let end = same_end steps [] Any itself source name k k' fs gs gs' env env' old new at at' left left' same in
+    let end = same_end steps 0 [] Any itself source name k k' fs gs gs' env env' old new at at' left left' same in
     record {
       goes = record {
         program = b'.program ∙ sym b.program;
@@ -215,8 +216,8 @@ steps_by steps mid old new k k' fs gs gs' env env' b b' left left' forks same =
         unjoined = unjoined_at source name k' fs gs' env' new at' ∙ ap (λ l. l ++ forks_of fs) forks ∙ sym (unjoined_at source name k fs gs env old at);
         ending = end.ending;
         account = λ a. end.account a tt;
-        work = end.work;
-        pauses = end.pauses;
+        work = omega (arith, end.work);
+        trace = end.trace;
         faultless = end.faultless;
       };
       pending = ap pending_of b'.control_is;

@@ -8,9 +8,8 @@ use Rattle.arachne_lang.specs.Value.{Environment, turns, with_newest, value_of, 
 use Rattle.arachne_lang.specs.Effects.{Effects, nothing, turns_effects, effects_of}
 use Rattle.arachne_machine.specs.Account.{Account, after}
 use Rattle.arachne_machine.specs.Work.{total, work_of}
-use Rattle.arachne_machine.specs.declared.pause.Pending.{Pending}
-use Rattle.arachne_machine.specs.Pauses.{in_turn, pauses_of}
-use Rattle.arachne_machine.specs.Turns.{folded, folded_effects, folded_work, folded_pauses, swept, swept_effects, swept_work, swept_pauses}
+use Rattle.arachne_machine.specs.Trace.{Event, in_turn, trace_of}
+use Rattle.arachne_machine.specs.Turns.{folded, folded_effects, folded_work, folded_trace, swept, swept_effects, swept_work, swept_trace}
 use Rattle.arachne_machine.proofs.Accounts.{after-nothing, after-sequence}
 
 turns-first : (step : ℕ → ℕ → ℕ) (n v : ℕ) → turns step (suc n) v ≡ turns (λ j. step (suc j)) n (step 0 v)
@@ -29,10 +28,10 @@ total-first : (f : ℕ → ℕ) (n : ℕ) → total f (suc n) ≡ f 0 + total (�
 total-first f zero = omega arith
 total-first f (suc n) = omega (arith, total-first f n)
 
-in_turn-first : (pauses : ℕ → List Pending) (n : ℕ) → in_turn pauses (suc n) ≡ pauses 0 ++ in_turn (λ j. pauses (suc j)) n
-in_turn-first pauses zero = sym (append-nil (pauses 0))
-in_turn-first pauses (suc n) =
-    ap (λ l. l ++ pauses (suc n)) (in_turn-first pauses n) ∙ append_assoc (pauses 0) (in_turn (λ j. pauses (suc j)) n) (pauses (suc n))
+in_turn-first : (events : ℕ → List Event) (n : ℕ) → in_turn events (suc n) ≡ events 0 ++ in_turn (λ j. events (suc j)) n
+in_turn-first events zero = sym (append-nil (events 0))
+in_turn-first events (suc n) =
+    ap (λ l. l ++ events (suc n)) (in_turn-first events n) ∙ append_assoc (events 0) (in_turn (λ j. events (suc j)) n) (events (suc n))
 
 -- numbers are counted from the next one on
 counted : (from j : ℕ) → from + suc j ≡ from + 1 + j
@@ -110,21 +109,21 @@ folded_work-turn arrays body env next end v lt =
 pub folded_work-done : (arrays : List (List ℕ)) (body : Tree) (env : Environment) (next end v : ℕ) → end ≤ next → folded_work arrays body env next (end - next) v ≡ 0
 folded_work-done arrays body env next end v le = ap (λ n. folded_work arrays body env next n v) (none_left next end le)
 
-pub folded_pauses-turn : (arrays : List (List ℕ)) (body : Tree) (env : Environment) (next end v : ℕ) → next < end →
-    folded_pauses arrays body env next (end - next) v
-    ≡ pauses_of arrays body (with_newest (with_newest env next) v)
-    ++ folded_pauses arrays body env (next + 1) (end - (next + 1)) (value_of arrays body (with_newest (with_newest env next) v))
-folded_pauses-turn arrays body env next end v lt =
-    let G : ℕ → ℕ → List Pending = λ i s. pauses_of arrays body (with_newest (with_newest env i) s) in
+pub folded_trace-turn : (arrays : List (List ℕ)) (body : Tree) (env : Environment) (next end v : ℕ) → next < end →
+    folded_trace arrays body env next (end - next) v
+    ≡ trace_of arrays body (with_newest (with_newest env next) v)
+    ++ folded_trace arrays body env (next + 1) (end - (next + 1)) (value_of arrays body (with_newest (with_newest env next) v))
+folded_trace-turn arrays body env next end v lt =
+    let G : ℕ → ℕ → List Event = λ i s. trace_of arrays body (with_newest (with_newest env i) s) in
     let n = end - (next + 1) in
     let first : next + 0 ≡ next = omega arith in
-    ap (λ m. folded_pauses arrays body env next m v) (some_left next end lt)
+    ap (λ m. folded_trace arrays body env next m v) (some_left next end lt)
     ∙ in_turn-first (λ j. G (next + j) (folded arrays body env next j v)) n
     ∙ ap (λ i. G i v ++ in_turn (λ j. G (next + suc j) (folded arrays body env next (suc j) v)) n) first
     ∙ ap (λ turn. G next v ++ in_turn turn n) (shifted G arrays body env next v)
 
-pub folded_pauses-done : (arrays : List (List ℕ)) (body : Tree) (env : Environment) (next end v : ℕ) → end ≤ next → folded_pauses arrays body env next (end - next) v ≡ []
-folded_pauses-done arrays body env next end v le = ap (λ n. folded_pauses arrays body env next n v) (none_left next end le)
+pub folded_trace-done : (arrays : List (List ℕ)) (body : Tree) (env : Environment) (next end v : ℕ) → end ≤ next → folded_trace arrays body env next (end - next) v ≡ []
+folded_trace-done arrays body env next end v le = ap (λ n. folded_trace arrays body env next n v) (none_left next end le)
 
 -- Sweeps.
 abbrev sweep_step : List (List ℕ) → Reduction → Tree → Environment → ℕ → ℕ → ℕ
@@ -173,17 +172,17 @@ swept_work-turn arrays body env next end lt =
 pub swept_work-done : (arrays : List (List ℕ)) (body : Tree) (env : Environment) (next end : ℕ) → end ≤ next → swept_work arrays body env next (end - next) ≡ 0
 swept_work-done arrays body env next end le = ap (λ n. swept_work arrays body env next n) (none_left next end le)
 
-pub swept_pauses-turn : (arrays : List (List ℕ)) (body : Tree) (env : Environment) (next end : ℕ) → next < end →
-    swept_pauses arrays body env next (end - next)
-    ≡ pauses_of arrays body (with_newest env next) ++ swept_pauses arrays body env (next + 1) (end - (next + 1))
-swept_pauses-turn arrays body env next end lt =
-    let G : ℕ → List Pending = λ i. pauses_of arrays body (with_newest env i) in
+pub swept_trace-turn : (arrays : List (List ℕ)) (body : Tree) (env : Environment) (next end : ℕ) → next < end →
+    swept_trace arrays body env next (end - next)
+    ≡ trace_of arrays body (with_newest env next) ++ swept_trace arrays body env (next + 1) (end - (next + 1))
+swept_trace-turn arrays body env next end lt =
+    let G : ℕ → List Event = λ i. trace_of arrays body (with_newest env i) in
     let n = end - (next + 1) in
     let first : next + 0 ≡ next = omega arith in
-    ap (λ m. swept_pauses arrays body env next m) (some_left next end lt)
+    ap (λ m. swept_trace arrays body env next m) (some_left next end lt)
     ∙ in_turn-first (λ j. G (next + j)) n
     ∙ ap (λ i. G i ++ in_turn (λ j. G (next + suc j)) n) first
     ∙ ap (λ turn. G next ++ in_turn turn n) (fun_ext (λ j. ap G (counted next j)))
 
-pub swept_pauses-done : (arrays : List (List ℕ)) (body : Tree) (env : Environment) (next end : ℕ) → end ≤ next → swept_pauses arrays body env next (end - next) ≡ []
-swept_pauses-done arrays body env next end le = ap (λ n. swept_pauses arrays body env next n) (none_left next end le)
+pub swept_trace-done : (arrays : List (List ℕ)) (body : Tree) (env : Environment) (next end : ℕ) → end ≤ next → swept_trace arrays body env next (end - next) ≡ []
+swept_trace-done arrays body env next end le = ap (λ n. swept_trace arrays body env next n) (none_left next end le)

@@ -19,12 +19,14 @@ use Rattle.arachne_machine.specs.declared.state.Stop.{Stop}
 use Rattle.arachne_machine.specs.declared.state.Stop.TheVariants as stop
 use Rattle.arachne_machine.specs.Outcome.{Finished, named_holds, meaning_as, meaning_in, outcome_of, IsOfItsName}
 use Rattle.arachne_machine.specs.Account.{Account, untouched, after, with_fork, with_join}
-use Rattle.arachne_machine.specs.Ending.{child_task, ending, account_at_end, unjoined_of, locks_of, resume, resume_account, frames_left, begun, begun_account, fork_awaited, forks_of, lock_freed, releases}
+use Rattle.arachne_machine.specs.Ending.{child_task, ending, account_at_end, trace_left, unjoined_of, locks_of, resume, resume_account, frames_left, begun, begun_account, fork_awaited, forks_of, lock_freed, releases}
 use Rattle.arachne_machine.specs.Steps.{Goes, GoesWithin, GoesToFork, IsNew, Joins, KeepsOverJoin, Counts, AfterSteps, IsUnchanged, pending_of, suspended}
 use Rattle.arachne_lang.specs.Checked.{IsChecked}
 use Rattle.arachne_machine.specs.Faultless.{IsWithoutFault}
 use Rattle.arachne_machine.specs.Sound.{IsSound}
+use Rattle.arachne_machine.specs.Trace.{Event, with_steps}
 use Rattle.arachne_machine.proofs.Accounts.{after-children}
+use Rattle.arachne_machine.proofs.Frames.{with_steps-add}
 use Rattle.arachne_machine.proofs.Names.{task_below-child, slice_get-seam}
 use Rattle.arachne_machine.proofs.Outlooks.{at_of, ending_at, account_at, work_at, at_faultless}
 use Rattle.arachne_machine.proofs.Splitting.{child_task-found}
@@ -42,7 +44,7 @@ goes_on m n k a b c p q e = record {
   ending = q.ending ∙ p.ending;
   account = λ account. q.account account ∙ p.account account;
   work = omega (arith, p.work, q.work, e);
-  pauses = q.pauses ∙ p.pauses;
+  trace = ap (λ j. with_steps j (trace_left c)) e ∙ with_steps-add m n (trace_left c) ∙ ap (with_steps m) q.trace ∙ p.trace;
   faultless = λ h. q.faultless (p.faultless h);
 }
 
@@ -82,9 +84,11 @@ forks_after m n k a b c child made p locks q le =
       keeps = λ h. let kept = q.keeps (named h) in record {
         ending = kept.ending ∙ p.ending;
         account = λ account e. kept.account account (e ∙ sym p.forks) ∙ p.account account;
-        at_least = omega (arith, kept.at_least, p.work);
-        at_most = omega (arith, kept.at_most, p.work, le);
-        pauses = kept.pauses ∙ p.pauses;
+        taken = m + kept.taken;
+        at_least = omega (arith, kept.at_least);
+        at_most = omega (arith, kept.at_most, le);
+        work = omega (arith, kept.work, p.work);
+        trace = with_steps-add m kept.taken (trace_left c) ∙ ap (with_steps m) kept.trace ∙ p.trace;
         faultless = λ h. kept.faultless (p.faultless h);
       };
     }
@@ -124,7 +128,7 @@ sound_new program name tag task t new has faultless =
       faultless = λ checked. faultless (subst (λ x. IsChecked (source_of x)) new.same_program checked);
     }
 
-pub sound_goes : (n : ℕ) (answered : List Pending) (old new : State) → IsSound old → Goes n answered old new → IsSound new
+pub sound_goes : (n : ℕ) (answered : List Event) (old new : State) → IsSound old → Goes n answered old new → IsSound new
 sound_goes n answered old new s g =
     let program_is = sym (ap (λ x. source_of x.now) g.program) in
     let own_is = sym g.own in
@@ -381,7 +385,7 @@ same_thread n old new g = record {
 }
 
 pub within_seen : (least most : ℕ) (old new : State) → GoesWithin least most old new → MakesSteps least most (suspended old) (suspended new)
-within_seen least most old new w = record { at_least = omega (arith, w.at_least, w.goes.work); at_most = omega (arith, w.at_most, w.goes.work) }
+within_seen least most old new w = record { made = w.made; at_least = w.at_least; at_most = w.at_most; work = w.goes.work; trace = sym w.goes.trace }
 
 -- the child that it forks is the one that the program has there
 child_made : (old new child : State) (n : ℕ) (made : Child) (s : IsSound old) → GoesToFork n old new child made →
@@ -417,11 +421,14 @@ forked_seen n old new child made s g =
         not_paused = g.fresh.pending;
       };
       task = made.task;
-      made = child_made old new child n made s g;
-      work = g.fresh.work;
-      pauses = g.fresh.pauses;
+      is_child = child_made old new child n made s g;
+      childs_work = g.fresh.work;
+      childs_trace = g.fresh.trace;
+      made = kept.taken;
       at_least = kept.at_least;
       at_most = kept.at_most;
+      work = kept.work;
+      trace = sym kept.trace;
     }
 
 not_running : ◌≡◌ {A = Option Pending} None (Some pause.Joins) → ⊥
@@ -475,7 +482,7 @@ joined_seen old new outcome s of_name same_source j =
       below = j.below;
       pending = j.pending;
       work = (join_keeps old new outcome of_name same_source j).work;
-      pauses = sym (join_keeps old new outcome of_name same_source j).pauses;
+      trace = sym (join_keeps old new outcome of_name same_source j).trace;
     }
 
 -- both sums have an item for each ledger
@@ -511,7 +518,7 @@ goes_nowhere old new u =
       ending = ending_at source name k fs env new at;
       account = λ a. account_at source name k fs env new a at;
       work = omega (arith, work_at source name k fs env new at);
-      pauses = ap (λ t. t.pauses) (unchanged_seen old new u);
+      trace = ap (λ t. t.trace) (unchanged_seen old new u);
       faultless = at_faultless source name k fs env new at;
     }
 

@@ -20,7 +20,7 @@ use Rattle.arachne_machine.specs.declared.pause.Pending.TheVariants as pause
 use Rattle.arachne_machine.specs.declared.state.State.{State}
 use Rattle.arachne_machine.specs.Account.{Account, after, with_fork, with_join}
 use Rattle.arachne_machine.specs.Work.{work_of, task_work}
-use Rattle.arachne_machine.specs.Pauses.{pauses_of, task_pauses}
+use Rattle.arachne_machine.specs.Trace.{Step, At, trace_of, task_trace}
 use Rattle.arachne_machine.specs.Ending.{child_task, stretch_task, resume_account, begun, begun_account, fork_awaited, lock_freed, forks_of, releases, frames_left, work_left}
 use Rattle.arachne_lang.specs.Checked.{node_faults}
 use Rattle.arachne_lang.specs.declared.check_fault.CheckFault.TheVariants as fault
@@ -28,7 +28,7 @@ use Rattle.arachne_machine.specs.Faultless.{IsFaultless, IsFaultlessNext, held_b
 use Rattle.arachne_machine.specs.Steps.{PushesFork, GoesToFork, task_begun, pending_of}
 use Rattle.arachne_machine.proofs.Accounts.{after-sequence, after-forked, after-children}
 use Rattle.arachne_machine.proofs.Frames.{Grows-frames}
-use Rattle.arachne_machine.proofs.Halves.{value_split, effects_split, work_split, pauses_split}
+use Rattle.arachne_machine.proofs.Halves.{value_split, effects_split, work_split, trace_split}
 use Rattle.arachne_machine.proofs.Faultlessness.{no_faults-append, within_none}
 use Rattle.arachne_machine.proofs.Outlooks.{SameOutlook, IsAt, account_at, faultless_at, unjoined_at, locks_at, same_end}
 
@@ -42,7 +42,7 @@ abbrev pub HasForked : ℕ → Account → Type 0
 HasForked n a = length a.children ≡ n
 
 abbrev pub ForkOutlook : Source → List ℕ → ℕ → Child → Control → List ℕ → Control → Frame → Type 0
-ForkOutlook source name n made k env k' f = SameOutlook (task_work source.arrays made.task + 1) [] (HasForked n) (with_fork made) source name k [] env k' (f ∷ []) env
+ForkOutlook source name n made k env k' f = SameOutlook 1 (task_work source.arrays made.task) [] (HasForked n) (with_fork made) source name k [] env k' (f ∷ []) env
 
 -- This is the next of the children that are still to come.
 abbrev pub ForksNext : Source → List ℕ → Child → Control → List ℕ → Type 0
@@ -97,14 +97,16 @@ forks_by class old new child begins k k' f is_k pushed left left' forks locks pe
                 ∙ grown.is ∙ ap (λ l. l ++ grown.more) one.1 ∙ append_assoc a.children (made ∷ one.0) grown.more,
           );
       keeps = λ has.
-          let end = same_end (task_work source.arrays task + 1) [] (HasForked n) (with_fork made) source name k k' fs [] (f ∷ []) env env old new at at' (left (fs ++ [])) (left' (fs ++ f ∷ []))
+          let end = same_end 1 (task_work source.arrays task) [] (HasForked n) (with_fork made) source name k k' fs [] (f ∷ []) env env old new at at' (left (fs ++ [])) (left' (fs ++ f ∷ []))
           (outlook (child_task-found source name n task has)) in
           record {
             ending = end.ending;
             account = end.account;
-            at_least = omega (arith, end.work, pushed.fresh.work);
-            at_most = omega (arith, end.work, pushed.fresh.work);
-            pauses = end.pauses;
+            taken = 1;
+            at_least = omega arith;
+            at_most = omega arith;
+            work = omega (arith, end.work, pushed.fresh.work);
+            trace = end.trace;
             faultless = λ h. (
               end.faultless h,
               pushed.faultless (childs (held_by false (fs ++ [])) (faultless_at source name k (fs ++ []) env old at h).1),
@@ -150,8 +152,8 @@ fork_outlook source name env n expr child during next class h found =
           let e = ap (λ t. work_of A (tree_of next.now) (joined t)) found in
           let w = ap (λ t. work_of A t env) h in
           omega (arith, e, w);
-      pauses = ap (λ t. pause.Forks ∷ (pauses_of A (tree_of during.now) env ++ pause.Joins ∷ pauses_of A (tree_of next.now) (joined t))) found
-          ∙ ap (λ t. pauses_of A t env) (sym h) ∙ sym (append-nil (pauses_of A (tree_of expr.now) env));
+      trace = ap (λ t. Step ∷ At pause.Forks ∷ (trace_of A (tree_of during.now) env ++ At pause.Joins ∷ trace_of A (tree_of next.now) (joined t))) found
+          ∙ ap (λ t. trace_of A t env) (sym h) ∙ sym (append-nil (trace_of A (tree_of expr.now) env));
       faultless = λ held free.
           let parts = fork_parts source held child during next class (subst (IsFaultless source held) h free.1) in
           (((parts.0, parts.3), tt), (parts.0, parts.2));
@@ -216,10 +218,10 @@ half_outlook source name env n stretch middle lt is found =
           let one = ap (task_work A) here in
           let two = ap (task_work A) there in
           omega (arith, one, two, work_split A r stretch.grain t env stretch.first count lt);
-      pauses =
-          let whole = task_pauses A (R stretch.first count) in
-          ap (λ x. pause.Forks ∷ (task_pauses A x ++ pause.Joins ∷ [])) there
-          ∙ sym (pauses_split A r stretch.grain t env stretch.first count lt) ∙ sym (append-nil whole);
+      trace =
+          let whole = task_trace A (R stretch.first count) in
+          ap (λ x. Step ∷ At pause.Forks ∷ (task_trace A x ++ At pause.Joins ∷ Step ∷ [])) there
+          ∙ sym (trace_split A r stretch.grain t env stretch.first count lt) ∙ sym (append-nil whole);
       faultless = λ held h. ((h.1.0, tt), h.1);
     }
 

@@ -12,7 +12,7 @@ use Rattle.arachne_machine.specs.Suspended.{Suspended, SameThread, MakesSteps, F
 abbrev pub Advanced : ℕ → Suspended → Pause → Suspended → Type 0
 -- the whole budget was used
 Advanced budget old pauses.Budget new =
-    SameThread old new × (new.locks ≡ old.locks) × (new.pending ≡ None) × (new.work + budget ≡ old.work)
+    SameThread old new × (new.locks ≡ old.locks) × (new.pending ≡ None) × MakesSteps budget budget old new
 -- a child was forked
 Advanced budget old (pauses.Forks class child) new = Forked budget class old new child
 -- a child is awaited, the one of the newest fork that is not joined

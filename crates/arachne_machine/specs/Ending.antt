@@ -12,11 +12,10 @@ use Rattle.arachne_machine.specs.declared.frame.Frame.TheVariants.{Index, Right,
 use Rattle.arachne_machine.specs.declared.frame.Control.{Control}
 use Rattle.arachne_machine.specs.declared.frame.Control.TheVariants.{Begin, Give, Cover, Forked, Halved, Awaits, AwaitsHalf, Asks, Frees, Tallies, Ended}
 use Rattle.arachne_machine.specs.declared.state.State.{State}
-use Rattle.arachne_machine.specs.declared.pause.Pending.{Pending}
 use Rattle.arachne_machine.specs.declared.pause.Pending.TheVariants as pause
 use Rattle.arachne_machine.specs.Work.{work_of, task_work}
-use Rattle.arachne_machine.specs.Pauses.{pauses_of, task_pauses}
-use Rattle.arachne_machine.specs.Turns.{folded, folded_effects, folded_work, folded_pauses, swept, swept_effects, swept_work, swept_pauses}
+use Rattle.arachne_machine.specs.Trace.{Event, Step, At, trace_of, task_trace}
+use Rattle.arachne_machine.specs.Turns.{folded, folded_effects, folded_work, folded_trace, swept, swept_effects, swept_work, swept_trace}
 use Rattle.arachne_machine.specs.Account.{Account, after, with_join}
 
 -- the environment and the value that a part of the evaluation leaves
@@ -176,35 +175,36 @@ frame_work source name (SweepTurn reduction next end so_far body) s =
     swept_work source.arrays (tree_of body.now) (without_newest 1 s.env) next (end - next) + 1
 frame_work source name (Restore n) s = 0
 
--- the pauses of a frame once a value was handed to it
-abbrev pub frame_pauses : Source → List ℕ → Frame → Status → List Pending
-frame_pauses source name (Index a) s = []
-frame_pauses source name (Right operation right) s = pauses_of source.arrays (tree_of right.now) s.env
-frame_pauses source name (Apply operation left) s = []
-frame_pauses source name (Branch first second) s =
-    if s.value == 0 then pauses_of source.arrays (tree_of second.now) s.env else pauses_of source.arrays (tree_of first.now) s.env
-frame_pauses source name (Extend body) s = pauses_of source.arrays (tree_of body.now) (with_newest s.env s.value)
-frame_pauses source name (Amount ledger body) s = pause.Tallies ledger s.value ∷ pauses_of source.arrays (tree_of body.now) s.env
-frame_pauses source name (Release lock) s = pause.Frees lock ∷ []
-frame_pauses source name (Join number next) s = pause.Joins ∷ pauses_of source.arrays (tree_of next.now) (joined_env source name number s)
-frame_pauses source name (Merge number reduction) s = pause.Joins ∷ []
-frame_pauses source name (FoldTo to first body) s =
-    pauses_of source.arrays (tree_of to.now) s.env ++ (pauses_of source.arrays (tree_of first.now) s.env
-    ++ folded_pauses source.arrays (tree_of body.now) s.env s.value (value_of source.arrays (tree_of to.now) s.env - s.value)
-    (value_of source.arrays (tree_of first.now) s.env))
-frame_pauses source name (FoldFirst from first body) s =
-    pauses_of source.arrays (tree_of first.now) s.env
-    ++ folded_pauses source.arrays (tree_of body.now) s.env from (s.value - from) (value_of source.arrays (tree_of first.now) s.env)
-frame_pauses source name (FoldStart from to body) s = folded_pauses source.arrays (tree_of body.now) s.env from (to - from) s.value
-frame_pauses source name (FoldTurn next end body) s = folded_pauses source.arrays (tree_of body.now) (without_newest 2 s.env) next (end - next) s.value
-frame_pauses source name (SweepTo reduction grain to body) s =
-    pauses_of source.arrays (tree_of to.now) s.env
-    ++ task_pauses source.arrays (Reduce reduction grain (tree_of body.now) s.env s.value (value_of source.arrays (tree_of to.now) s.env - s.value))
-frame_pauses source name (SweepStart reduction grain from body) s =
-    task_pauses source.arrays (Reduce reduction grain (tree_of body.now) s.env from (s.value - from))
-frame_pauses source name (SweepTurn reduction next end so_far body) s =
-    swept_pauses source.arrays (tree_of body.now) (without_newest 1 s.env) next (end - next)
-frame_pauses source name (Restore n) s = []
+-- the trace of a frame behind the step in which a value is handed to it
+abbrev pub frame_trace : Source → List ℕ → Frame → Status → List Event
+frame_trace source name (Index a) s = []
+frame_trace source name (Right operation right) s = trace_of source.arrays (tree_of right.now) s.env
+frame_trace source name (Apply operation left) s = []
+frame_trace source name (Branch first second) s =
+    if s.value == 0 then trace_of source.arrays (tree_of second.now) s.env else trace_of source.arrays (tree_of first.now) s.env
+frame_trace source name (Extend body) s = trace_of source.arrays (tree_of body.now) (with_newest s.env s.value)
+frame_trace source name (Amount ledger body) s = At (pause.Tallies ledger s.value) ∷ trace_of source.arrays (tree_of body.now) s.env
+frame_trace source name (Release lock) s = At (pause.Frees lock) ∷ Step ∷ []
+frame_trace source name (Join number next) s = At pause.Joins ∷ trace_of source.arrays (tree_of next.now) (joined_env source name number s)
+frame_trace source name (Merge number reduction) s = At pause.Joins ∷ Step ∷ []
+frame_trace source name (FoldTo to first body) s =
+    trace_of source.arrays (tree_of to.now) s.env ++ (trace_of source.arrays (tree_of first.now) s.env
+    ++ (folded_trace source.arrays (tree_of body.now) s.env s.value (value_of source.arrays (tree_of to.now) s.env - s.value)
+    (value_of source.arrays (tree_of first.now) s.env) ++ Step ∷ []))
+frame_trace source name (FoldFirst from first body) s =
+    trace_of source.arrays (tree_of first.now) s.env
+    ++ (folded_trace source.arrays (tree_of body.now) s.env from (s.value - from) (value_of source.arrays (tree_of first.now) s.env) ++ Step ∷ [])
+frame_trace source name (FoldStart from to body) s = folded_trace source.arrays (tree_of body.now) s.env from (to - from) s.value ++ Step ∷ []
+frame_trace source name (FoldTurn next end body) s =
+    folded_trace source.arrays (tree_of body.now) (without_newest 2 s.env) next (end - next) s.value ++ Step ∷ []
+frame_trace source name (SweepTo reduction grain to body) s =
+    trace_of source.arrays (tree_of to.now) s.env
+    ++ task_trace source.arrays (Reduce reduction grain (tree_of body.now) s.env s.value (value_of source.arrays (tree_of to.now) s.env - s.value))
+frame_trace source name (SweepStart reduction grain from body) s =
+    task_trace source.arrays (Reduce reduction grain (tree_of body.now) s.env from (s.value - from))
+frame_trace source name (SweepTurn reduction next end so_far body) s =
+    swept_trace source.arrays (tree_of body.now) (without_newest 1 s.env) next (end - next) ++ Step ∷ []
+frame_trace source name (Restore n) s = []
 
 -- the same for all frames, the newest of which is the last
 abbrev pub resume : Source → List ℕ → List Frame → Status → Status
@@ -220,9 +220,9 @@ abbrev pub resume_work : Source → List ℕ → List Frame → Status → ℕ
 resume_work source name [] s = 0
 resume_work source name (frame ∷ frames) s = frame_work source name frame (resume source name frames s) + resume_work source name frames s
 
-abbrev pub resume_pauses : Source → List ℕ → List Frame → Status → List Pending
-resume_pauses source name [] s = []
-resume_pauses source name (frame ∷ frames) s = resume_pauses source name frames s ++ frame_pauses source name frame (resume source name frames s)
+abbrev pub resume_trace : Source → List ℕ → List Frame → Status → List Event
+resume_trace source name [] s = []
+resume_trace source name (frame ∷ frames) s = resume_trace source name frames s ++ frame_trace source name frame (resume source name frames s)
 
 -- the forks among frames, the newest first
 abbrev pub fork_of : Frame → List ℕ
@@ -294,20 +294,20 @@ begun_work source name (Frees lock value) env = 1
 begun_work source name (Tallies ledger amount body) env = work_of source.arrays (tree_of body.now) env
 begun_work source name (Ended value) env = 0
 
--- the pauses of what a thread does next, the one that is not answered among them
-abbrev pub begun_pauses : Source → List ℕ → Control → Environment → List Pending
-begun_pauses source name (Begin expr) env = pauses_of source.arrays (tree_of expr.now) env
-begun_pauses source name (Give value) env = []
-begun_pauses source name (Cover stretch) env = task_pauses source.arrays (stretch_task stretch env)
-begun_pauses source name (Forked expr) env = pause.Forks ∷ pauses_of source.arrays (tree_of expr.now) env
-begun_pauses source name (Halved stretch) env = pause.Forks ∷ task_pauses source.arrays (stretch_task stretch env)
-begun_pauses source name (Awaits number during next) env =
-    pause.Joins ∷ pauses_of source.arrays (tree_of next.now) (joined_env source name number (record { env = env; value = during }))
-begun_pauses source name (AwaitsHalf number right reduction) env = pause.Joins ∷ []
-begun_pauses source name (Asks lock body) env = pause.Asks lock ∷ pauses_of source.arrays (tree_of body.now) env
-begun_pauses source name (Frees lock value) env = pause.Frees lock ∷ []
-begun_pauses source name (Tallies ledger amount body) env = pause.Tallies ledger amount ∷ pauses_of source.arrays (tree_of body.now) env
-begun_pauses source name (Ended value) env = []
+-- the trace of what a thread does next, from the pause that is not answered on
+abbrev pub begun_trace : Source → List ℕ → Control → Environment → List Event
+begun_trace source name (Begin expr) env = trace_of source.arrays (tree_of expr.now) env
+begun_trace source name (Give value) env = Step ∷ []
+begun_trace source name (Cover stretch) env = task_trace source.arrays (stretch_task stretch env)
+begun_trace source name (Forked expr) env = At pause.Forks ∷ trace_of source.arrays (tree_of expr.now) env
+begun_trace source name (Halved stretch) env = At pause.Forks ∷ task_trace source.arrays (stretch_task stretch env)
+begun_trace source name (Awaits number during next) env =
+    At pause.Joins ∷ trace_of source.arrays (tree_of next.now) (joined_env source name number (record { env = env; value = during }))
+begun_trace source name (AwaitsHalf number right reduction) env = At pause.Joins ∷ Step ∷ []
+begun_trace source name (Asks lock body) env = At (pause.Asks lock) ∷ trace_of source.arrays (tree_of body.now) env
+begun_trace source name (Frees lock value) env = At (pause.Frees lock) ∷ Step ∷ []
+begun_trace source name (Tallies ledger amount body) env = At (pause.Tallies ledger amount) ∷ trace_of source.arrays (tree_of body.now) env
+begun_trace source name (Ended value) env = []
 
 -- the fork whose child is awaited
 abbrev pub fork_awaited : Control → List ℕ
@@ -345,13 +345,13 @@ work_left t =
     begun_work source t.own.name t.control t.environment.items
     + resume_work source t.own.name (frames_left t.control t.frames.items) (begun source t.own.name t.control t.environment.items)
 
--- the pauses that are left, in order; at the last it has ended
-abbrev pub pauses_left : State → List Pending
-pauses_left t =
+-- what is left of its trace; at the last it has ended
+abbrev pub trace_left : State → List Event
+trace_left t =
     let source = source_of t.program.now in
-    begun_pauses source t.own.name t.control t.environment.items
-    ++ resume_pauses source t.own.name (frames_left t.control t.frames.items) (begun source t.own.name t.control t.environment.items)
-    ++ pause.Ended ∷ []
+    begun_trace source t.own.name t.control t.environment.items
+    ++ resume_trace source t.own.name (frames_left t.control t.frames.items) (begun source t.own.name t.control t.environment.items)
+    ++ At pause.Ended ∷ []
 
 -- its forks that are not joined, the newest first
 abbrev pub unjoined_of : State → List ℕ

@@ -3,7 +3,7 @@ pub mod Suspended
 pub mod Advance
 pub mod Parts
 pub mod Work
-pub mod Pauses
+pub mod Trace
 pub mod Turns
 pub mod Account
 pub mod Ending

@@ -24,9 +24,9 @@ use Rattle.arachne_machine.specs.Outcome.{Finished}
 use Rattle.arachne_machine.specs.Account.{Account, untouched, after, with_fork}
 use Rattle.arachne_machine.specs.Suspended.{Suspended}
 use Rattle.arachne_machine.specs.Work.{task_work}
-use Rattle.arachne_machine.specs.Pauses.{task_pauses}
+use Rattle.arachne_machine.specs.Trace.{Event, At, with_steps, task_trace}
 use Rattle.arachne_machine.specs.Faultless.{IsFaultlessNext, IsWithoutFault}
-use Rattle.arachne_machine.specs.Ending.{child_task, stretch_task, account_joined, ending, account_at_end, work_left, pauses_left, unjoined_of, locks_of}
+use Rattle.arachne_machine.specs.Ending.{child_task, stretch_task, account_joined, ending, account_at_end, work_left, trace_left, unjoined_of, locks_of}
 
 -- the pause that is not answered
 abbrev pub pending_of : Control → Option Pending
@@ -56,7 +56,7 @@ suspended t = record {
   holds = t.own.holds.items;
   below = t.below.items;
   work = work_left t;
-  pauses = pauses_left t;
+  trace = trace_left t;
 }
 
 -- A fork's number fits, since each fork that was joined has its line, and each other one its frame.
@@ -110,8 +110,8 @@ pub record TurnsSweep (old new : State) (reduction : Reduction) (next end : ℕ)
       Becomes old new (with_newest old.environment.items next) (old.frames.items ++ SweepTurn reduction (next + 1) end so_far body ∷ []) (Begin body)
   pub done : end ≤ next → Becomes old new old.environment.items old.frames.items (Give so_far)
 
--- So many steps made neither forks nor joins, and what the thread comes to is the same. These pauses were answered, the first of those that were left.
-pub record Goes (steps : ℕ) (answered : List Pending) (old new : State) : Type 0 where
+-- So many steps made neither forks nor joins, and what the thread comes to is the same. Behind them these pauses were answered.
+pub record Goes (steps : ℕ) (answered : List Event) (old new : State) : Type 0 where
   pub program : new.program ≡ old.program
   pub own : new.own ≡ old.own
   pub below : new.below.items ≡ old.below.items
@@ -121,7 +121,7 @@ pub record Goes (steps : ℕ) (answered : List Pending) (old new : State) : Type
   pub ending : ending new ≡ ending old
   pub account : (account : Account) → account_at_end new account ≡ account_at_end old account
   pub work : work_left new + steps ≡ work_left old
-  pub pauses : answered ++ pauses_left new ≡ pauses_left old
+  pub trace : with_steps steps (answered ++ trace_left new) ≡ trace_left old
   pub faultless : IsWithoutFault old → IsWithoutFault new
 
 -- at least so many such steps were made, and at most so many
@@ -144,17 +144,19 @@ pub record IsNew (program : Program) (name : List ℕ) (tag : ℕ) (task : Task)
   pub locks : locks_of t ≡ []
   pub pending : pending_of t.control ≡ None
   pub work : work_left t ≡ task_work (source_of program).arrays task
-  pub pauses : pauses_left t ≡ task_pauses (source_of program).arrays task ++ pause.Ended ∷ []
+  pub trace : trace_left t ≡ task_trace (source_of program).arrays task ++ At pause.Ended ∷ []
   pub value : (ending t).value ≡ task_value (source_of program).arrays task
   pub account : account_at_end t untouched ≡ after name (task_effects (source_of program).arrays program.locks task) untouched
 
--- The thread comes to the same, if the child is counted with it until the join.
+-- The thread comes to the same, if the child is counted with it until the join, at least one step and at most so many having been made.
 pub record KeepsOverFork (steps : ℕ) (old new child : State) (made : Child) : Type 0 where
   pub ending : ending new ≡ ending old
   pub account : (account : Account) → length account.children ≡ old.forks → account_at_end new (with_fork made account) ≡ account_at_end old account
-  pub at_least : work_left new + work_left child + 1 ≤ work_left old
-  pub at_most : work_left old ≤ work_left new + work_left child + steps
-  pub pauses : pauses_left new ≡ pauses_left old
+  pub taken : ℕ
+  pub at_least : 1 ≤ taken
+  pub at_most : taken ≤ steps
+  pub work : work_left new + work_left child + taken ≡ work_left old
+  pub trace : with_steps taken (trace_left new) ≡ trace_left old
   pub faultless : IsWithoutFault old → IsWithoutFault new × IsWithoutFault child
 
 -- At most so many steps were made, the last of which forked this child. What the thread comes to is the same, if the child is the one of the fork's number,
@@ -232,7 +234,7 @@ pub record KeepsOverJoin (old new : State) (number : ℕ) : Type 0 where
   pub ending : ending new ≡ ending old
   pub account : (account : Account) → account_at_end new (account_joined (source_of old.program.now) old.own.name number account) ≡ account_at_end old account
   pub work : work_left new ≡ work_left old
-  pub pauses : pause.Joins ∷ pauses_left new ≡ pauses_left old
+  pub trace : At pause.Joins ∷ trace_left new ≡ trace_left old
   pub faultless : IsWithoutFault old → IsWithoutFault new
 
 -- The awaited child was joined. What the thread comes to is the same, if the child brought the value of its task.
@@ -264,7 +266,7 @@ pub record Counts (answered : Pending) (effects : Effects) (old new : State) : T
   pub ending : ending new ≡ ending old
   pub account : (account : Account) → account_at_end new (after old.own.name effects account) ≡ account_at_end old account
   pub work : work_left new ≡ work_left old
-  pub pauses : answered ∷ pauses_left new ≡ pauses_left old
+  pub trace : At answered ∷ trace_left new ≡ trace_left old
   pub faultless : IsWithoutFault old → IsWithoutFault new
 
 -- a hold of this lock is counted, and the rest is as before

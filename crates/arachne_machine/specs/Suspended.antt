@@ -11,7 +11,7 @@ use Rattle.arachne_machine.specs.declared.pause.Pending.{Pending}
 use Rattle.arachne_machine.specs.declared.pause.Pending.TheVariants as pause
 use Rattle.arachne_machine.specs.Outcome.{Finished}
 use Rattle.arachne_machine.specs.Work.{task_work}
-use Rattle.arachne_machine.specs.Pauses.{task_pauses}
+use Rattle.arachne_machine.specs.Trace.{Event, Step, At, with_steps, task_trace}
 
 pub record Suspended : Type 0 where
   pub program : Program
@@ -33,8 +33,8 @@ pub record Suspended : Type 0 where
   pub below : List ThreadLine
   -- the steps that it and the threads that it will fork have left
   pub work : ℕ
-  -- its pauses from now on, in order; the first is the one that is not answered, and the last is its end
-  pub pauses : List Pending
+  -- its steps and pauses from now on, in order: the first is the pause that is not answered or, where there is none, a step, and the last is its end
+  pub trace : List Event
 
 -- the name of the child that a join awaits: that of the newest fork that is not joined
 abbrev pub awaited : Suspended → Option (List ℕ)
@@ -65,14 +65,14 @@ abbrev pub IsTally : Option Pending → Type 0
 IsTally (Some (pause.Tallies ledger amount)) = Unit {0}
 IsTally _ = ⊥
 
--- the pause that is not answered is the first of those that are left
-abbrev pub IsNext : Option Pending → List Pending → Type 0
-IsNext None pauses = Unit {0}
-IsNext (Some next) pauses = (others : List Pending) × (pauses ≡ next ∷ others)
+-- the pause that is not answered comes first or, where there is none, a step
+abbrev pub IsNext : Option Pending → List Event → Type 0
+IsNext None trace = (others : List Event) × (trace ≡ Step ∷ others)
+IsNext (Some next) trace = (others : List Event) × (trace ≡ At next ∷ others)
 
--- the pause that was not answered was the first of those that were left, and the others are left now
+-- the pause that was not answered is past
 abbrev pub IsAnswered : Suspended → Suspended → Type 0
-IsAnswered old new = (answered : Pending) × (old.pending ≡ Some answered) × (old.pauses ≡ answered ∷ new.pauses)
+IsAnswered old new = (answered : Pending) × (old.pending ≡ Some answered) × (old.trace ≡ At answered ∷ new.trace)
 
 -- both are of one program, have one name and tag, and have made and joined the same forks; the rest may differ
 pub record SameThread (old new : Suspended) : Type 0 where
@@ -83,10 +83,13 @@ pub record SameThread (old new : Suspended) : Type 0 where
   pub unjoined : new.unjoined ≡ old.unjoined
   pub below : new.below ≡ old.below
 
--- at least so many steps were made, and at most so many
+-- at least so many steps were made, and at most so many, and nothing else
 pub record MakesSteps (least most : ℕ) (old new : Suspended) : Type 0 where
-  pub at_least : new.work + least ≤ old.work
-  pub at_most : old.work ≤ new.work + most
+  pub made : ℕ
+  pub at_least : least ≤ made
+  pub at_most : made ≤ most
+  pub work : new.work + made ≡ old.work
+  pub trace : old.trace ≡ with_steps made new.trace
 
 -- a thread of this name that has not begun
 pub record IsFresh (program : Program) (name : List ℕ) (tag : ℕ) (thread : Suspended) : Type 0 where
@@ -114,11 +117,14 @@ pub record Forked (budget : ℕ) (class : Class) (old new child : Suspended) : T
   pub pending : new.pending ≡ Some pause.Forks
   pub fresh : IsFresh old.program (old.name ++ old.forks ∷ []) 0 child
   pub task : Task
-  pub made : child_of (source_of old.program) old.name old.forks ≡ Some (record { class = class; task = task })
-  pub work : child.work ≡ task_work (source_of old.program).arrays task
-  pub pauses : child.pauses ≡ task_pauses (source_of old.program).arrays task ++ pause.Ended ∷ []
-  pub at_least : new.work + child.work + 1 ≤ old.work
-  pub at_most : old.work ≤ new.work + child.work + budget
+  pub is_child : child_of (source_of old.program) old.name old.forks ≡ Some (record { class = class; task = task })
+  pub childs_work : child.work ≡ task_work (source_of old.program).arrays task
+  pub childs_trace : child.trace ≡ task_trace (source_of old.program).arrays task ++ At pause.Ended ∷ []
+  pub made : ℕ
+  pub at_least : 1 ≤ made
+  pub at_most : made ≤ budget
+  pub work : new.work + child.work + made ≡ old.work
+  pub trace : old.trace ≡ with_steps made new.trace
 
 -- It has joined this outcome, which is that of the child that it awaited.
 pub record Joined (old : Suspended) (outcome : Finished) (new : Suspended) : Type 0 where
@@ -134,4 +140,4 @@ pub record Joined (old : Suspended) (outcome : Finished) (new : Suspended) : Typ
   pub below : new.below ≡ old.below ++ outcome.lines
   pub pending : new.pending ≡ None
   pub work : new.work ≡ old.work
-  pub pauses : old.pauses ≡ pause.Joins ∷ new.pauses
+  pub trace : old.trace ≡ At pause.Joins ∷ new.trace

@@ -4,9 +4,8 @@ use Rattle.arachne_lang.specs.declared.program.Reduction.{Reduction}
 use Rattle.arachne_lang.specs.Tree.{Tree}
 use Rattle.arachne_lang.specs.Value.{Environment, with_newest, value_of, apply, operation_of, turns}
 use Rattle.arachne_lang.specs.Effects.{Effects, turns_effects, effects_of}
-use Rattle.arachne_machine.specs.declared.pause.Pending.{Pending}
 use Rattle.arachne_machine.specs.Work.{total, work_of}
-use Rattle.arachne_machine.specs.Pauses.{in_turn, pauses_of}
+use Rattle.arachne_machine.specs.Trace.{Event, in_turn, trace_of}
 
 -- a fold's turns, from a value on
 abbrev pub folded : List (List ℕ) → Tree → Environment → ℕ → ℕ → ℕ → ℕ
@@ -20,9 +19,9 @@ abbrev pub folded_work : List (List ℕ) → Tree → Environment → ℕ → �
 folded_work arrays body env from n value =
     total (λ j. work_of arrays body (with_newest (with_newest env (from + j)) (folded arrays body env from j value))) n
 
-abbrev pub folded_pauses : List (List ℕ) → Tree → Environment → ℕ → ℕ → ℕ → List Pending
-folded_pauses arrays body env from n value =
-    in_turn (λ j. pauses_of arrays body (with_newest (with_newest env (from + j)) (folded arrays body env from j value))) n
+abbrev pub folded_trace : List (List ℕ) → Tree → Environment → ℕ → ℕ → ℕ → List Event
+folded_trace arrays body env from n value =
+    in_turn (λ j. trace_of arrays body (with_newest (with_newest env (from + j)) (folded arrays body env from j value))) n
 
 -- a sweep's turns, where it is not split
 abbrev pub swept : List (List ℕ) → Reduction → Tree → Environment → ℕ → ℕ → ℕ → ℕ
@@ -35,5 +34,5 @@ swept_effects arrays locks body env from n = turns_effects (λ j. effects_of arr
 abbrev pub swept_work : List (List ℕ) → Tree → Environment → ℕ → ℕ → ℕ
 swept_work arrays body env from n = total (λ j. work_of arrays body (with_newest env (from + j))) n
 
-abbrev pub swept_pauses : List (List ℕ) → Tree → Environment → ℕ → ℕ → List Pending
-swept_pauses arrays body env from n = in_turn (λ j. pauses_of arrays body (with_newest env (from + j))) n
+abbrev pub swept_trace : List (List ℕ) → Tree → Environment → ℕ → ℕ → List Event
+swept_trace arrays body env from n = in_turn (λ j. trace_of arrays body (with_newest env (from + j))) n

@@ -9,12 +9,13 @@ impl<'p> State<'p> {
     ghost use Rattle.arachne_machine.specs.declared.pause.Pending.TheVariants as pause;
     ghost use Rattle.arachne_machine.specs.Ending.{work_left, locks_of};
     ghost use Rattle.arachne_machine.specs.Suspended.{IsAsk, IsFree, IsTally};
+    ghost use Rattle.arachne_machine.specs.Trace.{At};
     ghost use Rattle.arachne_machine.specs.Steps.{pending_of, Goes, Counts, CountsHold, CountsTally};
 
     /// The child was taken: goes on with what is done meanwhile.
     pub fn forked(&mut self)
         requires { pending_of self.old.control ≡ Some pause.Forks }
-        ensures goes { Goes 0 (pause.Forks ∷ []) self.old self.new }
+        ensures goes { Goes 0 (At pause.Forks ∷ []) self.old self.new }
         ensures locks { locks_of self.new ≡ locks_of self.old }
         ensures pending { pending_of self.new.control ≡ None }
         ensures work { work_left self.new ≡ work_left self.old }
@@ -48,7 +49,7 @@ impl<'p> State<'p> {
     /// It has freed the lock, and goes on.
     pub fn freed(&mut self)
         requires { IsFree (pending_of self.old.control) }
-        ensures goes { (lock : ℕ) × (pending_of self.old.control ≡ Some (pause.Frees lock)) × Goes 0 (pause.Frees lock ∷ []) self.old self.new }
+        ensures goes { (lock : ℕ) × (pending_of self.old.control ≡ Some (pause.Frees lock)) × Goes 0 (At (pause.Frees lock) ∷ []) self.old self.new }
         ensures locks { (lock : ℕ) × (pending_of self.old.control ≡ Some (pause.Frees lock)) × (locks_of self.old ≡ lock ∷ locks_of self.new) }
         ensures pending { pending_of self.new.control ≡ None }
         ensures work { work_left self.new ≡ work_left self.old }

@@ -4,7 +4,7 @@ ghost use Rattle.arachne_machine.specs.Advance.{Advanced, IsForeign, handed_back
 ghost use Rattle.arachne_machine.specs.Stops.{pause_of, IsSoundStop};
 ghost use Rattle.arachne_lang.specs.Program.{source_of};
 ghost use Rattle.arachne_machine.specs.Work.{work_of};
-ghost use Rattle.arachne_machine.specs.Pauses.{pauses_of};
+ghost use Rattle.arachne_machine.specs.Trace.{At, trace_of};
 ghost use Rattle.arachne_machine.specs.Faultless.{PausesWithin};
 ghost use Rattle.arachne_lang.specs.Checked.{IsChecked};
 ghost use Rattle.arachne_machine.specs.declared.pause.Pending.TheVariants as pause;
@@ -45,7 +45,7 @@ impl<'p> Thread<'p> {
     pub fn start(alloc: Global, program: &'p Program, tag: u64) -> Result<Thread<'p>, AllocError>
         ensures fresh { IfOk result (IsFresh program.now [] tag) }
         ensures work { IfOk result (λ thread. thread.work ≡ work_of (source_of program.now).arrays (source_of program.now).root []) }
-        ensures pauses { IfOk result (λ thread. thread.pauses ≡ pauses_of (source_of program.now).arrays (source_of program.now).root [] ++ pause.Ended ∷ []) }
+        ensures trace { IfOk result (λ thread. thread.trace ≡ trace_of (source_of program.now).arrays (source_of program.now).root [] ++ At pause.Ended ∷ []) }
     {
         let root = Name::root(alloc);
         let begins = Control::Begin(&program.root);
@@ -71,7 +71,7 @@ impl<'p> Thread<'p> {
     /// The pause that is not answered, if there is one.
     pub fn pending(&self) -> Option<Pending>
         ensures pending { result ≡ self.now.pending }
-        ensures next { IsNext self.now.pending self.now.pauses }
+        ensures next { IsNext self.now.pending self.now.trace }
         ensures within { IsChecked (source_of self.now.program) → PausesWithin self.now }
     {
         self.state.pending()
@@ -83,8 +83,7 @@ impl<'p> Thread<'p> {
         requires not_paused { self.old.pending ≡ None }
         requires some { 1 ≤ budget }
         ensures ok { IfOk result (λ pause. Advanced budget self.old pause self.new) }
-        ensures pauses { self.new.pauses ≡ self.old.pauses }
-        ensures next { IsNext self.new.pending self.new.pauses }
+        ensures next { IsNext self.new.pending self.new.trace }
         ensures sums { self.new.sums ≡ self.old.sums }
         ensures holds { self.new.holds ≡ self.old.holds }
         ensures within { IfOk result (λ pause. IsChecked (source_of self.old.program) → PausesWithin self.new) }
@@ -106,7 +105,7 @@ impl<'p> Thread<'p> {
         ensures locks { self.new.locks ≡ self.old.locks }
         ensures pending { self.new.pending ≡ None }
         ensures work { self.new.work ≡ self.old.work }
-        ensures pauses { IsAnswered self.old self.new }
+        ensures trace { IsAnswered self.old self.new }
     {
         self.state.forked();
     }
@@ -120,7 +119,7 @@ impl<'p> Thread<'p> {
         ensures locks { self.new.locks ≡ self.old.locks }
         ensures pending { self.new.pending ≡ None }
         ensures work { self.new.work ≡ self.old.work }
-        ensures pauses { IsAnswered self.old self.new }
+        ensures trace { IsAnswered self.old self.new }
     {
         self.state.granted();
     }
@@ -134,7 +133,7 @@ impl<'p> Thread<'p> {
         ensures locks { (lock : ℕ) × (self.old.pending ≡ Some (pause.Frees lock)) × (self.old.locks ≡ lock ∷ self.new.locks) }
         ensures pending { self.new.pending ≡ None }
         ensures work { self.new.work ≡ self.old.work }
-        ensures pauses { IsAnswered self.old self.new }
+        ensures trace { IsAnswered self.old self.new }
     {
         self.state.freed();
     }
@@ -148,7 +147,7 @@ impl<'p> Thread<'p> {
         ensures locks { self.new.locks ≡ self.old.locks }
         ensures pending { self.new.pending ≡ None }
         ensures work { self.new.work ≡ self.old.work }
-        ensures pauses { IsAnswered self.old self.new }
+        ensures trace { IsAnswered self.old self.new }
     {
         self.state.tallied();
     }

@@ -4,7 +4,7 @@ use Rattle.arachne_lang.specs.Program.{source_of}
 use Rattle.arachne_lang.specs.Checked.{IsChecked}
 use Rattle.arachne_machine.specs.Steps.{suspended}
 use Rattle.arachne_machine.specs.Sound.{IsSound}
-use Rattle.arachne_machine.proofs.Advancing.{sound_after, sound_stop, advanced_seen, within_after, pauses_after}
+use Rattle.arachne_machine.proofs.Advancing.{sound_after, sound_stop, advanced_seen, within_after, trace_next}
 use Rattle.arachne_machine.proofs.thread.Thread.advance.Goals as goal
 
 pub pause_at-requires : goal.pause_at-requires
@@ -35,9 +35,8 @@ returns-clause-within c = λ checked.
     let seen = ap suspended c.deref_mut.ensures.value ∙ c.self.view_is in
     within_after c.args.budget t c.advance.new.self c.in_ok-stop.stop sound c.in_ok-stop.ensures.ok (subst (λ v. IsChecked (source_of v.program)) (sym seen) checked)
 
-pub returns-clause-pauses : goal.returns-clause-pauses
-returns-clause-pauses c =
-    let t = c.deref_mut.result.now in
-    let sound : IsSound t = subst IsSound (sym c.deref_mut.ensures.value) c.self.invariant in
-    pauses_after c.args.budget t c.advance.new.self c.in_ok-stop.stop sound c.in_ok-stop.ensures.ok
-    ∙ ap (λ v. v.pauses) (ap suspended c.deref_mut.ensures.value ∙ c.self.view_is)
+pub returns-in_err-stop-clause-next : goal.returns-in_err-stop-clause-next
+returns-in_err-stop-clause-next c = trace_next c.advance.new.self
+
+pub returns-clause-next : goal.returns-clause-next
+returns-clause-next c = trace_next c.advance.new.self

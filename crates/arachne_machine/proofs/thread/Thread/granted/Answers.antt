@@ -54,10 +54,10 @@ returns-clause-holds c =
       raised_is n sound.account.holds lock 1 _ _ sound.holds (c.granted.ensures.2.holds n sound.account.holds sound.holds) ∙ ap (λ v. raised v.holds lock 1) seen,
     )
 
-pub returns-clause-pauses : goal.returns-clause-pauses
-returns-clause-pauses c =
+pub returns-clause-trace : goal.returns-clause-trace
+returns-clause-trace c =
     let seen : suspended c.deref_mut.result.now ≡ c.args.self.now = ap suspended c.deref_mut.ensures.value ∙ c.self.view_is in (
       pause.Asks c.granted.ensures.0,
       sym (ap (λ v. v.pending) seen) ∙ c.granted.ensures.1,
-      sym (c.granted.ensures.2.pauses ∙ ap (λ v. v.pauses) seen),
+      sym (c.granted.ensures.2.trace ∙ ap (λ v. v.trace) seen),
     )

@@ -3,7 +3,7 @@ use Rattle.arachne_lang.specs.Program.{source_of, tree_of}
 use Rattle.arachne_lang.specs.Effects.{Evaluate}
 use Rattle.arachne_lang.specs.Meaning.{task_of}
 use Rattle.arachne_machine.specs.Work.{work_of}
-use Rattle.arachne_machine.specs.Pauses.{pauses_of}
+use Rattle.arachne_machine.specs.Trace.{At, trace_of}
 use Rattle.arachne_machine.specs.declared.pause.Pending.TheVariants as pause
 use Rattle.arachne_machine.proofs.Faultlessness.{checked_root}
 use Rattle.arachne_machine.proofs.Soundness.{sound_new}
@@ -21,7 +21,7 @@ returns-clause-work c =
     let source = source_of c.args.program.now in
     c.in_ok-state.ensures.fresh.work ∙ ap (work_of source.arrays source.root) c.new-environment.ensures.items
 
-pub returns-clause-pauses : goal.returns-clause-pauses
-returns-clause-pauses c =
+pub returns-clause-trace : goal.returns-clause-trace
+returns-clause-trace c =
     let source = source_of c.args.program.now in
-    c.in_ok-state.ensures.fresh.pauses ∙ ap (λ env. pauses_of source.arrays source.root env ++ pause.Ended ∷ []) c.new-environment.ensures.items
+    c.in_ok-state.ensures.fresh.trace ∙ ap (λ env. trace_of source.arrays source.root env ++ At pause.Ended ∷ []) c.new-environment.ensures.items

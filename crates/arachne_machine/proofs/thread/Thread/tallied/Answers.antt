@@ -56,10 +56,10 @@ returns-clause-holds c =
     let n = (source_of t.program.now).locks in
     kept_is n sound.account.holds _ _ sound.holds (c.tallied.ensures.3.holds n sound.account.holds sound.holds) ∙ ap (λ v. v.holds) seen
 
-pub returns-clause-pauses : goal.returns-clause-pauses
-returns-clause-pauses c =
+pub returns-clause-trace : goal.returns-clause-trace
+returns-clause-trace c =
     let seen : suspended c.deref_mut.result.now ≡ c.args.self.now = ap suspended c.deref_mut.ensures.value ∙ c.self.view_is in (
       pause.Tallies c.tallied.ensures.0 c.tallied.ensures.1,
       sym (ap (λ v. v.pending) seen) ∙ c.tallied.ensures.2,
-      sym (c.tallied.ensures.3.pauses ∙ ap (λ v. v.pauses) seen),
+      sym (c.tallied.ensures.3.trace ∙ ap (λ v. v.trace) seen),
     )
