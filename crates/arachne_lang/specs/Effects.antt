@@ -1,10 +1,11 @@
 -- What the evaluation of an expression does beside its value: sums for the ledgers, holds of locks, and threads.
-use Rattle.std.specs.Prelude.{ℕ, zero, suc, ◌+◌, ◌-◌, ◌/◌, max, nat_le, ◌==◌, if◌then◌else◌, List, [], ◌∷◌, ◌++◌, length, Option, Some, option_and_then, slice_get}
+use Rattle.std.specs.Prelude.{ℕ, zero, suc, ◌+◌, ◌-◌, ◌/◌, ◌==◌, if◌then◌else◌, List, [], ◌∷◌, ◌++◌, length, Option, Some, option_and_then, slice_get}
 use Rattle.arachne_lang.specs.declared.meaning.Line.{Line}
 use Rattle.arachne_lang.specs.declared.program.Class.{Class}
 use Rattle.arachne_lang.specs.declared.program.Class.TheVariants.{Normal}
 use Rattle.arachne_lang.specs.declared.program.Reduction.{Reduction}
 use Rattle.arachne_lang.specs.Tree.{Tree, Number, Variable, Length, Item, Binary, Choose, Bind, Tally, Hold, Fork, Fold, Sweep}
+use Rattle.arachne_lang.specs.Parts.{by_halves}
 use Rattle.arachne_lang.specs.Value.{wrapped, apply, operation_of, unit_of, turns, Environment, with_newest, value_of}
 
 -- What a thread evaluates: an expression, or a reduction over so many numbers of a range from a first one on.
@@ -78,16 +79,11 @@ abbrev pub turns_effects : (ℕ → Effects) → ℕ → Effects
 turns_effects turn zero = nothing
 turns_effects turn (suc j) = turns_effects turn j ⨾ turn j
 
--- The effects of a range of n numbers from a first one on. One that is longer than the grain is halved: the left half is forked, and the
--- right half is done during its life. The grain 0 counts as 1. A fuel of n is enough.
+-- The effects of a range of n numbers from a first one on. Of one that is longer than the grain the left half is forked, and the right half is done during its
+-- life. A fuel of n is enough.
 abbrev pub halves : ℕ → (ℕ → ℕ → Child) → (ℕ → Effects) → ℕ → ℕ → ℕ → ℕ → Effects
-halves locks child turn grain zero first n = turns_effects (λ j. turn (first + j)) n
-halves locks child turn grain (suc fuel) first n =
-    if nat_le n (max 1 grain)
-    then turns_effects (λ j. turn (first + j)) n
-    else forked locks (child first (n / 2))
-    (halves locks child turn grain fuel first (n / 2))
-    (halves locks child turn grain fuel (first + n / 2) (n - n / 2))
+halves locks child turn grain fuel first n =
+    by_halves (λ from k. turns_effects (λ j. turn (from + j)) k) (λ from k left right. forked locks (child from (k / 2)) left right) grain fuel first n
 
 abbrev pub effects_of : List (List ℕ) → ℕ → Tree → Environment → Effects
 effects_of arrays locks (Number n) env = nothing

@@ -1,6 +1,7 @@
 pub mod Tree
 pub mod Program
 pub mod Value
+pub mod Parts
 pub mod Effects
 pub mod Meaning
 pub mod Spelling

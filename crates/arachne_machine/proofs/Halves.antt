@@ -10,9 +10,9 @@ use Rattle.arachne_lang.specs.declared.program.Reduction.{Reduction}
 use Rattle.arachne_lang.specs.declared.program.Reduction.TheVariants.{Sum, Product, Parity, Least, Greatest}
 use Rattle.arachne_lang.specs.Tree.{Tree}
 use Rattle.arachne_lang.specs.Value.{Environment, turns, with_newest, value_of, apply, operation_of, unit_of, wrapped}
-use Rattle.arachne_lang.specs.Effects.{Reduce, Child, Effects, forked, half, halves, turns_effects, effects_of, task_value, task_effects}
+use Rattle.arachne_lang.specs.Effects.{Reduce, Child, Effects, forked, half, turns_effects, effects_of, task_value, task_effects}
 use Rattle.arachne_machine.specs.declared.pause.Pending.TheVariants as pause
-use Rattle.arachne_machine.specs.Parts.{by_halves}
+use Rattle.arachne_lang.specs.Parts.{by_halves}
 use Rattle.arachne_machine.specs.Turns.{swept, swept_effects, swept_work, swept_trace}
 use Rattle.arachne_machine.specs.Work.{task_work}
 use Rattle.arachne_machine.specs.Trace.{Step, At, task_trace}
@@ -144,22 +144,12 @@ effects_whole_of turn first n = turns_effects (λ j. turn (first + j)) n
 abbrev effects_split_of : ℕ → (ℕ → ℕ → Child) → ℕ → ℕ → Effects → Effects → Effects
 effects_split_of locks task first n left right = forked locks (task first (n / 2)) left right
 
-halves-by_halves : (locks : ℕ) (task : ℕ → ℕ → Child) (turn : ℕ → Effects) (grain fuel first n : ℕ) →
-    halves locks task turn grain fuel first n ≡ by_halves (effects_whole_of turn) (effects_split_of locks task) grain fuel first n
-halves-by_halves locks task turn grain zero first n = refl
-halves-by_halves locks task turn grain (suc fuel) first n =
-    ap (λ x. if nat_le n (max 1 grain) then turns_effects (λ j. turn (first + j)) n
-    else forked locks (task first (n / 2)) x (halves locks task turn grain fuel (first + n / 2) (n - n / 2))) (halves-by_halves locks task turn grain fuel first (n / 2))
-    ∙ ap (λ x. if nat_le n (max 1 grain) then turns_effects (λ j. turn (first + j)) n
-    else forked locks (task first (n / 2)) (by_halves (effects_whole_of turn) (effects_split_of locks task) grain fuel first (n / 2)) x)
-    (halves-by_halves locks task turn grain fuel (first + n / 2) (n - n / 2))
-
 pub effects_whole : (arrays : List (List ℕ)) (locks : ℕ) (r : Reduction) (grain : ℕ) (body : Tree) (env : Environment) (first n : ℕ) → n ≤ max 1 grain →
     task_effects arrays locks (Reduce r grain body env first n) ≡ swept_effects arrays locks body env first n
 effects_whole arrays locks r grain body env first n le =
     let task = half r grain body env in
     let turn : ℕ → Effects = λ i. effects_of arrays locks body (with_newest env i) in
-    halves-by_halves locks task turn grain n first n ∙ by_halves-whole (effects_whole_of turn) (effects_split_of locks task) grain n first n le
+    by_halves-whole (effects_whole_of turn) (effects_split_of locks task) grain n first n le
 
 pub effects_split : (arrays : List (List ℕ)) (locks : ℕ) (r : Reduction) (grain : ℕ) (body : Tree) (env : Environment) (first n : ℕ) → max 1 grain < n →
     task_effects arrays locks (Reduce r grain body env first n)
@@ -168,12 +158,7 @@ pub effects_split : (arrays : List (List ℕ)) (locks : ℕ) (r : Reduction) (gr
 effects_split arrays locks r grain body env first n lt =
     let task = half r grain body env in
     let turn : ℕ → Effects = λ i. effects_of arrays locks body (with_newest env i) in
-    let m = n / 2 in
-    halves-by_halves locks task turn grain n first n
-    ∙ by_halves-split (effects_whole_of turn) (effects_split_of locks task) grain first n lt
-    ∙ ap (λ x. forked locks (task first m) x (by_halves (effects_whole_of turn) (effects_split_of locks task) grain (n - m) (first + m) (n - m)))
-    (sym (halves-by_halves locks task turn grain m first m))
-    ∙ ap (forked locks (task first m) (halves locks task turn grain m first m)) (sym (halves-by_halves locks task turn grain (n - m) (first + m) (n - m)))
+    by_halves-split (effects_whole_of turn) (effects_split_of locks task) grain first n lt
 
 -- Work and traces.
 pub work_whole : (arrays : List (List ℕ)) (r : Reduction) (grain : ℕ) (body : Tree) (env : Environment) (first n : ℕ) → n ≤ max 1 grain →

@@ -1,7 +1,6 @@
 pub mod Outcome
 pub mod Suspended
 pub mod Advance
-pub mod Parts
 pub mod Work
 pub mod Trace
 pub mod Turns
@@ -15,6 +14,7 @@ pub mod Faultless
 pub use Rattle.arachne_lang.specs.Tree
 pub use Rattle.arachne_lang.specs.Program
 pub use Rattle.arachne_lang.specs.Value
+pub use Rattle.arachne_lang.specs.Parts
 pub use Rattle.arachne_lang.specs.Effects
 pub use Rattle.arachne_lang.specs.Meaning
 pub use Rattle.arachne_lang.specs.Checked

@@ -5,7 +5,7 @@ use Rattle.arachne_lang.specs.Value.{Environment, with_newest, value_of, turns}
 use Rattle.arachne_lang.specs.Effects.{Task, Evaluate, Reduce}
 use Rattle.arachne_machine.specs.declared.pause.Pending.{Pending}
 use Rattle.arachne_machine.specs.declared.pause.Pending.TheVariants.{Forks, Joins, Asks, Frees, Tallies}
-use Rattle.arachne_machine.specs.Parts.{by_halves}
+use Rattle.arachne_lang.specs.Parts.{by_halves}
 
 -- what a thread does that others can tell
 pub data Event : Type 0 where

@@ -3,7 +3,7 @@ use Rattle.std.specs.Prelude.{ℕ, zero, suc, ◌+◌, ◌-◌, ◌==◌, if◌t
 use Rattle.arachne_lang.specs.Tree.{Tree, Number, Variable, Length, Item, Binary, Choose, Bind, Tally, Hold, Fork, Fold, Sweep}
 use Rattle.arachne_lang.specs.Value.{Environment, with_newest, value_of, turns}
 use Rattle.arachne_lang.specs.Effects.{Task, Evaluate, Reduce}
-use Rattle.arachne_machine.specs.Parts.{by_halves}
+use Rattle.arachne_lang.specs.Parts.{by_halves}
 
 -- the sum of f of 0, of 1, and so on, so many
 abbrev pub total : (ℕ → ℕ) → ℕ → ℕ
