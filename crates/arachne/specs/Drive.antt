@@ -1,5 +1,6 @@
 -- What a run of the program does to what it reads and writes.
-use Rattle.std.specs.Prelude.{ℕ, ◌≡◌, ◌<◌, ◌≤◌, List, [], ◌∷◌, ◌++◌, codes, length, take, Option, Some, None, IfSome, ⊤}
+use Rattle.std.specs.Prelude.{ℕ, ◌≡◌, ◌≢◌, ◌<◌, ◌≤◌, List, [], ◌∷◌, ◌++◌, codes, length, take, Option, Some, None, IfSome, IsSome, ⊤}
+use Rattle.std.specs.Io.KnownBytes.{Appends, Keeps}
 use Rattle.arachne_lang.specs.declared.text_fault.TextFault.{TextFault}
 use Rattle.arachne_lang.specs.declared.text_fault.TextFault.TheVariants as text
 use Rattle.arachne_lang.specs.declared.check_fault.CheckFault.{CheckFault}
@@ -13,6 +14,8 @@ use Rattle.arachne.specs.declared.command_line.Request.{Request}
 use Rattle.arachne.specs.declared.command_line.Request.TheVariants.{Eval, Check, Policy}
 use Rattle.arachne_policy.specs.declared.samples.Sample.{Sample}
 use Rattle.arachne.specs.declared.judging.Settings.{Settings}
+use Rattle.arachne.specs.CommandLine.{asked_by}
+use Rattle.arachne.specs.Fault.{fault_line}
 use Rattle.arachne.specs.Samples.{AreInRange, samples_text}
 use Rattle.arachne.specs.Samples as samples
 use Rattle.arachne.specs.Judging.{AreGood, IsFirstBadLine, advice_lines}
@@ -83,3 +86,22 @@ IsCauseFor (Some request) input fault = IsCause request input fault
 abbrev pub AppendsFront : Option (List ℕ) → Option (List ℕ) → List ℕ → Type 0
 AppendsFront None new bytes = ⊤
 AppendsFront (Some old) new bytes = (n : ℕ) × (new ≡ Some (old ++ take n bytes))
+
+-- Where these are the words and this is to be read, the output grows by what the words ask for.
+abbrev pub IsAnswered : List (List ℕ) → Option (List ℕ) → Option (List ℕ) → Option (List ℕ) → Type 0
+IsAnswered words input before after =
+    IfSome input (λ known. (request : Request) × (asked_by words ≡ Some request) × (text : List ℕ) × IsAnswer request known text × Appends before after text)
+
+-- It grows by a front of that.
+abbrev pub IsCutShort : List (List ℕ) → Option (List ℕ) → Option (List ℕ) → Option (List ℕ) → Type 0
+IsCutShort words input before after =
+    IfSome input (λ known. (request : Request) × (asked_by words ≡ Some request) × (text : List ℕ) × IsAnswer request known text × AppendsFront before after text)
+
+-- There is this fault, and it has a cause. Only where writing failed is there something on the output, and that is a front of what
+-- was to be written.
+abbrev pub IsAtFault : List (List ℕ) → Option (List ℕ) → Option (List ℕ) → Option (List ℕ) → Fault → Type 0
+IsAtFault words input before after fault =
+    IfSome input (λ known. IsCauseFor (asked_by words) known fault)
+    × ((fault ≢ Write) → Keeps before after)
+    × (fault ≡ Write → IsCutShort words input before after)
+    × ((fault ≢ Memory) → IsSome (asked_by words))

@@ -4,7 +4,7 @@ ghost use Rattle.std.specs.IoError.{error_kind};
 ghost use Rattle.arachne_lang.specs.Program.{source_of};
 ghost use Rattle.arachne.specs.CommandLine.{IsAllowed, asked_by, is_taken};
 ghost use Rattle.arachne.specs.Fault.{fault_line};
-ghost use Rattle.arachne.specs.Drive.{AppendsFront, IsAnswer, IsCause, IsCauseFor, IsProgramOf, input_limit};
+ghost use Rattle.arachne.specs.Drive.{AppendsFront, IsAnswer, IsAnswered, IsAtFault, IsCause, IsProgramOf, input_limit};
 
 use crate::command_line::{Request, read_words};
 use crate::fault::Fault;
@@ -131,19 +131,12 @@ pub fn drive<S: AsStr, R: Read, W: Write, E: Write>(
     faults: &mut E,
 ) -> u8
     // What the words ask for is written, and nothing on the faults stream.
-    ensures done { result ≡ 0 → IfSome (R.remaining input.old) (λ known.
-        (request : Request) × (asked_by (map S.text words.entry.now) ≡ Some request)
-        × (text : List ℕ) × IsAnswer request known text × Appends (W.contents output.old) (W.contents output.new) text) }
+    ensures done { result ≡ 0 → IsAnswered (map S.text words.entry.now) (R.remaining input.old) (W.contents output.old) (W.contents output.new) }
     ensures quiet { result ≡ 0 → Keeps (E.contents faults.old) (E.contents faults.new) }
-    // A fault has a cause, and its line is on the faults stream, as far as that took it. Only where writing failed is there
-    // something on the output, and that is a front of what was to be written.
-    ensures fault { result ≡ 1 → (fault : Fault) × IfSome (R.remaining input.old) (λ known. IsCauseFor (asked_by (map S.text words.entry.now)) known fault)
-        × AppendsFront (E.contents faults.old) (E.contents faults.new) (fault_line fault)
-        × ((fault ≢ Fault.Write) → Keeps (W.contents output.old) (W.contents output.new))
-        × (fault ≡ Fault.Write → IfSome (R.remaining input.old) (λ known.
-        (request : Request) × (asked_by (map S.text words.entry.now) ≡ Some request)
-        × (text : List ℕ) × IsAnswer request known text × AppendsFront (W.contents output.old) (W.contents output.new) text))
-        × ((fault ≢ Fault.Memory) → IsSome (asked_by (map S.text words.entry.now))) }
+    // A fault's line is on the faults stream, as far as that took it.
+    ensures fault { result ≡ 1 → (fault : Fault)
+        × IsAtFault (map S.text words.entry.now) (R.remaining input.old) (W.contents output.old) (W.contents output.new) fault
+        × AppendsFront (E.contents faults.old) (E.contents faults.new) (fault_line fault) }
     ensures reads { (bytes : List ℕ) × Consumes (R.remaining input.old) (R.remaining input.new) bytes × (length bytes ≤ input_limit + 1) }
     ensures unread { result ≡ 2 → Keeps (R.remaining input.old) (R.remaining input.new) }
     // Words that the program takes, and that ask for something, are not refused.

@@ -1,15 +1,12 @@
-use crate::drive::{drive, refuse, refuse_words};
-use crate::fault::Fault;
-use crate::process::run as run_process;
-use crate::stream::INPUT_LIMIT;
-use arachne_lang::{CheckFault, TextFault};
+use crate::drive::{drive, refuse_words};
+use crate::process::{run as run_process, run_on, run_without_words};
 use std::alloc::Global;
-use std::io;
-use std::io::{ErrorKind, Read, Write};
+use std::io::{self, ErrorKind};
 use std::process::{Abort, ExitCode, Termination};
 use std::test::Fail;
 
 mod language;
+mod streams;
 
 /// What a run of the program left: its status, its output and its faults.
 #[derive(Drop)]
@@ -39,6 +36,39 @@ fn text_of(alloc: Global, expr: &str) -> Result<String, Fail> {
 #[test]
 fn program_ends_with_the_status(rt: HostRuntime) {
     assert_eq!(rt; run_process(&rt).report(&rt), ExitCode::from(2));
+}
+
+/// A text that may run, one that is refused, and words that are not understood.
+#[test]
+fn runs_end_with_their_status(rt: HostRuntime) -> Result<(), Fail> {
+    let alloc = rt.alloc();
+    for (command, expr, code) in [
+        ("eval", "(num 7)", 0),
+        ("check", "(num 7)", 0),
+        ("eval", "(num 00)", 1),
+        ("check", "(var 0)", 1),
+        ("walk", "(num 7)", 2),
+    ] {
+        let text = text_of(alloc, expr)?;
+        let mut input = text.as_bytes();
+        let mut output = Vec::new(alloc);
+        let mut faults = Vec::new(alloc);
+        let status = run_on(
+            alloc,
+            &["arachne", command],
+            &mut input,
+            &mut output,
+            &mut faults,
+        );
+        assert_eq!(rt;
+            status.report(&rt),
+            ExitCode::from(code),
+            "{command} {expr}"
+        );
+        assert_eq!(rt; output.is_empty(), code != 0, "{command} {expr}");
+        assert_eq!(rt; faults.is_empty(), code == 0, "{command} {expr}");
+    }
+    Ok(())
 }
 
 #[test]
@@ -101,28 +131,9 @@ fn words_that_cannot_be_had(rt: HostRuntime) {
     let status = refuse_words(&mut faults, &io::Error::from(ErrorKind::InvalidData));
     assert_eq!(rt; status, 2);
     assert!(rt; faults.starts_with(b"error: "));
-}
-
-/// The lines with the largest numbers.
-#[test]
-fn the_longest_fault_lines_are_written_whole(rt: HostRuntime) {
-    for (fault, line) in [
-        (
-            Fault::InProgram(CheckFault::NoGrain(u64::MAX)),
-            "fault 11 node 18446744073709551615\n",
-        ),
-        (
-            Fault::BadSample { line: usize::MAX },
-            "fault 12 line 18446744073709551615\n",
-        ),
-        (
-            Fault::InText(TextFault::Nesting { at: usize::MAX }),
-            "fault 4 at 18446744073709551615\n",
-        ),
-    ] {
-        let mut faults = Vec::new(rt.alloc());
-        assert_eq!(rt; refuse(&mut faults, fault), 1, "{line}");
-        assert_eq!(rt; faults.as_slice(), line.as_bytes(), "{line}");
+    for (kind, code) in [(ErrorKind::OutOfMemory, 1), (ErrorKind::InvalidData, 2)] {
+        let status = run_without_words(&io::Error::from(kind), &mut faults);
+        assert_eq!(rt; status.report(&rt), ExitCode::from(code), "{kind:?}");
     }
 }
 
@@ -186,179 +197,4 @@ fn words_that_are_not_understood(rt: HostRuntime) {
         assert!(rt; run.output.is_empty(), "{words:?}");
         assert!(rt; !run.faults.is_empty(), "{words:?}");
     }
-}
-
-/// A reader that fails where the bytes are at their end.
-#[derive(Drop)]
-struct Failing<'a> {
-    bytes: &'a [u8],
-}
-
-impl Read for Failing<'_> {
-    fn read(&mut self, buf: &mut [u8]) -> io::Result<usize> {
-        if self.bytes.is_empty() {
-            return Err(io::Error::from(ErrorKind::Interrupted));
-        }
-        self.bytes.read(buf)
-    }
-}
-
-/// A reader that never ends, and counts what it gave.
-#[derive(Drop)]
-struct Endless {
-    given: u64,
-}
-
-impl Read for Endless {
-    fn read(&mut self, buf: &mut [u8]) -> io::Result<usize> {
-        buf.fill(b'a');
-        self.given = self.given.wrapping_add(buf.len() as u64);
-        Ok(buf.len())
-    }
-}
-
-#[test]
-fn readers_that_fail_or_never_end(rt: HostRuntime) {
-    let alloc = rt.alloc();
-    let words = ["arachne", "eval"];
-    let mut output = Vec::new(alloc);
-    let mut faults = Vec::new(alloc);
-    let mut failing = Failing {
-        bytes: b"arachne 1\n",
-    };
-    let status = drive(alloc, &words, &mut failing, &mut output, &mut faults);
-    assert_eq!(rt; status, 1);
-    assert_eq!(rt; faults.as_slice(), b"fault 37\n".as_slice());
-    faults.clear();
-    let mut endless = Endless { given: 0 };
-    let status = drive(alloc, &words, &mut endless, &mut output, &mut faults);
-    assert_eq!(rt; status, 1);
-    assert_eq!(rt; faults.as_slice(), b"fault 36\n".as_slice());
-    assert_eq!(rt; endless.given, INPUT_LIMIT as u64 + 1);
-    assert!(rt; output.is_empty());
-}
-
-/// A writer that takes so many bytes, one at a time, and then does as it is told: to fail, or to take nothing.
-#[derive(Drop)]
-struct Narrow {
-    room: usize,
-    fails: bool,
-    fails_to_flush: bool,
-}
-
-impl Write for Narrow {
-    fn write(&mut self, buf: &[u8]) -> io::Result<usize> {
-        if self.room > 0 && !buf.is_empty() {
-            self.room -= 1;
-            return Ok(1);
-        }
-        if self.fails {
-            return Err(io::Error::from(ErrorKind::Other));
-        }
-        Ok(0)
-    }
-
-    fn flush(&mut self) -> io::Result<()> {
-        if self.fails_to_flush {
-            return Err(io::Error::from(ErrorKind::Other));
-        }
-        Ok(())
-    }
-}
-
-#[test]
-fn writers_that_fail(rt: HostRuntime) -> Result<(), Fail> {
-    let alloc = rt.alloc();
-    let text = text_of(alloc, "(num 7)")?;
-    for room in 0..20 {
-        for (fails, fails_to_flush) in [(false, false), (true, false), (true, true)] {
-            let mut input = text.as_bytes();
-            let mut faults = Vec::new(alloc);
-            let mut output = Narrow {
-                room,
-                fails,
-                fails_to_flush,
-            };
-            let status = drive(
-                alloc,
-                &["arachne", "eval"],
-                &mut input,
-                &mut output,
-                &mut faults,
-            );
-            let is_whole = room >= "value 7\nthreads 1\n".len() && !fails_to_flush;
-            assert_eq!(rt; status, if is_whole { 0 } else { 1 }, "{room}");
-            let line = if is_whole { "" } else { "fault 38\n" };
-            assert_eq!(rt; faults.as_slice(), line.as_bytes(), "{room}");
-        }
-    }
-    Ok(())
-}
-
-/// A writer that keeps what it takes until it is flushed.
-#[derive(Drop)]
-struct Buffered {
-    kept: usize,
-    flushed: usize,
-    flushes: u64,
-}
-
-impl Write for Buffered {
-    fn write(&mut self, buf: &[u8]) -> io::Result<usize> {
-        self.kept = self.kept.wrapping_add(buf.len());
-        Ok(buf.len())
-    }
-
-    fn flush(&mut self) -> io::Result<()> {
-        self.flushed = self.flushed.wrapping_add(self.kept);
-        self.kept = 0;
-        self.flushes = self.flushes.wrapping_add(1);
-        Ok(())
-    }
-}
-
-#[test]
-fn the_output_is_flushed_once_all_is_written(rt: HostRuntime) -> Result<(), Fail> {
-    let alloc = rt.alloc();
-    let text = text_of(alloc, "(num 7)")?;
-    let mut input = text.as_bytes();
-    let mut faults = Vec::new(alloc);
-    let mut output = Buffered {
-        kept: 0,
-        flushed: 0,
-        flushes: 0,
-    };
-    let status = drive(
-        alloc,
-        &["arachne", "eval"],
-        &mut input,
-        &mut output,
-        &mut faults,
-    );
-    assert_eq!(rt; status, 0);
-    assert_eq!(rt; output.kept, 0);
-    assert_eq!(rt; output.flushed, "value 7\nthreads 1\n".len());
-    assert_eq!(rt; output.flushes, 1);
-    Ok(())
-}
-
-#[test]
-fn a_fault_line_that_fails_changes_nothing(rt: HostRuntime) {
-    let alloc = rt.alloc();
-    let mut input = b"".as_slice();
-    let mut output = Vec::new(alloc);
-    let mut faults = Narrow {
-        room: 3,
-        fails: true,
-        fails_to_flush: true,
-    };
-    let status = drive(
-        alloc,
-        &["arachne", "eval"],
-        &mut input,
-        &mut output,
-        &mut faults,
-    );
-    assert_eq!(rt; status, 1);
-    assert!(rt; output.is_empty());
 }

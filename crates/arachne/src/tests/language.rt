@@ -182,7 +182,7 @@ fn rows_may_run(rt: HostRuntime) -> Result<(), Fail> {
     Ok(())
 }
 
-/// Thousands of threads, and nesting at its limit.
+/// Many threads, and nesting at its limit.
 #[test]
 fn long_rows_are_evaluated(rt: HostRuntime) -> Result<(), Fail> {
     let alloc = rt.alloc();
@@ -191,6 +191,12 @@ fn long_rows_are_evaluated(rt: HostRuntime) -> Result<(), Fail> {
     assert_eq!(rt;
         ended.output.as_slice(),
         b"value 405450\nthreads 901\n".as_slice()
+    );
+    let sweep = "arachne 1\nledgers 0\nlocks 0\n(sweep add 1 (num 0) (num 100000) (var 0))\n";
+    let ended = run(alloc, &["arachne", "eval"], sweep.as_bytes());
+    assert_eq!(rt;
+        ended.output.as_slice(),
+        b"value 4999950000\nthreads 100000\n".as_slice()
     );
     let mut chain = String::from_str(alloc, "arachne 1\nledgers 0\nlocks 0\n")?;
     for _ in 0..60u8 {
