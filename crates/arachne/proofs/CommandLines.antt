@@ -1,17 +1,14 @@
 -- From what a parse of the command line found to what the words ask for.
-use Rattle.std.proofs.Common.{◌≡◌, ℕ, List, [], ◌∷◌, map, Bool, true, false, refl, ap, sym, ◌∙◌, Option, Some, None}
-use Rattle.std.specs.Prelude.{option_map, Box, IsSome, codes}
+use Rattle.std.proofs.Common.{◌≡◌, ℕ, List, true, false, refl, ap, sym, ◌∙◌, Option, Some, None}
+use Rattle.std.specs.Prelude.{codes}
 use Rattle.std.specs.Str.{bytes_eq}
 use Rattle.std.specs.Option.{option_map_or}
-use Rattle.clap.specs.Words.{Row, Text, App, HasMatchesOf, app_of, first_of, first_value, found_of, is_simple, rows_of, subcommand_name_of, subcommand_of, subcommand_rows, subcommand_rows_of, takes}
+use Rattle.clap.specs.Words.{Text, HasMatchesOf, app_of, first_value, is_simple, rows_of, subcommand_of, subcommand_rows_of, takes}
 use Rattle.clap.specs.declared.builder.command.Command.{Command}
 use Rattle.clap.specs.declared.parser.matches.ArgMatches.{ArgMatches}
-use Rattle.clap.specs.declared.parser.matches.ArgMatches.TheViews.{out-ArgMatches, out-SubCommand}
-use Rattle.clap.specs.declared.parser.matches.SubCommand.{SubCommand}
 use Rattle.clap.specs.declared.parser.matches.Found.{Found}
 use Rattle.clap.proofs.WalkLemmas.{first_value-rows}
-use Rattle.arachne.specs.declared.command_line.Request.{Request}
-use Rattle.arachne.specs.CommandLine.{asked_by, check_command, eval_command, is_set, is_taken, policy_command, program, request_met, request_of, task_commands}
+use Rattle.arachne.specs.CommandLine.{asked_by, check_command, eval_command, is_set, is_taken, policy_command, program, request_met, task_commands}
 
 -- a flag by its text, and by the want of one
 pub flag_by_text : (found : Found) (flag text : List ℕ) → Some text ≡ first_value found flag → is_set flag (rows_of found) ≡ bytes_eq text (codes "true")

@@ -1,5 +1,5 @@
 -- What the words of the command line ask for, as the parser of command lines reads them.
-use Rattle.std.specs.Prelude.{ℕ, ◌-◌, ◌^◌, ◌==◌, ◌&&◌, ◌||◌, not, nat_lt, nat_le, length, Bool, true, false, List, [], ◌∷◌, Option, Some, None, option_and_then, option_map, is_some, if◌then◌else◌, codes, unwrap_or, ◌≤◌, ⊤}
+use Rattle.std.specs.Prelude.{ℕ, ◌-◌, ◌^◌, ◌==◌, ◌&&◌, not, nat_lt, nat_le, length, Bool, true, false, List, [], ◌∷◌, Option, Some, None, option_and_then, if◌then◌else◌, codes, ◌≤◌, ⊤}
 use Rattle.std.specs.Option.{option_map_or}
 use Rattle.std.specs.List.{list_all}
 use Rattle.std.specs.Char.{is_digit}

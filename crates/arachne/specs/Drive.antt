@@ -15,7 +15,6 @@ use Rattle.arachne.specs.declared.command_line.Request.TheVariants.{Eval, Check,
 use Rattle.arachne_policy.specs.declared.samples.Sample.{Sample}
 use Rattle.arachne.specs.declared.judging.Settings.{Settings}
 use Rattle.arachne.specs.CommandLine.{asked_by}
-use Rattle.arachne.specs.Fault.{fault_line}
 use Rattle.arachne.specs.Samples.{AreInRange, samples_text}
 use Rattle.arachne.specs.Samples as samples
 use Rattle.arachne.specs.Judging.{AreGood, IsFirstBadLine, advice_lines}

@@ -10,11 +10,10 @@ use Rattle.arachne_lang.specs.Tree.{Source}
 use Rattle.arachne_lang.specs.Program.{source_of, tree_of}
 use Rattle.arachne_lang.specs.Value.{value_of, with_newest, apply, operation_of}
 use Rattle.arachne_lang.specs.Effects.{Effects, task_value, tabulated, held, tallied}
-use Rattle.arachne_machine.specs.declared.frame.Stretch.{Stretch}
 use Rattle.arachne_machine.specs.declared.frame.Frame.{Frame}
 use Rattle.arachne_machine.specs.declared.frame.Frame.TheVariants.{Restore}
 use Rattle.arachne_machine.specs.declared.frame.Control.{Control}
-use Rattle.arachne_machine.specs.declared.frame.Control.TheVariants.{Begin, Give, Cover, Forked, Halved, Awaits, AwaitsHalf, Asks, Frees, Tallies}
+use Rattle.arachne_machine.specs.declared.frame.Control.TheVariants.{Begin, Give, Awaits, AwaitsHalf, Asks, Tallies}
 use Rattle.arachne_machine.specs.declared.pause.Pending.{Pending}
 use Rattle.arachne_machine.specs.declared.pause.Pending.TheVariants as pause
 use Rattle.arachne_machine.specs.declared.state.State.{State}
@@ -24,7 +23,7 @@ use Rattle.arachne_machine.specs.Account.{after}
 use Rattle.arachne_machine.specs.Ending.{child_task, joined_env, account_joined, fork_awaited, lock_freed, forks_of, releases, frames_left}
 use Rattle.arachne_machine.specs.Steps.{Joins, Counts, pending_of, suspended}
 use Rattle.arachne_machine.specs.Suspended.{awaited}
-use Rattle.arachne_machine.proofs.Outlooks.{SameOutlook, Step, IsAt, Any, itself, unjoined_at, locks_at, same_end, steps_by, framed_as, alone, as_it_is, given}
+use Rattle.arachne_machine.proofs.Outlooks.{SameOutlook, IsAt, Any, unjoined_at, locks_at, same_end}
 
 joins_by : (old new : State) (outcome : Finished) (n : ℕ) (k k' : Control) (gs' : List Frame) (env' : List ℕ) → old.control ≡ k → outcome.name ≡ old.own.name ++ n ∷ [] →
     new.program ≡ old.program → new.own ≡ old.own → new.forks ≡ old.forks → new.control ≡ k' →

@@ -1,5 +1,5 @@
 -- The steps and the traces of worked programs.
-use Rattle.std.proofs.Common.{◌≡◌, ◌∷◌, ◌++◌, [], refl}
+use Rattle.std.proofs.Common.{◌≡◌, ◌∷◌, [], refl}
 use Rattle.arachne_lang.specs.declared.program.Class.TheVariants.{Normal, Exclusive}
 use Rattle.arachne_lang.specs.declared.program.Operation.TheVariants.{Add}
 use Rattle.arachne_lang.specs.declared.program.Reduction.TheVariants.{Sum, Least, Greatest}

@@ -1,5 +1,5 @@
 -- What the calls of a thread do.
-use Rattle.std.specs.Prelude.{◌≡◌, ℕ, ◌+◌, List, [], ◌∷◌, None, Some, IsSome, Result, Ok, Err}
+use Rattle.std.specs.Prelude.{◌≡◌, ℕ, List, [], ◌∷◌, None, Some, IsSome, Result, Ok, Err}
 use Rattle.arachne_machine.specs.declared.pause.Pending.TheVariants as pause
 use Rattle.arachne_machine.specs.declared.pause.Pause.{Pause}
 use Rattle.arachne_machine.specs.declared.pause.Pause.TheVariants as pauses
