@@ -43,7 +43,7 @@ advanced_seen n old new None s h =
     (same_thread n old new h.0, h.2, h.1, record { made = n; at_least = omega arith; at_most = omega arith; work = h.0.work; trace = sym h.0.trace })
 advanced_seen n old new (Some (stop.Forks class child)) s h = forked_seen n old new child.value _ s h
 advanced_seen n old new (Some stop.Joins) s h =
-    (same_thread h.0.made old new h.0.goes, h.2, h.1, stopped_seen h.0.made old new h.0.goes h.1, within_seen 1 n old new h.0)
+    (same_thread h.0.made old new h.0.goes, h.2, h.1, stopped_seen new h.1, within_seen 1 n old new h.0)
 advanced_seen n old new (Some (stop.Asks lock)) s h = (same_thread h.0.made old new h.0.goes, h.2, h.1, within_seen 1 n old new h.0)
 advanced_seen n old new (Some (stop.Frees lock)) s h =
     (same_thread h.0.made old new h.0.goes, h.2, h.1, (h.3.0, sym h.2 ∙ h.3.1), within_seen 1 n old new h.0)

@@ -458,8 +458,8 @@ awaits_some (Frees lock value) name frames h = absurd (not_another (pause.Frees 
 awaits_some (Tallies ledger amount body) name frames h = absurd (not_another (pause.Tallies ledger amount) IsJoins tt (λ x. x) h)
 awaits_some (Ended value) name frames h = absurd (not_another pause.Ended IsJoins tt (λ x. x) h)
 
-pub stopped_seen : (n : ℕ) (old new : State) → Goes n [] old new → pending_of new.control ≡ Some pause.Joins → IsSome (awaited (suspended new))
-stopped_seen n old new g h = awaits_some new.control new.own.name (forks_of new.frames.items) h
+pub stopped_seen : (t : State) → pending_of t.control ≡ Some pause.Joins → IsSome (awaited (suspended t))
+stopped_seen t h = awaits_some t.control t.own.name (forks_of t.frames.items) h
 
 pub joined_seen : (old new : State) (outcome : Finished) → IsSound old → IsOfItsName outcome → source_of outcome.program ≡ source_of old.program.now →
     Joins old outcome new → Joined (suspended old) outcome (suspended new)

@@ -7,7 +7,7 @@ impl<'p> State<'p> {
     ghost use Rattle.std.specs.Prelude.{◌≡◌, [], ◌∷◌, ℕ, None, Some};
     ghost use Rattle.arachne_lang.specs.Effects.{held, tallied};
     ghost use Rattle.arachne_machine.specs.declared.pause.Pending.TheVariants as pause;
-    ghost use Rattle.arachne_machine.specs.Ending.{work_left, locks_of};
+    ghost use Rattle.arachne_machine.specs.Ending.{locks_of};
     ghost use Rattle.arachne_machine.specs.Suspended.{IsAsk, IsFree, IsTally};
     ghost use Rattle.arachne_machine.specs.Trace.{At};
     ghost use Rattle.arachne_machine.specs.Steps.{pending_of, Goes, Counts, CountsHold, CountsTally};
@@ -18,7 +18,6 @@ impl<'p> State<'p> {
         ensures goes { Goes 0 (At pause.Forks ∷ []) self.old self.new }
         ensures locks { locks_of self.new ≡ locks_of self.old }
         ensures pending { pending_of self.new.control ≡ None }
-        ensures work { work_left self.new ≡ work_left self.old }
     {
         match self.control {
             Control::Forked(during) => self.control = Control::Begin(during),
@@ -52,7 +51,6 @@ impl<'p> State<'p> {
         ensures goes { (lock : ℕ) × (pending_of self.old.control ≡ Some (pause.Frees lock)) × Goes 0 (At (pause.Frees lock) ∷ []) self.old self.new }
         ensures locks { (lock : ℕ) × (pending_of self.old.control ≡ Some (pause.Frees lock)) × (locks_of self.old ≡ lock ∷ locks_of self.new) }
         ensures pending { pending_of self.new.control ≡ None }
-        ensures work { work_left self.new ≡ work_left self.old }
     {
         let Control::Frees { lock: _, value } = self.control else {
             unreachable!()

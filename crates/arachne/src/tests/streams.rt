@@ -53,18 +53,17 @@ impl Read for Endless {
 #[test]
 fn readers_that_fail_or_never_end(rt: HostRuntime) {
     let alloc = rt.alloc();
-    let words = ["arachne", "eval"];
     let mut output = Vec::new(alloc);
     let mut faults = Vec::new(alloc);
     let mut failing = Failing {
         bytes: b"arachne 1\n",
     };
-    let status = drive(alloc, &words, &mut failing, &mut output, &mut faults);
+    let status = drive(alloc, &WORDS, &mut failing, &mut output, &mut faults);
     assert_eq!(rt; status, 1);
     assert_eq!(rt; faults.as_slice(), b"fault 37\n".as_slice());
     faults.clear();
     let mut endless = Endless { given: 0 };
-    let status = drive(alloc, &words, &mut endless, &mut output, &mut faults);
+    let status = drive(alloc, &WORDS, &mut endless, &mut output, &mut faults);
     assert_eq!(rt; status, 1);
     assert_eq!(rt; faults.as_slice(), b"fault 36\n".as_slice());
     assert_eq!(rt; endless.given, INPUT_LIMIT as u64 + 1);
@@ -164,13 +163,7 @@ fn writers_that_fail(rt: HostRuntime) -> Result<(), Fail> {
                 fails,
                 fails_to_flush,
             };
-            let status = drive(
-                alloc,
-                &["arachne", "eval"],
-                &mut input,
-                &mut output,
-                &mut faults,
-            );
+            let status = drive(alloc, &WORDS, &mut input, &mut output, &mut faults);
             assert_eq!(rt; output.kept.as_slice(), &whole[..room.min(whole.len())]);
             let is_whole = room >= whole.len() && !fails_to_flush;
             assert_eq!(rt; status, if is_whole { 0 } else { 1 }, "{room}");
@@ -301,13 +294,7 @@ fn the_output_is_flushed_once_all_is_written(rt: HostRuntime) -> Result<(), Fail
         flushed: 0,
         flushes: 0,
     };
-    let status = drive(
-        alloc,
-        &["arachne", "eval"],
-        &mut input,
-        &mut output,
-        &mut faults,
-    );
+    let status = drive(alloc, &WORDS, &mut input, &mut output, &mut faults);
     assert_eq!(rt; status, 0);
     assert_eq!(rt; output.kept, 0);
     assert_eq!(rt; output.flushed, ANSWER.len());
@@ -326,13 +313,7 @@ fn a_fault_line_that_fails_changes_nothing(rt: HostRuntime) {
         fails: true,
         fails_to_flush: true,
     };
-    let status = drive(
-        alloc,
-        &["arachne", "eval"],
-        &mut input,
-        &mut output,
-        &mut faults,
-    );
+    let status = drive(alloc, &WORDS, &mut input, &mut output, &mut faults);
     assert_eq!(rt; status, 1);
     assert!(rt; output.is_empty());
     assert_eq!(rt; faults.kept.as_slice(), b"fau".as_slice());
