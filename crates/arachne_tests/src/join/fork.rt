@@ -2,7 +2,7 @@
 ghost use Rattle.std.specs.Prelude.{◌≡◌, ◌+◌, ◌%◌, ◌^◌, length, IfSome, IfOk};
 ghost use Rattle.std.specs.Arc.{arc_value};
 
-use crate::{Fits, JoinCell, SendingEnd};
+use arachne_join::{Fits, JoinCell, SendingEnd};
 use std::alloc::{AllocError, Global};
 use std::snapshot::Snapshot;
 use std::sync::Arc;

@@ -4,31 +4,36 @@ ghost use Rattle.std.specs.Prelude.{◌≡◌, ◌<◌, IfOk};
 mod fork;
 mod parcels;
 
-use crate::{CellState, Fits, JoinCell, SendingEnd};
+use arachne_join::{CellState, Fits, JoinCell, SendingEnd};
 use std::alloc::{AllocError, Global};
 use std::test::Fail;
 
-// A value that fits is the key itself, and one that may wait is below it.
-impl Fits<u64> for u64 {
-    ghost fits = { λ key value. value ≡ key };
+// What a cell is for: a number.
+#[derive(Drop)]
+struct Wanted(u64);
 
-    ghost may_wait = { λ key value. value < key };
+// A value that fits is the number itself, and one that may wait is below it.
+impl Fits<Wanted> for u64 {
+    ghost fits = { λ wanted value. value ≡ wanted.0 };
+
+    ghost may_wait = { λ wanted value. value < wanted.0 };
 }
 
 // Under `rt try --test --fail-alloc N` the Nth allocation is refused: the first call answers it, and the second makes the cell.
 fn make_cell(
     alloc: Global,
-    key: u64,
-) -> Result<(JoinCell<u64, u64>, SendingEnd<u64, u64>), AllocError>
-    ensures { IfOk result (λ made. (made.0.key ≡ key) × (made.1 ≡ made.0.table)) }
+    number: u64,
+) -> Result<(JoinCell<u64, Wanted>, SendingEnd<u64, Wanted>), AllocError>
+    ensures { IfOk result (λ made. (made.0.key.0 ≡ number) × (made.1 ≡ made.0.table)) }
 {
-    match JoinCell::new(alloc, &key) {
+    let wanted = Wanted(number);
+    match JoinCell::new(alloc, &wanted) {
         Ok(made) => Ok(made),
-        Err(_) => JoinCell::new(alloc, &key),
+        Err(_) => JoinCell::new(alloc, &wanted),
     }
 }
 
-fn missed_at(cell: &JoinCell<u64, u64>) -> Option<CellState> {
+fn missed_at(cell: &JoinCell<u64, Wanted>) -> Option<CellState> {
     match cell.fetch() {
         Ok(_) => None,
         Err(missed) => Some(missed.state),

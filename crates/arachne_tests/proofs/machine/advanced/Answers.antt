@@ -1,5 +1,5 @@
 use Rattle.std.proofs.lemmas.Result.{IfOk-weaker}
-use Rattle.arachne_machine.proofs.tests.advanced.Goals as goal
+use Rattle.arachne_tests.proofs.machine.advanced.Goals as goal
 
 pub returns-in-Err : goal.returns-in-Err
 returns-in-Err c =

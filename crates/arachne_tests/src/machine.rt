@@ -3,8 +3,8 @@ ghost use Rattle.arachne_machine.specs.declared.pause.Pending.TheVariants as pau
 ghost use Rattle.arachne_machine.specs.Suspended.{Suspended};
 ghost use Rattle.arachne_machine.specs.Advance.{Advanced};
 
-use crate::{NotJoined, Outcome, Pause, Pending, Thread, run_alone};
 use arachne_lang::{Class, Program, TextFault, parse};
+use arachne_machine::{NotJoined, Outcome, Pause, Pending, Thread, run_alone};
 use std::alloc::{AllocError, Global};
 use std::process::Abort;
 use std::test::Fail;

@@ -1,11 +1,6 @@
-use crate::check_fault::CheckFault;
-use crate::checker::check;
-use crate::evaluator::eval;
-use crate::meaning::Meaning;
-use crate::name::Name;
-use crate::program::{Expr, Operation, Program};
-use crate::reading::parse;
-use crate::sequence::Sequence;
+use arachne_lang::{
+    CheckFault, Expr, Meaning, Name, Operation, Program, Sequence, check, eval, parse,
+};
 use std::alloc::{AllocError, Global};
 use std::test::Fail;
 

@@ -1,5 +1,5 @@
-use super::*;
-use crate::printing::print;
+use arachne_lang::{Program, TextFault, parse, print};
+use std::alloc::Global;
 use std::test::Fail;
 
 /// The lines of a program with no ledgers and no locks.

@@ -1,5 +1,5 @@
-use super::*;
 use arachne_core::ThreadId;
+use arachne_sleep::{AskFault, Asked, Freed, LockEvent, LockState, NotHolder, Pass, Who};
 use std::process::Abort;
 use std::test::Fail;
 

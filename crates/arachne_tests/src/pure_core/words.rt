@@ -1,11 +1,6 @@
 //! Worked values of the words, of the numbers of places, and of a refusal's text.
 
-use crate::event::NotApplied;
-use crate::layout::LAST_GENERATION;
-use crate::mark::Mark;
-use crate::mark_word::MarkWord;
-use crate::occ_word::OccWord;
-use crate::place::Place;
+use arachne_core::{LAST_GENERATION, Mark, MarkWord, NotApplied, OccWord, Place};
 use std::test::Fail;
 
 const FIRST: Place = Place { core: 0, index: 0 };

@@ -1,6 +1,4 @@
-use super::*;
-use crate::reading::parse;
-use crate::text_fault::TextFault;
+use arachne_lang::{TextFault, parse, print};
 use std::test::Fail;
 
 /// The lines behind the header, and an expression.

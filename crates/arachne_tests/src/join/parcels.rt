@@ -2,7 +2,8 @@
 ghost use Rattle.std.specs.Prelude.{◌≡◌, IfSome};
 ghost use Rattle.std.specs.Arc.{arc_value};
 
-use crate::{JoinCell, SendingEnd};
+use super::Wanted;
+use arachne_join::{JoinCell, SendingEnd};
 use std::alloc::{AllocError, Global};
 use std::sync::Arc;
 use std::test::Fail;
@@ -12,16 +13,16 @@ const PARCELS: u64 = 100_000;
 
 const POLLS: u64 = 100_000_000;
 
-type Number = JoinCell<u64, u64>;
+type Number = JoinCell<u64, Wanted>;
 
 // What the sending thread has for one parcel.
 #[derive(Drop)]
 struct Sent {
     number: u64,
     cell: Arc<Number>,
-    end: SendingEnd<u64, u64>,
+    end: SendingEnd<u64, Wanted>,
     ghost place: { end ≡ (arc_value cell).table },
-    ghost what_for: { (arc_value cell).key ≡ number },
+    ghost what_for: { (arc_value cell).key.0 ≡ number },
 }
 
 // What the receiving thread has for it.
@@ -29,7 +30,7 @@ struct Sent {
 struct Awaited {
     number: u64,
     cell: Arc<Number>,
-    ghost what_for: { (arc_value cell).key ≡ number },
+    ghost what_for: { (arc_value cell).key.0 ≡ number },
 }
 
 impl Sent {
@@ -54,7 +55,7 @@ impl Awaited {
 }
 
 fn parcel(alloc: Global, number: u64) -> Result<(Sent, Awaited), AllocError> {
-    let (cell, end) = JoinCell::new(alloc, &number)?;
+    let (cell, end) = JoinCell::new(alloc, &Wanted(number))?;
     let cell = Arc::new(alloc, cell)?;
     let awaited = Awaited {
         number,

@@ -2,7 +2,7 @@
 ghost use Rattle.std.specs.Prelude.{◌≡◌, ◌<◌, IfOk};
 ghost use Rattle.arachne_ledger.specs.Views.{IsShareOf, IsWhole};
 
-use crate::{Ledgers, Share};
+use arachne_ledger::{Ledgers, Share};
 use std::alloc::{AllocError, Global};
 use std::snapshot::Snapshot;
 use std::sync::Wait;

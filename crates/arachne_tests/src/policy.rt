@@ -1,4 +1,7 @@
-use super::*;
+use arachne_policy::{
+    Advice, BadSample, CoreLoad, CoreOrder, Estimator, OrderFault, OrderFaultKind, OrderKind,
+    Sample, check_orders, two_choices,
+};
 use std::string::ToString;
 use std::test::Fail;
 

@@ -3,12 +3,7 @@
 ghost use Rattle.std.specs.Prelude.{◌≡◌, ◌<◌};
 ghost use Rattle.arachne_core.specs.ContextTable.{world_of};
 
-use crate::event::{Event, NotApplied};
-use crate::layout::LAST_GENERATION;
-use crate::place::Place;
-use crate::state::Rest;
-use crate::thread_id::ThreadId;
-use crate::world::World;
+use arachne_core::{Event, LAST_GENERATION, NotApplied, Place, Rest, ThreadId, World};
 use std::process::Abort;
 use std::test::Fail;
 
