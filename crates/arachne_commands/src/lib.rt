@@ -3,20 +3,20 @@
 #![tactic(auto)]
 
 mod command_line;
-mod drive;
 mod fault;
 mod judging;
 mod numbers;
 mod orders;
 mod output;
 mod process;
+mod program;
 mod samples;
 mod stream;
 
-pub use drive::{drive, refuse, refuse_words};
 pub use fault::Fault;
 pub use orders::read_order;
 pub use output::render;
 pub use process::{Status, run, run_on, run_without_words};
+pub use program::{drive, refuse, refuse_words};
 pub use samples::read_samples;
 pub use stream::INPUT_LIMIT;

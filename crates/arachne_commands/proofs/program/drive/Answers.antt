@@ -3,7 +3,7 @@ use Rattle.arachne_commands.specs.CommandLine.{asked_by}
 use Rattle.arachne_commands.specs.declared.fault.Fault.TheVariants as fault
 use Rattle.arachne_commands.proofs.Causes.{memory_is_wanting}
 use Rattle.arachne_commands.proofs.KnownBytes.{keeps_same}
-use Rattle.arachne_commands.proofs.drive.drive.Goals as goal
+use Rattle.arachne_commands.proofs.program.drive.Goals as goal
 
 pub returns-in-Err-clause-fault : goal.returns-in-Err-clause-fault
 returns-in-Err-clause-fault g c = λ status. (
