@@ -29,3 +29,4 @@ pub mod ClaimSteps
 pub mod ThreadSteps
 pub mod RestSteps
 pub mod CoreSteps
+pub mod MoveSteps
