@@ -30,3 +30,6 @@ pub mod ThreadSteps
 pub mod RestSteps
 pub mod CoreSteps
 pub mod MoveSteps
+pub mod SeatSteps
+pub mod Opening
+pub mod Ending

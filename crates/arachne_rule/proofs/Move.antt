@@ -18,10 +18,11 @@ use Rattle.arachne_rule.specs.declared.view.Known.{Known}
 use Rattle.arachne_rule.specs.Views.{known_at, carried_at, with_context}
 use Rattle.arachne_rule.specs.Rule.{Coherent, carried_if, carried_of, share_of, Board, Phase, ShowsContext, Shows}
 use Rattle.arachne_rule.specs.Changes.{left_context, moved_phase}
+use Rattle.arachne_rule.specs.Plays.{IsRestMark}
 use Rattle.arachne_rule.proofs.Carrying.{with-at, with-else, known-there}
 use Rattle.arachne_rule.proofs.Views.{learned-else, learned-here, given-same, ended-same}
 use Rattle.arachne_rule.proofs.Marking.{claimed-carried, mine-claimed, not-claimed}
-use Rattle.arachne_rule.proofs.Seen.{IsRestMark, rest-mark, rest-live, rest-coherent, coherent-rest, seen}
+use Rattle.arachne_rule.proofs.Seen.{rest-mark, rest-live, rest-coherent, coherent-rest, seen}
 
 -- a thread at rest is nobody's
 no-share : (s : State) → IsAtRest s → (h : ℕ) (f : Bool → ℕ → Carried) → carried_if s h f ≡ []

@@ -22,8 +22,8 @@ use Rattle.arachne_rule.specs.Rule.{settled, carried_of, Board, Phase, Shows}
 use Rattle.arachne_rule.specs.Changes.{with_name, left_context, marked_free, moved_phase}
 use Rattle.arachne_rule.specs.Layout.{contexts_in, name_index, board_of}
 use Rattle.arachne_rule.specs.Table.{Table, Mine, Holds}
-use Rattle.arachne_rule.specs.Plays.{Carries, IsLive, Moves, NamesTarget, Replaces, NamesSource}
-use Rattle.arachne_rule.proofs.Seen.{IsRestMark, seen, rest-coherent}
+use Rattle.arachne_rule.specs.Plays.{Carries, IsRestMark, IsLive, Moves, NamesTarget, Replaces, NamesSource}
+use Rattle.arachne_rule.proofs.Seen.{seen, rest-coherent}
 use Rattle.arachne_rule.proofs.Slots.{carried-says}
 use Rattle.arachne_rule.proofs.Move.{move}
 use Rattle.arachne_rule.proofs.Naming.{name_target, replace, name_source}

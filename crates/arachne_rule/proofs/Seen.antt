@@ -3,13 +3,13 @@ use Rattle.std.proofs.Common.{◌≡◌, ◌≢◌, ℕ, ◌+◌, ◌-◌, ◌*�
 use Rattle.arachne_core.specs.declared.place.Place.{Place}
 use Rattle.arachne_core.specs.declared.state.State.{State}
 use Rattle.arachne_core.specs.declared.state.State.TheVariants.{Free, Claimed, Ready, Blocked, Held, Spent}
-use Rattle.arachne_core.specs.declared.mark.Mark.{Mark}
 use Rattle.arachne_core.specs.declared.mark.Mark.TheVariants as mark
 use Rattle.arachne_core.specs.Marked.{marked_of}
 use Rattle.arachne_core.specs.World.{World, IsContext, IsAtRest}
 use Rattle.arachne_core.specs.ContextTable.{mark_of, is_live_state, marked}
 use Rattle.arachne_core.proofs.MarkWords.{marked_of-mark_word}
 use Rattle.arachne_rule.specs.Rule.{Coherent, Board, Phase, Shows}
+use Rattle.arachne_rule.specs.Plays.{IsRestMark}
 
 pub ready-mark : (s : State) → mark_of s ≡ mark.Ready → (t : ℕ) × (s ≡ Ready t)
 ready-mark Free e = absurd cc
@@ -19,11 +19,6 @@ ready-mark (Blocked t) e = absurd cc
 ready-mark (Held h true t) e = absurd cc
 ready-mark (Held h false t) e = absurd cc
 ready-mark Spent e = absurd cc
-
-abbrev pub IsRestMark : Mark → Type 0
-IsRestMark mark.Ready = Unit {0}
-IsRestMark mark.Blocked = Unit {0}
-IsRestMark m = ⊥
 
 pub rest-mark : (s : State) → IsRestMark (mark_of s) → IsAtRest s
 rest-mark Free e = absurd e

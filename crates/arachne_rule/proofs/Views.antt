@@ -14,7 +14,7 @@ use Rattle.arachne_rule.specs.declared.view.Known.{Known}
 use Rattle.arachne_rule.specs.Views.{known_at, carried_at, given_in, ended_in}
 use Rattle.arachne_rule.proofs.Carrying.{known-there, known-set, known-else}
 
-more-threads : (t u : Thread) (ts : List Thread) → count_by (same_thread t) (u ∷ ts) ≡ cond (same_thread t u) (count_by (same_thread t) ts + 1) (count_by (same_thread t) ts)
+pub more-threads : (t u : Thread) (ts : List Thread) → count_by (same_thread t) (u ∷ ts) ≡ cond (same_thread t u) (count_by (same_thread t) ts + 1) (count_by (same_thread t) ts)
 more-threads t u ts =
     let all = sum_by-cons (λ (v : Thread). cond (same_thread t v) 1 0) u ts in
     elim (cases_Bool (same_thread t u)) [

@@ -1,6 +1,6 @@
 -- Where the words lie: the mark word of context x is word x. Behind the n mark words each core has a block of eighty words, in which its
 -- occupancy word is the ninth, and from the seventeenth on stand the place words of its indexes. So the occupancy word has its cache line alone.
-use Rattle.std.specs.Prelude.{◌≡◌, ℕ, ◌+◌, ◌*◌, ◌<◌, ◌≤◌, false, List, length, slice_index, Option}
+use Rattle.std.specs.Prelude.{◌≡◌, ℕ, ◌+◌, ◌-◌, ◌*◌, ◌^◌, ◌<◌, ◌≤◌, false, List, length, slice_index, Option}
 use lib.ListN.{get_elem?}
 use Rattle.atomic_table.specs.Seated.{TableId}
 use Rattle.atomic_table.specs.Table.{State, Me}
@@ -38,6 +38,14 @@ board_of n s = record {
   home = λ x. get_elem? s.homes x;
   views = s.views;
 }
+
+-- the words have fields for such a machine
+pub record IsShape (bits : ℕ) (shape : Shape) : Type 0 where
+  pub cores : shape.cores ≤ 2 ^ bits
+  pub some : 0 < shape.slots
+  pub slots : shape.slots ≤ 56
+  pub last : shape.last < 2 ^ (54 - bits)
+  pub first : shape.first ≤ shape.last
 
 -- the words at first: no index is occupied, each context is free at its first place, and its place word names it
 pub record AreFirstWords (bits : ℕ) (shape : Shape) (words : List ℕ) : Type 0 where

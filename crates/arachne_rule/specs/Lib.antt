@@ -5,3 +5,4 @@ pub mod Layout
 pub mod History
 pub mod Table
 pub mod Plays
+pub mod Ending

@@ -29,6 +29,12 @@ IsHeldMark mark.Held = Unit {0}
 IsHeldMark mark.Woken = Unit {0}
 IsHeldMark m = ⊥
 
+-- the mark of a context whose thread is ready or blocked
+abbrev pub IsRestMark : Mark → Type 0
+IsRestMark mark.Ready = Unit {0}
+IsRestMark mark.Blocked = Unit {0}
+IsRestMark m = ⊥
+
 -- what a mark word says of a context to the seat that carries it
 abbrev pub SaysCarried : ℕ → Carried → ℕ → Type 0
 SaysCarried bits c word = (c.held ≡ false → marked_of bits word ≡ record (marked_free c) { place = c.shown })

@@ -67,9 +67,9 @@ first_seat v = held (first_part v.weight) v.known
 abbrev pub second_seat : Token Known → Token Known
 second_seat v = held (second_part v.weight) blank
 
--- what one seat knows when it has taken in another: all but the other's steps
+-- what one seat knows when it has taken in another, which carries nothing: also what that one has posted and ended
 abbrev pub joined_known : Known → Known → Known
-joined_known k o = record { carried = k.carried ++ o.carried; given = k.given ++ o.given; ended = k.ended ++ o.ended; records = k.records }
+joined_known k o = record k { given = k.given ++ o.given; ended = k.ended ++ o.ended }
 
 abbrev pub joined_seat : Token Known → Token Known → Token Known
 joined_seat v u = held (joined v.weight u.weight) (joined_known v.known u.known)
