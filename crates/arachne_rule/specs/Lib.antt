@@ -6,3 +6,4 @@ pub mod History
 pub mod Table
 pub mod Plays
 pub mod Ending
+pub mod Answers
