@@ -30,7 +30,7 @@ use Rattle.arachne_rule.proofs.Claim.{claim}
 use Rattle.arachne_rule.proofs.Alone.{claim_alone}
 use Rattle.arachne_rule.proofs.Release.{release, less_by, wraps, holds-index, holds-flag, not-free}
 use Rattle.arachne_rule.proofs.Stepping.{sees, core-made, for-seat}
-use Rattle.arachne_rule.proofs.OwnWords.{my-share, same-at-place}
+use Rattle.arachne_rule.proofs.OwnWords.{my-share, same-at-place, not-mine, free-nobody}
 
 pow-lt : (i j : ℕ) → 2 ^ i < 2 ^ (i + suc j)
 pow-lt i zero = let a : 2 ^ (i + 1) ≡ 2 ^ suc i = ap (λ (n : ℕ). 2 ^ n) (omega arith) in omega (arith, a, pow-suc 2 i, pow_pos i)
@@ -85,7 +85,7 @@ module _ {T : Type 0} (tag_in : T → ℕ) (bits : ℕ) (shape : Shape) where
               (subst (λ (m : ℕ). Shows tag_in bits (after w (event.Claim id x)) hs.phase (record b { occ = with_at b.occ p.core m; views = set s.views id (held weight k') })) becomes r.3),
             λ q at_q is_q.
               let same : p ≡ q = same-place p q (omega (arith, at_q)) (pow-injective p.index q.index (omega (arith, is_q, more))) in
-              ((λ _. (x, w.generation x, x_in, λ j. (held weight (noted kind.Claim i (b.occ p.core) new (with_context k (claimed_context x (same j) (w.generation x)))), l))), (λ miss. absurd (miss hit)))))
+              ((λ _. (x, w.generation x, x_in, not-mine tag_in bits w hs.phase b hs.shows id weight k mine x (r.2).context (free-nobody (w.state x) (r.2).free id), λ j. (held weight (noted kind.Claim i (b.occ p.core) new (with_context k (claimed_context x (same j) (w.generation x)))), l))), (λ miss. absurd (miss hit)))))
         (λ miss. (held weight (noted kind.Claim i (get_or s.words i 0) (get_or s.words i 0) k), keeps, tt, sees tag_in bits shape s hs id weight k mine kind.Claim i l (inl (tt, refl, refl)),
           λ q at_q is_q. ((λ hit. absurd (miss hit)), (λ _. refl))))
 
@@ -123,7 +123,7 @@ module _ {T : Type 0} (tag_in : T → ℕ) (bits : ℕ) (shape : Shape) where
               r.3,
             λ q at_q.
               let same : c ≡ q = omega (arith, at_q) in
-              ((λ _. (x, w.generation x, x_in, λ j. (held weight (noted kind.Alone i (b.occ c) new (with_context k (alone_context x (same j) (w.generation x)))), l))), (λ miss. absurd (miss hit)))))
+              ((λ _. (x, w.generation x, x_in, not-mine tag_in bits w hs.phase b hs.shows id weight k mine x (r.2).context (free-nobody (w.state x) (r.2).free id), λ j. (held weight (noted kind.Alone i (b.occ c) new (with_context k (alone_context x (same j) (w.generation x)))), l))), (λ miss. absurd (miss hit)))))
         (λ miss. (held weight (noted kind.Alone i (get_or s.words i 0) (get_or s.words i 0) k), keeps, tt, sees tag_in bits shape s hs id weight k mine kind.Alone i l (inl (tt, refl, refl)),
           λ q at_q. ((λ hit. absurd (miss hit)), (λ _. refl))))
 

@@ -5,10 +5,10 @@ use mathlib.Core.Option as opt
 use Rattle.std.specs.declared.option.Option.TheVariants.{None}
 use lib.ListN.{get_elem?}
 use Rattle.arachne_core.specs.declared.state.State.{State}
-use Rattle.arachne_core.specs.declared.state.State.TheVariants.{Held, Spent}
+use Rattle.arachne_core.specs.declared.state.State.TheVariants.{Free, Ready, Held, Spent}
 use Rattle.arachne_core.specs.declared.mark.Mark.TheVariants as mark
 use Rattle.arachne_core.specs.Marked.{Marked, marked_of}
-use Rattle.arachne_core.specs.World.{World, Thread, IsContext, IsPlace, core_of, same_thread}
+use Rattle.arachne_core.specs.World.{World, Thread, IsReady, IsContext, IsPlace, core_of, same_thread}
 use Rattle.arachne_core.specs.ContextTable.{mark_of, is_live_state}
 use Rattle.arachne_weights.specs.declared.token.Token.{Token}
 use Rattle.arachne_weights.specs.Tokens.{held}
@@ -16,13 +16,20 @@ use Rattle.std.proofs.lemmas.List.Sums.{sum_by-cons}
 use Rattle.arachne_rule.specs.declared.view.Carried.{Carried}
 use Rattle.arachne_rule.specs.declared.view.Known.{Known}
 use Rattle.arachne_rule.specs.Views.{carried_at}
-use Rattle.arachne_rule.specs.Rule.{carried_of, share_of, Board, Phase, Shows}
+use Rattle.arachne_rule.specs.Rule.{carried_if, carried_of, share_of, Board, Phase, Shows}
 use Rattle.arachne_rule.specs.Plays.{Carries, IsHeldMark, SaysCarried, IsGone, HasEnded}
 use Rattle.arachne_rule.proofs.Carrying.{known-there}
 use Rattle.arachne_rule.proofs.Marking.{one-carried, claimed-carried, held-carried}
 use Rattle.arachne_rule.proofs.Slots.{carried-says, carried-empty, one-claim}
 use Rattle.arachne_rule.proofs.Seen.{seen}
 use Rattle.arachne_rule.proofs.Gone.{ended-is-gone}
+
+pub ready-nobody : (s : State) → IsReady s → (h : ℕ) (f : Bool → ℕ → Carried) → carried_if s h f ≡ []
+ready-nobody (Ready t) r h f = refl
+ready-nobody s r h f = absurd r
+
+pub free-nobody : (s : State) → s ≡ Free → (h : ℕ) (f : Bool → ℕ → Carried) → carried_if s h f ≡ []
+free-nobody s e h f = ap (λ (t : State). carried_if t h f) e
 
 pub same-carried : (k : Known) (c f : Carried) → Carries k c → Carries k f → c.context ≡ f.context → c ≡ f
 same-carried k c f has also same = one-carried c f (sym has ∙ ap (λ (x : ℕ). carried_at x k.carried) same ∙ also)
@@ -44,6 +51,10 @@ module _ {T : Type 0} (tag_in : T → ℕ) (bits : ℕ) (w : World) (d : ℕ →
     (h weight : ℕ) (k : Known) (mine : get_elem? b.views h ≡ opt.some (held weight k)) where
   pub my-share : (x : ℕ) (c : Carried) → IsContext w x → carried_at x k.carried ≡ c ∷ [] → share_of w d h x ≡ c ∷ []
   my-share x c x_in got = sym (s.carried h x x_in) ∙ ap (λ (r : Known). carried_at x r.carried) (known-there b.views h (held weight k) mine) ∙ got
+
+  -- a context that is nobody's isn't the seat's
+  pub not-mine : (x : ℕ) → IsContext w x → ((f : Bool → ℕ → Carried) → carried_if (w.state x) h f ≡ []) → carried_at x k.carried ≡ []
+  not-mine x x_in nobody = sym (ap (λ (r : Known). carried_at x r.carried) (known-there b.views h (held weight k) mine)) ∙ s.carried h x x_in ∙ nobody (carried_of w d x)
 
   -- its place is one of the World, and where it is named the place word says so
   pub placed-in : (c : Carried) → IsContext w c.context → Carries k c → IsPlace w c.place × (c.named ≡ true → b.name c.place ≡ c.context)

@@ -30,7 +30,7 @@ use Rattle.arachne_rule.proofs.Spending.{spend}
 use Rattle.arachne_rule.proofs.Naming.{keep_name}
 use Rattle.arachne_rule.proofs.Boards.{IsIn, home-set}
 use Rattle.arachne_rule.proofs.Stepping.{sees, mark-made, name-made, for-seat}
-use Rattle.arachne_rule.proofs.OwnWords.{same-carried, placed-in, home-empty}
+use Rattle.arachne_rule.proofs.OwnWords.{same-carried, placed-in, home-empty, not-mine, ready-nobody}
 
 abbrev in-slot : {T : Type 0} → T → Option T → T
 in-slot d None = d
@@ -109,7 +109,7 @@ module _ {T : Type 0} (tag_in : T → ℕ) (bits : ℕ) (shape : Shape) where
             mark-made tag_in bits shape s hs id weight k mine kind.Take x new l (takes x (Some v)) (event.Take id x) d k' home x_in refl r.2 (inr refl)
               (length-set s.homes x opt.none) (λ y _. home-set s.homes x opt.none (omega (arith, x_in, hs.fits.homes)) y)
               (subst (λ (q : ℕ). Shows tag_in bits (after w (event.Take id x)) d (record b { mark = with_at b.mark x q; home = home; views = set s.views id (held weight k') })) (sym new_is) r.3),
-            ((λ _. (v, refl)), (λ miss. absurd (miss hit)))))
+            ((λ _. (v, not-mine tag_in bits w hs.phase b hs.shows id weight k mine x (is-context s hs x x_in) (ready-nobody (w.state x) (r.2).ready id), refl)), (λ miss. absurd (miss hit)))))
         (λ miss. (held weight (noted kind.Take x (get_or s.words x 0) (get_or s.words x 0) k), keeps, tt, sees tag_in bits shape s hs id weight k mine kind.Take x l (inl (tt, refl, refl)),
           ((λ hit. absurd (miss hit)), (λ _. refl))))
 

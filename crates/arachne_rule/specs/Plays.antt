@@ -89,16 +89,16 @@ module _ {T : Type 0} where
 
   -- ---- claims
 
-  -- where the word was the one expected, the seat has claimed the context that stands at that place
+  -- where the word was the one expected, the seat has claimed the context that stands at that place, which it didn't carry before
   abbrev pub Claims : Step (Option T) → Mine T → ℕ → Mine T → Type 0
   Claims step before found after = (p : Place) → step.word ≡ occ_index step.slots p.core → step.second ≡ step.first + index_sum p.index
-      → (found ≡ step.first → (x generation : ℕ) × (x < step.slots) × (after ≡ knowing before (noted kind.Claim step.word found step.second (with_context before.0.known (claimed_context x p generation)))))
+      → (found ≡ step.first → (x generation : ℕ) × (x < step.slots) × (carried_at x before.0.known.carried ≡ []) × (after ≡ knowing before (noted kind.Claim step.word found step.second (with_context before.0.known (claimed_context x p generation)))))
       × (found ≢ step.first → after ≡ saw kind.Claim step found before)
 
   -- the same for the whole core, whose word was 0
   abbrev pub ClaimsAlone : Step (Option T) → Mine T → ℕ → Mine T → Type 0
   ClaimsAlone step before found after = (core : ℕ) → step.word ≡ occ_index step.slots core
-      → (found ≡ step.first → (x generation : ℕ) × (x < step.slots) × (after ≡ knowing before (noted kind.Alone step.word found step.second (with_context before.0.known (alone_context x core generation)))))
+      → (found ≡ step.first → (x generation : ℕ) × (x < step.slots) × (carried_at x before.0.known.carried ≡ []) × (after ≡ knowing before (noted kind.Alone step.word found step.second (with_context before.0.known (alone_context x core generation)))))
       × (found ≢ step.first → after ≡ saw kind.Alone step found before)
 
   -- a claim is given up
@@ -113,10 +113,10 @@ module _ {T : Type 0} where
   Posts tag_in step before found after = (c : Carried) (value : T) → c.context ≡ step.word → Carries before.0.known c → before.1 ≡ (c.context, Some value) ∷ rest before.1
       → (was : ℕ) × (after ≡ knowing_home before (noted kind.Post step.word was step.first (posted before.0.known c (tag_in value))))
 
-  -- where the word was the one expected, the seat has taken the thread that it spoke of, with its value
+  -- where the word was the one expected, the seat has taken the thread that it spoke of, with its value; it didn't carry the context before
   abbrev pub Takes : (T → ℕ) → ℕ → Step (Option T) → Mine T → ℕ → Mine T → Type 0
   Takes tag_in bits step before found after =
-      (found ≡ step.first → (value : T) × (after ≡ (held before.0.weight (noted kind.Take step.word found step.second (with_context before.0.known (taken_context step.word (marked_of bits step.first) (tag_in value)))), (step.word, Some value) ∷ before.1)))
+      (found ≡ step.first → (value : T) × (carried_at step.word before.0.known.carried ≡ []) × (after ≡ (held before.0.weight (noted kind.Take step.word found step.second (with_context before.0.known (taken_context step.word (marked_of bits step.first) (tag_in value)))), (step.word, Some value) ∷ before.1)))
       × (found ≢ step.first → after ≡ saw kind.Take step found before)
 
   -- the empty slot is at home, and the place word names the context
