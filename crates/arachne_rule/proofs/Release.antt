@@ -22,6 +22,7 @@ use Rattle.arachne_rule.specs.declared.view.Carried.{Carried}
 use Rattle.arachne_rule.specs.declared.view.Known.{Known}
 use Rattle.arachne_rule.specs.Views.{carried_at, without, without_context}
 use Rattle.arachne_rule.specs.Rule.{Coherent, carried_if, carried_of, share_of, HasValue, Board, Phase, ShowsWord, Shows}
+use Rattle.arachne_rule.specs.Changes.{index_sum, release_sum}
 use Rattle.arachne_rule.proofs.Carrying.{without-at, without-else, known-there}
 use Rattle.arachne_rule.proofs.Marking.{claimed-carried, not-claimed}
 use Rattle.arachne_rule.proofs.Occupying.{occupying_world, occupying}
@@ -146,6 +147,24 @@ module _ {T : Type 0} (tag_in : T → ℕ) (bits : ℕ) (w : World) (d : ℕ →
         })
         (ap (λ (y : ℕ). carried_at y (without g.context k.carried)) (sym same) ∙ without-at g.context k.carried ∙ sym (ap (λ (t : State). carried_if t h (carried_of v d x)) now))
         (λ j m. ap (λ (t : State). carried_if t j (carried_of w d x)) claimed ∙ not-claimed h j (carried_of w d x) m ∙ sym (ap (λ (t : State). carried_if t j (carried_of v d x)) now)))
+
+module _ {T : Type 0} (tag_in : T → ℕ) (bits : ℕ) (w : World) (d : ℕ → Phase) (b : Board T) (s : Shows tag_in bits w d b)
+    (h weight : ℕ) (k : Known) (mine : get_elem? b.views h ≡ opt.some (held weight k)) where
+  by-sum : (q : Bool) (word i : ℕ) → (if q then word - 2 ^ 63 else word) - index_sum i ≡ word - (if q then 2 ^ 63 + index_sum i else index_sum i)
+  by-sum true word i = omega arith
+  by-sum false word i = refl
+
+  -- the same, taken away at once
+  pub released : (c : Carried) → IsContext w c.context → carried_at c.context k.carried ≡ c ∷ [] → c.held ≡ false → c.named ≡ true → c.away ≡ false
+      → Allowed w (event.Release h c.context)
+      × Shows tag_in bits (after w (event.Release h c.context)) d (record b {
+        occ = with_at b.occ c.place.core (b.occ c.place.core - release_sum c);
+        views = set b.views h (held weight (without_context k c));
+      })
+  released c c_in has free named home =
+      let r = release tag_in bits w d b s h weight k mine c.context c c_in has refl free named home in
+      (r.0, subst (λ (m : ℕ). Shows tag_in bits (after w (event.Release h c.context)) d (record b { occ = with_at b.occ c.place.core m; views = set b.views h (held weight (without_context k c)) }))
+        (by-sum c.alone (b.occ c.place.core) c.place.index) r.1)
 
 -- what a release takes away is in the word
 pub holds-index : (w i : ℕ) → IsOccupancyWord w → get_or (occupancy_of w).occupied i false ≡ true → 2 ^ i + 2 ^ 56 ≤ w
