@@ -14,8 +14,6 @@ mod pause;
 mod state;
 mod strand;
 mod tables;
-#[cfg(test)]
-mod tests;
 mod thread;
 
 pub use alone::run_alone;
