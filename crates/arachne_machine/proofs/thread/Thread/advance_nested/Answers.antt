@@ -56,7 +56,7 @@ returns-then-not-goes_on-clause-ok c =
     (subst (λ p. Moves c.args.budget c.args.self.now p new) (sym c.pause_at.ensures)
      (moved_on c.args.self.now c.loop-left.self c.rejoin.new.self a b ps qs c.args.budget c.loop-left.left c.advance.new.left halt
       c.loop-left.invariant.same c.rejoin.ensures.same c.loop-left.invariant.work c.loop-left.invariant.some c.rejoin.ensures.work c.self.view_is
-      c.in_ok-halt.ensures.ok c.in_ok-halt.ensures.spent c.in_ok-halt.ensures.exact is paused))
+      c.self.invariant.0.awaiting c.in_ok-halt.ensures.ok c.in_ok-halt.ensures.spent c.in_ok-halt.ensures.exact is paused))
 
 pub returns-then-not-goes_on-clause-within : goal.returns-then-not-goes_on-clause-within
 returns-then-not-goes_on-clause-within c = λ checked.
