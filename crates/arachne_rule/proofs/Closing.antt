@@ -8,10 +8,12 @@ use Rattle.arachne_core.specs.declared.mark.Mark.TheVariants as mark
 use Rattle.arachne_core.specs.Occupancy.{Occupancy, occupancy_of, IsOccupancyWord}
 use Rattle.arachne_core.specs.World.{World, with_at, Allowed, after}
 use Rattle.arachne_core.specs.OwnedOnce.{OwnedOnce}
+use Rattle.arachne_core.specs.Run.{IsDrained}
 use Rattle.arachne_core.proofs.Changes.{with_at-same, with_at-other}
 use Rattle.arachne_core.proofs.KeepsOwnedOnce.{keeps_owned_once}
 use Rattle.arachne_core.proofs.OccupancyWords.{closing, opening}
 use Rattle.arachne_rule.specs.Rule.{Board, Phase, ShowsWord, Shows}
+use Rattle.arachne_rule.specs.Answers.{is_closed, HasNoOccupied}
 
 module _ {T : Type 0} (tag_in : T → ℕ) (bits : ℕ) (w : World) (d : ℕ → Phase) (b : Board T) (s : Shows tag_in bits w d b) where
   flagged : (c n : ℕ) (q : Bool) → c < w.cores → OwnedOnce (record w { closed = with_at w.closed c q }) → IsOccupancyWord n → occupancy_of n ≡ record (occupancy_of (b.occ c)) { closed = q }
@@ -43,3 +45,6 @@ module _ {T : Type 0} (tag_in : T → ℕ) (bits : ℕ) (w : World) (d : ℕ →
   pub open_core : (c : ℕ) → c < w.cores → Allowed w (event.OpenCore c) × Shows tag_in bits (after w (event.OpenCore c)) d (record b { occ = with_at b.occ c (bit_and (b.occ c) (2 ^ 64 - 1 - 2 ^ 62)) })
   open_core c c_in = let r = opening (b.occ c) (s.cores c c_in).packed in
       (c_in, flagged c (bit_and (b.occ c) (2 ^ 64 - 1 - 2 ^ 62)) false c_in (keeps_owned_once w (event.OpenCore c) s.owned c_in) r.0 r.1)
+
+  pub drained : (c : ℕ) → c < w.cores → is_closed (b.occ c) ≡ true → HasNoOccupied w.slots (b.occ c) → IsDrained w c
+  drained c c_in closed empty = let o = (s.cores c c_in).shows in (c_in, sym o.closed ∙ closed, λ i i_in. sym (o.occupied i) ∙ empty i i_in)

@@ -7,8 +7,9 @@ use lib.ListN.{get_elem?}
 use Rattle.arachne_core.specs.declared.state.State.{State}
 use Rattle.arachne_core.specs.declared.state.State.TheVariants.{Free, Ready, Held, Spent}
 use Rattle.arachne_core.specs.declared.mark.Mark.TheVariants as mark
+use Rattle.arachne_core.specs.declared.event.Event.TheVariants as event
 use Rattle.arachne_core.specs.Marked.{Marked, marked_of}
-use Rattle.arachne_core.specs.World.{World, Thread, IsReady, IsContext, IsPlace, core_of, same_thread}
+use Rattle.arachne_core.specs.World.{World, Thread, IsReady, CanBeWoken, Allowed, IsContext, IsPlace, core_of, same_thread}
 use Rattle.arachne_core.specs.ContextTable.{mark_of, is_live_state}
 use Rattle.arachne_weights.specs.declared.token.Token.{Token}
 use Rattle.arachne_weights.specs.Tokens.{held}
@@ -22,7 +23,10 @@ use Rattle.arachne_rule.proofs.Carrying.{known-there}
 use Rattle.arachne_rule.proofs.Marking.{one-carried, claimed-carried, held-carried}
 use Rattle.arachne_rule.proofs.Slots.{carried-says, carried-empty, one-claim}
 use Rattle.arachne_rule.proofs.Seen.{seen}
-use Rattle.arachne_rule.proofs.Gone.{ended-is-gone}
+use Rattle.arachne_rule.proofs.Gone.{ended-is-gone, not-live}
+
+not-woken-spent : (s : State) → s ≡ Spent → CanBeWoken s → ⊥
+not-woken-spent s e c = subst CanBeWoken e c
 
 pub ready-nobody : (s : State) → IsReady s → (h : ℕ) (f : Bool → ℕ → Carried) → carried_if s h f ≡ []
 ready-nobody (Ready t) r h f = refl
@@ -99,3 +103,13 @@ module _ {T : Type 0} (tag_in : T → ℕ) (bits : ℕ) (w : World) (d : ℕ →
         | inl l ↦ inl (λ e. omega (arith, l, ap w.generation same, ap (λ (u : Marked). u.generation) reads, e))
         | inr p ↦ inr (inr (ap (λ (u : Marked). u.mark) reads ∙ spent-says (w.state x) (ap w.state (sym same) ∙ p)))
       ]
+
+  -- an ended thread was given, so its context is one of the World's; and it can't be woken
+  pub ended-for-good : (t : Thread) → HasEnded k t → IsContext w t.0.context × IsGone bits t.0 (b.mark t.0.context) × (Allowed w (event.Wake t.0) → ⊥)
+  ended-for-good t has =
+      let ended : 0 < w.ended t = omega (arith, has, s.ended t, part-of (λ (v : Token Known). count_by (same_thread t) v.known.ended) b.views h (held weight k) mine) in
+      let x_in : IsContext w t.0.context = (s.owned.generations t (not-live w t s.owned ended).0).0 in
+      (x_in, says-gone t.0.context t x_in refl has, λ may. elim (ended-is-gone w t s.owned ended) [
+        | inl l ↦ omega (arith, l, may.generation)
+        | inr p ↦ not-woken-spent (w.state t.0.context) p may.waits
+      ])

@@ -100,6 +100,16 @@ abbrev pub IsHistory : ℕ → World → List ℕ → List Entry → Type 0
 IsHistory bits w words [] = Unit {0}
 IsHistory bits w words (e ∷ es) = IsHistory bits w words es × IsNext bits (world_after w es) (words_after words es) e
 
+-- seat h has made the step, and it is in the history at its place, behind what came before it
+pub record IsStepOf (bits : ℕ) (w : World) (words : List ℕ) (history : List Entry) (h : ℕ) (step : Record) : Type 0 where
+  pub newer : List Entry
+  pub older : List Entry
+  pub entry : Entry
+  pub whole : history ≡ newer ++ entry ∷ older
+  pub by_seat : entry.seat ≡ h
+  pub is : entry.step ≡ step
+  pub next : IsNext bits (world_after w older) (words_after words older) entry
+
 -- each step was made by one of the first n seats
 abbrev pub AreOfSeats : ℕ → List Entry → Type 0
 AreOfSeats n [] = Unit {0}
