@@ -1,5 +1,5 @@
 -- A history with one step more.
-use Rattle.std.proofs.Common.{◌≡◌, ◌≢◌, ℕ, zero, suc, ◌+◌, ◌*◌, ◌<◌, ◌≤◌, eqb, List, [], ◌∷◌, ◌++◌, length, length-set, refl, sym, ap, ◌∙◌, subst, arith, inl, inr, set, get_or}
+use Rattle.std.proofs.Common.{◌≡◌, ℕ, zero, suc, ◌<◌, eqb, List, [], ◌∷◌, ◌++◌, length, length-set, refl, sym, ap, ◌∙◌, subst, arith, inl, inr, set, get_or}
 use Rattle.std.proofs.lemmas.Bool.{cases_eq, cond-true, cond-false, eq-eqb, ne_eqb}
 use mathlib.Core.Option.{some, some-injective, some-ne-none}
 use lib.ListN.{get_elem?}
@@ -54,11 +54,14 @@ module _ {T : Type 0} (bits : ℕ) (shape : Shape) (w : World) (first : List ℕ
       let v : World → World = λ (z : World). after z e in
       record {
         first_words = t.first_words;
-        lawful = (t.lawful, record {
-          found = sym (ap (λ (ws : List ℕ). get_or ws i 0) t.words);
-          allowed = subst (λ (z : World). Allowed z e) t.world allowed;
-          makes = subst (λ (z : World). Makes bits z step) t.world makes;
-        });
+        lawful = (
+          t.lawful,
+          record {
+            found = sym (ap (λ (ws : List ℕ). get_or ws i 0) t.words);
+            allowed = subst (λ (z : World). Allowed z e) t.world allowed;
+            makes = subst (λ (z : World). Makes bits z step) t.world makes;
+          },
+        );
         world = ap v t.world;
         words = words ∙ ap (λ (ws : List ℕ). set ws i new) t.words;
         seats = subst (λ (n : ℕ). (id < n) × AreOfSeats n history) (sym (ap length views ∙ length-set s.views id u)) (there-in s.views id (held weight k) mine, t.seats);
@@ -84,9 +87,10 @@ pub history-is-a-run : (bits : ℕ) (w : World) (first : List ℕ) (history : Li
     → IsRun w (events_of history) × (after_all w (events_of history) ≡ world_after w history)
 history-is-a-run bits w first [] l = (tt, refl)
 history-is-a-run bits w first (e ∷ es) l =
-    let r = history-is-a-run bits w first es l.0 in
-    (run-snoc w (events_of es) e.event r.0 (subst (λ (z : World). Allowed z e.event) (sym r.1) l.1.allowed),
-      after-snoc w (events_of es) e.event ∙ ap (λ (z : World). after z e.event) r.1)
+    let r = history-is-a-run bits w first es l.0 in (
+      run-snoc w (events_of es) e.event r.0 (subst (λ (z : World). Allowed z e.event) (sym r.1) l.1.allowed),
+      after-snoc w (events_of es) e.event ∙ ap (λ (z : World). after z e.event) r.1,
+    )
 
 -- ---- what a seat has noted is in the history
 

@@ -1,5 +1,6 @@
 pub mod Carrying
 pub mod Views
+pub mod Shares
 pub mod OneContext
 pub mod Marking
 pub mod Occupying

@@ -45,7 +45,7 @@ pub fn learning_is_still<T>()
         → (c : Carried) → IsContext w c.context → Carries k c → c.named ≡ true → c.away ≡ false
         → (b.name c.place ≡ c.context) × (b.home c.context ≡ slot.some (slot.some None)) × Allowed w event.Still
         × Shows tag_in bits (after w event.Still) (with_at d c.context (record (d c.context) { away = true }))
-            (record b { home = with_at b.home c.context (slot.some slot.none); views = views_with b h weight (with_context k (record c { away = true })) }) }
+        (record b { home = with_at b.home c.context (slot.some slot.none); views = views_with b h weight (with_context k (record c { away = true })) }) }
 {}
 
 // ---- claims
@@ -56,7 +56,7 @@ pub fn a_claim_is_claim<T>()
         → (p : Place) → IsPlace w p → is_occupied (b.occ p.core) p.index ≡ false → is_closed (b.occ p.core) ≡ false → is_exclusive (b.occ p.core) ≡ false
         → (x : ℕ) × (w.at x ≡ p) × Allowed w (event.Claim h x)
         × Shows tag_in bits (after w (event.Claim h x)) d
-            (record b { occ = with_at b.occ p.core (b.occ p.core + index_sum p.index); views = views_with b h weight (with_context k (claimed_context x p (w.generation x))) }) }
+        (record b { occ = with_at b.occ p.core (b.occ p.core + index_sum p.index); views = views_with b h weight (with_context k (claimed_context x p (w.generation x))) }) }
 {}
 
 /// A won exchange of a core's word from 0 is Alone of the context at index 0.
@@ -65,7 +65,7 @@ pub fn a_claim_of_a_core_is_alone<T>()
         → (core : ℕ) → core < w.cores → 0 < w.slots → b.occ core ≡ 0
         → (x : ℕ) × (w.at x ≡ record { core = core; index = 0 }) × Allowed w (event.Alone h x)
         × Shows tag_in bits (after w (event.Alone h x)) d
-            (record b { occ = with_at b.occ core (2 ^ 63 + index_sum 0); views = views_with b h weight (with_context k (alone_context x core (w.generation x))) }) }
+        (record b { occ = with_at b.occ core (2 ^ 63 + index_sum 0); views = views_with b h weight (with_context k (alone_context x core (w.generation x))) }) }
 {}
 
 /// Taking away from a core's word what a claim of the seat had added is Release.
@@ -74,7 +74,7 @@ pub fn a_release_is_release<T>()
         → (c : Carried) → IsContext w c.context → Carries k c → c.held ≡ false → c.named ≡ true → c.away ≡ false
         → Allowed w (event.Release h c.context)
         × Shows tag_in bits (after w (event.Release h c.context)) d
-            (record b { occ = with_at b.occ c.place.core (b.occ c.place.core - release_sum c); views = views_with b h weight (without_context k c) }) }
+        (record b { occ = with_at b.occ c.place.core (b.occ c.place.core - release_sum c); views = views_with b h weight (without_context k c) }) }
 {}
 
 // ---- threads come and go
