@@ -34,3 +34,4 @@ pub mod MoveSteps
 pub mod SeatSteps
 pub mod Opening
 pub mod Ending
+mod WorkedSteps

@@ -25,7 +25,7 @@ ghost use Rattle.arachne_rule.specs.Rule.{Phase, Board, Knows, views_with, settl
 ghost use Rattle.arachne_rule.specs.Changes.{with_name, claimed_context, alone_context, taken_context, claimed_again, left_context, posted, retired, spent_known, marked_as, marked_free, marked_spent, index_sum, release_sum, taken_phase, moved_phase};
 ghost use Rattle.arachne_rule.specs.Plays.{Carries, IsRestMark, HasEnded, IsGone};
 ghost use Rattle.arachne_rule.specs.Layout.{IsShape, AreFirstWords, contexts_in};
-ghost use Rattle.arachne_rule.specs.History.{opening_world, words_after, events_of, IsStepOf};
+ghost use Rattle.arachne_rule.specs.History.{opening_world, words_after, events_of, records_of, IsStepOf};
 ghost use Rattle.arachne_rule.specs.Table.{Table, Holds};
 ghost use Rattle.arachne_rule.specs.Ending.{IsSettled, left_from};
 ghost use Rattle.arachne_rule.specs.Answers.{is_closed, is_exclusive, is_occupied, HasNoOccupied};
@@ -277,9 +277,12 @@ pub fn a_table_shows_a_run<T>()
         × (s.words ≡ words_after rule.first rule.history) }
 {}
 
-/// Each step that a seat in use has noted is in the history, by that seat: it found what stood in its word, and was an event that was allowed.
+/// What a seat in use has noted are exactly its own steps. Each of them is in the history at its place: it found what stood in its word, and
+/// was an event that was allowed.
 pub fn a_record_is_a_step<T>()
-    ensures { (tag_in : T → ℕ) (bits : ℕ) (shape : Shape) (s : Table T) → (rule : Holds tag_in bits shape s)
+    ensures all { (tag_in : T → ℕ) (bits : ℕ) (shape : Shape) (s : Table T) → (rule : Holds tag_in bits shape s)
+        → (h weight : ℕ) (k : Known) → get_elem? s.views h ≡ slot.some (held weight k) → k.records ≡ records_of h rule.history }
+    ensures each { (tag_in : T → ℕ) (bits : ℕ) (shape : Shape) (s : Table T) → (rule : Holds tag_in bits shape s)
         → (h weight : ℕ) (k : Known) → get_elem? s.views h ≡ slot.some (held weight k)
         → (at : ℕ) (r : Record) → get_elem? k.records at ≡ slot.some r
         → IsStepOf bits (opening_world shape) rule.first rule.history h r }
