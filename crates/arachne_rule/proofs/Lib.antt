@@ -1,5 +1,6 @@
 pub mod Carrying
 pub mod Views
+pub mod Shares
 pub mod OneContext
 pub mod Marking
 pub mod Occupying
@@ -33,3 +34,4 @@ pub mod MoveSteps
 pub mod SeatSteps
 pub mod Opening
 pub mod Ending
+mod WorkedSteps

@@ -8,7 +8,7 @@ use Rattle.arachne_core.specs.declared.place.Place.{Place}
 use Rattle.arachne_core.specs.declared.state.State.{State}
 use Rattle.arachne_core.specs.declared.state.State.TheVariants.{Free, Claimed, Ready, Blocked, Held, Spent}
 use Rattle.arachne_core.specs.Occupancy.{occupancy_of, IsOccupancyWord}
-use Rattle.arachne_core.specs.Marked.{Marked, mark_word}
+use Rattle.arachne_core.specs.Marked.{mark_word}
 use Rattle.arachne_core.specs.World.{World, Thread, IsContext, IsPlace, core_of}
 use Rattle.arachne_core.specs.OwnedOnce.{OwnedOnce}
 use Rattle.arachne_core.specs.ContextTable.{ShowsCore, marked}
