@@ -288,6 +288,15 @@ pub fn a_record_is_a_step<T>()
         → IsStepOf bits (opening_world shape) rule.first rule.history h r }
 {}
 
+/// Two seats that carry one context, or contexts at one place, are one seat: no context and no place belongs to two.
+pub fn a_context_has_one_carrier<T>()
+    ensures context { (tag_in : T → ℕ) (bits : ℕ) (w : World) (d : ℕ → Phase) (b : Board T) → Shows tag_in bits w d b → (h weight : ℕ) (k : Known) → Knows b h weight k
+        → (j added : ℕ) (o : Known) → Knows b j added o → (c f : Carried) → IsContext w c.context → Carries k c → Carries o f → c.context ≡ f.context → h ≡ j }
+    ensures place { (tag_in : T → ℕ) (bits : ℕ) (w : World) (d : ℕ → Phase) (b : Board T) → Shows tag_in bits w d b → (h weight : ℕ) (k : Known) → Knows b h weight k
+        → (j added : ℕ) (o : Known) → Knows b j added o → (c f : Carried) → IsContext w c.context → IsContext w f.context → Carries k c → Carries o f → c.place ≡ f.place
+        → (c.context ≡ f.context) × (h ≡ j) }
+{}
+
 /// A thread that a seat has ended isn't in its context any more, whoever has had the context since, and can't be woken.
 pub fn an_ended_thread_is_gone<T>()
     ensures { (tag_in : T → ℕ) (bits : ℕ) (w : World) (d : ℕ → Phase) (b : Board T) → Shows tag_in bits w d b → (h weight : ℕ) (k : Known) → Knows b h weight k
