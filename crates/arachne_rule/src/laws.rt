@@ -21,14 +21,13 @@ ghost use Rattle.arachne_rule.specs.declared.view.Known.{Known};
 ghost use Rattle.arachne_rule.specs.declared.view.Record.{Record};
 ghost use Rattle.arachne_rule.specs.declared.view.Shape.{Shape};
 ghost use Rattle.arachne_rule.specs.Views.{blank, with_context, without_context, first_seat, second_seat, joined_seat};
-ghost use Rattle.arachne_rule.specs.Rule.{Phase, Board, Knows, views_with, settled, Shows};
+ghost use Rattle.arachne_rule.specs.Rule.{Phase, Board, Knows, views_with, settled, is_closed, is_exclusive, is_occupied, HasNoOccupied, Shows};
 ghost use Rattle.arachne_rule.specs.Changes.{with_name, claimed_context, alone_context, taken_context, claimed_again, left_context, posted, retired, spent_known, marked_as, marked_free, marked_spent, index_sum, release_sum, taken_phase, moved_phase};
 ghost use Rattle.arachne_rule.specs.Plays.{Carries, IsRestMark, HasEnded, IsGone};
 ghost use Rattle.arachne_rule.specs.Layout.{IsShape, AreFirstWords, contexts_in};
 ghost use Rattle.arachne_rule.specs.History.{opening_world, words_after, events_of, records_of, IsStepOf};
 ghost use Rattle.arachne_rule.specs.Table.{Table, Holds};
 ghost use Rattle.arachne_rule.specs.Ending.{IsSettled, left_from};
-ghost use Rattle.arachne_rule.specs.Answers.{is_closed, is_exclusive, is_occupied, HasNoOccupied};
 
 // ---- loads
 
