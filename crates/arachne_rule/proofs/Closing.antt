@@ -9,8 +9,7 @@ use Rattle.arachne_core.specs.Run.{IsDrained}
 use Rattle.arachne_core.proofs.Changes.{with_at-same, with_at-other}
 use Rattle.arachne_core.proofs.KeepsOwnedOnce.{keeps_owned_once}
 use Rattle.arachne_core.proofs.OccupancyWords.{closing, opening}
-use Rattle.arachne_rule.specs.Rule.{Board, Phase, ShowsWord, Shows}
-use Rattle.arachne_rule.specs.Answers.{is_closed, HasNoOccupied}
+use Rattle.arachne_rule.specs.Rule.{is_closed, HasNoOccupied, Board, Phase, ShowsWord, Shows}
 
 module _ {T : Type 0} (tag_in : T → ℕ) (bits : ℕ) (w : World) (d : ℕ → Phase) (b : Board T) (s : Shows tag_in bits w d b) where
   flagged : (c n : ℕ) (q : Bool) → c < w.cores → OwnedOnce (record w { closed = with_at w.closed c q }) → IsOccupancyWord n → occupancy_of n ≡ record (occupancy_of (b.occ c)) { closed = q }

@@ -21,6 +21,7 @@ pub mod Naming
 pub mod Move
 pub mod Joining
 pub mod Gone
+pub mod Carriers
 pub mod Boards
 pub mod Histories
 pub mod Stepping

@@ -37,7 +37,7 @@ carried-says (Ready t) h f field g v e all = absurd (no-carried g (sym e))
 carried-says (Blocked t) h f field g v e all = absurd (no-carried g (sym e))
 carried-says Spent h f field g v e all = absurd (no-carried g (sym e))
 
-carried-alone : (s : State) (h j : ℕ) (f f' : Bool → ℕ → Carried) (g : Carried) → carried_if s h f ≡ g ∷ [] → (j ≡ h → ⊥) → carried_if s j f' ≡ []
+pub carried-alone : (s : State) (h j : ℕ) (f f' : Bool → ℕ → Carried) (g : Carried) → carried_if s h f ≡ g ∷ [] → (j ≡ h → ⊥) → carried_if s j f' ≡ []
 carried-alone (Claimed k) h j f f' g e n = let r = carried-of-held (eqb k h) (f false 0) g e in cond-false (eqb k j) (f' false 0 ∷ []) [] (ne_eqb k j (λ u. n (sym u ∙ eqb-true k h r.0)))
 carried-alone (Held k w t) h j f f' g e n = let r = carried-of-held (eqb k h) (f true t) g e in cond-false (eqb k j) (f' true t ∷ []) [] (ne_eqb k j (λ u. n (sym u ∙ eqb-true k h r.0)))
 carried-alone Free h j f f' g e n = refl

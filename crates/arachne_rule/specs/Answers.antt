@@ -1,17 +1,17 @@
 -- What an answer says of the steps of its call. `made` is the list of these steps, the newest first; n is the number of contexts.
-use Rattle.std.specs.Prelude.{◌≡◌, ◌≢◌, ℕ, ◌+◌, ◌^◌, ◌<◌, ◌≤◌, ◌⊎◌, Bool, true, false, List, ◌++◌, slice_index_or}
+use Rattle.std.specs.Prelude.{◌≡◌, ◌≢◌, ℕ, ◌+◌, ◌^◌, ◌<◌, ◌≤◌, ◌⊎◌, true, false, List, ◌++◌}
 use mathlib.Core.Option.{some}
 use lib.ListN.{get_elem?}
 use Rattle.arachne_core.specs.declared.place.Place.{Place}
 use Rattle.arachne_core.specs.declared.thread_id.ThreadId.{ThreadId}
 use Rattle.arachne_core.specs.declared.mark.Mark.{Mark}
 use Rattle.arachne_core.specs.declared.mark.Mark.TheVariants as mark
-use Rattle.arachne_core.specs.Occupancy.{occupancy_of}
 use Rattle.arachne_core.specs.Marked.{marked_of}
 use Rattle.arachne_rule.specs.declared.view.Kind.{Kind}
 use Rattle.arachne_rule.specs.declared.view.Kind.TheVariants as kind
 use Rattle.arachne_rule.specs.declared.view.Record.{Record}
 use Rattle.arachne_rule.specs.declared.view.Known.{Known}
+use Rattle.arachne_rule.specs.Rule.{is_closed, is_exclusive, is_occupied, HasNoOccupied}
 use Rattle.arachne_rule.specs.Changes.{index_sum}
 use Rattle.arachne_rule.specs.Layout.{occ_index, name_index}
 use Rattle.arachne_rule.specs.Plays.{IsGone, IsHeldMark}
@@ -50,21 +50,9 @@ Made made kind word before after = (at : ℕ) × (get_elem? made at ≡ some (re
 
 -- ---- words of cores
 
-abbrev pub is_closed : ℕ → Bool
-is_closed word = (occupancy_of word).closed
-
-abbrev pub is_exclusive : ℕ → Bool
-is_exclusive word = (occupancy_of word).exclusive
-
-abbrev pub is_occupied : ℕ → ℕ → Bool
-is_occupied word i = slice_index_or (occupancy_of word).occupied i false
-
 -- a core of so many places has no place for one more thread
 abbrev pub HasNoPlace : ℕ → ℕ → Type 0
 HasNoPlace slots word = (is_exclusive word ≡ true) ⊎ ((i : ℕ) → i < slots → is_occupied word i ≡ true)
-
-abbrev pub HasNoOccupied : ℕ → ℕ → Type 0
-HasNoOccupied slots word = (i : ℕ) → i < slots → is_occupied word i ≡ false
 
 -- the index is free, and each lower one is occupied
 abbrev pub IsLowestFree : ℕ → ℕ → Type 0

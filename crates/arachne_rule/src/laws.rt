@@ -21,14 +21,13 @@ ghost use Rattle.arachne_rule.specs.declared.view.Known.{Known};
 ghost use Rattle.arachne_rule.specs.declared.view.Record.{Record};
 ghost use Rattle.arachne_rule.specs.declared.view.Shape.{Shape};
 ghost use Rattle.arachne_rule.specs.Views.{blank, with_context, without_context, first_seat, second_seat, joined_seat};
-ghost use Rattle.arachne_rule.specs.Rule.{Phase, Board, Knows, views_with, settled, Shows};
+ghost use Rattle.arachne_rule.specs.Rule.{Phase, Board, Knows, views_with, settled, is_closed, is_exclusive, is_occupied, HasNoOccupied, Shows};
 ghost use Rattle.arachne_rule.specs.Changes.{with_name, claimed_context, alone_context, taken_context, claimed_again, left_context, posted, retired, spent_known, marked_as, marked_free, marked_spent, index_sum, release_sum, taken_phase, moved_phase};
 ghost use Rattle.arachne_rule.specs.Plays.{Carries, IsRestMark, HasEnded, IsGone};
 ghost use Rattle.arachne_rule.specs.Layout.{IsShape, AreFirstWords, contexts_in};
 ghost use Rattle.arachne_rule.specs.History.{opening_world, words_after, events_of, records_of, IsStepOf};
 ghost use Rattle.arachne_rule.specs.Table.{Table, Holds};
 ghost use Rattle.arachne_rule.specs.Ending.{IsSettled, left_from};
-ghost use Rattle.arachne_rule.specs.Answers.{is_closed, is_exclusive, is_occupied, HasNoOccupied};
 
 // ---- loads
 
@@ -286,6 +285,15 @@ pub fn a_record_is_a_step<T>()
         → (h weight : ℕ) (k : Known) → get_elem? s.views h ≡ slot.some (held weight k)
         → (at : ℕ) (r : Record) → get_elem? k.records at ≡ slot.some r
         → IsStepOf bits (opening_world shape) rule.first rule.history h r }
+{}
+
+/// Two seats that carry one context, or contexts at one place, are one seat: no context and no place belongs to two.
+pub fn a_context_has_one_carrier<T>()
+    ensures context { (tag_in : T → ℕ) (bits : ℕ) (w : World) (d : ℕ → Phase) (b : Board T) → Shows tag_in bits w d b → (h weight : ℕ) (k : Known) → Knows b h weight k
+        → (j added : ℕ) (o : Known) → Knows b j added o → (c f : Carried) → IsContext w c.context → Carries k c → Carries o f → c.context ≡ f.context → h ≡ j }
+    ensures place { (tag_in : T → ℕ) (bits : ℕ) (w : World) (d : ℕ → Phase) (b : Board T) → Shows tag_in bits w d b → (h weight : ℕ) (k : Known) → Knows b h weight k
+        → (j added : ℕ) (o : Known) → Knows b j added o → (c f : Carried) → IsContext w c.context → IsContext w f.context → Carries k c → Carries o f → c.place ≡ f.place
+        → (c.context ≡ f.context) × (h ≡ j) }
 {}
 
 /// A thread that a seat has ended isn't in its context any more, whoever has had the context since, and can't be woken.
