@@ -2,3 +2,5 @@ pub mod Threads
 pub mod Cells
 pub mod Slices
 pub mod Reports
+pub mod Setups
+pub mod Tokens

@@ -28,9 +28,6 @@ IsGoing thread = pause_of thread ≡ None
 abbrev pub IsAwaiting : Thread → Type 0
 IsAwaiting thread = pause_of thread ≡ Some pause.Joins
 
-abbrev pub IsOver : Thread → Type 0
-IsOver thread = pause_of thread ≡ Some pause.Ended
-
 -- it forks a thread of its own program, which goes on by steps
 abbrev pub IsForking : Thread → Thread → Type 0
 IsForking thread child = (pause_of thread ≡ Some pause.Forks) × (program_of child ≡ program_of thread) × IsGoing child

@@ -3,7 +3,7 @@ ghost use Rattle.std.specs.Prelude.{◌≡◌, ◌≤◌, true, [], All, IfOk, I
 ghost use Rattle.std.specs.Arc.{arc_value};
 ghost use Rattle.arachne_lang.specs.Program.{source_of};
 ghost use Rattle.arachne_lang.specs.Checked.{IsChecked};
-ghost use Rattle.arachne_run.specs.Threads.{IsForking, IsGoing, IsAwaiting, IsOver, program_of, name_of, tag_of};
+ghost use Rattle.arachne_run.specs.Threads.{IsForking, IsGoing, IsAwaiting, pause_of, program_of, tag_of};
 ghost use Rattle.arachne_run.specs.Cells.{IsOf, IsFor};
 ghost use Rattle.arachne_run.specs.Slices.{IsLeft};
 
@@ -64,9 +64,9 @@ impl<'p> Tagged for Job<'p> {
 impl<'p> RunJob for Job<'p> {
     type Child = Thread<'p>;
 
-    ghost forks = { IsForking };
+    ghost pause_of = { pause_of };
 
-    ghost over = { IsOver };
+    ghost forks = { IsForking };
 
     fn slice(&mut self, budget: u32) -> Result<Slice<Thread<'p>>, RunFault> {
         match self.thread.pending() {
@@ -93,6 +93,10 @@ impl<'p> RunJob for Job<'p> {
         self.expect(cell)?;
         self.thread.forked();
         Ok(job)
+    }
+
+    fn tallied(&mut self) {
+        self.thread.tallied();
     }
 
     fn leave(self) -> Option<ThreadId> {
@@ -148,7 +152,7 @@ impl<'p> Job<'p> {
         requires some { 1 ≤ budget }
         requires going { IsGoing self.old }
         ensures tag { tag_of self.new ≡ tag_of self.old }
-        ensures left { IfOk result (λ slice. IsLeft IsForking IsOver slice self.new) }
+        ensures left { IfOk result (λ slice. IsLeft IsForking pause_of slice self.new) }
     {
         match self.thread.advance(budget)? {
             Pause::Budget => Ok(Slice::Goes),
@@ -168,10 +172,7 @@ impl<'p> Job<'p> {
                 self.thread.freed();
                 Ok(Slice::Goes)
             }
-            Pause::Tallies(_, _) => {
-                self.thread.tallied();
-                Ok(Slice::Goes)
-            }
+            Pause::Tallies(ledger, amount) => Ok(Slice::Tallies(ledger, amount)),
             Pause::Ended => Ok(Slice::Ends),
         }
     }

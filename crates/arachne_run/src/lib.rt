@@ -1,15 +1,19 @@
 //! The parallel run: a task program's threads on one kernel thread for each core, over any context table.
 #![tactic(auto)]
 
+mod crew;
 mod fault;
 mod gate;
+mod idle;
 mod job;
+mod machine;
 mod placing;
 mod report;
 mod running;
 mod setup;
 mod shared;
 mod slice;
+mod tokens;
 mod wanted;
 mod worker;
 

@@ -20,17 +20,20 @@ pub struct Report {
 }
 
 impl Report {
-    /// What the root's outcome brings.
-    pub(crate) fn of(outcome: Outcome) -> Result<Report, RunFault>
+    /// What the root's outcome brings, whose sums have to be the words of the ledgers.
+    pub(crate) fn of(outcome: Outcome, words: Vec<u64>) -> Result<Report, RunFault>
         requires { outcome.name ≡ [] }
         ensures { IfOk result (λ report. meaning_in report ≡ meaning_of (source_of outcome.entry.program)) }
     {
         let Ok(parts) = outcome.into_parts() else {
             return Err(RunFault::Memory);
         };
+        if parts.sums.as_slice() != words.as_slice() {
+            return Err(RunFault::Ledgers);
+        }
         Ok(Report {
             value: parts.value,
-            totals: parts.sums,
+            totals: Sequence::from(words),
             threads: parts.lines,
         })
     }

@@ -3,6 +3,10 @@ ghost use Rattle.std.specs.Prelude.{◌≡◌, ◌≤◌, [], IfOk};
 ghost use Rattle.std.specs.Arc.{arc_value};
 ghost use Rattle.arachne_lang.specs.Program.{source_of};
 ghost use Rattle.arachne_lang.specs.Checked.{IsChecked};
+ghost use Rattle.std.specs.Prelude.{ℕ, Option, None, Some};
+ghost use Rattle.arachne_machine.specs.Suspended.{IsTally};
+ghost use Rattle.arachne_machine.specs.declared.pause.Pending.{Pending};
+ghost use Rattle.arachne_machine.specs.declared.pause.Pending.TheVariants as pause;
 ghost use Rattle.arachne_run.specs.Slices.{IsLeft};
 
 use crate::fault::RunFault;
@@ -22,6 +26,8 @@ pub enum Slice<Child> {
     Forks(Class, Child),
     /// It awaits a child that has not ended.
     Blocks,
+    /// It adds to this ledger this amount, and goes on once it is answered.
+    Tallies(u64, u64),
     /// It has ended.
     Ends,
 }
@@ -31,17 +37,17 @@ pub trait RunJob: Tagged + Drop {
     /// A thread that was forked and has no place yet.
     type Child: Drop + Send;
 
+    /// The pause that is not answered.
+    ghost pause_of: { Self → Option Pending };
+
     /// The job forks this child, and is not answered.
     ghost forks: { Self → Self.Child → Type 0 };
-
-    /// The job has ended.
-    ghost over: { Self → Type 0 };
 
     /// Goes on for at most so many steps.
     fn slice(&mut self, budget: u32) -> Result<Slice<Self::Child>, RunFault>
         requires { 1 ≤ budget }
         ensures tag { Self.tag_of self.new ≡ Self.tag_of self.old }
-        ensures left { IfOk result (λ slice. IsLeft forks over slice self.new) };
+        ensures left { IfOk result (λ slice. IsLeft forks pause_of slice self.new) };
 
     /// The child becomes a job of its own, whose parent runs under this id.
     fn fork_off(
@@ -54,9 +60,14 @@ pub trait RunJob: Tagged + Drop {
         requires { forks self.old child }
         ensures { Self.tag_of self.new ≡ Self.tag_of self.old };
 
+    /// The amount was added to the ledger.
+    fn tallied(&mut self)
+        requires { IsTally (pause_of self.old) }
+        ensures { Self.tag_of self.new ≡ Self.tag_of self.old };
+
     /// Leaves the outcome in the job's cell. Its parent is to be woken; the root has none.
     fn leave(self) -> Option<ThreadId>
-        requires { over self };
+        requires { pause_of self ≡ Some pause.Ended };
 }
 
 /// The jobs of a program's threads.
