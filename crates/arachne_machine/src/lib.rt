@@ -12,9 +12,8 @@ mod line;
 mod outcome;
 mod pause;
 mod state;
+mod strand;
 mod tables;
-#[cfg(test)]
-mod tests;
 mod thread;
 
 pub use alone::run_alone;

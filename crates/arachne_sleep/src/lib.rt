@@ -19,6 +19,3 @@ pub use lock_seat::LockSeat;
 pub use lock_state::LockState;
 pub use sleep_lock::SleepLock;
 pub use who::Who;
-
-#[cfg(test)]
-mod tests;
