@@ -2,3 +2,5 @@
 #![tactic(auto)]
 
 mod homes;
+mod state;
+mod tokens;
