@@ -90,6 +90,6 @@ module _ (old mid : ContextTable) (h x : ℕ) (made : Answers (event.Retire h x)
         let s = freed.3 in
         set_room old new x 0 1 room (ap (λ (z : World). z.cores) freed.1 ∙ ap (λ (z : World). z.cores) made.1)
         (λ y n.
-            ap (λ (z : World). z.state y) freed.1 ∙ with_at-other (world_of mid).state x Free y n ∙ ap (λ (z : World). z.state y) made.1
-            ∙ with_at-other (world_of old).state x (if nat_lt ((world_of old).generation x) (world_of old).last then Claimed h else Spent) y n)
+        ap (λ (z : World). z.state y) freed.1 ∙ with_at-other (world_of mid).state x Free y n ∙ ap (λ (z : World). z.state y) made.1
+        ∙ with_at-other (world_of old).state x (if nat_lt ((world_of old).generation x) (world_of old).last then Claimed h else Spent) y n)
         made.0.context (omega (arith, p, q)) (omega (arith, r, s)) pays.0 pays.1

@@ -24,6 +24,12 @@ LeavesValues (event.Take h x) = ⊥
 LeavesValues (event.Rest h x r) = ⊥
 LeavesValues e = Unit {0}
 
+-- the event wants no room, as a post and a retire do
+abbrev pub WantsNoRoom : Event → Type 0
+WantsNoRoom (event.Post h x tag) = ⊥
+WantsNoRoom (event.Retire h x) = ⊥
+WantsNoRoom e = Unit {0}
+
 -- h holds the thread of this id and tag
 pub record HoldsThread (w : World) (h : ℕ) (id : ThreadId) (tag : ℕ) : Type 0 where
   pub holds : HoldsIn w h id.context

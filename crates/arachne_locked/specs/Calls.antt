@@ -1,5 +1,5 @@
 -- What the calls of a table say of its World.
-use Rattle.std.specs.Prelude.{◌≡◌, ℕ, ◌<◌, List, [], ◌∷◌, if◌then◌else◌, nat_lt, Bool, true, false, Option, Some, None, slice_set}
+use Rattle.std.specs.Prelude.{◌≡◌, ◌≢◌, ℕ, ◌<◌, List, [], ◌∷◌, if◌then◌else◌, nat_lt, Bool, true, false, Option, Some, None, slice_set}
 use Rattle.arachne_core.specs.declared.place.Place.{Place}
 use Rattle.arachne_core.specs.declared.thread_id.ThreadId.{ThreadId}
 use Rattle.arachne_core.specs.declared.state.State.{State}
@@ -12,7 +12,7 @@ use Rattle.arachne_core.specs.declared.layout.TheConstants.{CORE_BITS}
 use Rattle.arachne_core.specs.Occupancy.{occupancy_of}
 use Rattle.arachne_core.specs.Marked.{marked_of}
 use Rattle.arachne_core.specs.ContextTable.{ShowsCore, marked, is_live_state}
-use Rattle.arachne_core.specs.World.{World, IsContext, IsPlace, IsReady, IsAtRest, id_of}
+use Rattle.arachne_core.specs.World.{World, IsContext, IsPlace, IsReady, IsAtRest, MayClaim, core_of, id_of}
 use Rattle.arachne_core.specs.Run.{IsRun, after_all}
 use Rattle.arachne_contexts.specs.Words.{ShowsFull, ShowsClosed, ShowsInUse, ShowsNoRoom, ShowsReadyAt, ShowsWoken}
 use Rattle.arachne_contexts.specs.declared.answers.Claimed.{Claimed}
@@ -171,3 +171,11 @@ abbrev pub IsClaim : Event → Type 0
 IsClaim (event.Claim h x) = Unit {0}
 IsClaim (event.Alone h x) = Unit {0}
 IsClaim e = ⊥
+
+-- the thread in x is at rest on a core that it shares, and y may be claimed on another core
+pub record CanMove (w : World) (x y : ℕ) : Type 0 where
+  pub context : IsContext w x
+  pub at_rest : IsAtRest (w.state x)
+  pub shared : w.alone (core_of w x) ≡ false
+  pub target : MayClaim w y
+  pub apart : core_of w x ≢ core_of w y

@@ -6,10 +6,13 @@ ghost use Rattle.arachne_core.specs.OwnedOnce.{OwnedOnce};
 ghost use Rattle.arachne_core.specs.Run.{IsOpening};
 ghost use Rattle.arachne_core.specs.declared.event.Event.TheVariants as event;
 ghost use Rattle.arachne_core.specs.declared.state.State.TheVariants as state;
-ghost use Rattle.arachne_locked.specs.AtHome.{IsHome, LeavesValues, HoldsThread, value_at};
+ghost use Rattle.arachne_locked.specs.Closing.{at_rest_below};
+ghost use Rattle.arachne_locked.specs.AtHome.{IsHome, LeavesValues, WantsNoRoom, HoldsThread, value_at};
 
 use arachne_contexts::Tagged;
-use arachne_core::{CORES, Event, LAST_GENERATION, NotApplied, Rest, SLOTS, State, ThreadId, World};
+use arachne_core::{
+    CORES, Event, LAST_GENERATION, NotApplied, Rest, SLOTS, State, ThreadId, World,
+};
 use std::alloc::{AllocError, Global};
 use std::marker::Model;
 
@@ -97,6 +100,20 @@ impl<T: Tagged + Drop> Homes<T> {
         self.world.apply(event)
     }
 
+    /// Makes an event that is allowed, and wants no memory.
+    pub fn make(&mut self, event: Event)
+        requires values { LeavesValues event }
+        requires memory { WantsNoRoom event }
+        requires allowed { Allowed (world_of self.old.table) event }
+        ensures made { Answers event self.old.table self.new.table (Ok tt) }
+        ensures values { self.new.values ≡ self.old.values }
+    {
+        match self.world.apply(event) {
+            Ok(()) => {}
+            Err(_) => unreachable!(),
+        }
+    }
+
     /// Posts a thread in a context that the carrier has claimed. A value that isn't posted comes back.
     pub fn post(&mut self, carrier: u32, context: u32, value: T) -> Result<(), (NotApplied, T)>
         ensures made { OnOk result (Answers (event.Post carrier context (T.tag_of value)) self.old.table self.new.table (Ok tt)) }
@@ -170,6 +187,34 @@ impl<T: Tagged + Drop> Homes<T> {
             Err(_) => unreachable!(),
         }
         self.values[id.context as usize] = Some(value);
+    }
+}
+
+impl<T: Tagged + Drop> Homes<T> {
+    /// The threads whose values are at home, by context. All comes back where memory is refused.
+    pub fn close(self, alloc: Global) -> Result<Vec<(ThreadId, T)>, Self>
+        ensures rest { IfOk result (λ rest. rest.items ≡ at_rest_below (world_of self.table) self.values ((world_of self.table).cores * SLOTS)) }
+        ensures handed_back { IfErr result (λ back. back ≡ self) }
+    {
+        let cores = self.world.cores();
+        let Ok(mut rest) = Vec::with_capacity(alloc, self.values.len()) else {
+            return Err(self);
+        };
+        let Homes { world, mut values } = self;
+        for context in 0..u32::from(cores) * u32::from(SLOTS) {
+            if let Some(value) = values[context as usize].take() {
+                let generation = world.mark(context).generation();
+                rest.push((
+                    ThreadId {
+                        context,
+                        generation,
+                    },
+                    value,
+                ))
+                .unwrap();
+            }
+        }
+        Ok(rest)
     }
 }
 

@@ -1,13 +1,15 @@
 //! What lies behind the lock of a locked table.
-ghost use Rattle.std.specs.Prelude.{◌≡◌, ◌≢◌, ◌<◌, ◌≤◌, ◌↔◌, ℕ, [], ◌∷◌, Ok, IfOk, OnOk, OnErr, IfErr, IfSome, IfNone, MatchBool, IsTrue, true, false, Some, slice_set};
+ghost use Rattle.std.specs.Prelude.{◌≡◌, ◌≢◌, ◌*◌, ◌<◌, ◌≤◌, ◌↔◌, ℕ, [], ◌∷◌, Ok, IfOk, OnOk, OnErr, IfErr, IfSome, IfNone, MatchBool, IsTrue, true, false, Some, slice_set};
 ghost use Rattle.arachne_core.specs.ContextTable.{world_of, ShowsCore, Answers, marked};
-ghost use Rattle.arachne_core.specs.World.{Allowed, IsContext, IsPlace, HasClaimed, HoldsIn, id_of};
+ghost use Rattle.arachne_core.specs.World.{Allowed, IsContext, IsPlace, HasClaimed, HoldsIn, IsAtRest, id_of};
 ghost use Rattle.arachne_core.specs.OwnedOnce.{OwnedOnce};
 ghost use Rattle.arachne_core.specs.Run.{IsOpening, IsDrained};
 ghost use Rattle.arachne_core.specs.declared.event.Event.TheVariants as event;
 ghost use Rattle.arachne_contexts.specs.Words.{HasNoFree};
 ghost use Rattle.arachne_locked.specs.AtHome.{HoldsThread, IsHome};
-ghost use Rattle.arachne_locked.specs.Calls.{Takes, Claims, ClaimsWholeCore, TakesFrom, ends, rests_as, Wakes, IsClaim};
+ghost use Rattle.arachne_locked.specs.Calls.{Takes, Claims, ClaimsWholeCore, TakesFrom, ends, rests_as, Wakes, Moves, CanMove, IsClaim};
+ghost use Rattle.arachne_locked.specs.Closing.{at_rest_below, IsAccounted};
+ghost use Rattle.arachne_contexts.specs.Answers.{IsByContext};
 
 use crate::homes::Homes;
 use crate::tokens::{LockedClaim, LockedHold};
@@ -42,7 +44,7 @@ impl<T: Tagged> Model for TableState<T> {
 const FULL_MASK: u64 = (1 << 56) - 1;
 
 /// The word of a core that isn't there: it is full.
-fn no_core() -> OccWord
+pub fn no_core() -> OccWord
     ensures open { result.closed ≡ false }
     ensures full { HasNoFree result }
 {
@@ -114,7 +116,7 @@ impl<T: Tagged + Drop> TableState<T> {
 
     /// Whether a core is closed and has no occupied place.
     pub fn is_drained(&self, core: u8) -> bool
-        ensures { IsTrue result ↔ IsDrained (world_of self.now.table) core }
+        ensures { IsTrue result → IsDrained (world_of self.now.table) core }
     {
         match self.look(core) {
             Some(occ) => occ.is_closed() && occ.is_empty(),
@@ -165,7 +167,11 @@ impl<T: Tagged + Drop> TableState<T> {
     }
 
     /// Claims the whole of an empty core.
-    pub fn claim_alone(&mut self, carrier: u32, core: u8) -> Result<Claimed<LockedClaim>, AllocError>
+    pub fn claim_alone(
+        &mut self,
+        carrier: u32,
+        core: u8,
+    ) -> Result<Claimed<LockedClaim>, AllocError>
         ensures answer { IfOk result (ClaimsWholeCore (world_of self.old.table) (world_of self.new.table) carrier core) }
         ensures err { OnErr result (world_of self.new.table ≡ world_of self.old.table) }
         ensures values { self.new.values ≡ self.old.values }
@@ -273,7 +279,11 @@ impl<T: Tagged + Drop> TableState<T> {
     }
 
     /// Ends a thread, which wants no memory. One that the table doesn't know by id and tag comes back.
-    pub fn finish(&mut self, carrier: u32, held: Held<T, LockedHold>) -> Result<T, Held<T, LockedHold>>
+    pub fn finish(
+        &mut self,
+        carrier: u32,
+        held: Held<T, LockedHold>,
+    ) -> Result<T, Held<T, LockedHold>>
         ensures ok { OnOk result (Takes (world_of self.old.table) (ends (world_of self.old.table) carrier held.hold.id.context) (world_of self.new.table)) }
         ensures known { OnOk result (HoldsThread (world_of self.old.table) carrier held.hold.id (T.tag_of held.value)) }
         ensures value { IfOk result (λ value. value ≡ held.value) }
@@ -353,6 +363,95 @@ impl<T: Tagged + Drop> TableState<T> {
         match self.homes.apply(Event::OpenCore { core }) {
             Ok(()) => Some(occ),
             Err(_) => unreachable!(),
+        }
+    }
+
+    // ---- moves
+
+    /// Moves the thread at a place to the lowest free place of another core.
+    pub fn move_one(&mut self, carrier: u32, place: Place, to: u8) -> Moved
+        requires { to ≢ place.core }
+        ensures answer { Moves (world_of self.old.table) (world_of self.new.table) carrier place to result }
+        ensures values { self.new.values ≡ self.old.values }
+    {
+        let Some(occ) = self.look(place.core) else {
+            return Moved::Unposted;
+        };
+        if place.index >= SLOTS {
+            return Moved::Unposted;
+        }
+        let from = self.homes.world().context_at(place);
+        match self.homes.world().state(from) {
+            State::Free | State::Claimed { .. } | State::Spent => return Moved::Unposted,
+            State::Held { .. } if !occ.is_exclusive() => return Moved::Running,
+            State::Ready { .. } | State::Blocked { .. } if !occ.is_exclusive() => {}
+            _ => return Moved::Alone,
+        }
+        self.move_to(carrier, from, place, to)
+    }
+
+    /// Moves a thread at rest, which shares its core.
+    fn move_to(&mut self, carrier: u32, from: u32, place: Place, to: u8) -> Moved
+        requires within { IsContext (world_of self.old.table) from }
+        requires at { (world_of self.old.table).at from ≡ place }
+        requires at_rest { IsAtRest ((world_of self.old.table).state from) }
+        requires shared { (world_of self.old.table).alone place.core ≡ false }
+        requires apart { to ≢ place.core }
+        ensures answer { Moves (world_of self.old.table) (world_of self.new.table) carrier place to result }
+        ensures values { self.new.values ≡ self.old.values }
+    {
+        let Some(occ) = self.look(to) else {
+            return Moved::NoRoom(no_core().word());
+        };
+        if occ.is_closed() {
+            return Moved::NoRoom(occ.word());
+        }
+        if occ.is_exclusive() {
+            return Moved::NoRoom(occ.word());
+        }
+        let Some(index) = occ.lowest_free() else {
+            return Moved::NoRoom(occ.word());
+        };
+        let target = self.homes.world().context_at(Place { core: to, index });
+        self.swap(carrier, from, target);
+        Moved::Moved
+    }
+
+    /// Claims the target, moves the thread there, and frees the place that it left.
+    fn swap(&mut self, carrier: u32, from: u32, target: u32)
+        requires { CanMove (world_of self.old.table) from target }
+        ensures events { Takes (world_of self.old.table) (event.Claim carrier target ∷ event.Move carrier from target ∷ event.Release carrier target ∷ []) (world_of self.new.table) }
+        ensures values { self.new.values ≡ self.old.values }
+    {
+        self.homes.make(Event::Claim {
+            carrier,
+            context: target,
+        });
+        self.homes.make(Event::Move {
+            carrier,
+            from,
+            to: target,
+        });
+        self.homes.make(Event::Release {
+            carrier,
+            context: target,
+        });
+    }
+
+    // ---- the end
+
+    /// The threads whose values are at home, by context. The table comes back where memory is refused.
+    pub fn close(self, alloc: Global) -> Result<Vec<(ThreadId, T)>, Self>
+        ensures rest { IfOk result (λ rest. rest.items ≡ at_rest_below (world_of self.table) self.values ((world_of self.table).cores * SLOTS)) }
+        ensures accounted { IfOk result (λ rest. IsAccounted T.tag_of (world_of self.table) rest.items) }
+        ensures order { IfOk result (λ rest. IsByContext rest.items) }
+        ensures handed_back { IfErr result (λ back. back ≡ self) }
+    {
+        self.is_owned_once();
+        let TableState { homes, carriers } = self;
+        match homes.close(alloc) {
+            Ok(rest) => Ok(rest),
+            Err(homes) => Err(TableState { homes, carriers }),
         }
     }
 }

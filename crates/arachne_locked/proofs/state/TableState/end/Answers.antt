@@ -23,13 +23,13 @@ pub returns-then-is_spent-clause-events : goal.returns-then-is_spent-clause-even
 returns-then-is_spent-clause-events g c =
     subst (λ (v : TableView _). Takes (world_of v.table) (ends (world_of v.table) c.args.carrier c.args.context) (world_of c.apply.new.self.table)) c.self.view_is
     (spent_ends c.self.inside.homes.table c.apply.new.self.table c.args.carrier c.args.context c.in-Ok.ensures.answer
-        (ap (λ (k : ContextTable). (world_of k).state c.args.context) (sym c.world.ensures.world) ∙ sym c.state.ensures ∙ c.is_spent.ensures.0 (search rules)))
+    (ap (λ (k : ContextTable). (world_of k).state c.args.context) (sym c.world.ensures.world) ∙ sym c.state.ensures ∙ c.is_spent.ensures.0 (search rules)))
 
 pub unreachable-requires-in-Err-apply : goal.unreachable-requires-in-Err-apply
 unreachable-requires-in-Err-apply g c =
     release_made c.apply.new.self.table c.apply-2.new.self.table c.args.carrier c.args.context c.in-Err-apply.field-0
     (may_release c.self.inside.homes.table c.apply.new.self.table c.args.carrier c.args.context c.in-Ok.ensures.answer
-        (λ e. true≢false (sym (c.is_spent.ensures.1 (c.state.ensures ∙ ap (λ (k : ContextTable). (world_of k).state c.args.context) c.world.ensures.world ∙ e)) ∙ c.if-is_spent.false)))
+    (λ e. true≢false (sym (c.is_spent.ensures.1 (c.state.ensures ∙ ap (λ (k : ContextTable). (world_of k).state c.args.context) c.world.ensures.world ∙ e)) ∙ c.if-is_spent.false)))
     c.in-Err-apply.ensures.answer
 
 pub invariant_of-self-2 : goal.invariant_of-self-2
@@ -40,4 +40,4 @@ pub returns-clause-events : goal.returns-clause-events
 returns-clause-events g c =
     subst (λ (v : TableView _). Takes (world_of v.table) (ends (world_of v.table) c.args.carrier c.args.context) (world_of c.apply-2.new.self.table)) c.self.view_is
     (release_ends c.self.inside.homes.table c.apply.new.self.table c.args.carrier c.args.context c.in-Ok.ensures.answer c.apply-2.new.self.table c.in-Ok-apply.ensures.answer
-        (λ e. true≢false (sym (c.is_spent.ensures.1 (c.state.ensures ∙ ap (λ (k : ContextTable). (world_of k).state c.args.context) c.world.ensures.world ∙ e)) ∙ c.if-is_spent.false)))
+    (λ e. true≢false (sym (c.is_spent.ensures.1 (c.state.ensures ∙ ap (λ (k : ContextTable). (world_of k).state c.args.context) c.world.ensures.world ∙ e)) ∙ c.if-is_spent.false)))
