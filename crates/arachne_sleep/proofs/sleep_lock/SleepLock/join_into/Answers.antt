@@ -1,6 +1,6 @@
 use Rattle.std.proofs.Common.{◌∙◌, ap, sym, arith}
 use Rattle.arachne_sleep.proofs.Dealing.{join-allowed}
-use Rattle.arachne_sleep.proofs.sleep_lock.SleepLock.join_seats.Goals as goal
+use Rattle.arachne_sleep.proofs.sleep_lock.SleepLock.join_into.Goals as goal
 
 pub join_seat-requires : goal.join_seat-requires
 join_seat-requires c = (

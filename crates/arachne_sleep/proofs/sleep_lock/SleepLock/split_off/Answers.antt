@@ -1,6 +1,6 @@
 use Rattle.std.proofs.Common.{◌∙◌, ap, sym, arith}
 use Rattle.arachne_sleep.proofs.Dealing.{split-allowed}
-use Rattle.arachne_sleep.proofs.sleep_lock.SleepLock.split.Goals as goal
+use Rattle.arachne_sleep.proofs.sleep_lock.SleepLock.split_off.Goals as goal
 
 pub split_seat-other-requires : goal.split_seat-other-requires
 split_seat-other-requires c = (
