@@ -277,7 +277,7 @@ forked_child : (budget : ℕ) (class : Class) (a b child : Suspended) (parents p
     IsChildOf (record { running = b; parents = parents; placed = placed }) (alone child)
 forked_child budget class a b child parents placed h f = record {
   awaits = ap (λ u. option_map (λ number. b.name ++ number ∷ []) (slice_get u 0)) f.unjoined
-  ∙ ap (λ n. Some (n ++ a.forks ∷ [])) f.name ∙ ap Some (sym f.fresh.has_name);
+      ∙ ap (λ n. Some (n ++ a.forks ∷ [])) f.name ∙ ap Some (sym f.fresh.has_name);
   same_source = ap source_of (f.fresh.same_program ∙ sym f.program) ∙ sym (outer_source b parents (await_same a b parents f.program f.name f.label h));
   not_paused = pending_none child.pending [] f.fresh.not_paused;
   alone = (refl, refl);
@@ -315,9 +315,13 @@ pub moved_on : (first loop mid : Nested) (a b : Suspended) (parents placed : Lis
     pending_below b.pending parents ≡ pending_at (shown halt) → pending_below b.pending parents ≢ None →
     Moves budget first (shown halt) (record { running = b; parents = parents; placed = placed })
 moved_on first loop mid a b parents placed budget had left halts.Budget s t w some v seen wait h spent all is paused = absurd (paused is)
-moved_on first loop mid a b parents placed budget had left (halts.Forks class child) s t w some v seen wait h spent all is paused =
-    (going first loop mid a b parents placed s t seen (advanced_look had a b (halts.Forks class child) h), is, forked_new had class a b child h,
-     forked_child had class a b child parents placed wait h, forked_work first loop mid a b child class parents placed budget had w some v seen h)
+moved_on first loop mid a b parents placed budget had left (halts.Forks class child) s t w some v seen wait h spent all is paused = (
+  going first loop mid a b parents placed s t seen (advanced_look had a b (halts.Forks class child) h),
+  is,
+  forked_new had class a b child h,
+  forked_child had class a b child parents placed wait h,
+  forked_work first loop mid a b child class parents placed budget had w some v seen h,
+)
 moved_on first loop mid a b parents placed budget had left halts.Joins s t w some v seen wait h spent all is paused =
     stops first _ pause.Joins budget had left (going first loop mid a b parents placed s t seen (look a b h.0)) (going_work first loop mid a b parents placed budget had left w v seen all) spent some is
 moved_on first loop mid a b parents placed budget had left (halts.Asks lock) s t w some v seen wait h spent all is paused =

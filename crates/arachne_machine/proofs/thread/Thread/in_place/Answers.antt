@@ -26,10 +26,11 @@ invariant_of-self-2 c =
     ap (λ v. v.pending) given ∙ next_is c.args.child.running.pending c.args.child.parents c.requires.child.alone.0 c.requires.child.not_paused in
     let here : child.label.in_place ≡ true = ap (λ v. v.label.in_place) given in
     let nested : IsNested (record { running = b; parents = reverse ps; placed = child ∷ reverse qs }) =
-    nested_placed a b child (reverse ps) (reverse qs) c.forked.ensures.same source fresh here c.self.invariant.0 in
-    (subst (λ l. IsNested (record { running = b; parents = reverse l; placed = reverse c.push_reserved.new.self.items })) (sym parents)
-     (subst (λ l. IsNested (record { running = b; parents = reverse ps; placed = l })) (sym (one ∙ ap (λ l. child ∷ reverse l) kept)) nested),
-     search rules)
+    nested_placed a b child (reverse ps) (reverse qs) c.forked.ensures.same source fresh here c.self.invariant.0 in (
+      subst (λ l. IsNested (record { running = b; parents = reverse l; placed = reverse c.push_reserved.new.self.items })) (sym parents)
+          (subst (λ l. IsNested (record { running = b; parents = reverse ps; placed = l })) (sym (one ∙ ap (λ l. child ∷ reverse l) kept)) nested),
+      search rules,
+    )
 
 pub returns-clause-whole : goal.returns-clause-whole
 returns-clause-whole c =
@@ -42,4 +43,4 @@ returns-clause-whole c =
     let same = c.forked.ensures.same in
     subst (λ v. SameWhole v (record { running = b; parents = reverse c.try_reserve.new.self.items; placed = placed })) c.self.view_is
     (subst (λ l. SameWhole (record { running = a; parents = reverse ps; placed = qs }) (record { running = b; parents = reverse l; placed = placed })) (sym parents)
-     (whole_same a b (reverse ps) qs placed same.program same.name same.label))
+    (whole_same a b (reverse ps) qs placed same.program same.name same.label))

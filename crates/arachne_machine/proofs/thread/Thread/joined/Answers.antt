@@ -10,9 +10,11 @@ joined-requires-clause-program c =
     ∙ outer_source c.self.inside.running (reverse c.self.inside.parents.items) c.self.invariant.0.awaiting
 
 pub invariant_of-self : goal.invariant_of-self
-invariant_of-self c =
-    (nested_answered c.joined.result c.self.inside.running c.joined.new.self c.args.outcome (reverse c.self.inside.parents.items) (reverse c.self.inside.placed.items)
-     c.joined.ensures.ok c.joined.ensures.err c.self.invariant.0, c.self.invariant.1)
+invariant_of-self c = (
+  nested_answered c.joined.result c.self.inside.running c.joined.new.self c.args.outcome (reverse c.self.inside.parents.items) (reverse c.self.inside.placed.items)
+      c.joined.ensures.ok c.joined.ensures.err c.self.invariant.0,
+  c.self.invariant.1,
+)
 
 pub returns-clause-whole : goal.returns-clause-whole
 returns-clause-whole c =
