@@ -59,13 +59,19 @@ fn each_call_on_three_locks(rt: HostRuntime) -> Result<(), Fail> {
     assert_eq!(rt; asked, Some(Asked::Granted(pass)));
     let asked = ask(&rt, &locks, &mut seats, 2, b);
     assert_eq!(rt; asked, Some(Asked::Queued { at: 2 }));
-    assert_eq!(rt; locks.check(&rt, &mut seats, 2, a), Tried::Answered(Some(pass)));
+    assert_eq!(rt;
+        locks.check(&rt, &mut seats, 2, a),
+        Tried::Answered(Some(pass))
+    );
     assert_eq!(rt; locks.check(&rt, &mut seats, 1, a), Tried::Answered(None));
     let freed = Freed {
         next: Some(b),
         at: 3,
     };
-    assert_eq!(rt; locks.free(&rt, &mut seats, 2, a), Tried::Answered(Ok(freed)));
+    assert_eq!(rt;
+        locks.free(&rt, &mut seats, 2, a),
+        Tried::Answered(Ok(freed))
+    );
 
     let seats = parted_and_joined(rt.alloc(), &locks, seats).ok_or("no memory")?;
     assert!(rt; locks.are_whole(&seats));
