@@ -138,17 +138,17 @@ fn a_thread_that_is_woken_while_it_is_held(rt: HostRuntime) -> Result<(), Fail> 
         context: 0,
         generation: 1,
     };
-    assert_eq!(rt; table.post(&rt, &mut seat, claim, Job(4)).ok(), Some(second));
+    assert_eq!(rt;
+        table.post(&rt, &mut seat, claim, Job(4)).ok(),
+        Some(second)
+    );
     assert_eq!(rt; table.wake(&rt, &mut seat, first), Woken::Gone);
     assert_eq!(rt; table.look_mark(&rt, &mut seat, 0), 0x4001);
     Ok(())
 }
 
 /// Two cores: on core 1 a ready thread, a blocked one, and a place that is claimed.
-fn two_cores(
-    rt: &impl Wait,
-    alloc: Global,
-) -> Result<(Table, LockedSeat, LockedClaim), Fail>
+fn two_cores(rt: &impl Wait, alloc: Global) -> Result<(Table, LockedSeat, LockedClaim), Fail>
     ensures { IfOk result (λ made. ⟦<Table as Seats>⟧.core_count made.0 ≡ 2) }
 {
     let (table, mut seat) = Table::new(alloc, 2, 0)?;
@@ -167,7 +167,10 @@ fn a_core_is_drained(rt: HostRuntime) -> Result<(), Fail> {
     let (table, mut seat, claim) = two_cores(&rt, rt.alloc())?;
     assert_eq!(rt; table.close_core(&rt, &mut seat, 1), 0x0300000000000007);
     assert_eq!(rt; table.look(&rt, &mut seat, 1), 0x4300000000000007);
-    for (index, moved) in [Moved::Moved, Moved::Moved, Moved::Unposted].into_iter().enumerate() {
+    for (index, moved) in [Moved::Moved, Moved::Moved, Moved::Unposted]
+        .into_iter()
+        .enumerate()
+    {
         let place = Place {
             core: 1,
             index: index as u8,
