@@ -197,6 +197,9 @@ fn a_core_is_drained(rt: HostRuntime) -> Result<(), Fail> {
     assert_eq!(rt; table.look(&rt, &mut seat, 0), 0x0300000000000007);
     assert_eq!(rt; table.look(&rt, &mut seat, 1), 0x4000000000000000);
     assert!(rt; table.is_drained(&rt, &mut seat, 1));
+    if !table.is_whole(&seat) {
+        return Err("not whole".into());
+    }
     let rest = table.close(&rt, rt.alloc(), seat).ok().ok_or("no memory")?;
     assert_eq!(rt; rest.len(), 3);
     Ok(())
