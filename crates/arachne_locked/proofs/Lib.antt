@@ -1,0 +1,4 @@
+pub mod AtHome
+pub mod Counts
+pub mod Room
+pub mod Ends

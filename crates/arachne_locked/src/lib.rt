@@ -1,0 +1,6 @@
+//! A context table behind a lock.
+#![tactic(auto)]
+
+mod homes;
+mod state;
+mod tokens;
