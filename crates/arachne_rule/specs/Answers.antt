@@ -1,5 +1,5 @@
 -- What an answer says of the steps of its call. `made` is the list of these steps, the newest first; n is the number of contexts.
-use Rattle.std.specs.Prelude.{◌≡◌, ◌≢◌, ℕ, ◌+◌, ◌*◌, ◌^◌, ◌<◌, ◌≤◌, ◌⊎◌, Bool, true, false, ◌&&◌, List, [], ◌++◌, slice_index_or, IsTrue}
+use Rattle.std.specs.Prelude.{◌≡◌, ◌≢◌, ℕ, ◌+◌, ◌^◌, ◌<◌, ◌≤◌, ◌⊎◌, Bool, true, false, List, ◌++◌, slice_index_or}
 use mathlib.Core.Option.{some}
 use lib.ListN.{get_elem?}
 use Rattle.arachne_core.specs.declared.place.Place.{Place}
@@ -7,7 +7,7 @@ use Rattle.arachne_core.specs.declared.thread_id.ThreadId.{ThreadId}
 use Rattle.arachne_core.specs.declared.mark.Mark.{Mark}
 use Rattle.arachne_core.specs.declared.mark.Mark.TheVariants as mark
 use Rattle.arachne_core.specs.Occupancy.{occupancy_of}
-use Rattle.arachne_core.specs.Marked.{Marked, marked_of}
+use Rattle.arachne_core.specs.Marked.{marked_of}
 use Rattle.arachne_rule.specs.declared.view.Kind.{Kind}
 use Rattle.arachne_rule.specs.declared.view.Kind.TheVariants as kind
 use Rattle.arachne_rule.specs.declared.view.Record.{Record}
@@ -171,7 +171,7 @@ WasWokenMeanwhile bits made x = (ready tried : ℕ) × (ready < tried)
 abbrev pub HasWoken : ℕ → List Record → ThreadId → Type 0
 HasWoken bits made id = (word after : ℕ) × ((marked_of bits word).generation ≡ id.generation)
     × ((Made made kind.Wake id.context word after × ((marked_of bits word).mark ≡ mark.Blocked) × ((marked_of bits after).mark ≡ mark.Ready))
-      ⊎ (Made made kind.MarkWoken id.context word after × ((marked_of bits word).mark ≡ mark.Held) × ((marked_of bits after).mark ≡ mark.Woken)))
+    ⊎ (Made made kind.MarkWoken id.context word after × ((marked_of bits word).mark ≡ mark.Held) × ((marked_of bits after).mark ≡ mark.Woken)))
 
 -- the thread has ended, its mark is free; or spent
 abbrev pub HasRetired : ℕ → List Record → ℕ → Mark → Type 0

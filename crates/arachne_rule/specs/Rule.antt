@@ -1,18 +1,19 @@
 -- The rule: occupancy words, mark words, place words, values at home and views show a World that is owned once.
-use Rattle.std.specs.Prelude.{◌≡◌, ℕ, ◌-◌, ◌<◌, ◌≤◌, ◌^◌, Bool, true, false, if◌then◌else◌, ◌==◌, List, [], ◌∷◌}
+use Rattle.std.specs.Prelude.{◌≡◌, ℕ, ◌-◌, ◌<◌, ◌≤◌, ◌^◌, Bool, true, false, if◌then◌else◌, ◌==◌, List, [], ◌∷◌, slice_set}
 use mathlib.Core.Option as slot
+use lib.ListN.{get_elem?}
 use Rattle.std.specs.declared.option.Option.{Option}
 use Rattle.std.specs.declared.option.Option.TheVariants.{None, Some}
 use Rattle.arachne_core.specs.declared.place.Place.{Place}
 use Rattle.arachne_core.specs.declared.state.State.{State}
 use Rattle.arachne_core.specs.declared.state.State.TheVariants.{Free, Claimed, Ready, Blocked, Held, Spent}
 use Rattle.arachne_core.specs.Occupancy.{occupancy_of, IsOccupancyWord}
-use Rattle.arachne_core.specs.Marked.{Marked, mark_word}
+use Rattle.arachne_core.specs.Marked.{mark_word}
 use Rattle.arachne_core.specs.World.{World, Thread, IsContext, IsPlace, core_of}
 use Rattle.arachne_core.specs.OwnedOnce.{OwnedOnce}
 use Rattle.arachne_core.specs.ContextTable.{ShowsCore, marked}
 use Rattle.arachne_weights.specs.declared.token.Token.{Token}
-use Rattle.arachne_weights.specs.Tokens.{IsReachable}
+use Rattle.arachne_weights.specs.Tokens.{held, IsReachable}
 use Rattle.arachne_rule.specs.declared.view.Carried.{Carried}
 use Rattle.arachne_rule.specs.declared.view.Known.{Known}
 use Rattle.arachne_rule.specs.Views.{blank, known_at, carried_at, given_in, ended_in}
@@ -25,6 +26,15 @@ pub record Board (T : Type 0) : Type 0 where
   pub name : Place → ℕ
   pub home : ℕ → slot.Option (slot.Option (Option T))
   pub views : List (Token Known)
+
+module _ {T : Type 0} where
+  -- seat h, of this weight, is in use and knows k
+  abbrev pub Knows : Board T → ℕ → ℕ → Known → Type 0
+  Knows b h weight k = get_elem? b.views h ≡ slot.some (held weight k)
+
+  -- the views when it knows k instead
+  abbrev pub views_with : Board T → ℕ → ℕ → Known → List (Token Known)
+  views_with b h weight k = slice_set b.views h (held weight k)
 
 -- Where the steps of a call stand with a context: whether its slot is out with its carrier, whether the place word of its place
 -- names it, and the place in its mark word.

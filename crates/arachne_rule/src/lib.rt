@@ -4,6 +4,7 @@
 //! of that World. The steps on the words themselves are made by the crate above.
 #![tactic(auto)]
 
+pub mod laws;
 mod view;
 
 pub use view::{Carried, Kind, Known, Record, Shape, View};
