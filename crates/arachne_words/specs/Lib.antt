@@ -1,0 +1,5 @@
+pub mod Seats
+pub mod Sizes
+pub mod Steps
+pub mod Calls
+pub mod Ending
