@@ -26,14 +26,18 @@ module _ {T : Type 0} (z : Contexts) (hold : HoldView) (tag : ℕ) (s0 s1 : Call
   claimed = record { context = hold.id.context; generation = hold.id.generation + 1; placed = has.placed; inside = has.inside; carried = carries }
 
   pub after : (i found : ℕ) (s2 : CallView T) → s2 ≡ record s1 { known = released i found (release_sum (claimed_by claim_of hold.id.context (hold.id.generation + 1))) (claimed_by claim_of hold.id.context (hold.id.generation + 1)) s1.known }
-      → s2 ≡ record s0 { known = noted kind.Release i found (found - release_sum (held_by hold tag))
-          (noted kind.Retire hold.id.context before (mark_word CORE_BITS (marked_free (claimed_again (held_by hold tag)))) (spent_known s0.known (held_by hold tag))) }
+      → s2 ≡ record s0 {
+        known = noted kind.Release i found (found - release_sum (held_by hold tag))
+            (noted kind.Retire hold.id.context before (mark_word CORE_BITS (marked_free (claimed_again (held_by hold tag)))) (spent_known s0.known (held_by hold tag)));
+      }
   after i found s2 e2 =
       e2 ∙ ap (λ (v : CallView T). record v { known = released i found (release_sum (claimed_by claim_of hold.id.context (hold.id.generation + 1))) (claimed_by claim_of hold.id.context (hold.id.generation + 1)) v.known }) e1
-      ∙ (λ j. record s0 { known = record {
-        carried = without-with (claimed_again (held_by hold tag)) s0.known.carried j;
-        given = s0.known.given;
-        ended = thread_in (held_by hold tag) ∷ s0.known.ended;
-        records = record { kind = kind.Release; word = i; before = found; after = found - release_sum (held_by hold tag) }
-            ∷ record { kind = kind.Retire; word = hold.id.context; before = before; after = mark_word CORE_BITS (marked_free (claimed_again (held_by hold tag))) } ∷ s0.known.records;
-      } })
+      ∙ (λ j. record s0 {
+        known = record {
+          carried = without-with (claimed_again (held_by hold tag)) s0.known.carried j;
+          given = s0.known.given;
+          ended = thread_in (held_by hold tag) ∷ s0.known.ended;
+          records = record { kind = kind.Release; word = i; before = found; after = found - release_sum (held_by hold tag) }
+              ∷ record { kind = kind.Retire; word = hold.id.context; before = before; after = mark_word CORE_BITS (marked_free (claimed_again (held_by hold tag))) } ∷ s0.known.records;
+        };
+      })

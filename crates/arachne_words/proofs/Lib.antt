@@ -6,3 +6,5 @@ pub mod TakeSteps
 pub mod FinishSteps
 pub mod WakeSteps
 pub mod RestCall
+pub mod FirstTable
+pub mod Leaving

@@ -18,14 +18,14 @@ bound zero (c ∷ cs) once inside = absurd (no-more c _ (sym (cond-true _ (c ∷
 bound (suc n) (c ∷ cs) once inside =
     let all : List Carried = c ∷ cs in
     let rest = bound n (without n all)
-      (λ x. elim (cases_eq x n) [
-        | inl e ↦ let a = ap length (ap (λ (y : ℕ). carried_at y (without n all)) e ∙ without-at n all) in omega arith
-        | inr m ↦ let a = ap length (without-else n x all m) in let b = once x in omega arith
-      ])
-      (λ x h. elim (cases_eq x n) [
-        | inl e ↦ ap (λ (y : ℕ). carried_at y (without n all)) e ∙ without-at n all
-        | inr m ↦ without-else n x all m ∙ inside x (omega arith)
-      ]) in
+    (λ x. elim (cases_eq x n) [
+      | inl e ↦ let a = ap length (ap (λ (y : ℕ). carried_at y (without n all)) e ∙ without-at n all) in omega arith
+      | inr m ↦ let a = ap length (without-else n x all m) in let b = once x in omega arith
+    ])
+    (λ x h. elim (cases_eq x n) [
+      | inl e ↦ ap (λ (y : ℕ). carried_at y (without n all)) e ∙ without-at n all
+      | inr m ↦ without-else n x all m ∙ inside x (omega arith)
+    ]) in
     let a = without-length n all in let b = once n in omega arith
 
 pub out-bound : (n out : ℕ) (k : Known) → AreOut n out k → out ≤ n

@@ -53,15 +53,19 @@ module _ (z : Contexts) (claim : ClaimView) (x g : ℕ) (inside : x < z.table.sl
 
     pub after : (tag before : ℕ) (s4 : CallView T) → ready ≡ record { mark = mark.Ready; alone = claim.alone; place = claim.place; generation = seen.generation }
         → s4 ≡ record s3 { known = noted kind.Post context before (mark_word CORE_BITS ready) (posted s3.known out_with tag); slots = rest s3.slots }
-        → s4 ≡ record s0 { known = noted kind.Post x before (mark_word CORE_BITS (marked_as mark.Ready (claimed_by claim x g)))
-            (looked x (mark_word CORE_BITS seen) (learned (name_index z.table.slots claim.place) x (posted s0.known (claimed_by claim x g) tag))) }
+        → s4 ≡ record s0 {
+          known = noted kind.Post x before (mark_word CORE_BITS (marked_as mark.Ready (claimed_by claim x g)))
+              (looked x (mark_word CORE_BITS seen) (learned (name_index z.table.slots claim.place) x (posted s0.known (claimed_by claim x g) tag)));
+        }
     after tag before s4 is e4 =
         e4 ∙ ap (λ (v : CallView T). record v { known = noted kind.Post context before (mark_word CORE_BITS ready) (posted v.known out_with tag); slots = rest v.slots }) whole
-        ∙ (λ i. record s0 { known = record {
-          carried = without-with out_with s0.known.carried i;
-          given = (record { context = x; generation = g }, tag) ∷ s0.known.given;
-          ended = s0.known.ended;
-          records = record { kind = kind.Post; word = e1.0 i; before = before; after = mark_word CORE_BITS ((is ∙ (λ j. record { mark = mark.Ready; alone = claim.alone; place = claim.place; generation = generation j })) i) }
-              ∷ record { kind = kind.Look; word = e1.0 i; before = mark_word CORE_BITS seen; after = mark_word CORE_BITS seen }
-              ∷ record { kind = kind.Learn; word = name_index z.table.slots claim.place; before = e1.0 i; after = e1.0 i } ∷ s0.known.records;
-        } })
+        ∙ (λ i. record s0 {
+          known = record {
+            carried = without-with out_with s0.known.carried i;
+            given = (record { context = x; generation = g }, tag) ∷ s0.known.given;
+            ended = s0.known.ended;
+            records = record { kind = kind.Post; word = e1.0 i; before = before; after = mark_word CORE_BITS ((is ∙ (λ j. record { mark = mark.Ready; alone = claim.alone; place = claim.place; generation = generation j })) i) }
+                ∷ record { kind = kind.Look; word = e1.0 i; before = mark_word CORE_BITS seen; after = mark_word CORE_BITS seen }
+                ∷ record { kind = kind.Learn; word = name_index z.table.slots claim.place; before = e1.0 i; after = e1.0 i } ∷ s0.known.records;
+          };
+        })

@@ -53,26 +53,30 @@ module _ {T : Type 0} (tag_of : T → ℕ) (z : Contexts) (h : HoldView) (value 
         → s3 ≡ record s0 { known = noted kind.RestReady h.id.context before (mark_word CORE_BITS (marked_by mark.Ready h)) (learned (name_index z.table.slots h.place) h.id.context (without_context s0.known (held_by h (tag_of value)))) }
     after-ready s3 before ready is e3 =
         e3 ∙ ap (λ (v : CallView T). record v { known = noted kind.RestReady context before (mark_word CORE_BITS ready) (without_context v.known out_with); slots = rest v.slots }) laid
-        ∙ (λ i. record s0 { known = record {
-          carried = without-with out_with s0.known.carried i;
-          given = s0.known.given;
-          ended = s0.known.ended;
-          records = record { kind = kind.RestReady; word = e1.0 i; before = before; after = mark_word CORE_BITS (is i) }
-              ∷ record { kind = kind.Learn; word = name_index z.table.slots h.place; before = e1.0 i; after = e1.0 i } ∷ s0.known.records;
-        } })
+        ∙ (λ i. record s0 {
+          known = record {
+            carried = without-with out_with s0.known.carried i;
+            given = s0.known.given;
+            ended = s0.known.ended;
+            records = record { kind = kind.RestReady; word = e1.0 i; before = before; after = mark_word CORE_BITS (is i) }
+                ∷ record { kind = kind.Learn; word = name_index z.table.slots h.place; before = e1.0 i; after = e1.0 i } ∷ s0.known.records;
+          };
+        })
 
     pub after-blocked : (s3 : CallView T) (held : Marked) → held ≡ marked_by mark.Held h
         → s3 ≡ record s2 { known = noted kind.RestBlocked context (mark_word CORE_BITS held) (mark_word CORE_BITS (record held { mark = mark.Blocked })) (without_context s2.known out_with); slots = rest s2.slots }
         → s3 ≡ record s0 { known = noted kind.RestBlocked h.id.context (mark_word CORE_BITS (marked_by mark.Held h)) (mark_word CORE_BITS (marked_by mark.Blocked h)) (learned (name_index z.table.slots h.place) h.id.context (without_context s0.known (held_by h (tag_of value)))) }
     after-blocked s3 held is e3 =
         e3 ∙ ap (λ (v : CallView T). record v { known = noted kind.RestBlocked context (mark_word CORE_BITS held) (mark_word CORE_BITS (record held { mark = mark.Blocked })) (without_context v.known out_with); slots = rest v.slots }) laid
-        ∙ (λ i. record s0 { known = record {
-          carried = without-with out_with s0.known.carried i;
-          given = s0.known.given;
-          ended = s0.known.ended;
-          records = record { kind = kind.RestBlocked; word = e1.0 i; before = mark_word CORE_BITS (is i); after = mark_word CORE_BITS (record (is i) { mark = mark.Blocked }) }
-              ∷ record { kind = kind.Learn; word = name_index z.table.slots h.place; before = e1.0 i; after = e1.0 i } ∷ s0.known.records;
-        } })
+        ∙ (λ i. record s0 {
+          known = record {
+            carried = without-with out_with s0.known.carried i;
+            given = s0.known.given;
+            ended = s0.known.ended;
+            records = record { kind = kind.RestBlocked; word = e1.0 i; before = mark_word CORE_BITS (is i); after = mark_word CORE_BITS (record (is i) { mark = mark.Blocked }) }
+                ∷ record { kind = kind.Learn; word = name_index z.table.slots h.place; before = e1.0 i; after = e1.0 i } ∷ s0.known.records;
+          };
+        })
 
     module _ (s3 : CallView T) (found : ℕ) (e3 : s3 ≡ record s2 { known = noted kind.RestBlocked context found found s2.known }) where
       pub restable-again : IsRestable tag_of z s3 context out_with value
@@ -87,16 +91,20 @@ module _ {T : Type 0} (tag_of : T → ℕ) (z : Contexts) (h : HoldView) (value 
 
       pub after-lost : (s4 : CallView T) (before : ℕ) (ready : Marked) → ready ≡ marked_by mark.Ready h
           → s4 ≡ record s3 { known = noted kind.RestReady context before (mark_word CORE_BITS ready) (without_context s3.known out_with); slots = rest s3.slots }
-          → s4 ≡ record s0 { known = noted kind.RestReady h.id.context before (mark_word CORE_BITS (marked_by mark.Ready h))
-              (noted kind.RestBlocked h.id.context found found (learned (name_index z.table.slots h.place) h.id.context (without_context s0.known (held_by h (tag_of value))))) }
+          → s4 ≡ record s0 {
+            known = noted kind.RestReady h.id.context before (mark_word CORE_BITS (marked_by mark.Ready h))
+                (noted kind.RestBlocked h.id.context found found (learned (name_index z.table.slots h.place) h.id.context (without_context s0.known (held_by h (tag_of value)))));
+          }
       after-lost s4 before ready is e4 =
           e4 ∙ ap (λ (v : CallView T). record v { known = noted kind.RestReady context before (mark_word CORE_BITS ready) (without_context v.known out_with); slots = rest v.slots })
-            (e3 ∙ ap (λ (v : CallView T). record v { known = noted kind.RestBlocked context found found v.known }) laid)
-          ∙ (λ i. record s0 { known = record {
-            carried = without-with out_with s0.known.carried i;
-            given = s0.known.given;
-            ended = s0.known.ended;
-            records = record { kind = kind.RestReady; word = e1.0 i; before = before; after = mark_word CORE_BITS (is i) }
-                ∷ record { kind = kind.RestBlocked; word = e1.0 i; before = found; after = found }
-                ∷ record { kind = kind.Learn; word = name_index z.table.slots h.place; before = e1.0 i; after = e1.0 i } ∷ s0.known.records;
-          } })
+          (e3 ∙ ap (λ (v : CallView T). record v { known = noted kind.RestBlocked context found found v.known }) laid)
+          ∙ (λ i. record s0 {
+            known = record {
+              carried = without-with out_with s0.known.carried i;
+              given = s0.known.given;
+              ended = s0.known.ended;
+              records = record { kind = kind.RestReady; word = e1.0 i; before = before; after = mark_word CORE_BITS (is i) }
+                  ∷ record { kind = kind.RestBlocked; word = e1.0 i; before = found; after = found }
+                  ∷ record { kind = kind.Learn; word = name_index z.table.slots h.place; before = e1.0 i; after = e1.0 i } ∷ s0.known.records;
+            };
+          })

@@ -77,21 +77,25 @@ module _ (z : Contexts) (p : Place) (x : ℕ) (inside : x < z.table.slots) (seen
     }
 
     module _ (s5 : CallView T) (before : ℕ) (e5 : s5 ≡ record s4 {
-          known = noted kind.KeepName (name_index z.table.slots p) before x (with_context s4.known at_last);
-          slots = rest s4.slots;
-        }) where
-      pub after : s5 ≡ record s0 { known = noted kind.KeepName (name_index z.table.slots p) before x
-          (noted kind.Take x (mark_word CORE_BITS (marked_by mark.Ready hold_of)) (mark_word CORE_BITS (marked_by mark.Held hold_of))
-            (looked x (mark_word CORE_BITS (marked_by mark.Ready hold_of)) (learned (name_index z.table.slots p) x (with_context s0.known (held_by hold_of tag))))) }
+      known = noted kind.KeepName (name_index z.table.slots p) before x (with_context s4.known at_last);
+      slots = rest s4.slots;
+    }) where
+      pub after : s5 ≡ record s0 {
+        known = noted kind.KeepName (name_index z.table.slots p) before x
+            (noted kind.Take x (mark_word CORE_BITS (marked_by mark.Ready hold_of)) (mark_word CORE_BITS (marked_by mark.Held hold_of))
+            (looked x (mark_word CORE_BITS (marked_by mark.Ready hold_of)) (learned (name_index z.table.slots p) x (with_context s0.known (held_by hold_of tag)))));
+      }
       after =
           let m : seen ≡ marked_by mark.Ready hold_of = λ i. record { mark = ready i; alone = seen.alone; place = at i; generation = seen.generation } in
           e5 ∙ ap (λ (v : CallView T). record v { known = noted kind.KeepName (name_index z.table.slots p) before x (with_context v.known at_last); slots = rest v.slots }) late
-          ∙ (λ i. record s0 { known = record {
-            carried = record at_last { place = at i; shown = at i } ∷ without-with first s0.known.carried i;
-            given = s0.known.given;
-            ended = s0.known.ended;
-            records = record { kind = kind.KeepName; word = name_index z.table.slots p; before = before; after = x }
-                ∷ record { kind = kind.Take; word = x; before = mark_word CORE_BITS (m i); after = mark_word CORE_BITS (record (m i) { mark = mark.Held }) }
-                ∷ record { kind = kind.Look; word = x; before = mark_word CORE_BITS (m i); after = mark_word CORE_BITS (m i) }
-                ∷ record { kind = kind.Learn; word = name_index z.table.slots p; before = x; after = x } ∷ s0.known.records;
-          } })
+          ∙ (λ i. record s0 {
+            known = record {
+              carried = record at_last { place = at i; shown = at i } ∷ without-with first s0.known.carried i;
+              given = s0.known.given;
+              ended = s0.known.ended;
+              records = record { kind = kind.KeepName; word = name_index z.table.slots p; before = before; after = x }
+                  ∷ record { kind = kind.Take; word = x; before = mark_word CORE_BITS (m i); after = mark_word CORE_BITS (record (m i) { mark = mark.Held }) }
+                  ∷ record { kind = kind.Look; word = x; before = mark_word CORE_BITS (m i); after = mark_word CORE_BITS (m i) }
+                  ∷ record { kind = kind.Learn; word = name_index z.table.slots p; before = x; after = x } ∷ s0.known.records;
+            };
+          })

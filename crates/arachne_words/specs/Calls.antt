@@ -130,8 +130,8 @@ pub record HasTaken (c : Contexts) (p : Place) (k : Known) (hold : HoldView) (ta
   pub named_before : ℕ
   pub steps : after ≡ noted kind.KeepName (name_index c.table.slots p) named_before hold.id.context
       (noted kind.Take hold.id.context (mark_word CORE_BITS (marked_by mark.Ready hold)) (mark_word CORE_BITS (marked_by mark.Held hold))
-        (looked hold.id.context (mark_word CORE_BITS (marked_by mark.Ready hold)) (learned (name_index c.table.slots p) hold.id.context
-          (with_context k (held_by hold tag)))))
+      (looked hold.id.context (mark_word CORE_BITS (marked_by mark.Ready hold)) (learned (name_index c.table.slots p) hold.id.context
+      (with_context k (held_by hold tag)))))
 
 abbrev pub TakeAnswer : {T : Type 0} → (T → ℕ) → Contexts → Place → Known → Taken T HoldView → Known → Type 0
 TakeAnswer tag_of c p k (taken.Run thread) after = HasTaken c p k thread.hold (tag_of thread.value) after

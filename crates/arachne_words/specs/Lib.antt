@@ -3,3 +3,4 @@ pub mod Sizes
 pub mod Steps
 pub mod Calls
 pub mod Ending
+pub mod FirstWords

@@ -39,12 +39,30 @@ pub record HoldView : Type 0 where
 -- the context of a claim, as its seat knows it
 abbrev pub claimed_by : ClaimView → ℕ → ℕ → Carried
 claimed_by claim context generation = record {
-  context = context; place = claim.place; shown = claim.place; generation = generation; held = false; tag = 0; alone = claim.alone; named = true; away = false }
+  context = context;
+  place = claim.place;
+  shown = claim.place;
+  generation = generation;
+  held = false;
+  tag = 0;
+  alone = claim.alone;
+  named = true;
+  away = false;
+}
 
 -- the context of a held thread with this tag, as its seat knows it
 abbrev pub held_by : HoldView → ℕ → Carried
 held_by hold tag = record {
-  context = hold.id.context; place = hold.place; shown = hold.place; generation = hold.id.generation; held = true; tag = tag; alone = hold.alone; named = true; away = false }
+  context = hold.id.context;
+  place = hold.place;
+  shown = hold.place;
+  generation = hold.id.generation;
+  held = true;
+  tag = tag;
+  alone = hold.alone;
+  named = true;
+  away = false;
+}
 
 -- what a mark word says of a thread that is known by a hold
 abbrev pub marked_by : Mark → HoldView → Marked

@@ -22,7 +22,7 @@ impl<T: Tagged + Drop> WordContexts<T> {
         requires thread { (tag : ℕ) × HasThread self.now seat.old.known hold.now tag }
         requires more { hold.now.id.generation < self.now.shape.last }
         ensures { (tag : ℕ) → HasThread self.now seat.old.known hold.now tag → (before : ℕ) × (seat.new ≡ record seat.old {
-          known = noted kind.Retire hold.now.id.context before (mark_word CORE_BITS (marked_free (claimed_again (held_by hold.now tag)))) (retired seat.old.known (held_by hold.now tag))
+          known = noted kind.Retire hold.now.id.context before (mark_word CORE_BITS (marked_free (claimed_again (held_by hold.now tag)))) (retired seat.old.known (held_by hold.now tag));
         }) }
     {
         let _ = &self.last;
@@ -37,7 +37,7 @@ impl<T: Tagged + Drop> WordContexts<T> {
         requires thread { (tag : ℕ) × HasThread self.now seat.old.known hold.now tag }
         requires last { hold.now.id.generation ≡ self.now.shape.last }
         ensures { (tag : ℕ) → HasThread self.now seat.old.known hold.now tag → (before : ℕ) × (seat.new ≡ record seat.old {
-          known = noted kind.Retire hold.now.id.context before (mark_word CORE_BITS (marked_spent (held_by hold.now tag))) (spent_known seat.old.known (held_by hold.now tag))
+          known = noted kind.Retire hold.now.id.context before (mark_word CORE_BITS (marked_spent (held_by hold.now tag))) (spent_known seat.old.known (held_by hold.now tag));
         }) }
     {
         let _ = &self.last;

@@ -8,7 +8,9 @@
 mod call_seat;
 mod claiming;
 mod closing;
+mod ending;
 mod finishing;
+mod first_words;
 mod moving;
 mod posting;
 mod resting;

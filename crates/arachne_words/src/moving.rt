@@ -12,7 +12,6 @@ ghost use Rattle.arachne_words.specs.Sizes.{IsPlaceIn};
 ghost use Rattle.arachne_words.specs.Steps.{IsClaimed};
 
 use crate::call_seat::CallSeat;
-
 use crate::steps::{Move, NameSource, NameTarget, Replace};
 use crate::table::WordContexts;
 use arachne_contexts::Tagged;
@@ -33,7 +32,7 @@ impl<T: Tagged + Drop> WordContexts<T> {
         requires rests { IsRestMark seen.mark × (seen.alone ≡ false) × (seen.place.core ≢ target.core) }
         requires claimed { (c : Carried) × IsClaimed self.now seat.old.known c × (c.place ≡ target) × (c.named ≡ true) × (c.alone ≡ false) }
         ensures won { IfOk result (λ _. (c : Carried) → IsClaimed self.now seat.old.known c → c.place ≡ target → seat.new ≡ record seat.old {
-          known = noted kind.Move context (mark_word CORE_BITS seen) (mark_word CORE_BITS (record seen { place = target })) (with_context seat.old.known (left_context c seen.place))
+          known = noted kind.Move context (mark_word CORE_BITS seen) (mark_word CORE_BITS (record seen { place = target })) (with_context seat.old.known (left_context c seen.place));
         }) }
         ensures lost { IfErr result (λ found. (found ≢ mark_word CORE_BITS seen) × (seat.new ≡ record seat.old { known = noted kind.Move context found found seat.old.known })) }
     {
@@ -72,7 +71,7 @@ impl<T: Tagged + Drop> WordContexts<T> {
         requires own { seat.old.table ≡ self.now.table }
         requires claimed { (c : Carried) × IsClaimed self.now seat.old.known c × (context ≡ c.context) × (free ≡ marked_free c) }
         ensures { (c : Carried) → IsClaimed self.now seat.old.known c → context ≡ c.context → (before : ℕ) × (seat.new ≡ record seat.old {
-          known = noted kind.Replace context before (mark_word CORE_BITS free) (with_context seat.old.known (record c { shown = c.place }))
+          known = noted kind.Replace context before (mark_word CORE_BITS free) (with_context seat.old.known (record c { shown = c.place }));
         }) }
     {
         let shared = &self.table.shared;
@@ -85,7 +84,7 @@ impl<T: Tagged + Drop> WordContexts<T> {
         requires place { IsPlaceIn self.now.shape source }
         requires claimed { (c : Carried) × IsClaimed self.now seat.old.known c × (context ≡ c.context) × (c.place ≡ source) × (c.shown ≡ c.place) }
         ensures { (c : Carried) → IsClaimed self.now seat.old.known c → context ≡ c.context → (before : ℕ) × (seat.new ≡ record seat.old {
-          known = noted kind.NameSource (name_index self.now.table.slots source) before context (with_context seat.old.known (record c { named = true }))
+          known = noted kind.NameSource (name_index self.now.table.slots source) before context (with_context seat.old.known (record c { named = true }));
         }) }
     {
         let shared = &self.table.shared;

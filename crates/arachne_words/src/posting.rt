@@ -43,7 +43,11 @@ impl<T: Tagged + Drop> WordContexts<T> {
         requires slot { seat.old.slots ≡ (context, None) ∷ rest seat.old.slots }
         ensures { seat.new ≡ record seat.old { slots = (context, Some value) ∷ rest seat.old.slots } }
     {
-        match self.table.shared.exchange(&mut seat.seat, context, Some(value)) {
+        match self
+            .table
+            .shared
+            .exchange(&mut seat.seat, context, Some(value))
+        {
             None => {}
             Some(_) => unreachable!(),
         }

@@ -89,12 +89,7 @@ impl<T: Tagged + Drop> WordContexts<T> {
 
     /// Puts a held thread back as ready or as blocked. Where it was to be blocked and a wake came while it was held, it is
     /// ready.
-    pub fn put_back(
-        &self,
-        seat: &mut WordSeat<T>,
-        thread: Held<T, WordHold>,
-        rest: Rest,
-    ) -> Rested
+    pub fn put_back(&self, seat: &mut WordSeat<T>, thread: Held<T, WordHold>, rest: Rest) -> Rested
         requires own { seat.old.table ≡ self.now.table }
         requires thread { HasThread self.now seat.old.known thread.hold (T.tag_of thread.value) }
         ensures seat { (seat.new.table ≡ seat.old.table) × (seat.new.weight ≡ seat.old.weight) }

@@ -1,21 +1,64 @@
 //! The first seat, seats that are split and joined, and the end of a table.
-ghost use Rattle.std.specs.Prelude.{◌≡◌, ◌↔◌, [], IsTrue, length};
+ghost use Rattle.std.specs.Prelude.{◌≡◌, ◌↔◌, ◌≤◌, [], IsTrue, IfOk, length};
+ghost use Rattle.arachne_core.specs.declared.layout.TheConstants.{CORES, LAST_GENERATION, SLOTS};
 ghost use Rattle.arachne_weights.specs.Weight.{whole, first_part, second_part, joined};
 ghost use Rattle.arachne_rule.specs.Views.{blank, joined_known};
 ghost use Rattle.arachne_words.specs.Seats.{HasNothingOut};
 
 use crate::call_seat::CallSeat;
+use crate::first_words::first_words;
 use crate::seat::WordSeat;
 use crate::steps::Deal;
 use crate::table::WordContexts;
 use arachne_contexts::Tagged;
-
-
-
-
-
+use arachne_core::{LAST_GENERATION, SLOTS};
+use arachne_rule::Shape;
+use arachne_weights::Weight;
+use atomic_table::Table;
+use std::alloc::{AllocError, Global};
 
 impl<T: Tagged + Drop> WordContexts<T> {
+    /// A table with so many cores, whose contexts are free and have this generation, and the seat with the whole weight.
+    pub fn new(
+        alloc: Global,
+        cores: u8,
+        first_generation: u64,
+    ) -> Result<(WordContexts<T>, WordSeat<T>), AllocError>
+        requires some { 1 ≤ cores }
+        requires cores { cores ≤ CORES }
+        requires generation { first_generation ≤ LAST_GENERATION }
+        ensures contexts { IfOk result (λ made. made.0.shape ≡ record { cores = cores; slots = SLOTS; first = first_generation; last = LAST_GENERATION }) }
+        ensures seat { IfOk result (λ made. made.1 ≡ record { table = made.0.table; weight = whole; known = blank }) }
+    {
+        let words = first_words(alloc, cores, first_generation)?;
+        let shape = Shape {
+            cores,
+            slots: SLOTS,
+            first: first_generation,
+            last: LAST_GENERATION,
+        };
+        let contexts = usize::from(cores) * usize::from(SLOTS);
+        let made = Table::vacant(alloc, words.as_slice(), contexts, &shape);
+        let Shape {
+            cores: _,
+            slots: _,
+            first: _,
+            last: _,
+        } = shape;
+        let (table, seat) = made?;
+        let contexts = WordContexts {
+            table,
+            slots: SLOTS,
+            last: LAST_GENERATION,
+        };
+        let seat = WordSeat {
+            at: CallSeat { seat },
+            weight: Weight::whole(),
+            out: 0,
+        };
+        Ok((contexts, seat))
+    }
+
     fn cut(&self, seat: &mut CallSeat<T>) -> CallSeat<T>
         requires own { seat.old.table ≡ self.now.table }
         ensures first { seat.new ≡ record seat.old { weight = first_part seat.old.weight } }
@@ -33,9 +76,7 @@ impl<T: Tagged + Drop> WordContexts<T> {
     {
         let _ = &self.slots;
         let CallSeat { seat: spent } = other;
-        self.table
-            .shared
-            .join_seat::<Deal>(&mut seat.seat, spent);
+        self.table.shared.join_seat::<Deal>(&mut seat.seat, spent);
     }
 
     /// Halves the weight, rounded up for the first seat, which keeps what is known. At weight 1 or 0 neither gets any.

@@ -21,13 +21,13 @@ use std::alloc::Global;
 use std::marker::Model;
 
 /// The words of a core's block.
-const BLOCK: usize = 80;
+pub(crate) const BLOCK: usize = 80;
 
 /// Where the occupancy word is in the block, with a cache line for itself.
 const OCCUPANCY: usize = 8;
 
 /// Where the place words begin in the block.
-const NAMES: usize = 16;
+pub(crate) const NAMES: usize = 16;
 
 /// A context table on atomic words. Whoever has a seat may step on it, without waiting.
 ///

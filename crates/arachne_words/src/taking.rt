@@ -29,12 +29,7 @@ fn is_ready_at(seen: MarkWord, place: Place) -> bool
 }
 
 impl<T: Tagged + Drop> WordContexts<T> {
-    fn try_take(
-        &self,
-        seat: &mut CallSeat<T>,
-        context: usize,
-        seen: MarkWord,
-    ) -> Result<(), u64>
+    fn try_take(&self, seat: &mut CallSeat<T>, context: usize, seen: MarkWord) -> Result<(), u64>
         requires own { seat.old.table ≡ self.now.table }
         requires context { context < self.now.table.slots }
         requires ready { seen.mark ≡ Mark.Ready }

@@ -19,12 +19,7 @@ use arachne_core::{Mark, MarkWord, ThreadId};
 
 impl<T: Tagged + Drop> WordContexts<T> {
     /// One try to make a blocked thread ready.
-    fn try_wake(
-        &self,
-        seat: &mut CallSeat<T>,
-        context: usize,
-        seen: MarkWord,
-    ) -> Result<(), u64>
+    fn try_wake(&self, seat: &mut CallSeat<T>, context: usize, seen: MarkWord) -> Result<(), u64>
         requires own { seat.old.table ≡ self.now.table }
         requires context { context < self.now.table.slots }
         requires blocked { seen.mark ≡ Mark.Blocked }

@@ -21,6 +21,6 @@ store-requires g c =
       ap (λ v. v.table) c.seat.view_is ∙ c.requires.own ∙ sym (ap (λ v. v.table) c.self.view_is),
       name-in _ _ _ c.self.invariant _ _ p_in there,
       keep-name-allowed g.T.Tagged.tag_of CORE_BITS c.self.inside.table.shared.key c.self.inside.table.shared.table_id.slots c.seat.inside.seat.id c.seat.inside.seat.me a _ _ c.self.invariant.laid_out.slots c.seat.invariant has.context_is inside
-      (there ∙ ap (name_index c.self.inside.table.shared.table_id.slots) (sym has.place)) (subst (λ (k : Known). Carries k a) (sym (ap (λ v. v.known) c.seat.view_is)) has.carried) has.held
-      (subst (λ l. HasLast l a.context None) (sym (ap (λ v. v.slots) c.seat.view_is)) has.slot),
+          (there ∙ ap (name_index c.self.inside.table.shared.table_id.slots) (sym has.place)) (subst (λ (k : Known). Carries k a) (sym (ap (λ v. v.known) c.seat.view_is)) has.carried) has.held
+          (subst (λ l. HasLast l a.context None) (sym (ap (λ v. v.slots) c.seat.view_is)) has.slot),
     )

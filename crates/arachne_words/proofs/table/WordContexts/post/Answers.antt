@@ -105,8 +105,10 @@ returns-clause-posted g c x y x_in carries =
     let told = c.store_posted.ensures (out_with c.args.self.now claim x y x_in) c.args.value (postable c.args.self.now claim x y x_in c.seat.inside.at c.take_slot-context.new.seat c.see_mark.new.seat c.lay_in.new.seat c.take_slot-context.result c.see_mark.result c.new-ready.result c.args.value e1 c.see_mark.ensures.carried c.see_mark.ensures.read c.see_mark.ensures.seat c.lay_in.ensures (c.new-ready.ensures ∙ (λ i. record { mark = mark.Ready; alone = claim.alone; place = claim.place; generation = c.generation-generation.ensures.value i }))) in
     let whole = after c.args.self.now claim x y x_in c.seat.inside.at c.take_slot-context.new.seat c.see_mark.new.seat c.lay_in.new.seat c.take_slot-context.result c.see_mark.result c.new-ready.result c.args.value e1 c.see_mark.ensures.carried c.see_mark.ensures.read c.see_mark.ensures.seat c.lay_in.ensures (g.T.Tagged.tag_of c.args.value) told.0 c.store_posted.new.seat (c.new-ready.ensures ∙ (λ i. record { mark = mark.Ready; alone = claim.alone; place = claim.place; generation = c.generation-generation.ensures.value i })) told.1 in
     let same : (record { context = c.take_slot-context.result; generation = c.generation-generation.result }) ≡ (record { context = x; generation = y }) =
-    (λ i. record { context = e1.0 i; generation = (c.generation-generation.ensures.value ∙ generation c.args.self.now claim x y x_in c.seat.inside.at c.take_slot-context.new.seat c.see_mark.new.seat c.lay_in.new.seat c.take_slot-context.result c.see_mark.result c.new-ready.result c.args.value e1 c.see_mark.ensures.carried c.see_mark.ensures.read c.see_mark.ensures.seat c.lay_in.ensures) i }) in
-    (same, subst (λ (id : ThreadId). HasPosted c.args.self.now c.args.seat.now.known c.args.claim (g.T.Tagged.tag_of c.args.value) id c.store_posted.new.seat.known) (sym same)
-      (subst (λ (v : ClaimView). HasPosted c.args.self.now c.args.seat.now.known v (g.T.Tagged.tag_of c.args.value) (record { context = x; generation = y }) c.store_posted.new.seat.known) c.claim.view_is
-        (subst (λ (k : Known). HasPosted c.args.self.now k claim (g.T.Tagged.tag_of c.args.value) (record { context = x; generation = y }) c.store_posted.new.seat.known) (ap (λ v. v.known) c.seat.view_is)
-          (record { seen = mark_word CORE_BITS c.see_mark.result; before = told.0; steps = ap (λ v. v.known) whole }))))
+    (λ i. record { context = e1.0 i; generation = (c.generation-generation.ensures.value ∙ generation c.args.self.now claim x y x_in c.seat.inside.at c.take_slot-context.new.seat c.see_mark.new.seat c.lay_in.new.seat c.take_slot-context.result c.see_mark.result c.new-ready.result c.args.value e1 c.see_mark.ensures.carried c.see_mark.ensures.read c.see_mark.ensures.seat c.lay_in.ensures) i }) in (
+      same,
+      subst (λ (id : ThreadId). HasPosted c.args.self.now c.args.seat.now.known c.args.claim (g.T.Tagged.tag_of c.args.value) id c.store_posted.new.seat.known) (sym same)
+          (subst (λ (v : ClaimView). HasPosted c.args.self.now c.args.seat.now.known v (g.T.Tagged.tag_of c.args.value) (record { context = x; generation = y }) c.store_posted.new.seat.known) c.claim.view_is
+          (subst (λ (k : Known). HasPosted c.args.self.now k claim (g.T.Tagged.tag_of c.args.value) (record { context = x; generation = y }) c.store_posted.new.seat.known) (ap (λ v. v.known) c.seat.view_is)
+          (record { seen = mark_word CORE_BITS c.see_mark.result; before = told.0; steps = ap (λ v. v.known) whole }))),
+    )

@@ -49,6 +49,8 @@ returns g c x y x_in has =
     let a = claimed_by (claim_of c.args.place c.args.alone) x y in
     let inside = subst (λ (v : Contexts). x < v.table.slots) (sym c.self.view_is) x_in in
     let there = c.core_word-word.ensures ∙ ap (λ (v : Contexts). occ_index v.table.slots c.args.place.core) (sym c.self.view_is) in
-    let told = c.fetch_sub.ensures.2 a inside (subst (λ (k : Known). Carries k a) (sym (ap (λ v. v.known) c.seat.view_is)) has) there c.claim_sum-less.ensures in
-    (c.fetch_sub.result, view-told c.seat.inside.seat.table_id c.fetch_sub.new.seat.table_id c.seat.inside.seat.me c.fetch_sub.new.seat.me c.args.seat.now (released c.core_word-word.result c.fetch_sub.result c.claim_sum-less.result a) (λ l. l) c.seat.view_is c.fetch_sub.ensures.0 told
-      ∙ (λ i. changed (released (c.core_word-word.ensures i) c.fetch_sub.result (c.claim_sum-less.ensures i) a) (λ l. l) c.args.seat.now))
+    let told = c.fetch_sub.ensures.2 a inside (subst (λ (k : Known). Carries k a) (sym (ap (λ v. v.known) c.seat.view_is)) has) there c.claim_sum-less.ensures in (
+      c.fetch_sub.result,
+      view-told c.seat.inside.seat.table_id c.fetch_sub.new.seat.table_id c.seat.inside.seat.me c.fetch_sub.new.seat.me c.args.seat.now (released c.core_word-word.result c.fetch_sub.result c.claim_sum-less.result a) (λ l. l) c.seat.view_is c.fetch_sub.ensures.0 told
+          ∙ (λ i. changed (released (c.core_word-word.ensures i) c.fetch_sub.result (c.claim_sum-less.ensures i) a) (λ l. l) c.args.seat.now),
+    )

@@ -37,6 +37,8 @@ invariant_of-seat g c =
 
 pub returns : goal.returns
 returns g c a has same =
-    let told = c.store.ensures.2 a (sym same) (subst (λ (k : Known). Carries k a) (sym (ap (λ v. v.known) c.seat.view_is)) has.carried) in
-    (told.0, view-told c.seat.inside.seat.table_id c.store.new.seat.table_id c.seat.inside.seat.me c.store.new.seat.me c.args.seat.now (λ k. noted kind.Replace c.args.context told.0 c.word.result (with_context k (record a { shown = a.place }))) (λ l. l) c.seat.view_is c.store.ensures.0 told.1
-      ∙ ap (λ (q : ℕ). changed (λ k. noted kind.Replace c.args.context told.0 q (with_context k (record a { shown = a.place }))) (λ l. l) c.args.seat.now) c.word.ensures.packed)
+    let told = c.store.ensures.2 a (sym same) (subst (λ (k : Known). Carries k a) (sym (ap (λ v. v.known) c.seat.view_is)) has.carried) in (
+      told.0,
+      view-told c.seat.inside.seat.table_id c.store.new.seat.table_id c.seat.inside.seat.me c.store.new.seat.me c.args.seat.now (λ k. noted kind.Replace c.args.context told.0 c.word.result (with_context k (record a { shown = a.place }))) (λ l. l) c.seat.view_is c.store.ensures.0 told.1
+          ∙ ap (λ (q : ℕ). changed (λ k. noted kind.Replace c.args.context told.0 q (with_context k (record a { shown = a.place }))) (λ l. l) c.args.seat.now) c.word.ensures.packed,
+    )

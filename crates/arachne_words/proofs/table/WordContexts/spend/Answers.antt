@@ -43,6 +43,8 @@ returns g c tag has =
     let a = held_by c.args.hold.now tag in
     let same = ap (λ (h : HoldView). h.id.context) c.hold.view_is in
     let told = c.swap.ensures.2 a (sym same) (subst (λ (k : Known). Carries k a) (sym (ap (λ v. v.known) c.seat.view_is)) has.carried) in
-    let word = c.word.ensures.packed ∙ ap (mark_word CORE_BITS) (c.new-spent.ensures ∙ ap (λ (h : HoldView). record { mark = mark.Spent; alone = false; place = h.place; generation = h.id.generation }) c.hold.view_is) in
-    (c.swap.result, view-told c.seat.inside.seat.table_id c.swap.new.seat.table_id c.seat.inside.seat.me c.swap.new.seat.me c.args.seat.now (λ k. noted kind.Retire c.hold.inside.id.context c.swap.result c.word.result (spent_known k a)) (λ l. l) c.seat.view_is c.swap.ensures.0 told
-      ∙ (λ i. changed (λ k. noted kind.Retire (same i) c.swap.result (word i) (spent_known k a)) (λ l. l) c.args.seat.now))
+    let word = c.word.ensures.packed ∙ ap (mark_word CORE_BITS) (c.new-spent.ensures ∙ ap (λ (h : HoldView). record { mark = mark.Spent; alone = false; place = h.place; generation = h.id.generation }) c.hold.view_is) in (
+      c.swap.result,
+      view-told c.seat.inside.seat.table_id c.swap.new.seat.table_id c.seat.inside.seat.me c.swap.new.seat.me c.args.seat.now (λ k. noted kind.Retire c.hold.inside.id.context c.swap.result c.word.result (spent_known k a)) (λ l. l) c.seat.view_is c.swap.ensures.0 told
+          ∙ (λ i. changed (λ k. noted kind.Retire (same i) c.swap.result (word i) (spent_known k a)) (λ l. l) c.args.seat.now),
+    )

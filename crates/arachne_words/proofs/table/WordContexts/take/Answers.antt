@@ -54,7 +54,7 @@ returns-in-Ok-clause-answer g c =
     record { place_is = refl; inside = c.see_name-context.ensures.context; fresh = fresh-first c.args.self.now (record { core = c.args.core; index = c.args.index }) c.see_name-context.result c.see_name-context.ensures.context c.see_mark-seen.result (g.T.Tagged.tag_of won.0) c.seat.inside.at c.see_name-context.new.seat c.see_mark-seen.new.seat c.try_take.new.seat c.take_out-value.new.seat won.0 is.0 is.1 c.see_name-context.ensures.seat c.see_mark-seen.ensures.seat won.1 won.2 c.take_out-value.ensures.seat; named_before = told.0; steps = ap (λ v. v.known) (after c.args.self.now (record { core = c.args.core; index = c.args.index }) c.see_name-context.result c.see_name-context.ensures.context c.see_mark-seen.result (g.T.Tagged.tag_of won.0) c.seat.inside.at c.see_name-context.new.seat c.see_mark-seen.new.seat c.try_take.new.seat c.take_out-value.new.seat won.0 is.0 is.1 c.see_name-context.ensures.seat c.see_mark-seen.ensures.seat won.1 won.2 c.take_out-value.ensures.seat c.keep_name.new.seat told.0 told.1) } in
     subst (λ (h : HoldView). HasTaken c.args.self.now p c.args.seat.now.known h (tag_of c.take_out-value.result) c.keep_name.new.seat.known) hold
     (subst (λ v. HasTaken c.args.self.now p c.args.seat.now.known (hold_of c.args.self.now (record { core = c.args.core; index = c.args.index }) c.see_name-context.result c.see_name-context.ensures.context c.see_mark-seen.result (g.T.Tagged.tag_of won.0)) (tag_of v) c.keep_name.new.seat.known) (sym value)
-      (subst (λ (q : Known). HasTaken c.args.self.now p q (hold_of c.args.self.now (record { core = c.args.core; index = c.args.index }) c.see_name-context.result c.see_name-context.ensures.context c.see_mark-seen.result (g.T.Tagged.tag_of won.0)) (tag_of won.0) c.keep_name.new.seat.known) (ap (λ v. v.known) c.seat.view_is) has))
+    (subst (λ (q : Known). HasTaken c.args.self.now p q (hold_of c.args.self.now (record { core = c.args.core; index = c.args.index }) c.see_name-context.result c.see_name-context.ensures.context c.see_mark-seen.result (g.T.Tagged.tag_of won.0)) (tag_of won.0) c.keep_name.new.seat.known) (ap (λ v. v.known) c.seat.view_is) has))
 
 pub returns-in-Err-clause-answer : goal.returns-in-Err-clause-answer
 returns-in-Err-clause-answer g c =
@@ -62,6 +62,10 @@ returns-in-Err-clause-answer g c =
     let lost = c.in-Err.ensures.lost in
     let x : ℕ = c.see_name-context.result in
     let word : ℕ = mark_word CORE_BITS c.see_mark-seen.result in
-    let i : ℕ = name_index c.args.self.now.table.slots p in
-    (x, word, lost.0, ap (λ v. v.known) lost.1 ∙ ap (λ v. noted kind.Take x c.in-Err.found c.in-Err.found v.known) (c.see_mark-seen.ensures.seat ∙ ap (λ (v : CallView g.row.T.Denot). record v { known = looked x word v.known }) c.see_name-context.ensures.seat)
-      ∙ ap (λ v. noted kind.Take x c.in-Err.found c.in-Err.found (looked x word (learned i x v.known))) c.seat.view_is)
+    let i : ℕ = name_index c.args.self.now.table.slots p in (
+      x,
+      word,
+      lost.0,
+      ap (λ v. v.known) lost.1 ∙ ap (λ v. noted kind.Take x c.in-Err.found c.in-Err.found v.known) (c.see_mark-seen.ensures.seat ∙ ap (λ (v : CallView g.row.T.Denot). record v { known = looked x word v.known }) c.see_name-context.ensures.seat)
+          ∙ ap (λ v. noted kind.Take x c.in-Err.found c.in-Err.found (looked x word (learned i x v.known))) c.seat.view_is,
+    )

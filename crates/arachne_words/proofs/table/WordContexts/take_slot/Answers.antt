@@ -19,5 +19,5 @@ load-requires g c =
       ap (λ v. v.table) c.seat.view_is ∙ c.requires.own ∙ sym (ap (λ v. v.table) c.self.view_is),
       name-in _ _ _ c.self.invariant _ _ p_in there,
       take-slot-allowed g.T.Tagged.tag_of CORE_BITS c.self.inside.table.shared.key c.self.inside.table.shared.table_id.slots c.seat.inside.seat.id c.seat.inside.seat.me a _ c.self.invariant.laid_out.slots c.seat.invariant
-      (there ∙ ap (name_index c.self.inside.table.shared.table_id.slots) (sym has.place)) inside (subst (λ (k : Known). Carries k a) (sym (ap (λ v. v.known) c.seat.view_is)) has.carried) has.named has.home,
+          (there ∙ ap (name_index c.self.inside.table.shared.table_id.slots) (sym has.place)) inside (subst (λ (k : Known). Carries k a) (sym (ap (λ v. v.known) c.seat.view_is)) has.carried) has.named has.home,
     )

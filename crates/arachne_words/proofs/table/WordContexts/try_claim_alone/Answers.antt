@@ -38,9 +38,11 @@ invariant_of-seat g c =
 pub returns-then-found-ne0-clause-lost : goal.returns-then-found-ne0-clause-lost
 returns-then-found-ne0-clause-lost g c =
     let there = c.core_word-word.ensures ∙ ap (λ (v : Contexts). occ_index v.table.slots c.args.core) (sym c.self.view_is) in
-    let told = (c.compare_exchange-found.ensures.2 c.args.core there).1 c.if-found-ne0.true in
-    (c.if-found-ne0.true, view-told c.seat.inside.seat.table_id c.compare_exchange-found.new.seat.table_id c.seat.inside.seat.me c.compare_exchange-found.new.seat.me c.args.seat.now (noted kind.Alone c.core_word-word.result c.compare_exchange-found.result c.compare_exchange-found.result) (λ l. l) c.seat.view_is c.compare_exchange-found.ensures.0 told
-      ∙ ap (λ (i : ℕ). changed (noted kind.Alone i c.compare_exchange-found.result c.compare_exchange-found.result) (λ l. l) c.args.seat.now) c.core_word-word.ensures)
+    let told = (c.compare_exchange-found.ensures.2 c.args.core there).1 c.if-found-ne0.true in (
+      c.if-found-ne0.true,
+      view-told c.seat.inside.seat.table_id c.compare_exchange-found.new.seat.table_id c.seat.inside.seat.me c.compare_exchange-found.new.seat.me c.args.seat.now (noted kind.Alone c.core_word-word.result c.compare_exchange-found.result c.compare_exchange-found.result) (λ l. l) c.seat.view_is c.compare_exchange-found.ensures.0 told
+          ∙ ap (λ (i : ℕ). changed (noted kind.Alone i c.compare_exchange-found.result c.compare_exchange-found.result) (λ l. l) c.args.seat.now) c.core_word-word.ensures,
+    )
 
 pub invariant_of-seat-2 : goal.invariant_of-seat-2
 invariant_of-seat-2 g c =
@@ -51,8 +53,11 @@ pub returns-clause-won : goal.returns-clause-won
 returns-clause-won g c =
     let there = c.core_word-word.ensures ∙ ap (λ (v : Contexts). occ_index v.table.slots c.args.core) (sym c.self.view_is) in
     let told = (c.compare_exchange-found.ensures.2 c.args.core there).0 c.if-found-ne0.false in
-    let a = alone_context told.0 c.args.core told.1 in
-    (told.0, told.1, subst (λ (v : Contexts). told.0 < v.table.slots) c.self.view_is told.2,
+    let a = alone_context told.0 c.args.core told.1 in (
+      told.0,
+      told.1,
+      subst (λ (v : Contexts). told.0 < v.table.slots) c.self.view_is told.2,
       ap (λ (k : Known). carried_at told.0 k.carried) (sym (ap (λ v. v.known) c.seat.view_is)) ∙ told.3,
       view-told c.seat.inside.seat.table_id c.compare_exchange-found.new.seat.table_id c.seat.inside.seat.me c.compare_exchange-found.new.seat.me c.args.seat.now (λ k. noted kind.Alone c.core_word-word.result c.compare_exchange-found.result (sum_of true 0) (with_context k a)) (λ l. l) c.seat.view_is c.compare_exchange-found.ensures.0 told.4
-      ∙ (λ i. changed (λ k. noted kind.Alone (c.core_word-word.ensures i) (c.if-found-ne0.false i) (sum_of true 0) (with_context k a)) (λ l. l) c.args.seat.now))
+          ∙ (λ i. changed (λ k. noted kind.Alone (c.core_word-word.ensures i) (c.if-found-ne0.false i) (sum_of true 0) (with_context k a)) (λ l. l) c.args.seat.now),
+    )

@@ -35,8 +35,8 @@ compare_exchange-found-requires g c =
       ap (λ v. v.table) c.seat.view_is ∙ c.requires.own ∙ sym (ap (λ v. v.table) c.self.view_is),
       mark-in _ _ _ c.self.invariant _ inside,
       move-allowed g.T.Tagged.tag_of CORE_BITS c.self.inside.table.shared.key c.self.inside.table.shared.table_id.slots c.seat.inside.seat.id c.seat.inside.seat.me a _ _ _ c.args.seen c.self.invariant.laid_out.slots c.seat.invariant inside (subst (λ (v : Contexts). a.context < v.table.slots) (sym c.self.view_is) has.inside) c.word-old.ensures.read.1 c.requires.rests.0 c.requires.rests.1
-      (subst (λ (k : Known). Carries k a) (sym (ap (λ v. v.known) c.seat.view_is)) has.carried) has.claimed c.requires.claimed.3 c.requires.claimed.4 apart
-      (c.word-new.ensures.packed ∙ ap (mark_word CORE_BITS) (c.with_place.ensures ∙ ap (λ (p : Place). record c.args.seen { place = p }) (sym c.requires.claimed.2))),
+          (subst (λ (k : Known). Carries k a) (sym (ap (λ v. v.known) c.seat.view_is)) has.carried) has.claimed c.requires.claimed.3 c.requires.claimed.4 apart
+          (c.word-new.ensures.packed ∙ ap (mark_word CORE_BITS) (c.with_place.ensures ∙ ap (λ (p : Place). record c.args.seen { place = p }) (sym c.requires.claimed.2))),
     )
 
 pub invariant_of-seat : goal.invariant_of-seat
@@ -49,9 +49,10 @@ pub returns-then-found-old-clause-lost : goal.returns-then-found-old-clause-lost
 returns-then-found-old-clause-lost g c =
     let a = c.requires.claimed.0 in
     let has = c.requires.claimed.1 in
-    let told = (c.compare_exchange-found.ensures.2 a (subst (λ (v : Contexts). a.context < v.table.slots) (sym c.self.view_is) has.inside) (subst (λ (k : Known). Carries k a) (sym (ap (λ v. v.known) c.seat.view_is)) has.carried) (ap (λ (m : Marked). m.place) (c.word-new.ensures.read.1 ∙ c.with_place.ensures) ∙ sym c.requires.claimed.2)).1 c.if-found-old.true in
-    ((λ e. c.if-found-old.true (e ∙ sym c.word-old.ensures.packed)),
-      view-told c.seat.inside.seat.table_id c.compare_exchange-found.new.seat.table_id c.seat.inside.seat.me c.compare_exchange-found.new.seat.me c.args.seat.now (noted kind.Move c.args.context c.compare_exchange-found.result c.compare_exchange-found.result) (λ l. l) c.seat.view_is c.compare_exchange-found.ensures.0 told)
+    let told = (c.compare_exchange-found.ensures.2 a (subst (λ (v : Contexts). a.context < v.table.slots) (sym c.self.view_is) has.inside) (subst (λ (k : Known). Carries k a) (sym (ap (λ v. v.known) c.seat.view_is)) has.carried) (ap (λ (m : Marked). m.place) (c.word-new.ensures.read.1 ∙ c.with_place.ensures) ∙ sym c.requires.claimed.2)).1 c.if-found-old.true in (
+      (λ e. c.if-found-old.true (e ∙ sym c.word-old.ensures.packed)),
+      view-told c.seat.inside.seat.table_id c.compare_exchange-found.new.seat.table_id c.seat.inside.seat.me c.compare_exchange-found.new.seat.me c.args.seat.now (noted kind.Move c.args.context c.compare_exchange-found.result c.compare_exchange-found.result) (λ l. l) c.seat.view_is c.compare_exchange-found.ensures.0 told,
+    )
 
 pub invariant_of-seat-2 : goal.invariant_of-seat-2
 invariant_of-seat-2 g c =

@@ -29,8 +29,8 @@ compare_exchange-found-requires g c =
       ap (λ v. v.table) c.seat.view_is ∙ c.requires.own ∙ sym (ap (λ v. v.table) c.self.view_is),
       mark-in _ _ _ c.self.invariant _ inside,
       rest-blocked-allowed g.T.Tagged.tag_of CORE_BITS c.self.inside.table.shared.key c.self.inside.table.shared.table_id.slots c.seat.inside.seat.id c.seat.inside.seat.me a v _ _ _ c.self.invariant.laid_out.slots c.seat.invariant has.context_is inside (subst (λ (k : Known). Carries k a) (sym (ap (λ v. v.known) c.seat.view_is)) has.carried) has.held
-      (subst (λ l. HasLast l a.context (Some v)) (sym (ap (λ v. v.slots) c.seat.view_is)) has.slot) has.tagged (ap (λ (m : Marked). m.mark) (c.word-old.ensures.read.1 ∙ is))
-      (c.word-new.ensures.packed ∙ ap (mark_word CORE_BITS) (c.with_mark.ensures ∙ ap (λ (m : Marked). record m { mark = mark.Blocked }) is)),
+          (subst (λ l. HasLast l a.context (Some v)) (sym (ap (λ v. v.slots) c.seat.view_is)) has.slot) has.tagged (ap (λ (m : Marked). m.mark) (c.word-old.ensures.read.1 ∙ is))
+          (c.word-new.ensures.packed ∙ ap (mark_word CORE_BITS) (c.with_mark.ensures ∙ ap (λ (m : Marked). record m { mark = mark.Blocked }) is)),
     )
 
 pub invariant_of-seat : goal.invariant_of-seat
@@ -45,9 +45,10 @@ returns-then-found-old-clause-lost g c =
     let a = c.requires.restable.0 in
     let v = c.requires.restable.1 in
     let has = c.requires.restable.2 in
-    let told = (c.compare_exchange-found.ensures.2 a (sym has.context_is) (subst (λ (k : Known). Carries k a) (sym (ap (λ v. v.known) c.seat.view_is)) has.carried)).1 c.if-found-old.true in
-    ((λ e. c.if-found-old.true (e ∙ sym c.word-old.ensures.packed)),
-      view-told c.seat.inside.seat.table_id c.compare_exchange-found.new.seat.table_id c.seat.inside.seat.me c.compare_exchange-found.new.seat.me c.args.seat.now (noted kind.RestBlocked c.args.context c.compare_exchange-found.result c.compare_exchange-found.result) (λ l. l) c.seat.view_is c.compare_exchange-found.ensures.0 told)
+    let told = (c.compare_exchange-found.ensures.2 a (sym has.context_is) (subst (λ (k : Known). Carries k a) (sym (ap (λ v. v.known) c.seat.view_is)) has.carried)).1 c.if-found-old.true in (
+      (λ e. c.if-found-old.true (e ∙ sym c.word-old.ensures.packed)),
+      view-told c.seat.inside.seat.table_id c.compare_exchange-found.new.seat.table_id c.seat.inside.seat.me c.compare_exchange-found.new.seat.me c.args.seat.now (noted kind.RestBlocked c.args.context c.compare_exchange-found.result c.compare_exchange-found.result) (λ l. l) c.seat.view_is c.compare_exchange-found.ensures.0 told,
+    )
 
 pub invariant_of-seat-2 : goal.invariant_of-seat-2
 invariant_of-seat-2 g c =
