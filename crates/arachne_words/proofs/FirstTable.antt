@@ -1,0 +1,55 @@
+-- The first words of a table are those that its rule asks for.
+use Rattle.std.proofs.Common.{◌≡◌, ◌≢◌, ℕ, ◌+◌, ◌-◌, ◌*◌, ◌/◌, ◌%◌, ◌<◌, ◌≤◌, ◌∙◌, cond, ltb, false, true, ap, sym, arith, List, [], ◌∷◌, ◌++◌, length, get_or, subst, refl, inl, inr}
+use Rattle.std.proofs.lemmas.Bool.{cases_lt, cond-true, cond-false, lt-ltb, le-ltb}
+use Rattle.std.proofs.Math.ListN.{get_or-append}
+use Rattle.std.proofs.Math.Seq.{get_or-append_seam}
+use Rattle.arachne_core.specs.declared.layout.TheConstants.{CORE_BITS, SLOTS}
+use Rattle.arachne_core.specs.declared.place.Place.{Place}
+use Rattle.arachne_core.specs.declared.mark.Mark.TheVariants as mark
+use Rattle.arachne_core.specs.Place.{first_place, number_of}
+use Rattle.arachne_core.specs.Marked.{mark_word}
+use Rattle.arachne_rule.specs.declared.view.Shape.{Shape}
+use Rattle.arachne_rule.specs.Layout.{contexts_in, words_in, occ_index, name_index, AreFirstWords}
+use Rattle.arachne_words.specs.FirstWords.{first_word, block_word}
+
+pub block-before : (core offset : ℕ) → offset < 16 → block_word core offset ≡ 0
+block-before core offset h = cond-true (ltb offset 16) _ _ (lt-ltb offset 16 h)
+
+pub block-name : (core offset : ℕ) → 16 ≤ offset → offset - 16 < SLOTS → block_word core offset ≡ core * SLOTS + (offset - 16)
+block-name core offset h l = cond-false (ltb offset 16) _ _ (le-ltb offset 16 h) ∙ cond-true (ltb (offset - 16) SLOTS) _ _ (lt-ltb (offset - 16) SLOTS l)
+
+pub block-behind : (core offset : ℕ) → 16 ≤ offset → SLOTS ≤ offset - 16 → block_word core offset ≡ 0
+block-behind core offset h l = cond-false (ltb offset 16) _ _ (le-ltb offset 16 h) ∙ cond-false (ltb (offset - 16) SLOTS) _ _ (le-ltb (offset - 16) SLOTS l)
+
+pub word-mark : (n generation i : ℕ) → i < n → first_word n generation i ≡ mark_word CORE_BITS (record { mark = mark.Free; alone = false; place = first_place SLOTS i; generation = generation })
+word-mark n generation i h = cond-true (ltb i n) _ _ (lt-ltb i n h)
+
+pub word-block : (n generation i : ℕ) → n ≤ i → first_word n generation i ≡ block_word ((i - n) / 80) ((i - n) % 80)
+word-block n generation i h = cond-false (ltb i n) _ _ (le-ltb i n h)
+
+pub are-first : (cores generation last : ℕ) (ws : List ℕ) → length ws ≡ cores * 56 + 80 * cores
+    → ((i : ℕ) → i < cores * 56 + 80 * cores → get_or ws i 0 ≡ first_word (cores * 56) generation i)
+    → AreFirstWords CORE_BITS (record { cores = cores; slots = SLOTS; first = generation; last = last }) ws
+are-first cores generation last ws long each =
+    let n : ℕ = cores * 56 in record {
+      long = long;
+      occ = λ c c_in.
+          let i : ℕ = n + 80 * c + 8 in
+          each i (omega (arith, c_in)) ∙ word-block n generation i (omega arith)
+          ∙ block-before ((i - n) / 80) ((i - n) % 80) (omega arith);
+      mark = λ x x_in. each x (omega (arith, x_in)) ∙ word-mark n generation x x_in;
+      name = λ p core_in index_in.
+          let i : ℕ = n + 80 * p.core + 16 + p.index in
+          let small : p.index < 56 = index_in in
+          let offset : (i - n) % 80 ≡ 16 + p.index = omega (arith, small) in
+          let core : (i - n) / 80 ≡ p.core = omega (arith, small) in
+          each i (omega (arith, core_in, small)) ∙ word-block n generation i (omega arith)
+          ∙ (λ j. block_word (core j) (offset j)) ∙ block-name p.core (16 + p.index) (omega arith) (omega (arith, small)) ∙ omega arith;
+    }
+
+-- one word more
+pub one-more : (f : ℕ → ℕ) (ws : List ℕ) (w k : ℕ) → length ws ≡ k → ((i : ℕ) → i < k → get_or ws i 0 ≡ f i) → w ≡ f k → (i : ℕ) → i < k + 1 → get_or (ws ++ w ∷ []) i 0 ≡ f i
+one-more f ws w k long each is i h = elim (cases_lt i k) [
+  | inl l ↦ get_or-append ws (w ∷ []) 0 i (omega (arith, l, long)) ∙ each i l
+  | inr m ↦ let e : i ≡ length ws = omega (arith, m, h, long) in ap (λ (j : ℕ). get_or (ws ++ w ∷ []) j 0) e ∙ get_or-append_seam ws w [] 0 ∙ is ∙ ap f (sym (e ∙ long))
+]

@@ -1,0 +1,10 @@
+pub mod Out
+pub mod Inside
+pub mod Told
+pub mod PostSteps
+pub mod TakeSteps
+pub mod FinishSteps
+pub mod WakeSteps
+pub mod RestCall
+pub mod FirstTable
+pub mod Leaving

@@ -1,0 +1,47 @@
+use Rattle.std.proofs.Common.{◌≡◌, ◌≢◌, ℕ, ◌+◌, ◌-◌, ◌*◌, ◌<◌, ◌≤◌, ◌^◌, ◌⊎◌, ◌∙◌, ap, sym, subst, refl, arith, rules, true, false, Some, None, List, [], ◌∷◌, Bool, inl, inr, bit_and, bit_or}
+use Rattle.atomic_table.specs.Table.{rest}
+use Rattle.arachne_core.specs.declared.layout.TheConstants.{CORE_BITS}
+use Rattle.arachne_core.specs.declared.place.Place.{Place}
+use Rattle.arachne_core.specs.declared.mark.Mark.TheVariants as mark
+use Rattle.arachne_core.specs.Marked.{Marked, mark_word, marked_of}
+use Rattle.arachne_rule.specs.declared.view.Carried.{Carried}
+use Rattle.arachne_rule.specs.declared.view.Kind.TheVariants as kind
+use Rattle.arachne_rule.specs.declared.view.Known.{Known}
+use Rattle.arachne_rule.specs.Layout.{Contexts, occ_index, name_index}
+use Rattle.arachne_rule.specs.Plays.{Carries}
+use Rattle.arachne_rule.specs.Views.{noted, with_context, without_context, without, carried_at}
+use Rattle.arachne_words.specs.Seats.{CallView, HasThread, HasClaim, HoldView, ClaimView, held_by, claimed_by}
+use Rattle.arachne_words.specs.Sizes.{IsPlaceIn}
+use Rattle.arachne_words.specs.Steps.{HasLast}
+use Rattle.arachne_words.specs.Calls.{looked, learned}
+use Rattle.arachne_words.proofs.Inside.{mark-in, core-in, name-in}
+use Rattle.arachne_words.proofs.Told.{changed, live-told, view-told}
+use Rattle.arachne_rule.proofs.RestSteps.{rest-ready-allowed}
+use Rattle.arachne_words.proofs.table.WordContexts.rest_ready.Goals as goal
+
+pub store-requires : goal.store-requires
+store-requires g c =
+    let a = c.requires.restable.0 in
+    let v = c.requires.restable.1 in
+    let has = c.requires.restable.2 in
+    let inside = subst (λ (v : Contexts). c.args.context < v.table.slots) (sym c.self.view_is) has.inside in (
+      ap (λ v. v.table) c.seat.view_is ∙ c.requires.own ∙ sym (ap (λ v. v.table) c.self.view_is),
+      mark-in _ _ _ c.self.invariant _ inside,
+      rest-ready-allowed g.T.Tagged.tag_of CORE_BITS c.self.inside.table.shared.key c.self.inside.table.shared.table_id.slots c.seat.inside.seat.id c.seat.inside.seat.me a v _ _ c.self.invariant.laid_out.slots c.seat.invariant has.context_is inside (subst (λ (k : Known). Carries k a) (sym (ap (λ v. v.known) c.seat.view_is)) has.carried) has.held
+          (subst (λ l. HasLast l a.context (Some v)) (sym (ap (λ v. v.slots) c.seat.view_is)) has.slot) has.tagged (c.word.ensures.packed ∙ ap (mark_word CORE_BITS) c.requires.restable.3),
+    )
+
+pub invariant_of-seat : goal.invariant_of-seat
+invariant_of-seat g c =
+    let a = c.requires.restable.0 in
+    let v = c.requires.restable.1 in
+    let has = c.requires.restable.2 in
+    live-told _ _ _ _ (c.store.ensures.2 a (sym has.context_is) (subst (λ (k : Known). Carries k a) (sym (ap (λ v. v.known) c.seat.view_is)) has.carried)).1
+
+pub returns : goal.returns
+returns g c a v has =
+    let told = c.store.ensures.2 a (sym has.context_is) (subst (λ (k : Known). Carries k a) (sym (ap (λ v. v.known) c.seat.view_is)) has.carried) in (
+      told.0,
+      view-told c.seat.inside.seat.table_id c.store.new.seat.table_id c.seat.inside.seat.me c.store.new.seat.me c.args.seat.now (λ k. noted kind.RestReady c.args.context told.0 c.word.result (without_context k a)) rest c.seat.view_is c.store.ensures.0 told.1
+          ∙ ap (λ (q : ℕ). changed (λ k. noted kind.RestReady c.args.context told.0 q (without_context k a)) rest c.args.seat.now) c.word.ensures.packed,
+    )

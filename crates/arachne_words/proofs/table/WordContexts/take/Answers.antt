@@ -1,0 +1,71 @@
+use Rattle.std.proofs.Common.{◌≡◌, ◌<◌, ℕ, ◌∙◌, ap, sym, subst, refl, arith, rules, Some, None, ◌∷◌, List}
+use Rattle.arachne_core.specs.declared.layout.TheConstants.{CORE_BITS}
+use Rattle.arachne_core.specs.declared.place.Place.{Place}
+use Rattle.arachne_core.specs.Marked.{mark_word}
+use Rattle.arachne_rule.specs.declared.view.Known.{Known}
+use Rattle.arachne_rule.specs.declared.view.Kind.TheVariants as kind
+use Rattle.arachne_rule.specs.Layout.{name_index}
+use Rattle.arachne_rule.specs.Views.{noted}
+use Rattle.arachne_words.specs.Seats.{CallView, HoldView, held_by}
+use Rattle.arachne_words.specs.Calls.{looked, learned, HasTaken}
+use Rattle.arachne_words.proofs.Out.{out-bound, keeps-more}
+use Rattle.arachne_words.proofs.TakeSteps.{first, hold_of, taken, fresh-first, same-value, after}
+use Rattle.arachne_words.proofs.table.WordContexts.take.Goals as goal
+
+pub keep_name-requires-clause-taken : goal.keep_name-requires-clause-taken
+keep_name-requires-clause-taken g c =
+    let won = c.in-Ok.ensures.won in
+    let is = c.is_ready_at.ensures.0 c.if-not-is_ready_at.false in
+    (first c.args.self.now (record { core = c.args.core; index = c.args.index }) c.see_name-context.result c.see_name-context.ensures.context c.see_mark-seen.result (g.T.Tagged.tag_of won.0), taken c.args.self.now (record { core = c.args.core; index = c.args.index }) c.see_name-context.result c.see_name-context.ensures.context c.see_mark-seen.result (g.T.Tagged.tag_of won.0) c.seat.inside.at c.see_name-context.new.seat c.see_mark-seen.new.seat c.try_take.new.seat c.take_out-value.new.seat won.0 is.0 is.1 c.see_name-context.ensures.seat c.see_mark-seen.ensures.seat won.1 won.2 c.take_out-value.ensures.seat)
+
+pub overflow_add-seat : goal.overflow_add-seat
+overflow_add-seat g c = omega (arith, out-bound _ _ _ c.seat.invariant.2, ap (λ v. v.table.slots) c.seat.view_is, ap (λ t. t.slots) c.requires.own, ap (λ v. v.table.slots) c.self.view_is, c.self.invariant.laid_out.few)
+
+pub overflow_cast-hold : goal.overflow_cast-hold
+overflow_cast-hold g c = omega (arith, c.see_name-context.ensures.context, ap (λ v. v.table.slots) c.self.view_is, c.self.invariant.laid_out.few)
+
+pub invariant_of-seat-in-Ok : goal.invariant_of-seat-in-Ok
+invariant_of-seat-in-Ok g c =
+    let won = c.in-Ok.ensures.won in
+    let is = c.is_ready_at.ensures.0 c.if-not-is_ready_at.false in
+    let told = c.keep_name.ensures (first c.args.self.now (record { core = c.args.core; index = c.args.index }) c.see_name-context.result c.see_name-context.ensures.context c.see_mark-seen.result (g.T.Tagged.tag_of won.0)) (taken c.args.self.now (record { core = c.args.core; index = c.args.index }) c.see_name-context.result c.see_name-context.ensures.context c.see_mark-seen.result (g.T.Tagged.tag_of won.0) c.seat.inside.at c.see_name-context.new.seat c.see_mark-seen.new.seat c.try_take.new.seat c.take_out-value.new.seat won.0 is.0 is.1 c.see_name-context.ensures.seat c.see_mark-seen.ensures.seat won.1 won.2 c.take_out-value.ensures.seat) in
+    let inside = subst (λ t. c.see_name-context.result < t.slots) (sym (ap (λ v. v.table) c.seat.view_is ∙ c.requires.own)) c.see_name-context.ensures.context in
+    keeps-more c.seat.inside.at c.keep_name.new.seat c.seat.inside.weight c.seat.inside.out _ c.seat.invariant (after c.args.self.now (record { core = c.args.core; index = c.args.index }) c.see_name-context.result c.see_name-context.ensures.context c.see_mark-seen.result (g.T.Tagged.tag_of won.0) c.seat.inside.at c.see_name-context.new.seat c.see_mark-seen.new.seat c.try_take.new.seat c.take_out-value.new.seat won.0 is.0 is.1 c.see_name-context.ensures.seat c.see_mark-seen.ensures.seat won.1 won.2 c.take_out-value.ensures.seat c.keep_name.new.seat told.0 told.1) (held_by (hold_of c.args.self.now (record { core = c.args.core; index = c.args.index }) c.see_name-context.result c.see_name-context.ensures.context c.see_mark-seen.result (g.T.Tagged.tag_of won.0)) (g.T.Tagged.tag_of won.0)) inside (fresh-first c.args.self.now (record { core = c.args.core; index = c.args.index }) c.see_name-context.result c.see_name-context.ensures.context c.see_mark-seen.result (g.T.Tagged.tag_of won.0) c.seat.inside.at c.see_name-context.new.seat c.see_mark-seen.new.seat c.try_take.new.seat c.take_out-value.new.seat won.0 is.0 is.1 c.see_name-context.ensures.seat c.see_mark-seen.ensures.seat won.1 won.2 c.take_out-value.ensures.seat) refl
+
+pub returns-in-Ok-clause-seat : goal.returns-in-Ok-clause-seat
+returns-in-Ok-clause-seat g c =
+    let won = c.in-Ok.ensures.won in
+    let is = c.is_ready_at.ensures.0 c.if-not-is_ready_at.false in
+    let told = c.keep_name.ensures (first c.args.self.now (record { core = c.args.core; index = c.args.index }) c.see_name-context.result c.see_name-context.ensures.context c.see_mark-seen.result (g.T.Tagged.tag_of won.0)) (taken c.args.self.now (record { core = c.args.core; index = c.args.index }) c.see_name-context.result c.see_name-context.ensures.context c.see_mark-seen.result (g.T.Tagged.tag_of won.0) c.seat.inside.at c.see_name-context.new.seat c.see_mark-seen.new.seat c.try_take.new.seat c.take_out-value.new.seat won.0 is.0 is.1 c.see_name-context.ensures.seat c.see_mark-seen.ensures.seat won.1 won.2 c.take_out-value.ensures.seat) in
+    (ap (λ v. v.table) (after c.args.self.now (record { core = c.args.core; index = c.args.index }) c.see_name-context.result c.see_name-context.ensures.context c.see_mark-seen.result (g.T.Tagged.tag_of won.0) c.seat.inside.at c.see_name-context.new.seat c.see_mark-seen.new.seat c.try_take.new.seat c.take_out-value.new.seat won.0 is.0 is.1 c.see_name-context.ensures.seat c.see_mark-seen.ensures.seat won.1 won.2 c.take_out-value.ensures.seat c.keep_name.new.seat told.0 told.1) ∙ ap (λ v. v.table) c.seat.view_is, ap (λ v. v.weight) c.seat.view_is)
+
+pub returns-in-Ok-clause-answer : goal.returns-in-Ok-clause-answer
+returns-in-Ok-clause-answer g c =
+    let won = c.in-Ok.ensures.won in
+    let is = c.is_ready_at.ensures.0 c.if-not-is_ready_at.false in
+    let told = c.keep_name.ensures (first c.args.self.now (record { core = c.args.core; index = c.args.index }) c.see_name-context.result c.see_name-context.ensures.context c.see_mark-seen.result (g.T.Tagged.tag_of won.0)) (taken c.args.self.now (record { core = c.args.core; index = c.args.index }) c.see_name-context.result c.see_name-context.ensures.context c.see_mark-seen.result (g.T.Tagged.tag_of won.0) c.seat.inside.at c.see_name-context.new.seat c.see_mark-seen.new.seat c.try_take.new.seat c.take_out-value.new.seat won.0 is.0 is.1 c.see_name-context.ensures.seat c.see_mark-seen.ensures.seat won.1 won.2 c.take_out-value.ensures.seat) in
+    let k : Known = c.seat.inside.at.known in
+    let p : Place = record { core = c.args.core; index = c.args.index } in
+    let tag_of = g.T.Tagged.tag_of in
+    let value = same-value (ap (λ v. v.slots) won.2) c.take_out-value.ensures.value in
+    let hold : hold_of c.args.self.now (record { core = c.args.core; index = c.args.index }) c.see_name-context.result c.see_name-context.ensures.context c.see_mark-seen.result (g.T.Tagged.tag_of won.0) ≡ record { id = record { context = c.see_name-context.result; generation = c.generation.result }; place = p; alone = c.is_alone.result } =
+    λ i. record { id = record { context = c.see_name-context.result; generation = sym c.generation.ensures.value i }; place = p; alone = sym c.is_alone.ensures i } in
+    let has : HasTaken c.args.self.now p k (hold_of c.args.self.now (record { core = c.args.core; index = c.args.index }) c.see_name-context.result c.see_name-context.ensures.context c.see_mark-seen.result (g.T.Tagged.tag_of won.0)) (tag_of won.0) c.keep_name.new.seat.known =
+    record { place_is = refl; inside = c.see_name-context.ensures.context; fresh = fresh-first c.args.self.now (record { core = c.args.core; index = c.args.index }) c.see_name-context.result c.see_name-context.ensures.context c.see_mark-seen.result (g.T.Tagged.tag_of won.0) c.seat.inside.at c.see_name-context.new.seat c.see_mark-seen.new.seat c.try_take.new.seat c.take_out-value.new.seat won.0 is.0 is.1 c.see_name-context.ensures.seat c.see_mark-seen.ensures.seat won.1 won.2 c.take_out-value.ensures.seat; named_before = told.0; steps = ap (λ v. v.known) (after c.args.self.now (record { core = c.args.core; index = c.args.index }) c.see_name-context.result c.see_name-context.ensures.context c.see_mark-seen.result (g.T.Tagged.tag_of won.0) c.seat.inside.at c.see_name-context.new.seat c.see_mark-seen.new.seat c.try_take.new.seat c.take_out-value.new.seat won.0 is.0 is.1 c.see_name-context.ensures.seat c.see_mark-seen.ensures.seat won.1 won.2 c.take_out-value.ensures.seat c.keep_name.new.seat told.0 told.1) } in
+    subst (λ (h : HoldView). HasTaken c.args.self.now p c.args.seat.now.known h (tag_of c.take_out-value.result) c.keep_name.new.seat.known) hold
+    (subst (λ v. HasTaken c.args.self.now p c.args.seat.now.known (hold_of c.args.self.now (record { core = c.args.core; index = c.args.index }) c.see_name-context.result c.see_name-context.ensures.context c.see_mark-seen.result (g.T.Tagged.tag_of won.0)) (tag_of v) c.keep_name.new.seat.known) (sym value)
+    (subst (λ (q : Known). HasTaken c.args.self.now p q (hold_of c.args.self.now (record { core = c.args.core; index = c.args.index }) c.see_name-context.result c.see_name-context.ensures.context c.see_mark-seen.result (g.T.Tagged.tag_of won.0)) (tag_of won.0) c.keep_name.new.seat.known) (ap (λ v. v.known) c.seat.view_is) has))
+
+pub returns-in-Err-clause-answer : goal.returns-in-Err-clause-answer
+returns-in-Err-clause-answer g c =
+    let p : Place = record { core = c.args.core; index = c.args.index } in
+    let lost = c.in-Err.ensures.lost in
+    let x : ℕ = c.see_name-context.result in
+    let word : ℕ = mark_word CORE_BITS c.see_mark-seen.result in
+    let i : ℕ = name_index c.args.self.now.table.slots p in (
+      x,
+      word,
+      lost.0,
+      ap (λ v. v.known) lost.1 ∙ ap (λ v. noted kind.Take x c.in-Err.found c.in-Err.found v.known) (c.see_mark-seen.ensures.seat ∙ ap (λ (v : CallView g.row.T.Denot). record v { known = looked x word v.known }) c.see_name-context.ensures.seat)
+          ∙ ap (λ v. noted kind.Take x c.in-Err.found c.in-Err.found (looked x word (learned i x v.known))) c.seat.view_is,
+    )

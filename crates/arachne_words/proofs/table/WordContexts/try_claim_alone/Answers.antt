@@ -1,0 +1,63 @@
+use Rattle.std.proofs.Common.{◌≡◌, ◌≢◌, ℕ, ◌+◌, ◌-◌, ◌*◌, ◌<◌, ◌≤◌, ◌^◌, ◌⊎◌, ◌∙◌, ap, sym, subst, refl, arith, rules, true, false, Some, None, List, [], ◌∷◌, Bool, inl, inr, bit_and, bit_or}
+use Rattle.atomic_table.specs.Table.{rest}
+use Rattle.arachne_core.specs.declared.layout.TheConstants.{CORE_BITS}
+use Rattle.arachne_core.specs.declared.place.Place.{Place}
+use Rattle.arachne_core.specs.declared.mark.Mark.TheVariants as mark
+use Rattle.arachne_core.specs.Marked.{Marked, mark_word, marked_of}
+use Rattle.arachne_rule.specs.declared.view.Carried.{Carried}
+use Rattle.arachne_rule.specs.declared.view.Kind.TheVariants as kind
+use Rattle.arachne_rule.specs.declared.view.Known.{Known}
+use Rattle.arachne_rule.specs.Layout.{Contexts, occ_index, name_index}
+use Rattle.arachne_rule.specs.Plays.{Carries}
+use Rattle.arachne_rule.specs.Views.{noted, with_context, without_context, without, carried_at}
+use Rattle.arachne_words.specs.Seats.{CallView, HasThread, HasClaim, HoldView, ClaimView, held_by, claimed_by}
+use Rattle.arachne_words.specs.Sizes.{IsPlaceIn}
+use Rattle.arachne_words.specs.Steps.{HasLast}
+use Rattle.arachne_words.specs.Calls.{looked, learned}
+use Rattle.arachne_words.proofs.Inside.{mark-in, core-in, name-in}
+use Rattle.arachne_words.proofs.Told.{changed, live-told, view-told}
+use Rattle.arachne_rule.specs.Changes.{index_sum, alone_context}
+use Rattle.arachne_words.specs.Calls.{sum_of}
+use Rattle.arachne_rule.proofs.ClaimSteps.{alone-allowed}
+use Rattle.arachne_words.proofs.table.WordContexts.try_claim_alone.Goals as goal
+
+pub compare_exchange-found-requires : goal.compare_exchange-found-requires
+compare_exchange-found-requires g c =
+    let core_in = subst (λ (v : Contexts). c.args.core < v.shape.cores) (sym c.self.view_is) c.requires.core in
+    let there = c.core_word-word.ensures ∙ ap (λ (v : Contexts). occ_index v.table.slots c.args.core) (sym c.self.view_is) in (
+      ap (λ v. v.table) c.seat.view_is ∙ c.requires.own ∙ sym (ap (λ v. v.table) c.self.view_is),
+      core-in _ _ _ c.self.invariant _ _ core_in there,
+      alone-allowed g.T.Tagged.tag_of CORE_BITS c.self.inside.table.shared.key c.self.inside.table.shared.table_id.slots c.seat.inside.seat.id c.seat.inside.seat.me c.args.core _ _ _ c.self.invariant.laid_out.slots c.seat.invariant there refl refl core_in c.self.invariant.laid_out.few.1,
+    )
+
+pub invariant_of-seat : goal.invariant_of-seat
+invariant_of-seat g c =
+    let there = c.core_word-word.ensures ∙ ap (λ (v : Contexts). occ_index v.table.slots c.args.core) (sym c.self.view_is) in
+    live-told _ _ _ _ ((c.compare_exchange-found.ensures.2 c.args.core there).1 c.if-found-ne0.true)
+
+pub returns-then-found-ne0-clause-lost : goal.returns-then-found-ne0-clause-lost
+returns-then-found-ne0-clause-lost g c =
+    let there = c.core_word-word.ensures ∙ ap (λ (v : Contexts). occ_index v.table.slots c.args.core) (sym c.self.view_is) in
+    let told = (c.compare_exchange-found.ensures.2 c.args.core there).1 c.if-found-ne0.true in (
+      c.if-found-ne0.true,
+      view-told c.seat.inside.seat.table_id c.compare_exchange-found.new.seat.table_id c.seat.inside.seat.me c.compare_exchange-found.new.seat.me c.args.seat.now (noted kind.Alone c.core_word-word.result c.compare_exchange-found.result c.compare_exchange-found.result) (λ l. l) c.seat.view_is c.compare_exchange-found.ensures.0 told
+          ∙ ap (λ (i : ℕ). changed (noted kind.Alone i c.compare_exchange-found.result c.compare_exchange-found.result) (λ l. l) c.args.seat.now) c.core_word-word.ensures,
+    )
+
+pub invariant_of-seat-2 : goal.invariant_of-seat-2
+invariant_of-seat-2 g c =
+    let there = c.core_word-word.ensures ∙ ap (λ (v : Contexts). occ_index v.table.slots c.args.core) (sym c.self.view_is) in
+    live-told _ _ _ _ ((c.compare_exchange-found.ensures.2 c.args.core there).0 c.if-found-ne0.false).4
+
+pub returns-clause-won : goal.returns-clause-won
+returns-clause-won g c =
+    let there = c.core_word-word.ensures ∙ ap (λ (v : Contexts). occ_index v.table.slots c.args.core) (sym c.self.view_is) in
+    let told = (c.compare_exchange-found.ensures.2 c.args.core there).0 c.if-found-ne0.false in
+    let a = alone_context told.0 c.args.core told.1 in (
+      told.0,
+      told.1,
+      subst (λ (v : Contexts). told.0 < v.table.slots) c.self.view_is told.2,
+      ap (λ (k : Known). carried_at told.0 k.carried) (sym (ap (λ v. v.known) c.seat.view_is)) ∙ told.3,
+      view-told c.seat.inside.seat.table_id c.compare_exchange-found.new.seat.table_id c.seat.inside.seat.me c.compare_exchange-found.new.seat.me c.args.seat.now (λ k. noted kind.Alone c.core_word-word.result c.compare_exchange-found.result (sum_of true 0) (with_context k a)) (λ l. l) c.seat.view_is c.compare_exchange-found.ensures.0 told.4
+          ∙ (λ i. changed (λ k. noted kind.Alone (c.core_word-word.ensures i) (c.if-found-ne0.false i) (sum_of true 0) (with_context k a)) (λ l. l) c.args.seat.now),
+    )

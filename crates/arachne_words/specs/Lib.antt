@@ -1,0 +1,6 @@
+pub mod Seats
+pub mod Sizes
+pub mod Steps
+pub mod Calls
+pub mod Ending
+pub mod FirstWords

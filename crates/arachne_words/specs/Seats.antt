@@ -1,0 +1,93 @@
+-- What contracts see of a seat, of a claim and of a hold, and what a seat knows of them.
+use Rattle.std.specs.Prelude.{◌≡◌, ℕ, ◌<◌, ◌≤◌, Bool, true, false, List, [], length, Option}
+use Rattle.atomic_table.specs.Seated.{TableId}
+use Rattle.arachne_core.specs.declared.place.Place.{Place}
+use Rattle.arachne_core.specs.declared.thread_id.ThreadId.{ThreadId}
+use Rattle.arachne_core.specs.declared.mark.Mark.{Mark}
+use Rattle.arachne_core.specs.Marked.{Marked}
+use Rattle.arachne_rule.specs.declared.view.Carried.{Carried}
+use Rattle.arachne_rule.specs.declared.view.Known.{Known}
+use Rattle.arachne_rule.specs.Views.{carried_at}
+use Rattle.arachne_rule.specs.Layout.{Contexts}
+use Rattle.arachne_rule.specs.Plays.{Carries}
+use Rattle.arachne_words.specs.Sizes.{IsPlaceIn}
+
+-- a seat: which table it is of, its part of the whole weight, and what it knows
+pub record SeatView : Type 0 where
+  pub table : TableId
+  pub weight : ℕ
+  pub known : Known
+
+-- the same within a call, where slots are out with it, the one taken last first
+pub record CallView (T : Type 0) : Type 0 where
+  pub table : TableId
+  pub weight : ℕ
+  pub known : Known
+  pub slots : List (ℕ × Option T)
+
+-- a claimed place, and whether its core was claimed whole
+pub record ClaimView : Type 0 where
+  pub place : Place
+  pub alone : Bool
+
+-- what a held thread is known by: its id, where it was taken, and whether it has its core alone
+pub record HoldView : Type 0 where
+  pub id : ThreadId
+  pub place : Place
+  pub alone : Bool
+
+-- the context of a claim, as its seat knows it
+abbrev pub claimed_by : ClaimView → ℕ → ℕ → Carried
+claimed_by claim context generation = record {
+  context = context;
+  place = claim.place;
+  shown = claim.place;
+  generation = generation;
+  held = false;
+  tag = 0;
+  alone = claim.alone;
+  named = true;
+  away = false;
+}
+
+-- the context of a held thread with this tag, as its seat knows it
+abbrev pub held_by : HoldView → ℕ → Carried
+held_by hold tag = record {
+  context = hold.id.context;
+  place = hold.place;
+  shown = hold.place;
+  generation = hold.id.generation;
+  held = true;
+  tag = tag;
+  alone = hold.alone;
+  named = true;
+  away = false;
+}
+
+-- what a mark word says of a thread that is known by a hold
+abbrev pub marked_by : Mark → HoldView → Marked
+marked_by mark hold = record { mark = mark; alone = hold.alone; place = hold.place; generation = hold.id.generation }
+
+-- the claim is out with the seat
+pub record HasClaim (c : Contexts) (k : Known) (claim : ClaimView) : Type 0 where
+  pub context : ℕ
+  pub generation : ℕ
+  pub placed : IsPlaceIn c.shape claim.place
+  pub inside : context < c.table.slots
+  pub carried : Carries k (claimed_by claim context generation)
+
+-- the thread is out with the seat, and its value has this tag
+pub record HasThread (c : Contexts) (k : Known) (hold : HoldView) (tag : ℕ) : Type 0 where
+  pub placed : IsPlaceIn c.shape hold.place
+  pub inside : hold.id.context < c.table.slots
+  pub carried : Carries k (held_by hold tag)
+
+-- no claim and no held thread is out with the seat
+abbrev pub HasNothingOut : Known → Type 0
+HasNothingOut k = k.carried ≡ []
+
+-- so many contexts are out with a seat of a table with n contexts, each once
+pub record AreOut (n out : ℕ) (k : Known) : Type 0 where
+  pub counted : length k.carried ≡ out
+  pub once : (x : ℕ) → length (carried_at x k.carried) ≤ 1
+  pub inside : (x : ℕ) → n ≤ x → carried_at x k.carried ≡ []

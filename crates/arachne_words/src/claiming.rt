@@ -1,0 +1,170 @@
+//! Claims of places, and their end.
+ghost use Rattle.std.specs.Prelude.{◌≡◌, ◌≢◌, ℕ, ◌<◌, true, false, slice_index_or, [], IfSome, IfNone, IfOk, IfErr};
+ghost use Rattle.arachne_core.specs.Occupancy.{occupancy_word};
+ghost use Rattle.arachne_rule.specs.Changes.{release_sum};
+ghost use Rattle.arachne_rule.specs.Layout.{occ_index};
+ghost use Rattle.arachne_rule.specs.Plays.{Carries};
+ghost use Rattle.arachne_rule.specs.declared.view.Kind.TheVariants as kind;
+ghost use Rattle.arachne_rule.specs.Views.{noted, with_context, carried_at};
+ghost use Rattle.arachne_words.specs.Seats.{claimed_by, HasClaim};
+ghost use Rattle.arachne_words.specs.Calls.{HasNoPlace, IsLowestFree, sum_of, lost_claim, won_claim, released, ClaimAnswer, ClaimAloneAnswer};
+
+use crate::call_seat::CallSeat;
+use crate::seat::{WordClaim, WordSeat};
+use crate::steps::{Claim, ClaimAlone, Release};
+use crate::table::WordContexts;
+use arachne_contexts::{Claimed, Tagged};
+use arachne_core::{OccWord, Place};
+
+/// The word of a core that was claimed whole.
+const WHOLE_CORE: u64 = (1 << 63) + (1 << 56) + 1;
+
+/// What a claim adds to the word of its core, and its end takes away: the index's bit, one in the count, and the exclusive
+/// bit where the core was claimed whole.
+fn claim_sum(index: u8, alone: bool) -> u64
+    requires { index < 56 }
+    ensures { result ≡ sum_of alone index }
+{
+    let sum = (1 << u32::from(index)) + (1 << 56);
+    if alone { sum + (1 << 63) } else { sum }
+}
+
+impl<T: Tagged + Drop> WordContexts<T> {
+    /// The lowest free index of a core that isn't one thread's alone.
+    pub(crate) fn free_index(&self, seen: OccWord) -> Option<u8>
+        ensures some { IfSome result (IsLowestFree self.now.shape.slots seen) }
+        ensures none { IfNone result (HasNoPlace self.now.shape.slots seen) }
+    {
+        let slots = self.slots;
+        if seen.is_exclusive() {
+            return None;
+        }
+        let index = seen.lowest_free()?;
+        if index < slots { Some(index) } else { None }
+    }
+
+    pub(crate) fn try_claim(
+        &self,
+        seat: &mut CallSeat<T>,
+        place: Place,
+        seen: OccWord,
+    ) -> Result<(), u64>
+        requires own { seat.old.table ≡ self.now.table }
+        requires core { place.core < self.now.shape.cores }
+        requires index { IsLowestFree self.now.shape.slots seen place.index }
+        requires opened { seen.closed ≡ false }
+        ensures won { IfOk result (λ _. (x g : ℕ) × (x < self.now.table.slots) × (carried_at x seat.old.known.carried ≡ [])
+            × (seat.new ≡ record seat.old { known = won_claim (occ_index self.now.table.slots place.core) (occupancy_word seen) (claimed_by (record { place = place; alone = false }) x g) seat.old.known })) }
+        ensures lost { IfErr result (λ found. (found ≢ occupancy_word seen)
+            × (seat.new ≡ record seat.old { known = lost_claim (occ_index self.now.table.slots place.core) found seat.old.known })) }
+    {
+        let shared = &self.table.shared;
+        let old = seen.word();
+        let new = seen.with_bit(place.index).word();
+        let word = self.core_word(place.core);
+        let found = shared.compare_exchange::<Claim>(&mut seat.seat, word, old, new);
+        if found != old {
+            return Err(found);
+        }
+        Ok(())
+    }
+
+    /// Claims the lowest free index of a core: one look, one try.
+    pub fn claim(&self, seat: &mut WordSeat<T>, core: u8) -> Claimed<WordClaim>
+        requires own { seat.old.table ≡ self.now.table }
+        requires core { core < self.now.shape.cores }
+        ensures seat { (seat.new.table ≡ seat.old.table) × (seat.new.weight ≡ seat.old.weight) }
+        ensures answer { ClaimAnswer self.now core seat.old.known result seat.new.known }
+    {
+        let _ = &self.slots;
+        let seen = self.see_core(&mut seat.at, core);
+        if seen.is_closed() {
+            return Claimed::Closed(seen.word());
+        }
+        let Some(index) = self.free_index(seen) else {
+            return Claimed::Full(seen.word());
+        };
+        let place = Place { core, index };
+        match self.try_claim(&mut seat.at, place, seen) {
+            Ok(()) => {
+                seat.out += 1;
+                Claimed::Place(WordClaim {
+                    place,
+                    alone: false,
+                })
+            }
+            Err(found) => Claimed::Lost(found),
+        }
+    }
+
+    /// One try to claim a whole core, whose word was 0.
+    fn try_claim_alone(&self, seat: &mut CallSeat<T>, core: u8) -> Result<(), u64>
+        requires own { seat.old.table ≡ self.now.table }
+        requires core { core < self.now.shape.cores }
+        ensures won { IfOk result (λ _. (x g : ℕ) × (x < self.now.table.slots) × (carried_at x seat.old.known.carried ≡ [])
+            × (seat.new ≡ record seat.old { known = noted kind.Alone (occ_index self.now.table.slots core) 0 (sum_of true 0) (with_context seat.old.known (claimed_by (record { place = record { core = core; index = 0 }; alone = true }) x g)) })) }
+        ensures lost { IfErr result (λ found. (found ≢ 0) × (seat.new ≡ record seat.old { known = noted kind.Alone (occ_index self.now.table.slots core) found found seat.old.known })) }
+    {
+        let shared = &self.table.shared;
+        let word = self.core_word(core);
+        let found = shared.compare_exchange::<ClaimAlone>(&mut seat.seat, word, 0, WHOLE_CORE);
+        if found != 0 {
+            return Err(found);
+        }
+        Ok(())
+    }
+
+    /// Claims an empty core for one thread, at index 0: one look, one try.
+    pub fn claim_alone(&self, seat: &mut WordSeat<T>, core: u8) -> Claimed<WordClaim>
+        requires own { seat.old.table ≡ self.now.table }
+        requires core { core < self.now.shape.cores }
+        ensures seat { (seat.new.table ≡ seat.old.table) × (seat.new.weight ≡ seat.old.weight) }
+        ensures answer { ClaimAloneAnswer self.now core seat.old.known result seat.new.known }
+    {
+        let _ = &self.slots;
+        let seen = self.see_core(&mut seat.at, core);
+        if seen.is_closed() {
+            return Claimed::Closed(seen.word());
+        }
+        if seen.word() != 0 {
+            return Claimed::Full(seen.word());
+        }
+        match self.try_claim_alone(&mut seat.at, core) {
+            Ok(()) => {
+                seat.out += 1;
+                Claimed::Place(WordClaim {
+                    place: Place { core, index: 0 },
+                    alone: true,
+                })
+            }
+            Err(found) => Claimed::Lost(found),
+        }
+    }
+
+    /// Frees a place, whose bit and count, and its core's exclusive bit if it is alone, are taken away at once.
+    pub(crate) fn release(&self, seat: &mut CallSeat<T>, place: Place, alone: bool)
+        requires own { seat.old.table ≡ self.now.table }
+        requires claim { HasClaim self.now seat.old.known (record { place = place; alone = alone }) }
+        ensures { (x g : ℕ) → x < self.now.table.slots → Carries seat.old.known (claimed_by (record { place = place; alone = alone }) x g)
+            → (found : ℕ) × (seat.new ≡ record seat.old { known = released (occ_index self.now.table.slots place.core) found (release_sum (claimed_by (record { place = place; alone = alone }) x g)) (claimed_by (record { place = place; alone = alone }) x g) seat.old.known }) }
+    {
+        let _ = &self.slots;
+        let less = claim_sum(place.index, alone);
+        let word = self.core_word(place.core);
+        let shared = &self.table.shared;
+        shared.fetch_sub::<Release>(&mut seat.seat, word, less);
+    }
+
+    /// Frees a claimed place at which nothing was posted.
+    pub fn give_back(&self, seat: &mut WordSeat<T>, claim: WordClaim)
+        requires own { seat.old.table ≡ self.now.table }
+        requires claim { HasClaim self.now seat.old.known claim }
+        ensures seat { (seat.new.table ≡ seat.old.table) × (seat.new.weight ≡ seat.old.weight) }
+        ensures steps { (x g : ℕ) → x < self.now.table.slots → Carries seat.old.known (claimed_by claim x g)
+            → (found : ℕ) × (seat.new.known ≡ released (occ_index self.now.table.slots claim.place.core) found (release_sum (claimed_by claim x g)) (claimed_by claim x g) seat.old.known) }
+    {
+        let WordClaim { place, alone } = claim;
+        self.release(&mut seat.at, place, alone);
+        seat.out -= 1;
+    }
+}

@@ -1,0 +1,43 @@
+//! The words of a table at first.
+ghost use Rattle.std.specs.Prelude.{◌≡◌, ◌+◌, ◌*◌, ◌<◌, ◌≤◌, ℕ, IfOk, vec_len, slice_index};
+ghost use Rattle.arachne_core.specs.declared.layout.TheConstants.{CORES, LAST_GENERATION};
+ghost use Rattle.arachne_words.specs.FirstWords.{first_word};
+
+use crate::table::{BLOCK, NAMES};
+use arachne_core::{Mark, MarkWord, Place, SLOTS};
+use std::alloc::{AllocError, Global};
+
+/// The word at this index, where each core has its places and there are so many contexts.
+fn word_at(contexts: usize, generation: u64, index: usize) -> u64
+    requires contexts { contexts ≤ 896 }
+    requires generation { generation ≤ LAST_GENERATION }
+    requires index { index < contexts + 80 * 16 }
+    ensures { result ≡ first_word contexts generation index }
+{
+    if index < contexts {
+        let place = Place::of_context(index as u32);
+        return MarkWord::new(Mark::Free, false, place, generation).word();
+    }
+    let core = (index - contexts) / BLOCK;
+    let offset = (index - contexts) % BLOCK;
+    if offset < NAMES || offset - NAMES >= usize::from(SLOTS) {
+        return 0;
+    }
+    (core * usize::from(SLOTS) + (offset - NAMES)) as u64
+}
+
+/// The words of a table whose contexts are free and have this generation.
+pub(crate) fn first_words(alloc: Global, cores: u8, generation: u64) -> Result<Vec<u64>, AllocError>
+    requires cores { cores ≤ CORES }
+    requires generation { generation ≤ LAST_GENERATION }
+    ensures length { IfOk result (λ words. vec_len words ≡ cores * 56 + 80 * cores) }
+    ensures words { IfOk result (λ words. (i : ℕ) → i < cores * 56 + 80 * cores → slice_index words.items i ≡ first_word (cores * 56) generation i) }
+{
+    let contexts = usize::from(cores) * usize::from(SLOTS);
+    let count = contexts + BLOCK * usize::from(cores);
+    let mut words = Vec::with_capacity(alloc, count)?;
+    for index in 0..count {
+        words.push(word_at(contexts, generation, index))?;
+    }
+    Ok(words)
+}

@@ -1,0 +1,90 @@
+//! Posts of threads at claimed places.
+ghost use Rattle.std.specs.Prelude.{◌≡◌, ℕ, ◌<◌, ◌∷◌, true, Some, None};
+ghost use Rattle.atomic_table.specs.Table.{rest};
+ghost use Rattle.arachne_core.specs.declared.layout.TheConstants.{CORE_BITS};
+ghost use Rattle.arachne_core.specs.Marked.{mark_word};
+ghost use Rattle.arachne_rule.specs.declared.view.Carried.{Carried};
+ghost use Rattle.arachne_rule.specs.declared.view.Kind.TheVariants as kind;
+ghost use Rattle.arachne_rule.specs.Changes.{posted};
+ghost use Rattle.arachne_rule.specs.Layout.{name_index};
+ghost use Rattle.arachne_rule.specs.Plays.{Carries};
+ghost use Rattle.arachne_rule.specs.Views.{noted, with_context};
+ghost use Rattle.arachne_words.specs.Sizes.{IsPlaceIn};
+ghost use Rattle.arachne_words.specs.Seats.{claimed_by, HasClaim};
+ghost use Rattle.arachne_words.specs.Steps.{IsAtHome, IsPostable};
+ghost use Rattle.arachne_words.specs.Calls.{learned, HasPosted};
+
+use crate::call_seat::CallSeat;
+use crate::seat::{WordClaim, WordSeat};
+use crate::steps::{Post, TakeSlot};
+use crate::table::WordContexts;
+use arachne_contexts::Tagged;
+use arachne_core::{Mark, MarkWord, Place, ThreadId};
+
+impl<T: Tagged + Drop> WordContexts<T> {
+    /// Learns which context stands at a place where the seat has one, and takes its empty slot.
+    pub(crate) fn take_slot(&self, seat: &mut CallSeat<T>, place: Place) -> usize
+        requires own { seat.old.table ≡ self.now.table }
+        requires place { IsPlaceIn self.now.shape place }
+        requires carried { (c : Carried) × IsAtHome self.now place seat.old.known c }
+        ensures { (c : Carried) → IsAtHome self.now place seat.old.known c
+            → (result ≡ c.context) × (seat.new ≡ record seat.old {
+              known = learned (name_index self.now.table.slots place) result (with_context seat.old.known (record c { away = true }));
+              slots = (result, None) ∷ seat.old.slots;
+            }) }
+    {
+        let shared = &self.table.shared;
+        shared.load::<TakeSlot>(&mut seat.seat, self.name_word(place)) as usize
+    }
+
+    /// Lays a value into the slot that was taken last, which is empty.
+    pub(crate) fn lay_in(&self, seat: &mut CallSeat<T>, context: usize, value: T)
+        requires own { seat.old.table ≡ self.now.table }
+        requires slot { seat.old.slots ≡ (context, None) ∷ rest seat.old.slots }
+        ensures { seat.new ≡ record seat.old { slots = (context, Some value) ∷ rest seat.old.slots } }
+    {
+        match self
+            .table
+            .shared
+            .exchange(&mut seat.seat, context, Some(value))
+        {
+            None => {}
+            Some(_) => unreachable!(),
+        }
+    }
+
+    fn store_posted(&self, seat: &mut CallSeat<T>, context: usize, ready: MarkWord)
+        requires own { seat.old.table ≡ self.now.table }
+        requires postable { (c : Carried) × (value : T) × IsPostable self.now seat.old context ready c value }
+        ensures { (c : Carried) (value : T) → IsPostable self.now seat.old context ready c value
+            → (before : ℕ) × (seat.new ≡ record seat.old {
+              known = noted kind.Post context before (mark_word CORE_BITS ready) (posted seat.old.known c (T.tag_of value));
+              slots = rest seat.old.slots;
+            }) }
+    {
+        let shared = &self.table.shared;
+        shared.store::<Post>(&mut seat.seat, context, ready.word());
+    }
+
+    /// Posts a thread at a claimed place, also on a core that was closed since. The thread is ready.
+    pub fn post(&self, seat: &mut WordSeat<T>, claim: WordClaim, value: T) -> ThreadId
+        requires own { seat.old.table ≡ self.now.table }
+        requires claim { HasClaim self.now seat.old.known claim }
+        ensures seat { (seat.new.table ≡ seat.old.table) × (seat.new.weight ≡ seat.old.weight) }
+        ensures posted { (x g : ℕ) → x < self.now.table.slots → Carries seat.old.known (claimed_by claim x g)
+            → (result ≡ record { context = x; generation = g }) × HasPosted self.now seat.old.known claim (T.tag_of value) result seat.new.known }
+    {
+        let _ = &self.slots;
+        let WordClaim { place, alone } = claim;
+        let context = self.take_slot(&mut seat.at, place);
+        let generation = self.see_mark(&mut seat.at, context).generation();
+        self.lay_in(&mut seat.at, context, value);
+        let ready = MarkWord::new(Mark::Ready, alone, place, generation);
+        self.store_posted(&mut seat.at, context, ready);
+        seat.out -= 1;
+        ThreadId {
+            context: context as u32,
+            generation,
+        }
+    }
+}

@@ -1,0 +1,147 @@
+//! The first seat, seats that are split and joined, and the end of a table.
+ghost use Rattle.std.specs.Prelude.{◌≡◌, ◌↔◌, ◌≤◌, [], IsTrue, IfOk, length};
+ghost use Rattle.arachne_core.specs.declared.layout.TheConstants.{CORES, LAST_GENERATION, SLOTS};
+ghost use Rattle.arachne_weights.specs.Weight.{whole, first_part, second_part, joined};
+ghost use Rattle.arachne_rule.specs.Views.{blank, joined_known};
+ghost use Rattle.arachne_words.specs.Seats.{HasNothingOut};
+
+use crate::call_seat::CallSeat;
+use crate::first_words::first_words;
+use crate::seat::WordSeat;
+use crate::steps::Deal;
+use crate::table::WordContexts;
+use arachne_contexts::Tagged;
+use arachne_core::{LAST_GENERATION, SLOTS};
+use arachne_rule::Shape;
+use arachne_weights::Weight;
+use atomic_table::Table;
+use std::alloc::{AllocError, Global};
+
+impl<T: Tagged + Drop> WordContexts<T> {
+    /// A table with so many cores, whose contexts are free and have this generation, and the seat with the whole weight.
+    pub fn new(
+        alloc: Global,
+        cores: u8,
+        first_generation: u64,
+    ) -> Result<(WordContexts<T>, WordSeat<T>), AllocError>
+        requires some { 1 ≤ cores }
+        requires cores { cores ≤ CORES }
+        requires generation { first_generation ≤ LAST_GENERATION }
+        ensures contexts { IfOk result (λ made. made.0.shape ≡ record { cores = cores; slots = SLOTS; first = first_generation; last = LAST_GENERATION }) }
+        ensures seat { IfOk result (λ made. made.1 ≡ record { table = made.0.table; weight = whole; known = blank }) }
+    {
+        let words = first_words(alloc, cores, first_generation)?;
+        let shape = Shape {
+            cores,
+            slots: SLOTS,
+            first: first_generation,
+            last: LAST_GENERATION,
+        };
+        let contexts = usize::from(cores) * usize::from(SLOTS);
+        let made = Table::vacant(alloc, words.as_slice(), contexts, &shape);
+        let Shape {
+            cores: _,
+            slots: _,
+            first: _,
+            last: _,
+        } = shape;
+        let (table, seat) = made?;
+        let contexts = WordContexts {
+            table,
+            slots: SLOTS,
+            last: LAST_GENERATION,
+        };
+        let seat = WordSeat {
+            at: CallSeat { seat },
+            weight: Weight::whole(),
+            out: 0,
+        };
+        Ok((contexts, seat))
+    }
+
+    fn cut(&self, seat: &mut CallSeat<T>) -> CallSeat<T>
+        requires own { seat.old.table ≡ self.now.table }
+        ensures first { seat.new ≡ record seat.old { weight = first_part seat.old.weight } }
+        ensures second { result ≡ record { table = seat.old.table; weight = second_part seat.old.weight; known = blank; slots = [] } }
+    {
+        let _ = &self.slots;
+        let other = self.table.shared.split_seat::<Deal>(&mut seat.seat);
+        CallSeat { seat: other }
+    }
+
+    fn take_in(&self, seat: &mut CallSeat<T>, other: CallSeat<T>)
+        requires own { (seat.old.table ≡ self.now.table) × (other.table ≡ self.now.table) }
+        requires nothing_out { (other.known.carried ≡ []) × (other.slots ≡ []) }
+        ensures { seat.new ≡ record seat.old { weight = joined seat.old.weight other.weight; known = joined_known seat.old.known other.known } }
+    {
+        let _ = &self.slots;
+        let CallSeat { seat: spent } = other;
+        self.table.shared.join_seat::<Deal>(&mut seat.seat, spent);
+    }
+
+    /// Halves the weight, rounded up for the first seat, which keeps what is known. At weight 1 or 0 neither gets any.
+    pub fn split(&self, seat: WordSeat<T>) -> (WordSeat<T>, WordSeat<T>)
+        requires own { seat.table ≡ self.now.table }
+        requires nothing_out { HasNothingOut seat.known }
+        ensures first { result.0 ≡ record seat { weight = first_part seat.weight } }
+        ensures second { result.1 ≡ record { table = seat.table; weight = second_part seat.weight; known = blank } }
+    {
+        let WordSeat {
+            mut at,
+            weight,
+            out: _,
+        } = seat;
+        let (first, second) = weight.split();
+        let other = self.cut(&mut at);
+        (
+            WordSeat {
+                at,
+                weight: first,
+                out: 0,
+            },
+            WordSeat {
+                at: other,
+                weight: second,
+                out: 0,
+            },
+        )
+    }
+
+    /// Adds up the weights, to at most the whole, and what both have posted and ended.
+    pub fn join_seats(&self, seat: WordSeat<T>, other: WordSeat<T>) -> WordSeat<T>
+        requires own { (seat.table ≡ self.now.table) × (other.table ≡ self.now.table) }
+        requires nothing_out { HasNothingOut seat.known × HasNothingOut other.known }
+        ensures { result ≡ record seat { weight = joined seat.weight other.weight; known = joined_known seat.known other.known } }
+    {
+        let WordSeat {
+            mut at,
+            weight,
+            out: _,
+        } = seat;
+        let WordSeat {
+            at: spent,
+            weight: added,
+            out: _,
+        } = other;
+        self.take_in(&mut at, spent);
+        WordSeat {
+            at,
+            weight: weight.join(added),
+            out: 0,
+        }
+    }
+
+    /// Whether all other seats were joined into this one.
+    pub fn is_whole(&self, seat: &WordSeat<T>) -> bool
+        ensures { IsTrue result ↔ (seat.now.weight ≡ whole) }
+    {
+        seat.weight.is_whole()
+    }
+
+    /// How many claims and held threads are out with the seat.
+    pub fn out(&self, seat: &WordSeat<T>) -> u32
+        ensures { result ≡ length seat.now.known.carried }
+    {
+        seat.out
+    }
+}

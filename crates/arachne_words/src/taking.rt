@@ -1,0 +1,112 @@
+//! Takes of threads that are ready.
+ghost use Rattle.std.specs.Prelude.{◌≡◌, ◌≢◌, ◌↔◌, IsTrue, ℕ, ◌<◌, [], ◌∷◌, true, false, Some, None, IfOk, IfErr};
+ghost use Rattle.atomic_table.specs.Table.{rest};
+ghost use Rattle.arachne_core.specs.declared.mark.Mark.TheVariants as Mark;
+ghost use Rattle.arachne_core.specs.declared.layout.TheConstants.{CORE_BITS};
+ghost use Rattle.arachne_core.specs.Marked.{mark_word};
+ghost use Rattle.arachne_rule.specs.declared.view.Carried.{Carried};
+ghost use Rattle.arachne_rule.specs.declared.view.Kind.TheVariants as kind;
+ghost use Rattle.arachne_rule.specs.Changes.{taken_context};
+ghost use Rattle.arachne_rule.specs.Layout.{name_index};
+ghost use Rattle.arachne_rule.specs.Views.{noted, with_context, carried_at};
+ghost use Rattle.arachne_words.specs.Sizes.{IsPlaceIn};
+ghost use Rattle.arachne_words.specs.Steps.{HasLast, IsTaken};
+ghost use Rattle.arachne_words.specs.Calls.{TakeAnswer};
+
+use crate::call_seat::CallSeat;
+use crate::seat::{WordHold, WordSeat};
+use crate::steps::{KeepName, Take};
+use crate::table::WordContexts;
+use arachne_contexts::{Held, Tagged, Taken};
+use arachne_core::{Mark, MarkWord, Place, ThreadId};
+
+/// Whether a mark word shows a thread that is ready at the place.
+fn is_ready_at(seen: MarkWord, place: Place) -> bool
+    ensures { IsTrue result ↔ ((seen.mark ≡ Mark.Ready) × (seen.place ≡ place)) }
+{
+    let at = seen.place();
+    seen.mark() == Mark::Ready && at.core == place.core && at.index == place.index
+}
+
+impl<T: Tagged + Drop> WordContexts<T> {
+    fn try_take(&self, seat: &mut CallSeat<T>, context: usize, seen: MarkWord) -> Result<(), u64>
+        requires own { seat.old.table ≡ self.now.table }
+        requires context { context < self.now.table.slots }
+        requires ready { seen.mark ≡ Mark.Ready }
+        ensures won { IfOk result (λ _. (value : T) × (carried_at context seat.old.known.carried ≡ []) × (seat.new ≡ record seat.old {
+          known = noted kind.Take context (mark_word CORE_BITS seen) (mark_word CORE_BITS (record seen { mark = Mark.Held })) (with_context seat.old.known (taken_context context seen (T.tag_of value)));
+          slots = (context, Some value) ∷ seat.old.slots;
+        })) }
+        ensures lost { IfErr result (λ found. (found ≢ mark_word CORE_BITS seen) × (seat.new ≡ record seat.old { known = noted kind.Take context found found seat.old.known })) }
+    {
+        let shared = &self.table.shared;
+        let old = seen.word();
+        let new = seen.with_mark(Mark::Held).word();
+        let found = shared.compare_exchange::<Take>(&mut seat.seat, context, old, new);
+        if found != old {
+            return Err(found);
+        }
+        Ok(())
+    }
+
+    /// Takes the value out of the slot that was taken last.
+    fn take_out(&self, seat: &mut CallSeat<T>, context: usize) -> T
+        requires own { seat.old.table ≡ self.now.table }
+        requires value { (value : T) × HasLast seat.old.slots context (Some value) }
+        ensures value { HasLast seat.old.slots context (Some result) }
+        ensures seat { seat.new ≡ record seat.old { slots = (context, None) ∷ rest seat.old.slots } }
+    {
+        self.table
+            .shared
+            .exchange(&mut seat.seat, context, None)
+            .unwrap()
+    }
+
+    /// Writes the context into the place word of the place at which it was taken, and lays its empty slot home.
+    fn keep_name(&self, seat: &mut CallSeat<T>, context: usize, place: Place)
+        requires own { seat.old.table ≡ self.now.table }
+        requires place { IsPlaceIn self.now.shape place }
+        requires taken { (c : Carried) × IsTaken self.now seat.old context place c }
+        ensures { (c : Carried) → IsTaken self.now seat.old context place c → (before : ℕ) × (seat.new ≡ record seat.old {
+          known = noted kind.KeepName (name_index self.now.table.slots place) before context (with_context seat.old.known (record c { named = true; away = false }));
+          slots = rest seat.old.slots;
+        }) }
+    {
+        let shared = &self.table.shared;
+        let word = self.name_word(place);
+        shared.store::<KeepName>(&mut seat.seat, word, context as u64);
+    }
+
+    /// Takes the thread at a place, if it is ready: one try.
+    pub fn take(&self, seat: &mut WordSeat<T>, core: u8, index: u8) -> Taken<T, WordHold>
+        requires own { seat.old.table ≡ self.now.table }
+        requires place { IsPlaceIn self.now.shape (record { core = core; index = index }) }
+        ensures seat { (seat.new.table ≡ seat.old.table) × (seat.new.weight ≡ seat.old.weight) }
+        ensures answer { TakeAnswer T.tag_of self.now (record { core = core; index = index }) seat.old.known result seat.new.known }
+    {
+        let _ = &self.slots;
+        let place = Place { core, index };
+        let context = self.see_name(&mut seat.at, place);
+        let seen = self.see_mark(&mut seat.at, context);
+        if !is_ready_at(seen, place) {
+            return Taken::NotReady(seen.word());
+        }
+        match self.try_take(&mut seat.at, context, seen) {
+            Ok(()) => {
+                let value = self.take_out(&mut seat.at, context);
+                self.keep_name(&mut seat.at, context, place);
+                seat.out += 1;
+                let hold = WordHold {
+                    id: ThreadId {
+                        context: context as u32,
+                        generation: seen.generation(),
+                    },
+                    place,
+                    alone: seen.is_alone(),
+                };
+                Taken::Run(Held { value, hold })
+            }
+            Err(found) => Taken::Lost(found),
+        }
+    }
+}

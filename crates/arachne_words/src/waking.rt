@@ -1,0 +1,91 @@
+//! Wakes of threads.
+ghost use Rattle.std.specs.Prelude.{◌≡◌, ◌≢◌, ◌<◌, IfOk, IfErr};
+ghost use Rattle.arachne_core.specs.declared.mark.Mark.TheVariants as Mark;
+ghost use Rattle.arachne_core.specs.declared.layout.TheConstants.{CORE_BITS};
+ghost use Rattle.arachne_core.specs.Marked.{mark_word};
+ghost use Rattle.arachne_core.specs.World.{Thread};
+ghost use Rattle.arachne_contexts.specs.declared.answers.Woken.TheVariants as woken;
+ghost use Rattle.arachne_rule.specs.declared.view.Kind.TheVariants as kind;
+ghost use Rattle.arachne_rule.specs.Plays.{HasEnded};
+ghost use Rattle.arachne_rule.specs.Views.{noted};
+ghost use Rattle.arachne_words.specs.Calls.{WakeAnswer};
+
+use crate::call_seat::CallSeat;
+use crate::seat::WordSeat;
+use crate::steps::{MarkWoken, WakeBlocked};
+use crate::table::WordContexts;
+use arachne_contexts::{Tagged, Woken};
+use arachne_core::{Mark, MarkWord, ThreadId};
+
+impl<T: Tagged + Drop> WordContexts<T> {
+    /// One try to make a blocked thread ready.
+    fn try_wake(&self, seat: &mut CallSeat<T>, context: usize, seen: MarkWord) -> Result<(), u64>
+        requires own { seat.old.table ≡ self.now.table }
+        requires context { context < self.now.table.slots }
+        requires blocked { seen.mark ≡ Mark.Blocked }
+        ensures won { IfOk result (λ _. seat.new ≡ record seat.old { known = noted kind.Wake context (mark_word CORE_BITS seen) (mark_word CORE_BITS (record seen { mark = Mark.Ready })) seat.old.known }) }
+        ensures lost { IfErr result (λ found. (found ≢ mark_word CORE_BITS seen) × (seat.new ≡ record seat.old { known = noted kind.Wake context found found seat.old.known })) }
+    {
+        let shared = &self.table.shared;
+        let old = seen.word();
+        let new = seen.with_mark(Mark::Ready).word();
+        let found = shared.compare_exchange::<WakeBlocked>(&mut seat.seat, context, old, new);
+        if found != old {
+            return Err(found);
+        }
+        Ok(())
+    }
+
+    /// One try to mark a held thread as woken.
+    fn try_mark_woken(
+        &self,
+        seat: &mut CallSeat<T>,
+        context: usize,
+        seen: MarkWord,
+    ) -> Result<(), u64>
+        requires own { seat.old.table ≡ self.now.table }
+        requires context { context < self.now.table.slots }
+        requires held { seen.mark ≡ Mark.Held }
+        ensures won { IfOk result (λ _. seat.new ≡ record seat.old { known = noted kind.MarkWoken context (mark_word CORE_BITS seen) (mark_word CORE_BITS (record seen { mark = Mark.Woken })) seat.old.known }) }
+        ensures lost { IfErr result (λ found. (found ≢ mark_word CORE_BITS seen) × (seat.new ≡ record seat.old { known = noted kind.MarkWoken context found found seat.old.known })) }
+    {
+        let shared = &self.table.shared;
+        let old = seen.word();
+        let new = seen.with_mark(Mark::Woken).word();
+        let found = shared.compare_exchange::<MarkWoken>(&mut seat.seat, context, old, new);
+        if found != old {
+            return Err(found);
+        }
+        Ok(())
+    }
+
+    /// Wakes the thread of an id, which may be any: one try. A blocked thread is ready then, and a held one is marked, so
+    /// that it stays ready when it is put back.
+    pub fn wake(&self, seat: &mut WordSeat<T>, id: ThreadId) -> Woken
+        requires own { seat.old.table ≡ self.now.table }
+        ensures seat { (seat.new.table ≡ seat.old.table) × (seat.new.weight ≡ seat.old.weight) }
+        ensures answer { WakeAnswer self.now id seat.old.known result seat.new.known }
+        ensures ended { (t : Thread) → t.0 ≡ id → HasEnded seat.old.known t → result ≡ woken.Gone }
+    {
+        let context = id.context as usize;
+        if context >= self.table.slot_count() {
+            return Woken::Gone;
+        }
+        let seen = self.see_mark(&mut seat.at, context);
+        if seen.generation() != id.generation {
+            return Woken::Gone;
+        }
+        match seen.mark() {
+            Mark::Free | Mark::Spent => Woken::Gone,
+            Mark::Ready | Mark::Woken => Woken::Already(seen.word()),
+            Mark::Blocked => match self.try_wake(&mut seat.at, context, seen) {
+                Ok(()) => Woken::Woken,
+                Err(found) => Woken::Lost(found),
+            },
+            Mark::Held => match self.try_mark_woken(&mut seat.at, context, seen) {
+                Ok(()) => Woken::Woken,
+                Err(found) => Woken::Lost(found),
+            },
+        }
+    }
+}
