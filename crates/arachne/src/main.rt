@@ -1,21 +1,8 @@
-//! The program `arachne`: it evaluates and checks programs of the task language, and judges samples of a load.
+//! The program `arachne`: it runs, evaluates and checks programs of the task language, and judges samples of a load.
 #![tactic(auto)]
 
-mod command_line;
-mod drive;
-mod fault;
-mod judging;
-mod numbers;
-mod orders;
-mod output;
-#[cfg(test)]
-mod policy_tests;
-mod process;
-mod samples;
-mod stream;
-#[cfg(test)]
-mod tests;
+use arachne_commands::{Status, run};
 
-fn main(rt: HostRuntime) -> process::Status {
-    process::run(&rt)
+fn main(rt: HostRuntime) -> Status {
+    run(&rt, &mut rt.stderr())
 }

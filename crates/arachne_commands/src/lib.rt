@@ -1,0 +1,23 @@
+//! What the program `arachne` does, over any words, reader and writers: it runs, evaluates and checks programs of
+//! the task language, and judges samples of a load.
+#![tactic(auto)]
+
+mod command_line;
+mod drive;
+mod fault;
+mod judging;
+mod numbers;
+mod orders;
+mod output;
+mod process;
+mod running;
+mod samples;
+mod stream;
+
+pub use drive::{drive, refuse, refuse_words};
+pub use fault::Fault;
+pub use orders::read_order;
+pub use output::{PrintedThread, render};
+pub use process::{Status, run, run_on, run_without_words};
+pub use samples::read_samples;
+pub use stream::INPUT_LIMIT;
