@@ -10,8 +10,6 @@ mod occ_word;
 mod place;
 mod state;
 mod tables;
-#[cfg(test)]
-mod tests;
 mod thread_id;
 mod world;
 

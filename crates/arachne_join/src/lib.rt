@@ -10,8 +10,6 @@ mod receipt;
 mod sending_end;
 mod state;
 mod steps;
-#[cfg(test)]
-mod tests;
 mod view;
 
 pub use cell::{JoinCell, Missed};

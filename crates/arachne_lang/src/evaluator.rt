@@ -15,9 +15,6 @@ use crate::program::{Expr, Operation, Program, Reduction};
 use crate::sequence::Sequence;
 use std::alloc::{AllocError, Global};
 
-#[cfg(test)]
-mod tests;
-
 /// What the thread that is being evaluated did itself.
 #[derive(Drop)]
 struct Own {

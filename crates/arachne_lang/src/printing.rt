@@ -231,6 +231,3 @@ fn sweep_words(reduction: Reduction) -> &'static [u8]
         Reduction::Greatest => b"sweep max",
     }
 }
-
-#[cfg(test)]
-mod tests;

@@ -73,6 +73,3 @@ fn program(alloc: Global, text: &[u8]) -> Result<Program, Stop<'_>>
         root,
     })
 }
-
-#[cfg(test)]
-mod tests;

@@ -9,8 +9,6 @@ mod laws;
 mod ledgers;
 mod share;
 mod steps;
-#[cfg(test)]
-mod tests;
 
 pub use laws::words_stay_the_sums;
 pub use ledgers::Ledgers;

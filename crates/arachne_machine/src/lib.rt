@@ -13,8 +13,6 @@ mod outcome;
 mod pause;
 mod state;
 mod tables;
-#[cfg(test)]
-mod tests;
 mod thread;
 
 pub use alone::run_alone;

@@ -16,6 +16,3 @@ pub use estimator::Estimator;
 pub use limits::{MAX_CORES, MAX_COUNT};
 pub use orders::{CoreOrder, OrderFault, OrderFaultKind, OrderKind, check_orders};
 pub use samples::{Advice, BadSample, Sample};
-
-#[cfg(test)]
-mod tests;

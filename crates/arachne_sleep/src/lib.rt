@@ -14,6 +14,3 @@ pub use event::LockEvent;
 pub use laws::one_holder_at_a_time;
 pub use lock_state::LockState;
 pub use who::Who;
-
-#[cfg(test)]
-mod tests;

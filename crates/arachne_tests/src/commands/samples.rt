@@ -1,0 +1,83 @@
+use arachne_commands::read_samples;
+use arachne_lang::TextFault;
+use arachne_policy::Sample;
+use std::alloc::Global;
+use std::test::Fail;
+
+fn sample(numbers: [u64; 5]) -> Sample {
+    let [cores, runnable, scans, busy, elapsed] = numbers;
+    Sample {
+        cores,
+        runnable,
+        scans,
+        busy,
+        elapsed,
+    }
+}
+
+/// The fault of this text, if it has one.
+fn fault_of(alloc: Global, text: &[u8]) -> Option<TextFault> {
+    read_samples(alloc, text).err()
+}
+
+#[test]
+fn lines_are_read_in_order(rt: HostRuntime) -> Result<(), Fail> {
+    let text = b"2 151 100 1900 1000\n0 0 0 0 0\n18446744073709551615 1 20 300 4000\n";
+    let samples = read_samples(rt.alloc(), text)?;
+    assert_eq!(rt;
+        samples.as_slice(),
+        [
+            sample([2, 151, 100, 1900, 1000]),
+            sample([0, 0, 0, 0, 0]),
+            sample([u64::MAX, 1, 20, 300, 4000]),
+        ]
+        .as_slice()
+    );
+    assert!(rt; read_samples(rt.alloc(), b"")?.is_empty());
+    Ok(())
+}
+
+#[test]
+fn each_front_of_a_text_is_cut_short(rt: HostRuntime) {
+    let text = b"2 151 100 1900 1000\n30 0 7 8 9\n".as_slice();
+    for n in 0..=text.len() {
+        let ends_a_line = n == 0 || n == 20 || n == text.len();
+        let fault = if ends_a_line {
+            None
+        } else {
+            Some(TextFault::Syntax { at: n })
+        };
+        assert_eq!(rt; fault_of(rt.alloc(), &text[..n]), fault, "{n}");
+    }
+}
+
+#[test]
+fn faults_stand_at_their_bytes(rt: HostRuntime) {
+    let syntax = |at| Some(TextFault::Syntax { at });
+    let number = |at| Some(TextFault::Number { at });
+    for (text, fault) in [
+        (b"2 151 100 1900\n".as_slice(), syntax(14)),
+        (b"2  151 100 1900 1000\n", syntax(2)),
+        (b" 2 151 100 1900 1000\n", syntax(0)),
+        (b"2 00 100 1900 1000\n", syntax(3)),
+        (b"2 01 100 1900 1000\n", syntax(3)),
+        (b"2 151 100 1900 1000 \n", syntax(19)),
+        (b"2 151 100 1900 1000 7\n", syntax(19)),
+        (b"2 151 100 1900 1000\r\n", syntax(19)),
+        (b"2 151 100 1900 1000\n\n", syntax(20)),
+        (b"2 151 100 1900 1000\n\0", syntax(20)),
+        (b"2 -1 100 1900 1000\n", syntax(2)),
+        (b"2 +1 100 1900 1000\n", syntax(2)),
+        (b"\n", syntax(0)),
+        (b"\xff\xfe\n", syntax(0)),
+        (b"18446744073709551616 1 1 1 1\n", number(19)),
+        (b"1 99999999999999999999999 1 1 1\n", number(21)),
+        (b"1 1 1 1 184467440737095516150\n", number(28)),
+        (b"1 18446744073709551616 1  1 1\n", number(21)),
+        (b"1  1 18446744073709551616 1 1\n", syntax(2)),
+        (b"1 1 1 1 1\n1 1 1 18446744073709551616", number(35)),
+        (b"18446744073709551615 1 1 1 1\n", None),
+    ] {
+        assert_eq!(rt; fault_of(rt.alloc(), text), fault, "{text:?}");
+    }
+}

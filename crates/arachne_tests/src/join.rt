@@ -1,0 +1,73 @@
+//! Each public call once, refused memory, and values that pass between threads.
+ghost use Rattle.std.specs.Prelude.{◌≡◌, ◌<◌, IfOk};
+
+mod fork;
+mod parcels;
+
+use arachne_join::{CellState, Fits, JoinCell, SendingEnd};
+use std::alloc::{AllocError, Global};
+use std::test::Fail;
+
+// What a cell is for: a number.
+#[derive(Drop)]
+struct Wanted(u64);
+
+// A value that fits is the number itself, and one that may wait is below it.
+impl Fits<Wanted> for u64 {
+    ghost fits = { λ wanted value. value ≡ wanted.0 };
+
+    ghost may_wait = { λ wanted value. value < wanted.0 };
+}
+
+// Under `rt try --test --fail-alloc N` the Nth allocation is refused: the first call answers it, and the second makes the cell.
+fn make_cell(
+    alloc: Global,
+    number: u64,
+) -> Result<(JoinCell<u64, Wanted>, SendingEnd<u64, Wanted>), AllocError>
+    ensures { IfOk result (λ made. (made.0.key.0 ≡ number) × (made.1 ≡ made.0.table)) }
+{
+    let wanted = Wanted(number);
+    match JoinCell::new(alloc, &wanted) {
+        Ok(made) => Ok(made),
+        Err(_) => JoinCell::new(alloc, &wanted),
+    }
+}
+
+fn missed_at(cell: &JoinCell<u64, Wanted>) -> Option<CellState> {
+    match cell.fetch() {
+        Ok(_) => None,
+        Err(missed) => Some(missed.state),
+    }
+}
+
+#[test]
+fn a_value_that_was_left_is_fetched_once(rt: HostRuntime) -> Result<(), Fail> {
+    let (cell, end) = make_cell(rt.alloc(), 7)?;
+    assert!(rt; missed_at(&cell) == Some(CellState::Empty));
+    let left = end.leave(&cell, 7);
+    let Ok((value, fetched)) = cell.fetch() else {
+        panic!(rt; "a value was left")
+    };
+    assert!(rt; value == 7 && missed_at(&cell) == Some(CellState::Taken));
+    cell.fetched_once(fetched, left);
+    Ok(())
+}
+
+#[test]
+fn a_value_that_was_put_back_is_taken_back_with_the_sending_end(
+    rt: HostRuntime,
+) -> Result<(), Fail> {
+    let (cell, end) = make_cell(rt.alloc(), 7)?;
+    end.put_back(&cell, 3);
+    assert!(rt; missed_at(&cell) == Some(CellState::Waiting));
+    let Ok((value, end)) = cell.take_back() else {
+        panic!(rt; "a value waits")
+    };
+    assert!(rt; value == 3 && missed_at(&cell) == Some(CellState::Empty));
+    end.leave(&cell, 7);
+    let Err(missed) = cell.take_back() else {
+        panic!(rt; "no value waits")
+    };
+    assert!(rt; missed.state == CellState::Full);
+    Ok(())
+}

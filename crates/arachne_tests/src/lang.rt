@@ -1,0 +1,5 @@
+//! Texts that are read and printed, and what their programs mean.
+
+mod meaning;
+mod printing;
+mod reading;

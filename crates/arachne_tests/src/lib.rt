@@ -1,0 +1,19 @@
+//! Tests of the crates below, by public calls alone, a module for each crate. What they test is proved without them.
+#![tactic(auto)]
+
+#[cfg(test)]
+mod commands;
+#[cfg(test)]
+mod join;
+#[cfg(test)]
+mod lang;
+#[cfg(test)]
+mod ledger;
+#[cfg(test)]
+mod machine;
+#[cfg(test)]
+mod policy;
+#[cfg(test)]
+mod pure_core;
+#[cfg(test)]
+mod sleep;
