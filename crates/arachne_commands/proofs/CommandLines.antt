@@ -14,7 +14,7 @@ use Rattle.clap.proofs.WalkLemmas.{first_value-rows}
 use Rattle.arachne_commands.specs.declared.command_line.Request.{Request}
 use Rattle.arachne_commands.specs.declared.command_line.NotAsked.{NotAsked}
 use Rattle.arachne_commands.specs.declared.command_line.NotAsked.TheVariants.{NoOrder, Refused}
-use Rattle.arachne_commands.specs.CommandLine.{IsNoOrderMet, IsUnasked, IsWantOfMemory, asked_by, check_command, eval_command, is_set, is_taken, no_order_in, no_order_met, policy_command, program, request_met, run_command, task_commands}
+use Rattle.arachne_commands.specs.CommandLine.{IsNoOrderMet, IsUnasked, IsWantOfMemory, asked_by, check_command, eval_command, is_set, is_taken, no_order_in, no_order_met, machine_command, policy_command, program, request_met, run_alone, run_command, task_commands}
 
 -- a flag by its text, and by the want of one
 pub flag_by_text : (found : Found) (flag text : List ℕ) → Some text ≡ first_value found flag → is_set flag (rows_of found) ≡ bytes_eq text (codes "true")
@@ -26,7 +26,7 @@ flag_by_none found flag e =
     ap (λ (o : Option (List ℕ)). option_map_or (λ t. bytes_eq t (codes "true")) o false) (sym (first_value-rows found flag) ∙ sym e)
 
 program_is_simple : is_simple program ≡ true
-unfolding program task_commands run_command eval_command check_command policy_command
+unfolding program task_commands machine_command run_command run_alone eval_command check_command policy_command
 program_is_simple = refl
 
 -- what a parse met is what the words ask for
@@ -68,10 +68,16 @@ pub nothing_met : (command : Command) (words : List Text) (m : ArgMatches) (erro
 nothing_met command words m error is_program matches asked orders = λ taken asks. absurd (none asks)
   where
     none_asked : IsSome (asked_by words) → ⊥
-    none_asked some = subst (λ (o : Option Request). IsSome o) (sym (asked ∙ asked_is_met command words m is_program matches)) some
+    none_asked some =
+        let impossible : false ≡ true =
+        subst (λ (o : Option Request). IsSome o) (sym (asked ∙ asked_is_met command words m is_program matches)) some in
+        absurd (cc)
 
     none_orders : IsSome (no_order_in words) → ⊥
-    none_orders some = subst (λ (o : Option ℕ). IsSome o) (sym (no_order_is_met command words m is_program matches) ∙ orders) some
+    none_orders some =
+        let impossible : false ≡ true =
+        subst (λ (o : Option ℕ). IsSome o) (sym (no_order_is_met command words m is_program matches) ∙ orders) some in
+        absurd (cc)
 
     none : IsSome (asked_by words) ⊎ IsSome (no_order_in words) → ⊥
     none (inl some) = none_asked some

@@ -10,3 +10,4 @@ pub mod SampleTexts
 pub mod JudgedInTurn
 pub mod Options
 pub mod Causes
+pub mod Refusals

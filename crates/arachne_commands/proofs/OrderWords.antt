@@ -151,7 +151,13 @@ is_order bytes rest left after core kind e is f order = (there, back)
 
 -- ---- the order of a word, as a function
 
-same_kind : (one other : OrderKind) (left rest bytes : List ℕ) → Some (one, left) ≡ Some (other, rest) → bytes ≡ kind_word one ++ codes ":" ++ left
+abbrev Found : Type 0
+Found = Option (OrderKind × List ℕ)
+
+abbrev Twice : Found → Found → Type 0
+Twice one other = one ≡ other
+
+same_kind : (one other : OrderKind) (left rest bytes : List ℕ) → Twice (Some (one, left)) (Some (other, rest)) → bytes ≡ kind_word one ++ codes ":" ++ left
     → bytes ≡ kind_word other ++ codes ":" ++ rest
 same_kind one other left rest bytes e stands =
     let pair : (one, left) ≡ (other, rest) = cc in
@@ -176,6 +182,11 @@ stands Release rest = refl
 kind_is : (bytes : List ℕ) → IsKind (kind_at bytes) bytes
 kind_is bytes kind rest = (grants bytes (word_at (codes "grant:") bytes) refl kind rest, λ e. ap kind_at e ∙ stands kind rest)
 
+more_left : (found core byte : ℕ) (rest : List ℕ) → Same (Ok (found, byte ∷ rest)) (Ok (core, [])) → ⊥
+more_left found core byte rest e =
+    let parts : (found, byte ∷ rest) ≡ (core, []) = cc in
+    not_nil byte rest (ap (λ (p : ℕ × List ℕ). p.1) parts)
+
 -- the function says what the words of orders are
 pub order_of_spells : (word : List ℕ) (order : CoreOrder) → (order_of word ≡ Some order) ↔ Spells word order
 unfolding order_of
@@ -186,7 +197,7 @@ order_of_spells word order = by_number (number_at (2 ^ 64) (codes ":") word) ref
     by_core after kind rest left e is (Err halt) f = no_core word rest left after kind (Err halt) e is f (λ core same. absurd (cc)) order
     by_core after kind rest left e is (Ok (core, [])) f = is_order word rest left after core kind e is f order
     by_core after kind rest left e is (Ok (core, byte ∷ over)) f =
-        no_core word rest left after kind (Ok (core, byte ∷ over)) e is f (λ other same. some_left core other (byte ∷ over) refl same) order
+        no_core word rest left after kind (Ok (core, byte ∷ over)) e is f (λ other same. more_left core other byte over same) order
 
     by_kind : (after : ℕ) (rest : List ℕ) → number_at (2 ^ 64) (codes ":") word ≡ Ok (after, rest) → (found : Option (OrderKind × List ℕ)) → kind_at rest ≡ found
         → (with_kind after found ≡ Some order) ↔ Spells word order

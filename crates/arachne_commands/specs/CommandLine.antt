@@ -38,14 +38,16 @@ abbrev pub number_option : Text → ℕ → Text → Rule
 number_option name most standard =
     record (new_rule name) { long = Some name; value_names = 1; defaults = standard ∷ []; parser = Some (Unsigned 0 most) }
 
-unfoldable pub run_command : App
-run_command =
-    with_rule (with_rule (with_rule (with_rule (with_rule (new_app (codes "run"))
+-- a run with the options for the machine alone, and with all
+unfoldable pub machine_command : App
+machine_command =
+    with_rule (with_rule (with_rule (new_app (codes "run"))
     (number_option (codes "cores") (2 ^ 64 - 1) (codes "4")))
     (number_option (codes "seed") (2 ^ 64 - 1) (codes "1")))
-    (number_option (codes "quantum") (2 ^ 64 - 1) (codes "100")))
-    names_flag)
-    orders_rule
+    (number_option (codes "quantum") (2 ^ 64 - 1) (codes "100"))
+
+unfoldable pub run_command : App
+run_command = with_rule (with_rule machine_command names_flag) orders_rule
 
 unfoldable pub policy_command : App
 policy_command =
@@ -54,14 +56,13 @@ policy_command =
     (number_option (codes "hysteresis") (2 ^ 64 - 1) (codes "90")))
     (number_option (codes "max") MAX_CORES (codes "16"))
 
--- the program with the commands on task texts
+-- the program with the command to run a task text alone, and with all commands on task texts
+unfoldable pub run_alone : App
+run_alone =
+    with_subcommand (record (new_app (codes "arachne")) { top = record (new_app (codes "arachne")).top { subcommand_required = true } }) run_command.top
+
 unfoldable pub task_commands : App
-task_commands =
-    with_subcommand
-    (with_subcommand
-    (with_subcommand (record (new_app (codes "arachne")) { top = record (new_app (codes "arachne")).top { subcommand_required = true } }) run_command.top)
-    eval_command.top)
-    check_command.top
+task_commands = with_subcommand (with_subcommand run_alone eval_command.top) check_command.top
 
 -- the program, which wants one of its commands
 unfoldable pub program : App

@@ -15,6 +15,11 @@ use Rattle.arachne_commands.specs.declared.command_line.Request.TheVariants.{Run
 use Rattle.arachne_policy.specs.declared.samples.Sample.{Sample}
 use Rattle.arachne_commands.specs.declared.judging.Settings.{Settings}
 use Rattle.arachne_commands.specs.CommandLine.{asked_by}
+use Rattle.arachne_commands.specs.declared.command_line.NotAsked.{NotAsked}
+use Rattle.arachne_commands.specs.declared.command_line.NotAsked.TheVariants.{NoOrder as NoOrderAt, Refused}
+use Rattle.arachne_commands.specs.Fault.{fault_line}
+use Rattle.clap.specs.Words.{kind_of}
+use Rattle.clap.specs.declared.error.kind.ErrorKind.TheVariants.{OutOfMemory}
 use Rattle.arachne_commands.specs.declared.command_line.RunSettings.{RunSettings}
 use Rattle.arachne_commands.specs.declared.running.RunFault.{RunFault}
 use Rattle.arachne_commands.specs.Running.{IsRefusal}
@@ -124,3 +129,9 @@ IsAtFault words input before after fault =
     × ((fault ≢ Write) → Keeps before after)
     × (fault ≡ Write → IsCutShort words input before after)
     × ((fault ≢ Memory) → IsSome (asked_by words))
+
+-- Why words are refused with status 2, and what is on the faults stream then: a word that is no order, with its line; of the parser of command
+-- lines only that it did not want for memory.
+abbrev pub IsTold : NotAsked → Option (List ℕ) → Option (List ℕ) → Type 0
+IsTold (NoOrderAt index) before after = AppendsFront before after (fault_line (NoOrder index))
+IsTold (Refused error) before after = kind_of error ≢ OutOfMemory

@@ -1,5 +1,5 @@
 ghost use Rattle.std.specs.Prelude.{◌≡◌, IfOk, IfErr, IfSome, map, None, Ok, Some, true, false};
-ghost use Rattle.arachne_commands.specs.CommandLine.{IsAllowed, IsNoOrderAmong, IsNoOrderMet, IsUnasked, asked_by, check_command, eval_command, is_set, names_flag, no_order_met, number_option, number_under, order_words, orders_rule, policy_asked, policy_command, program, request_met, run_asked, run_command, task_commands, with_orders};
+ghost use Rattle.arachne_commands.specs.CommandLine.{IsAllowed, IsNoOrderAmong, IsNoOrderMet, IsUnasked, asked_by, check_command, eval_command, is_set, machine_command, names_flag, no_order_met, number_option, number_under, order_words, orders_rule, policy_asked, policy_command, program, request_met, run_alone, run_asked, run_command, task_commands, with_orders};
 ghost use Rattle.arachne_commands.specs.Orders.{orders_of};
 ghost use Rattle.std.specs.Result.{result_err};
 ghost use Rattle.clap.specs.declared.builder.command.Command.TheViews.{out-Command};
@@ -78,14 +78,23 @@ fn command<'a>(alloc: Global) -> Result<Command<'a>, AllocError>
 fn task_commands<'a>(alloc: Global) -> Result<Command<'a>, AllocError>
     ensures { IfOk result (λ command. app_of command ≡ task_commands) }
 {
-    let run = run_command(alloc)?;
     let eval = eval_command(alloc)?;
+    let arachne = run_alone(alloc)?
+        .subcommand(eval)?
+        .subcommand(check_command(alloc))?;
+    Ok(arachne)
+}
+
+/// The program with the subcommand that runs a program alone.
+#[tactic(auto, unfolding(crate::specs::CommandLine::run_alone))]
+fn run_alone<'a>(alloc: Global) -> Result<Command<'a>, AllocError>
+    ensures { IfOk result (λ command. app_of command ≡ run_alone) }
+{
+    let run = run_command(alloc)?;
     let arachne = Command::new(alloc, "arachne")
         .about("Run and evaluate programs of the task language, and judge samples of a load")
         .subcommand_required(true)
-        .subcommand(run)?
-        .subcommand(eval)?
-        .subcommand(check_command(alloc))?;
+        .subcommand(run)?;
     Ok(arachne)
 }
 
@@ -117,7 +126,26 @@ fn run_command<'a>(alloc: Global) -> Result<Command<'a>, AllocError>
     ensures app { IfOk result (λ command. app_of command ≡ run_command) }
     ensures local { IfOk result (λ command. (out-Command command).has_globals ≡ false) }
 {
-    let cores = number_option(alloc, "cores", u64::MAX, "4", "How many cores there are, 1 to 16");
+    let names = names_flag(alloc);
+    let orders = order_words(alloc);
+    let machine = machine_command(alloc)?;
+    let run = machine.arg(names)?.arg(orders)?;
+    Ok(run)
+}
+
+/// The same with the options for the machine alone.
+#[tactic(auto, unfolding(crate::specs::CommandLine::machine_command))]
+fn machine_command<'a>(alloc: Global) -> Result<Command<'a>, AllocError>
+    ensures app { IfOk result (λ command. app_of command ≡ machine_command) }
+    ensures local { IfOk result (λ command. (out-Command command).has_globals ≡ false) }
+{
+    let cores = number_option(
+        alloc,
+        "cores",
+        u64::MAX,
+        "4",
+        "How many cores there are, 1 to 16",
+    );
     let seed = number_option(
         alloc,
         "seed",
@@ -136,9 +164,7 @@ fn run_command<'a>(alloc: Global) -> Result<Command<'a>, AllocError>
         .about("Run the task text on the input, on a kernel thread for each core")
         .arg(cores)?
         .arg(seed)?
-        .arg(quantum)?
-        .arg(names_flag(alloc))?
-        .arg(order_words(alloc))?;
+        .arg(quantum)?;
     Ok(run)
 }
 
@@ -278,20 +304,35 @@ fn orders_in(alloc: Global, words: &[&str]) -> Result<Sequence<CoreOrder>, NotAs
     Ok(Sequence::from(orders))
 }
 
+/// The orders that the order words spell.
+fn orders_met(
+    alloc: Global,
+    matches: &ArgMatches<'_>,
+) -> Result<Sequence<CoreOrder>, NotAsked>
+    ensures orders { IfOk result (λ orders. orders_of (order_words (rows_of (found_of matches.now))) ≡ Ok orders) }
+    ensures none { IfErr result (IsNoOrderAmong (order_words (rows_of (found_of matches.now)))) }
+{
+    match matches.get_raw("order") {
+        Some(words) => orders_in(alloc, words),
+        None => Ok(Sequence::from(Vec::new(alloc))),
+    }
+}
+
 /// What is asked of a run, where each of its order words is an order.
 fn run_in(alloc: Global, matches: &ArgMatches<'_>) -> Result<Option<Request>, NotAsked>
     ensures asked { IfOk result (λ request. request ≡ run_asked (rows_of (found_of matches.now))) }
+    ensures allowed { IfOk result (λ request. IfSome request IsAllowed) }
     ensures orders { IfOk result (λ request. result_err (orders_of (order_words (rows_of (found_of matches.now)))) ≡ None) }
     ensures none { IfErr result (IsNoOrderAmong (order_words (rows_of (found_of matches.now)))) }
 {
-    let words = matches.get_raw("order").unwrap_or(&[]);
-    let orders = orders_in(alloc, words)?;
+    let orders = orders_met(alloc, matches)?;
     Ok(run_by(matches, orders))
 }
 
 /// What is asked of a run with these orders.
 fn run_by(matches: &ArgMatches<'_>, orders: Sequence<CoreOrder>) -> Option<Request>
-    ensures { result ≡ with_orders (rows_of (found_of matches.now)) orders }
+    ensures asked { result ≡ with_orders (rows_of (found_of matches.now)) orders }
+    ensures allowed { IfSome result IsAllowed }
 {
     let cores = number_in(matches, "cores")?;
     let seed = number_in(matches, "seed")?;
@@ -315,16 +356,15 @@ fn request_in(alloc: Global, matches: &ArgMatches<'_>) -> Result<Option<Request>
     let Some((name, entries)) = matches.subcommand() else {
         return Ok(None);
     };
-    let request = match name {
-        "run" => run_in(alloc, entries)?,
-        "eval" => Some(Request::Eval {
+    match name {
+        "run" => run_in(alloc, entries),
+        "eval" => Ok(Some(Request::Eval {
             names: is_flag_set(entries, "names"),
-        }),
-        "check" => Some(Request::Check),
-        "policy" => policy_in(entries),
-        _ => None,
-    };
-    Ok(request)
+        })),
+        "check" => Ok(Some(Request::Check)),
+        "policy" => Ok(policy_in(entries)),
+        _ => Ok(None),
+    }
 }
 
 /// What the words ask for, the first being the program's own name.

@@ -3,7 +3,7 @@
 #![tactic(auto)]
 
 mod command_line;
-mod drive;
+mod program;
 mod fault;
 mod judging;
 mod numbers;
@@ -14,7 +14,7 @@ mod running;
 mod samples;
 mod stream;
 
-pub use drive::{drive, refuse, refuse_words};
+pub use program::{drive, refuse, refuse_words};
 pub use fault::Fault;
 pub use orders::read_order;
 pub use output::{PrintedThread, render};

@@ -8,7 +8,7 @@ ghost use Rattle.arachne_commands.specs.Fault.{fault_line};
 ghost use Rattle.arachne_commands.specs.Drive.{AppendsFront, IsAnswered, IsAtFault, input_limit};
 ghost use Rattle.arachne_commands.specs.declared.fault.Fault.{Fault};
 
-use crate::drive::{drive, refuse_words};
+use crate::program::{drive, refuse_words};
 use std::alloc::{Alloc, Global};
 use std::convert::AsStr;
 use std::env::{self, Env};

@@ -3,7 +3,7 @@ use Rattle.std.proofs.lemmas.Fmt.{contents_after_writes}
 use Rattle.arachne_commands.specs.Drive.{AppendsFront}
 use Rattle.arachne_commands.specs.Fault.{fault_line}
 use Rattle.arachne_commands.proofs.KnownBytes.{front_either}
-use Rattle.arachne_commands.proofs.drive.refuse.Goals as goal
+use Rattle.arachne_commands.proofs.program.refuse.Goals as goal
 
 pub returns-in-Ok-clause-line : goal.returns-in-Ok-clause-line
 returns-in-Ok-clause-line g c =

@@ -1,7 +1,7 @@
 use Rattle.std.proofs.Common.{List, ℕ, subst}
 use Rattle.arachne_commands.specs.Drive.{AppendsFront}
 use Rattle.arachne_commands.proofs.KnownBytes.{front_kept}
-use Rattle.arachne_commands.proofs.drive.finish.Goals as goal
+use Rattle.arachne_commands.proofs.program.finish.Goals as goal
 
 pub returns-in-Err-clause-front : goal.returns-in-Err-clause-front
 returns-in-Err-clause-front g c =

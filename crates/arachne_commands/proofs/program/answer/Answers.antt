@@ -1,5 +1,5 @@
 use Rattle.std.proofs.lemmas.Result.{err_from_is_err_and}
-use Rattle.arachne_commands.proofs.drive.answer.Goals as goal
+use Rattle.arachne_commands.proofs.program.answer.Goals as goal
 
 pub returns-in_err-text-clause-cause : goal.returns-in_err-text-clause-cause
 returns-in_err-text-clause-cause g c =

@@ -5,7 +5,7 @@ ghost use Rattle.arachne_lang.specs.Program.{source_of};
 ghost use Rattle.arachne_commands.specs.CommandLine.{IsAllowed, asked_by, is_taken, no_order_in};
 ghost use Rattle.arachne_commands.specs.declared.command_line.RunSettings.{RunSettings as RunBy};
 ghost use Rattle.arachne_commands.specs.Fault.{fault_line};
-ghost use Rattle.arachne_commands.specs.Drive.{AppendsFront, IsAnswer, IsAnswered, IsAtFault, IsCause, IsProgramOf, input_limit};
+ghost use Rattle.arachne_commands.specs.Drive.{AppendsFront, IsAnswer, IsAnswered, IsAtFault, IsCause, IsProgramOf, IsTold, input_limit};
 
 use crate::command_line::{NotAsked, Request, RunSettings, read_words};
 use crate::fault::Fault;
@@ -162,6 +162,28 @@ pub fn refuse_words<W: Write>(faults: &mut W, error: &io::Error) -> u8
     WORDS
 }
 
+/// Says why the words ask for nothing, and answers the status: that of a fault where memory was refused.
+fn refuse_request<W: Write>(faults: &mut W, why: &NotAsked) -> u8
+    ensures some { 1 ≤ result }
+    ensures most { result ≤ 2 }
+    ensures memory { result ≡ 1 → AppendsFront (W.contents faults.old) (W.contents faults.new) (fault_line Fault.Memory) }
+    ensures told { result ≡ 2 → IsTold why.now (W.contents faults.old) (W.contents faults.new) }
+{
+    match why {
+        NotAsked::NoOrder { index } => {
+            refuse(faults, Fault::NoOrder { index: *index });
+            WORDS
+        }
+        NotAsked::Refused(error) if error.kind() == ErrorKind::OutOfMemory => {
+            refuse(faults, Fault::Memory)
+        }
+        NotAsked::Refused(error) => {
+            let _ = write!(faults, "{error}");
+            WORDS
+        }
+    }
+}
+
 /// Runs the program on the words of the command line, the first being its own name, and on these streams. The answer is the status:
 /// 0 where all went well; 1 where there was a fault, whose line goes to the faults stream; and 2 where a word of a run is no order, with the
 /// fault's line, or the words were not understood, which `clap`'s text on the faults stream explains. Nothing is on the output before all is
@@ -193,17 +215,7 @@ pub fn drive<R: Threads + Wait + Sync, S: AsStr, I: Read, W: Write, E: Write>(
 {
     let request = match read_words(alloc, words) {
         Ok(request) => request,
-        Err(NotAsked::NoOrder { index }) => {
-            refuse(faults, Fault::NoOrder { index });
-            return WORDS;
-        }
-        Err(NotAsked::Refused(error)) if error.kind() == ErrorKind::OutOfMemory => {
-            return refuse(faults, Fault::Memory);
-        }
-        Err(NotAsked::Refused(error)) => {
-            let _ = write!(faults, "{error}");
-            return WORDS;
-        }
+        Err(why) => return refuse_request(faults, &why),
     };
     let text = match answer(rt, alloc, request, input) {
         Ok(text) => text,
