@@ -1,6 +1,6 @@
 -- Each event keeps the World owned once.
 use Rattle.std.proofs.Common.{◌≡◌, ◌≢◌, ℕ, ◌+◌, ◌*◌, ◌<◌, ◌≤◌, ◌↔◌, Bool, true, false, cond, eqb, ltb, ◌&&◌, ◌⊎◌, inl, inr, refl, sym, ap, ◌∙◌, subst, arith, IsTrue}
-use Rattle.std.proofs.lemmas.Bool.{eqb-true, eq-eqb, and_parts, and_from, and_right, cases_eq, cases_lt, lt-ltb, true≢false, false_from_ne_true, cond-true, cond-false}
+use Rattle.std.proofs.lemmas.Bool.{eqb-true, eq-eqb, and_parts, and_from, and_right, cases_Bool, cases_eq, cases_lt, lt-ltb, ltb-true, true≢false, false_from_ne_true, cond-true, cond-false}
 use Rattle.arachne_core.specs.declared.place.Place.{Place}
 use Rattle.arachne_core.specs.declared.thread_id.ThreadId.{ThreadId}
 use Rattle.arachne_core.specs.declared.state.State.{State}
@@ -33,6 +33,7 @@ record ChangesOne (w : World) (x : ℕ) (c : Change) : Type 0 where
   given : (t : Thread) → (t.0.context ≡ x → ⊥) → c.given t ≡ w.given t
   ended : (t : Thread) → (t.0.context ≡ x → ⊥) → c.ended t ≡ w.ended t
   occupied_here : IsTrue (c.occupied (w.at x)) ↔ (c.state x ≢ Free)
+  bounded_here : c.generation x ≤ w.last
   once_here : (t : Thread) → t.0.context ≡ x → c.given t ≤ 1
   one_tag_here : (s t : Thread) → s.0 ≡ t.0 → t.0.context ≡ x → 0 < c.given s → 0 < c.given t → s ≡ t
   generations_here : (t : Thread) → t.0.context ≡ x → 0 < c.given t
@@ -55,6 +56,10 @@ owned w x c o x_in h = record {
     | inr n ↦
         subst (λ b. IsTrue b ↔ (c.state y ≢ Free)) (sym (h.occupied (w.at y) (λ e. n (o.apart y x y_in x_in e))))
         (subst (λ s. IsTrue (w.occupied (w.at y)) ↔ (s ≢ Free)) (sym (h.state y n)) (o.occupied y y_in))
+  ];
+  bounded = λ y y_in. elim (cases_eq y x) [
+    | inl e ↦ subst (λ z. c.generation z ≤ w.last) (sym e) h.bounded_here
+    | inr n ↦ subst (λ g. g ≤ w.last) (sym (h.generation y n)) (o.bounded y y_in)
   ];
   once = λ t. elim (cases_eq t.0.context x) [
     | inl e ↦ h.once_here t e
@@ -105,6 +110,7 @@ quiet w x s oc al o x_in elsewhere here thread gave alone =
       given = λ t n. refl;
       ended = λ t n. refl;
       occupied_here = subst (λ (z : State). IsTrue (oc (w.at x)) ↔ (z ≢ Free)) (sym at_x) here;
+      bounded_here = o.bounded x x_in;
       once_here = λ t e. o.once t;
       one_tag_here = λ u t e f a b. o.one_tag u t e a b;
       generations_here = λ t e a.
@@ -135,32 +141,32 @@ claimed_not_free h = λ e. cc
 
 claim : (w : World) (h x : ℕ) → OwnedOnce w → Allowed w (event.Claim h x) → OwnedOnce (after w (event.Claim h x))
 claim w h x o a =
-    quiet w x (Claimed h) (with_place w.occupied (w.at x) true) w.alone o a.0
+    quiet w x (Claimed h) (with_place w.occupied (w.at x) true) w.alone o a.context
     (with_place-other w.occupied (w.at x) true)
     (true_true (with_place-same w.occupied (w.at x) true) (claimed_not_free h))
-    (λ tag. ap (λ (s : State). has_thread s tag) (sym a.1))
-    (λ g. absurd (subst HasGivenId a.1 g))
-    (λ k k_in al. one_elsewhere w x k true (λ e. true≢false (sym al ∙ ap w.alone e ∙ a.2.1)) (o.alone k k_in al))
+    (λ tag. ap (λ (s : State). has_thread s tag) (sym a.free))
+    (λ g. absurd (subst HasGivenId a.free g))
+    (λ k k_in al. one_elsewhere w x k true (λ e. true≢false (sym al ∙ ap w.alone e ∙ a.core.not_alone)) (o.alone k k_in al))
 
 alone : (w : World) (h x : ℕ) → OwnedOnce w → Allowed w (event.Alone h x) → OwnedOnce (after w (event.Alone h x))
 alone w h x o a =
     let oc : Place → Bool = with_place w.occupied (w.at x) true in
     let al : ℕ → Bool = with_at w.alone (w.at x).core true in
-    quiet w x (Claimed h) oc al o a.0
+    quiet w x (Claimed h) oc al o a.context
     (with_place-other w.occupied (w.at x) true)
     (true_true (with_place-same w.occupied (w.at x) true) (claimed_not_free h))
-    (λ tag. ap (λ (s : State). has_thread s tag) (sym a.1))
-    (λ g. absurd (subst HasGivenId a.1 g))
+    (λ tag. ap (λ (s : State). has_thread s tag) (sym a.free))
+    (λ g. absurd (subst HasGivenId a.free g))
     (λ k k_in b. elim (cases_eq k (w.at x).core) [
       | inl e ↦
           let here : (record { core = k; index = (w.at x).index }) ≡ w.at x = λ i. record { core = e i; index = (w.at x).index } in (
             (w.at x).index,
-            (o.placed x a.0).1,
+            (o.placed x a.context).1,
             ap oc here ∙ with_place-same w.occupied (w.at x) true,
             λ j j_in c. elim (cases_place (record { core = k; index = j }) (w.at x)) [
               | inl f ↦ ap (λ (p : Place). p.index) f
               | inr n ↦ absurd (true≢false (sym c ∙ with_place-other w.occupied (w.at x) true (record { core = k; index = j }) n
-                  ∙ ap (λ (q : ℕ). w.occupied (record { core = q; index = j })) e ∙ a.4 j j_in))
+                  ∙ ap (λ (q : ℕ). w.occupied (record { core = q; index = j })) e ∙ a.empty j j_in))
             ],
           )
       | inr n ↦ one_elsewhere w x k true n (o.alone k k_in (sym (with_at-other w.alone (w.at x).core true k n) ∙ b))
@@ -168,11 +174,11 @@ alone w h x o a =
 
 release : (w : World) (h x : ℕ) → OwnedOnce w → Allowed w (event.Release h x) → OwnedOnce (after w (event.Release h x))
 release w h x o a =
-    quiet w x Free (with_place w.occupied (w.at x) false) (with_at w.alone (w.at x).core false) o a.0
+    quiet w x Free (with_place w.occupied (w.at x) false) (with_at w.alone (w.at x).core false) o a.context
     (with_place-other w.occupied (w.at x) false)
     (λ b. absurd (true≢false (sym b ∙ with_place-same w.occupied (w.at x) false)), λ n. absurd (n refl))
-    (λ tag. ap (λ (s : State). has_thread s tag) (sym a.1))
-    (λ g. absurd (subst HasGivenId a.1 g))
+    (λ tag. ap (λ (s : State). has_thread s tag) (sym a.claimed))
+    (λ g. absurd (subst HasGivenId a.claimed g))
     (λ k k_in b. elim (cases_eq k (w.at x).core) [
       | inl e ↦ absurd (true≢false (sym b ∙ ap (with_at w.alone (w.at x).core false) e ∙ with_at-same w.alone (w.at x).core false))
       | inr n ↦ one_elsewhere w x k false n (o.alone k k_in (sym (with_at-other w.alone (w.at x).core false k n) ∙ b))
@@ -204,7 +210,7 @@ taken-given h (Ready t) r = tt
 taken-given h s r = absurd r
 
 take : (w : World) (h x : ℕ) → OwnedOnce w → Allowed w (event.Take h x) → OwnedOnce (after w (event.Take h x))
-take w h x o a = goes_on w x (taken h (w.state x)) o a.0 (ready_not_free _ a.1) (taken_not_free h _ a.1) (taken-thread h (w.state x)) (taken-given h _ a.1)
+take w h x o a = goes_on w x (taken h (w.state x)) o a.context (ready_not_free _ a.ready) (taken_not_free h _ a.ready) (taken-thread h (w.state x)) (taken-given h _ a.ready)
 
 held_not_free : (h : ℕ) (s : State) → IsHeldBy h s → s ≡ Free → ⊥
 held_not_free h s r e = subst (IsHeldBy h) e r
@@ -229,7 +235,7 @@ put_back-given h r s p = absurd p
 
 rests : (w : World) (h x : ℕ) (r : Rest) → OwnedOnce w → Allowed w (event.Rest h x r) → OwnedOnce (after w (event.Rest h x r))
 rests w h x r o a =
-    goes_on w x (put_back r (w.state x)) o a.0 (held_not_free h _ a.1) (put_back_not_free h r _ a.1) (λ tag. put_back-thread h r _ tag a.1) (put_back-given h r _ a.1)
+    goes_on w x (put_back r (w.state x)) o a.context (held_not_free h _ a.held) (put_back_not_free h r _ a.held) (λ tag. put_back-thread h r _ tag a.held) (put_back-given h r _ a.held)
 
 wakeable_not_free : (s : State) → CanBeWoken s → s ≡ Free → ⊥
 wakeable_not_free s r e = subst CanBeWoken e r
@@ -251,7 +257,7 @@ woken-given s p = absurd p
 
 wake : (w : World) (id : ThreadId) → OwnedOnce w → Allowed w (event.Wake id) → OwnedOnce (after w (event.Wake id))
 wake w id o a =
-    goes_on w id.context (woken (w.state id.context)) o a.0 (wakeable_not_free _ a.2) (woken_not_free _ a.2) (λ tag. woken-thread _ tag a.2) (woken-given _ a.2)
+    goes_on w id.context (woken (w.state id.context)) o a.context (wakeable_not_free _ a.waits) (woken_not_free _ a.waits) (λ tag. woken-thread _ tag a.waits) (woken-given _ a.waits)
 
 -- ---- Post
 
@@ -279,7 +285,7 @@ post w h x tag o a =
     let gv : Thread → ℕ = with_thread w.given new in
     let c : Change = record { state = st; generation = w.generation; occupied = w.occupied; alone = w.alone; given = gv; ended = w.ended } in
     let at_x : st x ≡ Ready tag = with_at-same w.state x (Ready tag) in
-    let claimed : (t : Thread) → t.0.context ≡ x → w.state t.0.context ≡ Claimed h = λ t e. ap w.state e ∙ a.1 in
+    let claimed : (t : Thread) → t.0.context ≡ x → w.state t.0.context ≡ Claimed h = λ t e. ap w.state e ∙ a.claimed in
     let before : (t : Thread) → t.0.context ≡ x → 0 < w.given t → t.0.generation < w.generation x =
     λ t e b. subst (λ (y : ℕ). t.0.generation < w.generation y) e (earlier w h t o (claimed t e) b) in
     let new_none : w.given new ≡ 0 = elim (cases_lt 0 (w.given new)) [
@@ -290,13 +296,14 @@ post w h x tag o a =
     let new_given : gv new ≡ 1 = with_thread-same w.given new ∙ ap (λ (k : ℕ). k + 1) new_none in
     let dead : (t : Thread) → t.0.context ≡ x → is_live w t ≡ false =
     λ t e. not_live_state w t (ap (λ (s : State). has_thread s t.1) (claimed t e)) in
-    owned w x c o a.0 (record {
+    owned w x c o a.context (record {
       state = with_at-other w.state x (Ready tag);
       generation = λ y n. refl;
       occupied = λ p n. refl;
       given = λ t n. same_given t (λ e. n (ap (λ (u : Thread). u.0.context) e));
       ended = λ t n. refl;
-      occupied_here = true_true (is_occupied w x o a.0 (λ e. claimed_not_free h (sym a.1 ∙ e))) (λ e. ready_not_free (Ready tag) tt (sym at_x ∙ e));
+      occupied_here = true_true (is_occupied w x o a.context (λ e. claimed_not_free h (sym a.claimed ∙ e))) (λ e. ready_not_free (Ready tag) tt (sym at_x ∙ e));
+      bounded_here = o.bounded x a.context;
       once_here = λ t e. elim (cases_thread t new) [
         | inl f ↦ omega (arith, ap gv f, new_given)
         | inr n ↦ omega (arith, same_given t n, o.once t)
@@ -318,7 +325,7 @@ post w h x tag o a =
       live_here = λ t e. elim (cases_thread t new) [
         | inl f ↦
             let v : World = changed w c in
-            let yes : is_live v t ≡ true = is_live_from v t (subst (λ (y : ℕ). IsContext w y) (sym e) a.0) (ap (λ (u : Thread). u.0.generation) f ∙ ap w.generation (sym e))
+            let yes : is_live v t ≡ true = is_live_from v t (subst (λ (y : ℕ). IsContext w y) (sym e) a.context) (ap (λ (u : Thread). u.0.generation) f ∙ ap w.generation (sym e))
             (ap (λ (y : ℕ). has_thread (st y) t.1) e ∙ ap (λ (s : State). has_thread s t.1) at_x ∙ eq-eqb tag t.1 (ap (λ (u : Thread). u.1) (sym f))) in
             let none : w.ended t ≡ 0 = sym (as_often w t o (dead t e)) ∙ ap w.given f ∙ new_none in
             ap gv f ∙ new_given ∙ ap (λ (k : ℕ). k + 1) (sym none) ∙ sym (cond-true (is_live v t) (w.ended t + 1) (w.ended t) yes)
@@ -339,9 +346,9 @@ post w h x tag o a =
 -- The live thread of context x ends; the context gets a state with no thread.
 ends : (w : World) (x tag g : ℕ) (s : State) → OwnedOnce w → IsContext w x
     → has_thread (w.state x) tag ≡ true → ((u : ℕ) → has_thread (w.state x) u ≡ true → u ≡ tag) → (s ≡ Free → ⊥) → ((u : ℕ) → has_thread s u ≡ false)
-    → ((k : ℕ) → k ≤ w.generation x → (k < g) ⊎ ((k ≡ g) × HasGivenId s))
+    → ((k : ℕ) → k ≤ w.generation x → (k < g) ⊎ ((k ≡ g) × HasGivenId s)) → g ≤ w.last
     → OwnedOnce (record w { state = with_at w.state x s; generation = with_at w.generation x g; ended = with_thread w.ended (id_of w x, tag) })
-ends w x tag g s o x_in has only m none rises =
+ends w x tag g s o x_in has only m none rises within =
     let old : Thread = (id_of w x, tag) in
     let st : ℕ → State = with_at w.state x s in
     let gn : ℕ → ℕ = with_at w.generation x g in
@@ -356,6 +363,7 @@ ends w x tag g s o x_in has only m none rises =
       given = λ t n. refl;
       ended = λ t n. with_thread-other w.ended old t (λ e. n (ap (λ (u : Thread). u.0.context) e));
       occupied_here = true_true (is_occupied w x o x_in was_live) (λ e. m (sym at_x ∙ e));
+      bounded_here = subst (λ (k : ℕ). k ≤ w.last) (sym (with_at-same w.generation x g)) within;
       once_here = λ t e. o.once t;
       one_tag_here = λ u t e f a b. o.one_tag u t e a b;
       generations_here = λ t e a.
@@ -403,11 +411,20 @@ ended-rises : (b : Bool) (h g k : ℕ) → k ≤ g → (k < cond b (g + 1) g) �
 ended-rises true h g k l = inl (omega arith)
 ended-rises false h g k l = elim (cases_lt k g) [ inl m ↦ inl m | inr m ↦ inr (omega arith, tt) ]
 
+ended-within : (g l : ℕ) → g ≤ l → cond (ltb g l) (g + 1) g ≤ l
+ended-within g l h = elim (cases_lt g l) [
+  | inl m ↦ subst (λ k. k ≤ l) (sym (cond-true (ltb g l) (g + 1) g (lt-ltb g l m))) (omega arith)
+  | inr m ↦ elim (cases_Bool (ltb g l)) [
+    | inl e ↦ subst (λ k. k ≤ l) (sym (cond-true (ltb g l) (g + 1) g e)) (omega (arith, ltb-true g l e))
+    | inr e ↦ subst (λ k. k ≤ l) (sym (cond-false (ltb g l) (g + 1) g e)) h
+  ]
+]
+
 retire : (w : World) (h x : ℕ) → OwnedOnce w → Allowed w (event.Retire h x) → OwnedOnce (after w (event.Retire h x))
 retire w h x o a =
     let b : Bool = ltb (w.generation x) w.last in
-    ends w x (tag_of (w.state x)) (cond b (w.generation x + 1) (w.generation x)) (cond b (Claimed h) Spent) o a.0
-    (held-thread h _ a.1) (held-only h _ a.1) (ended_not_free b h) (ended-thread b h) (ended-rises b h (w.generation x))
+    ends w x (tag_of (w.state x)) (cond b (w.generation x + 1) (w.generation x)) (cond b (Claimed h) Spent) o a.context
+    (held-thread h _ a.held) (held-only h _ a.held) (ended_not_free b h) (ended-thread b h) (ended-rises b h (w.generation x)) (ended-within (w.generation x) w.last (o.bounded x a.context))
 
 -- ---- Move
 
@@ -418,7 +435,7 @@ move : (w : World) (h x y : ℕ) → OwnedOnce w → Allowed w (event.Move h x y
 move w h x y o a =
     let p : Place = w.at x in
     let q : Place = w.at y in
-    let apart : x ≡ y → ⊥ = λ e. a.4 (ap (λ (z : ℕ). (w.at z).core) e) in
+    let apart : x ≡ y → ⊥ = λ e. a.apart (ap (λ (z : ℕ). (w.at z).core) e) in
     let at : ℕ → Place = with_at (with_at w.at x q) y p in
     let at_y : at y ≡ p = with_at-same (with_at w.at x q) y p in
     let at_x : at x ≡ q = with_at-other (with_at w.at x q) y p x apart ∙ with_at-same w.at x q in
@@ -426,9 +443,9 @@ move w h x y o a =
     -- the context that stood before where z stands now
     let from : (z : ℕ) → IsContext w z → (u : ℕ) × IsContext w u × (at z ≡ w.at u) × ((z ≡ x → u ≡ y) × (z ≡ y → u ≡ x) × ((z ≡ x → ⊥) → (z ≡ y → ⊥) → u ≡ z)) =
     λ z z_in. elim (cases_eq z x) [
-      | inl e ↦ (y, a.1, ap at e ∙ at_x, ((λ _. refl), (λ f. absurd (apart (sym e ∙ f))), (λ n m. absurd (n e))))
+      | inl e ↦ (y, a.to, ap at e ∙ at_x, ((λ _. refl), (λ f. absurd (apart (sym e ∙ f))), (λ n m. absurd (n e))))
       | inr n ↦ elim (cases_eq z y) [
-        | inl f ↦ (x, a.0, ap at f ∙ at_y, ((λ e. absurd (n e)), (λ _. refl), (λ k m. absurd (m f))))
+        | inl f ↦ (x, a.from, ap at f ∙ at_y, ((λ e. absurd (n e)), (λ _. refl), (λ k m. absurd (m f))))
         | inr m ↦ (z, z_in, at_z z n m, ((λ e. absurd (n e)), (λ e. absurd (m e)), (λ k l. refl)))
       ]
     ] in
@@ -466,21 +483,22 @@ move w h x y o a =
       filled = λ r r_in.
           let u = o.filled r r_in in
           elim (cases_eq u.0 x) [
-            | inl e ↦ (y, a.1, at_y ∙ ap w.at (sym e) ∙ u.2)
+            | inl e ↦ (y, a.to, at_y ∙ ap w.at (sym e) ∙ u.2)
             | inr n ↦ elim (cases_eq u.0 y) [
-              | inl f ↦ (x, a.0, at_x ∙ ap w.at (sym f) ∙ u.2)
+              | inl f ↦ (x, a.from, at_x ∙ ap w.at (sym f) ∙ u.2)
               | inr m ↦ (u.0, u.1, at_z u.0 n m ∙ u.2)
             ]
           ];
       occupied = λ z z_in. elim (cases_eq z x) [
-        | inl e ↦ true_true (ap (λ (v : ℕ). w.occupied (at v)) e ∙ ap w.occupied at_x ∙ is_occupied w y o a.1 (λ f. claimed_not_free h (sym a.3 ∙ f)))
-            (λ f. resting_not_free _ a.2 (sym (ap w.state e) ∙ f))
+        | inl e ↦ true_true (ap (λ (v : ℕ). w.occupied (at v)) e ∙ ap w.occupied at_x ∙ is_occupied w y o a.to (λ f. claimed_not_free h (sym a.claimed ∙ f)))
+            (λ f. resting_not_free _ a.at_rest (sym (ap w.state e) ∙ f))
         | inr n ↦ elim (cases_eq z y) [
-          | inl f ↦ true_true (ap (λ (v : ℕ). w.occupied (at v)) f ∙ ap w.occupied at_y ∙ is_occupied w x o a.0 (resting_not_free _ a.2))
-              (λ k. claimed_not_free h (sym a.3 ∙ sym (ap w.state f) ∙ k))
+          | inl f ↦ true_true (ap (λ (v : ℕ). w.occupied (at v)) f ∙ ap w.occupied at_y ∙ is_occupied w x o a.from (resting_not_free _ a.at_rest))
+              (λ k. claimed_not_free h (sym a.claimed ∙ sym (ap w.state f) ∙ k))
           | inr m ↦ subst (λ (r : Place). IsTrue (w.occupied r) ↔ (w.state z ≢ Free)) (sym (at_z z n m)) (o.occupied z z_in)
         ]
       ];
+      bounded = o.bounded;
       once = o.once;
       one_tag = o.one_tag;
       generations = o.generations;
@@ -499,7 +517,7 @@ keeps_owned_once w (event.Rest h x r) o a = rests w h x r o a
 keeps_owned_once w (event.Wake id) o a = wake w id o a
 keeps_owned_once w (event.Retire h x) o a = retire w h x o a
 keeps_owned_once w (event.Release h x) o a = release w h x o a
-keeps_owned_once w (event.CloseCore c) o a = record { placed = o.placed; apart = o.apart; filled = o.filled; occupied = o.occupied; once = o.once; one_tag = o.one_tag; generations = o.generations; live = o.live; alone = o.alone }
-keeps_owned_once w (event.OpenCore c) o a = record { placed = o.placed; apart = o.apart; filled = o.filled; occupied = o.occupied; once = o.once; one_tag = o.one_tag; generations = o.generations; live = o.live; alone = o.alone }
+keeps_owned_once w (event.CloseCore c) o a = record { placed = o.placed; apart = o.apart; filled = o.filled; occupied = o.occupied; bounded = o.bounded; once = o.once; one_tag = o.one_tag; generations = o.generations; live = o.live; alone = o.alone }
+keeps_owned_once w (event.OpenCore c) o a = record { placed = o.placed; apart = o.apart; filled = o.filled; occupied = o.occupied; bounded = o.bounded; once = o.once; one_tag = o.one_tag; generations = o.generations; live = o.live; alone = o.alone }
 keeps_owned_once w (event.Move h x y) o a = move w h x y o a
 keeps_owned_once w event.Still o a = o

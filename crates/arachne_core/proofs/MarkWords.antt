@@ -1,13 +1,14 @@
 -- Mark words: packing what was read, reading what was packed, and another mark or place.
-use Rattle.std.proofs.Common.{◌≡◌, ℕ, zero, suc, ◌+◌, ◌*◌, ◌/◌, ◌%◌, ◌^◌, ◌<◌, eqb, refl, sym, ap, ◌∙◌, arith}
+use Rattle.std.proofs.Common.{◌≡◌, ℕ, zero, suc, ◌+◌, ◌*◌, ◌/◌, ◌%◌, ◌^◌, ◌<◌, ◌↔◌, eqb, refl, sym, ap, ◌∙◌, arith}
 use Rattle.std.specs.Int.{bit_at}
-use Rattle.std.proofs.lemmas.Nat.{shr-shr, pow-add, mod_low, shr_high, shr_split}
-use Rattle.std.proofs.Math.Nat.{mul_comm, mul_assoc}
+use Rattle.std.proofs.lemmas.Nat.{shr-shr, pow-add, mod_below, mod_low, shr_high, shr_split}
+use Rattle.std.proofs.Math.Nat.{mul_comm, mul_assoc, one-le-pow}
 use Rattle.arachne_core.specs.declared.mark.Mark.{Mark}
 use Rattle.arachne_core.specs.declared.mark.Mark.TheVariants.{Free, Ready, Blocked, Held, Woken, Spent}
 use Rattle.arachne_core.specs.declared.place.Place.{Place}
+use Rattle.arachne_core.specs.declared.layout.TheConstants.{SLOTS}
 use Rattle.arachne_core.specs.Occupancy.{bit}
-use Rattle.arachne_core.specs.Marked.{Marked, mark_code, mark_named, mark_word, marked_of, with_mark, with_place}
+use Rattle.arachne_core.specs.Marked.{Marked, mark_code, mark_named, mark_word, marked_of, IsMarkWord, with_mark, with_place}
 use Rattle.arachne_core.proofs.OccupancyWords.{bit-le, bit-eqb, eqb-bit}
 
 pub mark_code-lt : (m : Mark) → mark_code m < 6
@@ -55,12 +56,18 @@ fields b low i c g low_in i_in c_in =
       omega (arith, whole),
     )
 
+-- the lowest three bits of a packed word are its mark's code
+code-mark_word : (b : ℕ) (m : Marked) → m.place.index < 2 ^ 6 → m.place.core < 2 ^ b → mark_word b m % 2 ^ 3 ≡ mark_code m.mark
+code-mark_word b m i_in c_in =
+    let f = fields b (mark_code m.mark + 2 ^ 3 * bit m.alone) m.place.index m.place.core m.generation (omega (arith, mark_code-lt m.mark, bit-le m.alone)) i_in c_in in
+    omega (arith, f.3, mark_code-lt m.mark)
+
 pub marked_of-mark_word : (b : ℕ) (m : Marked) → m.place.index < 2 ^ 6 → m.place.core < 2 ^ b → marked_of b (mark_word b m) ≡ m
 marked_of-mark_word b m i_in c_in =
     let low : ℕ = mark_code m.mark + 2 ^ 3 * bit m.alone in
     let low_in : low < 2 ^ 4 = omega (arith, mark_code-lt m.mark, bit-le m.alone) in
     let f = fields b low m.place.index m.place.core m.generation low_in i_in c_in in
-    let code : mark_word b m % 2 ^ 3 ≡ mark_code m.mark = omega (arith, f.3, mark_code-lt m.mark) in
+    let code = code-mark_word b m i_in c_in in
     let flag : mark_word b m / 2 ^ 3 % 2 ≡ bit m.alone = omega (arith, f.4, mark_code-lt m.mark, bit-le m.alone) in
     let mark : mark_named (mark_word b m % 2 ^ 3) ≡ m.mark = ap mark_named code ∙ mark_named-mark_code m.mark in
     let alone : eqb (bit_at (mark_word b m) 3) 1 ≡ m.alone = ap (λ (n : ℕ). eqb n 1) flag ∙ eqb-bit m.alone in
@@ -75,6 +82,16 @@ mark_word-marked_of b w h =
     ap (λ (n : ℕ). n * (w / 2 ^ (10 + b))) (pow-add 2 10 b) ∙ mul_assoc (2 ^ 10) (2 ^ b) (w / 2 ^ (10 + b))
     ∙ ap (λ (n : ℕ). 2 ^ 10 * n) (mul_comm (2 ^ b) (w / 2 ^ (10 + b)) ∙ ap (λ (n : ℕ). n * 2 ^ b) (sym (shr-shr w 10 b))) in
     omega (arith, code, flag, split, top)
+
+-- a word of 64 bits is a mark word exactly where its mark is one of the six and its index one of a core's
+pub is_mark_word : (b w : ℕ) → IsMarkWord b w ↔ ((w < 2 ^ 64) × (w % 2 ^ 3 < 6) × (w / 2 ^ 4 % 2 ^ 6 < SLOTS))
+is_mark_word b w = (
+  λ h.
+      let m : Marked = marked_of b w in
+      let code : mark_word b m % 2 ^ 3 ≡ mark_code m.mark = code-mark_word b m (omega arith) (mod_below (w / 2 ^ 10) (2 ^ b) (one-le-pow b 2 (omega arith))) in
+      (h.2, omega (arith, code, ap (λ (n : ℕ). n % 2 ^ 3) h.0, mark_code-lt m.mark), h.1),
+  λ h. (mark_word-marked_of b w h.1, h.2, h.0),
+)
 
 pub marking : (b w : ℕ) (m : Mark) → marked_of b (w / 2 ^ 3 * 2 ^ 3 + mark_code m) ≡ record (marked_of b w) { mark = m }
 marking b w m =

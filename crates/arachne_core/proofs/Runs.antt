@@ -56,6 +56,7 @@ opening_owned_once w first h = record {
     λ b. absurd (false≢true (sym (h.occupied (w.at x) (subst (λ (p : Place). IsPlace w p) (sym (h.at x x_in)) (first_in w.cores w.slots x x_in))) ∙ b)),
     λ n. absurd (n (h.state x x_in)),
   );
+  bounded = λ x x_in. omega (arith, h.generation x x_in, h.within);
   once = λ t. omega (arith, h.given t);
   one_tag = λ s t e a b. absurd (omega (arith, a, h.given s));
   generations = λ t a. absurd (omega (arith, a, h.given t));
@@ -112,8 +113,8 @@ empty_with : (w : World) (p : Place) (c : ℕ) → (c ≡ p.core → ⊥) → Is
 empty_with w p c n h i i_in = with_place-other w.occupied p true (record { core = c; index = i }) (λ e. n (ap (λ (q : Place). q.core) e)) ∙ h i i_in
 
 stays : (w : World) (e : Event) (c : ℕ) → IsDrained w c → Allowed w e → e ≢ event.OpenCore c → IsDrained (after w e) c
-stays w (event.Claim h x) c d a n = (d.0, d.1, empty_with w (w.at x) c (λ e. true≢false (sym d.1 ∙ ap w.closed e ∙ a.2.0)) d.2)
-stays w (event.Alone h x) c d a n = (d.0, d.1, empty_with w (w.at x) c (λ e. true≢false (sym d.1 ∙ ap w.closed e ∙ a.2.0)) d.2)
+stays w (event.Claim h x) c d a n = (d.0, d.1, empty_with w (w.at x) c (λ e. true≢false (sym d.1 ∙ ap w.closed e ∙ a.core.not_closed)) d.2)
+stays w (event.Alone h x) c d a n = (d.0, d.1, empty_with w (w.at x) c (λ e. true≢false (sym d.1 ∙ ap w.closed e ∙ a.core.not_closed)) d.2)
 stays w (event.Post h x tag) c d a n = d
 stays w (event.Take h x) c d a n = d
 stays w (event.Rest h x r) c d a n = d
@@ -170,20 +171,20 @@ other : (h : ℕ) (f : ℕ → State) (x y : ℕ) (s : State) → IsHeldBy h (f 
 other h f x y s d n = subst (IsHeldBy h) (sym (with_at-other f y s x n)) d
 
 held_after : (w : World) (e : Event) (h x : ℕ) → IsHeldBy h (w.state x) → Allowed w e → (LetsGo h x e → ⊥) → IsHeldBy h ((after w e).state x)
-held_after w (event.Claim k y) h x d a n = other h w.state x y _ d (λ e. held_not_free h (w.state x) d (ap w.state e ∙ a.1))
-held_after w (event.Alone k y) h x d a n = other h w.state x y _ d (λ e. held_not_free h (w.state x) d (ap w.state e ∙ a.1))
-held_after w (event.Post k y tag) h x d a n = other h w.state x y _ d (λ e. held_not_claimed h k (w.state x) d (ap w.state e ∙ a.1))
-held_after w (event.Take k y) h x d a n = other h w.state x y _ d (λ e. held_not_ready h (w.state x) d (subst (λ (z : ℕ). IsReady (w.state z)) (sym e) a.1))
+held_after w (event.Claim k y) h x d a n = other h w.state x y _ d (λ e. held_not_free h (w.state x) d (ap w.state e ∙ a.free))
+held_after w (event.Alone k y) h x d a n = other h w.state x y _ d (λ e. held_not_free h (w.state x) d (ap w.state e ∙ a.free))
+held_after w (event.Post k y tag) h x d a n = other h w.state x y _ d (λ e. held_not_claimed h k (w.state x) d (ap w.state e ∙ a.claimed))
+held_after w (event.Take k y) h x d a n = other h w.state x y _ d (λ e. held_not_ready h (w.state x) d (subst (λ (z : ℕ). IsReady (w.state z)) (sym e) a.ready))
 held_after w (event.Rest k y r) h x d a n =
-    other h w.state x y _ d (λ e. n (one_carrier h k (w.state x) d (subst (λ (z : ℕ). IsHeldBy k (w.state z)) (sym e) a.1), sym e))
+    other h w.state x y _ d (λ e. n (one_carrier h k (w.state x) d (subst (λ (z : ℕ). IsHeldBy k (w.state z)) (sym e) a.held), sym e))
 held_after w (event.Wake id) h x d a n = elim (cases_eq x id.context) [
   | inl e ↦ subst (IsHeldBy h) (sym (ap (with_at w.state id.context (woken (w.state id.context))) e ∙ with_at-same w.state id.context (woken (w.state id.context))))
       (subst (λ (z : ℕ). IsHeldBy h (woken (w.state z))) e (held_woken h (w.state x) d))
   | inr m ↦ other h w.state x id.context _ d m
 ]
 held_after w (event.Retire k y) h x d a n =
-    other h w.state x y _ d (λ e. n (one_carrier h k (w.state x) d (subst (λ (z : ℕ). IsHeldBy k (w.state z)) (sym e) a.1), sym e))
-held_after w (event.Release k y) h x d a n = other h w.state x y _ d (λ e. held_not_claimed h k (w.state x) d (ap w.state e ∙ a.1))
+    other h w.state x y _ d (λ e. n (one_carrier h k (w.state x) d (subst (λ (z : ℕ). IsHeldBy k (w.state z)) (sym e) a.held), sym e))
+held_after w (event.Release k y) h x d a n = other h w.state x y _ d (λ e. held_not_claimed h k (w.state x) d (ap w.state e ∙ a.claimed))
 held_after w (event.CloseCore c) h x d a n = d
 held_after w (event.OpenCore c) h x d a n = d
 held_after w (event.Move k y z) h x d a n = d

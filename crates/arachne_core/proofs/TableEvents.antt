@@ -86,7 +86,7 @@ retire_makes k mid new h x tag found next x_in f g e p s n d =
 
 pub move_makes : (k new : ContextTable) (h x y : ℕ) → x < length k.contexts → y < length k.contexts → Allowed (world_of k) (event.Move h x y)
     → new ≡ with_swapped k x y → world_of new ≡ after (world_of k) (event.Move h x y)
-move_makes k new h x y x_in y_in a e = ap world_of e ∙ swapped_world k x y x_in y_in (λ q. a.4 (ap (λ (z : ℕ). (context k z).place.core) q))
+move_makes k new h x y x_in y_in a e = ap world_of e ∙ swapped_world k x y x_in y_in (λ q. a.apart (ap (λ (z : ℕ). (context k z).place.core) q))
 
 -- an answer leaves the World owned once
 pub answers_owned_once : (e : Event) (old new : ContextTable) (r : Result (Unit {0}) NotApplied) → OwnedOnce (world_of old) → Answers e old new r → OwnedOnce (world_of new)

@@ -124,13 +124,14 @@ first_table k g few last =
       generations = λ x x_in. subst (λ (c : Context). c.generation ≤ LAST_GENERATION) (sym (first_at g n x (omega (arith, size, x_in)))) last;
     }
 
-pub first_world : (k g posts retires : ℕ)
+pub first_world : (k g posts retires : ℕ) → g ≤ LAST_GENERATION
     → IsOpening (world_of (record { contexts = map (first_context g) (range_with_len 0 (k * 56)); cores = replicate k vacant; given = []; ended = []; posts = posts; retires = retires })) g
-first_world k g posts retires =
+first_world k g posts retires last =
     let n : ℕ = k * 56 in
     let cores : length (replicate k vacant) ≡ k = length-replicate k vacant in
     let within : (x : ℕ) → x < length (replicate k vacant) * 56 → x < n = λ x h. omega (arith, cores, h) in
     record {
+      within = last;
       at = λ x h. ap (λ (c : Context). c.place) (first_at g n x (within x h));
       generation = λ x h. ap (λ (c : Context). c.generation) (first_at g n x (within x h));
       state = λ x h. ap (λ (c : Context). c.state) (first_at g n x (within x h));

@@ -33,6 +33,7 @@ begun = record {
 
 is_opening : IsOpening begun 0
 is_opening = record {
+  within = omega arith;
   at = λ x h. refl;
   generation = λ x h. refl;
   state = λ x h. refl;
@@ -55,7 +56,10 @@ abbrev closing : List Event
 closing = event.Claim 0 0 ∷ event.Post 0 0 7 ∷ event.CloseCore 0 ∷ event.Take 1 0 ∷ []
 
 is_run : IsRun begun closing
-is_run = ((omega arith, refl, (refl, refl)), ((omega arith, refl), (omega arith, ((omega arith, tt), tt))))
+is_run = (
+  record { context = omega arith; free = refl; core = record { not_closed = refl; not_alone = refl } },
+  (record { context = omega arith; claimed = refl }, (omega arith, (record { context = omega arith; ready = tt }, tt))),
+)
 
 abbrev closed : World
 closed = after_all begun closing
@@ -70,16 +74,16 @@ occupied_then : (closed.occupied (place 0 0) ≡ true) × (closed.occupied (plac
 occupied_then = (refl, refl)
 
 no_claim_on_a_closed_core : ¬ Allowed closed (event.Claim 0 1)
-no_claim_on_a_closed_core a = true≢false a.2.0
+no_claim_on_a_closed_core a = true≢false a.core.not_closed
 
 no_second_take : ¬ Allowed closed (event.Take 0 0)
-no_second_take a = a.1
+no_second_take a = a.ready
 
 no_other_puts_back : ¬ Allowed closed (event.Rest 0 0 rest.Ready)
-no_other_puts_back a = omega (arith, a.1)
+no_other_puts_back a = omega (arith, a.held)
 
 no_other_retires : ¬ Allowed closed (event.Retire 0 0)
-no_other_retires a = omega (arith, a.1)
+no_other_retires a = omega (arith, a.held)
 
 open_again : (after closed (event.OpenCore 0)).closed 0 ≡ false
 open_again = refl
@@ -88,7 +92,7 @@ no_such_core : ¬ Allowed begun (event.CloseCore 2)
 no_such_core a = omega (arith, a)
 
 no_such_context : ¬ Allowed begun (event.Claim 0 4)
-no_such_context a = omega (arith, a.0)
+no_such_context a = omega (arith, a.context)
 
 -- ---- put back and woken
 
@@ -105,16 +109,16 @@ woken_then : (after closed wake_zero).state 0 ≡ Held 1 true 7
 woken_then = refl
 
 no_second_wake : ¬ Allowed (after closed wake_zero) wake_zero
-no_second_wake a = a.2
+no_second_wake a = a.waits
 
 no_wake_of_another_generation : ¬ Allowed closed (event.Wake (record { context = 0; generation = 1 }))
-no_wake_of_another_generation a = omega (arith, a.1)
+no_wake_of_another_generation a = omega (arith, a.generation)
 
 no_wake_of_a_ready_thread : ¬ Allowed (after closed (event.Rest 1 0 rest.Ready)) wake_zero
-no_wake_of_a_ready_thread a = a.2
+no_wake_of_a_ready_thread a = a.waits
 
 no_take_of_a_blocked_thread : ¬ Allowed (after closed (event.Rest 1 0 rest.Blocked)) (event.Take 1 0)
-no_take_of_a_blocked_thread a = a.1
+no_take_of_a_blocked_thread a = a.ready
 
 -- ---- threads end, below the last generation and at it
 
@@ -125,7 +129,7 @@ ended_then : (ended.state 0 ≡ Claimed 1) × (ended.generation 0 ≡ 1) × (end
 ended_then = (refl, refl, refl, refl)
 
 no_other_releases : ¬ Allowed ended (event.Release 0 0)
-no_other_releases a = let same : Claimed 1 ≡ Claimed 0 = a.1 in cc
+no_other_releases a = let same : Claimed 1 ≡ Claimed 0 = a.claimed in cc
 
 released : (after ended (event.Release 1 0)).occupied (place 0 0) ≡ false
 released = refl
@@ -137,7 +141,7 @@ spent_then : (last.state 0 ≡ Spent) × (last.generation 0 ≡ 1) × (last.ende
 spent_then = (refl, refl, refl, refl)
 
 no_release_of_a_spent_context : ¬ Allowed last (event.Release 1 0)
-no_release_of_a_spent_context a = let same : Spent ≡ Claimed 1 = a.1 in cc
+no_release_of_a_spent_context a = let same : Spent ≡ Claimed 1 = a.claimed in cc
 
 -- ---- a thread alone on its core
 
@@ -148,13 +152,13 @@ alone_then : (alone.alone 1 ≡ true) × (alone.state 2 ≡ Claimed 0) × (alone
 alone_then = (refl, refl, refl)
 
 no_claim_beside_it : ¬ Allowed alone (event.Claim 0 3)
-no_claim_beside_it a = true≢false a.2.1
+no_claim_beside_it a = true≢false a.core.not_alone
 
 not_alone_at_index_1 : ¬ Allowed begun (event.Alone 0 3)
-not_alone_at_index_1 a = omega (arith, a.3)
+not_alone_at_index_1 a = omega (arith, a.first)
 
 not_alone_beside_a_claimed_place : ¬ Allowed (after begun (event.Claim 0 3)) (event.Alone 0 2)
-not_alone_beside_a_claimed_place a = true≢false (a.4 1 (omega arith))
+not_alone_beside_a_claimed_place a = true≢false (a.empty 1 (omega arith))
 
 alone_until_released : (after alone (event.Release 0 2)).alone 1 ≡ false
 alone_until_released = refl
@@ -178,25 +182,25 @@ abbrev moved : World
 moved = after apart (event.Move 0 0 2)
 
 is_a_move : Allowed apart (event.Move 0 0 2)
-is_a_move = (omega arith, omega arith, tt, refl, (λ e. omega (arith, e)), refl, refl)
+is_a_move = record { from = omega arith; to = omega arith; at_rest = tt; claimed = refl; apart = λ e. omega (arith, e); from_core = refl; to_core = refl }
 
 moved_then : (moved.at 0 ≡ place 1 0) × (moved.at 2 ≡ place 0 0) × (moved.state 0 ≡ Ready 7) × (moved.occupied (place 0 0) ≡ true)
 moved_then = (refl, refl, refl, refl)
 
 no_move_by_another : ¬ Allowed apart (event.Move 1 0 2)
-no_move_by_another a = let same : Claimed 0 ≡ Claimed 1 = a.3 in cc
+no_move_by_another a = let same : Claimed 0 ≡ Claimed 1 = a.claimed in cc
 
 no_move_of_a_held_thread : ¬ Allowed (after apart (event.Take 0 0)) (event.Move 0 0 2)
-no_move_of_a_held_thread a = a.2
+no_move_of_a_held_thread a = a.at_rest
 
 no_move_within_a_core : ¬ Allowed (after apart (event.Claim 0 1)) (event.Move 0 0 1)
-no_move_within_a_core a = a.4 refl
+no_move_within_a_core a = a.apart refl
 
 no_move_from_a_core_alone : ¬ Allowed (record apart { alone = λ c. eqb c 0 }) (event.Move 0 0 2)
-no_move_from_a_core_alone a = true≢false a.5
+no_move_from_a_core_alone a = true≢false a.from_core
 
 no_move_to_a_core_alone : ¬ Allowed (record apart { alone = λ c. eqb c 1 }) (event.Move 0 0 2)
-no_move_to_a_core_alone a = true≢false a.6
+no_move_to_a_core_alone a = true≢false a.to_core
 
 -- ---- each fact of being owned once
 
@@ -214,6 +218,9 @@ claimed_without_its_place o = true≢false (sym ((o.occupied 0 (omega arith)).1 
 
 occupied_and_free : ¬ OwnedOnce (record begun { occupied = λ p. true })
 occupied_and_free o = (o.occupied 0 (omega arith)).0 refl refl
+
+past_the_last : ¬ OwnedOnce (record begun { generation = λ x. 2 })
+past_the_last o = omega (arith, o.bounded 0 (omega arith))
 
 given_twice : ¬ OwnedOnce (record begun { given = λ t. 2; ended = λ t. 2 })
 given_twice o = omega (arith, o.once (thread 0 0 7))

@@ -39,9 +39,9 @@ marked_of b w = record {
   generation = w / 2 ^ (10 + b);
 }
 
--- the code of its mark is one of the six, and its index is one of a core's
+-- it is the word of what it says, its index is one of a core's, and it has 64 bits
 abbrev pub IsMarkWord : ℕ → ℕ → Type 0
-IsMarkWord b w = (mark_word b (marked_of b w) ≡ w) × (w / 2 ^ 4 % 2 ^ 6 < SLOTS)
+IsMarkWord b w = (mark_word b (marked_of b w) ≡ w) × (w / 2 ^ 4 % 2 ^ 6 < SLOTS) × (w < 2 ^ 64)
 
 -- there is a word of 64 bits for it
 abbrev pub FitsWord : ℕ → Marked → Type 0

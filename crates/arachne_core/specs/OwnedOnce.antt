@@ -34,6 +34,8 @@ pub record OwnedOnce (w : World) : Type 0 where
   pub filled : (p : Place) → IsPlace w p → (x : ℕ) × IsContext w x × (w.at x ≡ p)
   -- a place is occupied exactly where its context isn't free
   pub occupied : (x : ℕ) → IsContext w x → IsTrue (w.occupied (w.at x)) ↔ (w.state x ≢ Free)
+  -- no generation is past the last
+  pub bounded : (x : ℕ) → IsContext w x → w.generation x ≤ w.last
   -- no id is given twice
   pub once : (t : Thread) → w.given t ≤ 1
   pub one_tag : (s t : Thread) → s.0 ≡ t.0 → 0 < w.given s → 0 < w.given t → s ≡ t

@@ -1,5 +1,5 @@
 -- Runs of the World, and what is true in each.
-use Rattle.std.specs.Prelude.{◌≡◌, ◌≢◌, ℕ, ◌<◌, Bool, false, List, [], ◌∷◌, IsTrue}
+use Rattle.std.specs.Prelude.{◌≡◌, ◌≢◌, ℕ, ◌<◌, ◌≤◌, Bool, false, List, [], ◌∷◌, IsTrue}
 use Rattle.arachne_core.specs.declared.place.Place.{Place}
 use Rattle.arachne_core.specs.declared.event.Event.{Event}
 use Rattle.arachne_core.specs.declared.event.Event.TheVariants as event
@@ -9,6 +9,7 @@ use Rattle.arachne_core.specs.World.{World, Thread, IsContext, IsPlace, Allowed,
 
 -- the World at first: each context at the place of its number, free and of one generation, each core open, nothing given
 pub record IsOpening (w : World) (first : ℕ) : Type 0 where
+  pub within : first ≤ w.last
   pub at : (x : ℕ) → IsContext w x → w.at x ≡ first_place w.slots x
   pub generation : (x : ℕ) → IsContext w x → w.generation x ≡ first
   pub state : (x : ℕ) → IsContext w x → w.state x ≡ Free

@@ -68,8 +68,9 @@ abbrev pub id_of : World → ℕ → ThreadId
 id_of w x = record { context = x; generation = w.generation x }
 
 -- new threads may come to the core
-abbrev pub TakesThreads : World → ℕ → Type 0
-TakesThreads w c = (w.closed c ≡ false) × (w.alone c ≡ false)
+pub record TakesThreads (w : World) (c : ℕ) : Type 0 where
+  pub not_closed : w.closed c ≡ false
+  pub not_alone : w.alone c ≡ false
 
 abbrev pub IsEmptyCore : World → ℕ → Type 0
 IsEmptyCore w c = (i : ℕ) → i < w.slots → w.occupied (record { core = c; index = i }) ≡ false
@@ -94,6 +95,53 @@ abbrev pub CanBeWoken : State → Type 0
 CanBeWoken (Blocked tag) = Unit {0}
 CanBeWoken (Held h false tag) = Unit {0}
 CanBeWoken s = ⊥
+
+-- ---- the guards
+
+-- x is free, and its core takes threads
+pub record MayClaim (w : World) (x : ℕ) : Type 0 where
+  pub context : IsContext w x
+  pub free : w.state x ≡ Free
+  pub core : TakesThreads w (core_of w x)
+
+-- the same at index 0 of a core that has no occupied place
+pub record MayClaimAlone (w : World) (x : ℕ) : Type 0 where
+  pub context : IsContext w x
+  pub free : w.state x ≡ Free
+  pub core : TakesThreads w (core_of w x)
+  pub first : (w.at x).index ≡ 0
+  pub empty : IsEmptyCore w (core_of w x)
+
+-- h has claimed x
+pub record HasClaimed (w : World) (h x : ℕ) : Type 0 where
+  pub context : IsContext w x
+  pub claimed : w.state x ≡ Claimed h
+
+-- the thread in x is ready
+pub record MayTake (w : World) (x : ℕ) : Type 0 where
+  pub context : IsContext w x
+  pub ready : IsReady (w.state x)
+
+-- h holds the thread in x
+pub record HoldsIn (w : World) (h x : ℕ) : Type 0 where
+  pub context : IsContext w x
+  pub held : IsHeldBy h (w.state x)
+
+-- the thread of this id is in its context, and can be woken
+pub record MayWake (w : World) (id : ThreadId) : Type 0 where
+  pub context : IsContext w id.context
+  pub generation : w.generation id.context ≡ id.generation
+  pub waits : CanBeWoken (w.state id.context)
+
+-- the thread in x is at rest, h has claimed y on another core, and neither core is alone
+pub record MayMove (w : World) (h x y : ℕ) : Type 0 where
+  pub from : IsContext w x
+  pub to : IsContext w y
+  pub at_rest : IsAtRest (w.state x)
+  pub claimed : w.state y ≡ Claimed h
+  pub apart : core_of w x ≢ core_of w y
+  pub from_core : w.alone (core_of w x) ≡ false
+  pub to_core : w.alone (core_of w y) ≡ false
 
 -- ---- what becomes of a context's state
 
@@ -130,38 +178,38 @@ pub record Rule : Type 1 where
 abbrev pub rule : World → Event → Rule
 -- Claim: h claims a free context, whose core takes threads. Its place is occupied from then on.
 rule w (event.Claim h x) = record {
-  allowed = IsContext w x × (w.state x ≡ Free) × TakesThreads w (core_of w x);
+  allowed = MayClaim w x;
   after = record w { state = with_at w.state x (Claimed h); occupied = with_place w.occupied (w.at x) true };
 }
 -- Alone: the same at index 0 of a core that has no occupied place, and the core is alone from then on.
 rule w (event.Alone h x) = record {
-  allowed = IsContext w x × (w.state x ≡ Free) × TakesThreads w (core_of w x) × ((w.at x).index ≡ 0) × IsEmptyCore w (core_of w x);
+  allowed = MayClaimAlone w x;
   after = record w { state = with_at w.state x (Claimed h); occupied = with_place w.occupied (w.at x) true; alone = with_at w.alone (core_of w x) true };
 }
 -- Post: a thread comes into a context that h has claimed. It is ready, and was given the context's id.
 rule w (event.Post h x tag) = record {
-  allowed = IsContext w x × (w.state x ≡ Claimed h);
+  allowed = HasClaimed w h x;
   after = record w { state = with_at w.state x (Ready tag); given = with_thread w.given (id_of w x, tag) };
 }
 -- Take: h holds a thread that was ready.
 rule w (event.Take h x) = record {
-  allowed = IsContext w x × IsReady (w.state x);
+  allowed = MayTake w x;
   after = record w { state = with_at w.state x (taken h (w.state x)) };
 }
 -- Rest: h puts a thread back. It is blocked if so asked and if it wasn't woken meanwhile, else ready.
 rule w (event.Rest h x r) = record {
-  allowed = IsContext w x × IsHeldBy h (w.state x);
+  allowed = HoldsIn w h x;
   after = record w { state = with_at w.state x (put_back r (w.state x)) };
 }
 -- Wake: the thread of this id is ready if it was blocked, and woken if it was held and not woken yet.
 rule w (event.Wake id) = record {
-  allowed = IsContext w id.context × (w.generation id.context ≡ id.generation) × CanBeWoken (w.state id.context);
+  allowed = MayWake w id;
   after = record w { state = with_at w.state id.context (woken (w.state id.context)) };
 }
 -- Retire: a thread that h holds has ended. Below the last generation the context goes on to the next one, claimed by h;
 -- at the last it is spent, and its place stays occupied.
 rule w (event.Retire h x) = record {
-  allowed = IsContext w x × IsHeldBy h (w.state x);
+  allowed = HoldsIn w h x;
   after = record w {
     state = with_at w.state x (if nat_lt (w.generation x) w.last then Claimed h else Spent);
     generation = with_at w.generation x (if nat_lt (w.generation x) w.last then w.generation x + 1 else w.generation x);
@@ -170,7 +218,7 @@ rule w (event.Retire h x) = record {
 }
 -- Release: h gives up a context that it has claimed. Its place isn't occupied any more, and its core isn't alone.
 rule w (event.Release h x) = record {
-  allowed = IsContext w x × (w.state x ≡ Claimed h);
+  allowed = HasClaimed w h x;
   after = record w { state = with_at w.state x Free; occupied = with_place w.occupied (w.at x) false; alone = with_at w.alone (core_of w x) false };
 }
 -- CloseCore, OpenCore: a core of the table is closed, or not.
@@ -179,8 +227,7 @@ rule w (event.OpenCore c) = record { allowed = c < w.cores; after = record w { c
 -- Move: a thread at rest goes to the place of a context that h has claimed on another core, neither core being alone. The two
 -- contexts swap places.
 rule w (event.Move h x y) = record {
-  allowed = IsContext w x × IsContext w y × IsAtRest (w.state x) × (w.state y ≡ Claimed h) × (core_of w x ≢ core_of w y)
-      × (w.alone (core_of w x) ≡ false) × (w.alone (core_of w y) ≡ false);
+  allowed = MayMove w h x y;
   after = record w { at = with_at (with_at w.at x (w.at y)) y (w.at x) };
 }
 -- Still: nothing changes.

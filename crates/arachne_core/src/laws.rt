@@ -1,10 +1,10 @@
 //! Laws of the World's definitions and of the words. Each is a function with an empty body, whose contract is the law.
 
-ghost use Rattle.std.specs.Prelude.{◌≡◌, ℕ, ◌+◌, ◌-◌, ◌*◌, ◌%◌, ◌^◌, ◌<◌, ◌↔◌, List, length, slice_index_or, true, false, bit_and, bit_or};
+ghost use Rattle.std.specs.Prelude.{◌≡◌, ℕ, ◌+◌, ◌-◌, ◌*◌, ◌/◌, ◌%◌, ◌^◌, ◌<◌, ◌↔◌, List, length, slice_index_or, true, false, bit_and, bit_or};
 ghost use Rattle.arachne_core.specs.declared.mark.Mark.{Mark};
 ghost use Rattle.arachne_core.specs.declared.place.Place.{Place};
 ghost use Rattle.arachne_core.specs.declared.event.Event.{Event};
-ghost use Rattle.arachne_core.specs.Marked.{Marked, mark_word, marked_of, with_mark, with_place};
+ghost use Rattle.arachne_core.specs.Marked.{Marked, mark_word, marked_of, IsMarkWord, with_mark, with_place};
 ghost use Rattle.arachne_core.specs.Occupancy.{Occupancy, count_of, occupancy_word, occupancy_of, count_field, IsOccupancyWord, HasOneMore};
 ghost use Rattle.arachne_core.specs.World.{World, IsHeldBy, Allowed, after};
 ghost use Rattle.arachne_core.specs.OwnedOnce.{OwnedOnce};
@@ -101,9 +101,10 @@ pub fn mark_words_read_as_packed()
     ensures { (bits : ℕ) (m : Marked) → m.place.index < 2 ^ 6 → m.place.core < 2 ^ bits → marked_of bits (mark_word bits m) ≡ m }
 {}
 
-/// A mark word that is read is packed again as it was, where its mark is one of the six.
+/// What is read from a number of 64 bits is packed into the same number with an index of a core, exactly where the mark
+/// is one of the six and the index one of a core's.
 pub fn mark_words_pack_as_read()
-    ensures { (bits word : ℕ) → word % 2 ^ 3 < 6 → mark_word bits (marked_of bits word) ≡ word }
+    ensures { (bits word : ℕ) → IsMarkWord bits word ↔ ((word < 2 ^ 64) × (word % 2 ^ 3 < 6) × (word / 2 ^ 4 % 2 ^ 6 < SLOTS)) }
 {}
 
 /// Setting the mark of a mark word keeps alone, place and generation.

@@ -94,6 +94,14 @@ impl Tables {
         (number as usize) < self.contexts.len()
     }
 
+    /// How many cores there are.
+    pub fn count(&self) -> u8
+        ensures value { result ≡ length self.now.cores }
+        ensures few { result ≤ CORES }
+    {
+        self.cores.len() as u8
+    }
+
     pub fn context(&self, number: u32) -> Context
         requires { IsContext (world_of self.now) number }
         ensures value { result ≡ context self.now number }

@@ -5,6 +5,7 @@ use crate::layout::{CORES, LAST_GENERATION, SLOTS};
 use crate::mark_word::MarkWord;
 use crate::occ_word::OccWord;
 use crate::place::Place;
+use crate::state::State;
 use crate::tables::Tables;
 use std::alloc::{AllocError, Global};
 use std::marker::Model;
@@ -28,7 +29,7 @@ impl Model for World {
 }
 
 impl World {
-    ghost use Rattle.std.specs.Prelude.{◌≡◌, ◌<◌, ◌≤◌, ℕ, IfOk, OnOk, IsOk};
+    ghost use Rattle.std.specs.Prelude.{◌≡◌, ◌<◌, ◌≤◌, ℕ, IfOk, OnOk, OnErr, IsOk};
     ghost use Rattle.arachne_core.specs.World.{IsContext, IsPlace};
     ghost use Rattle.arachne_core.specs.OwnedOnce.{OwnedOnce};
     ghost use Rattle.arachne_core.specs.Run.{IsOpening};
@@ -53,6 +54,7 @@ impl World {
         ensures grown { (self.old.posts ≤ self.new.posts) × (self.old.retires ≤ self.new.retires) }
         ensures ok { OnOk result ((posts ≤ self.new.posts) × (retires ≤ self.new.retires)) }
         ensures succeeds { posts ≤ self.old.posts → retires ≤ self.old.retires → IsOk result }
+        ensures owned_once { OwnedOnce (world_of self.new) }
     {
         self.tables.reserve(posts, retires)
     }
@@ -61,6 +63,7 @@ impl World {
     /// reserved for them.
     pub fn apply(&mut self, event: Event) -> Result<(), NotApplied>
         ensures answer { Answers event self.old self.new result }
+        ensures err { OnErr result (self.new ≡ self.old) }
         ensures owned_once { OwnedOnce (world_of self.new) }
         ensures cores { (world_of self.new).cores ≡ (world_of self.old).cores }
     {
@@ -68,6 +71,21 @@ impl World {
             return Err(NotApplied::NotAllowed);
         }
         self.tables.make(event)
+    }
+
+    /// How many cores there are.
+    pub fn cores(&self) -> u8
+        ensures value { result ≡ (world_of self.now).cores }
+        ensures few { result ≤ CORES }
+    {
+        self.tables.count()
+    }
+
+    /// Tells whoever has a World that it is owned once. Nothing is done.
+    pub fn is_owned_once(&self)
+        ensures { OwnedOnce (world_of self.now) }
+    {
+        let _ = &self.tables;
     }
 
     /// The context that stands at a place.
@@ -85,6 +103,14 @@ impl World {
         ensures { result ≡ (world_of self.now).at context }
     {
         self.tables.context(context).place
+    }
+
+    /// What a context is at.
+    pub fn state(&self, context: u32) -> State
+        requires { IsContext (world_of self.now) context }
+        ensures { result ≡ (world_of self.now).state context }
+    {
+        self.tables.context(context).state
     }
 
     /// The occupancy word of a core.

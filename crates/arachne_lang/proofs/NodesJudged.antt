@@ -7,11 +7,11 @@ use Rattle.std.specs.Prelude.{nat_lt, Option, None, Some, Result, Ok, Err}
 use Rattle.arachne_lang.specs.declared.check_fault.CheckFault.{CheckFault}
 use Rattle.arachne_lang.specs.Tree.{Tree, Number, Variable, Length, Item, Binary, Choose, Bind, Tally, Hold, Fork, Fold, Sweep, Source}
 use Rattle.arachne_lang.specs.Text.{nesting}
-use Rattle.arachne_lang.specs.Checked.{NodeFault, node_faults, first_fault, is_within_limits, verdict_of}
+use Rattle.arachne_lang.specs.Checked.{NodeFault, node_faults, first_fault, node_count, is_within_limits, verdict_of}
 use Rattle.arachne_lang.specs.Program.{tree_of, source_of}
 use Rattle.arachne_lang.specs.declared.check_fault.CheckFault.TheVariants as fault
 use Rattle.arachne_lang.specs.declared.program.Program.{Program}
-use Rattle.arachne_lang.specs.Judgement.{node_count, judged, KeepsLimits}
+use Rattle.arachne_lang.specs.Judgement.{judged, KeepsLimits}
 
 pub nesting_positive : (tree : Tree) → 0 < nesting tree
 nesting_positive (Number n) = omega arith
@@ -109,11 +109,11 @@ sum_by-items arrays = items-of-arrays 0 arrays
 
 kept-is_within_limits : (program : Program) → KeepsLimits program → is_within_limits (source_of program) ≡ true
 kept-is_within_limits program kept =
-    rw (length-node_faults (source_of program) false 0 (tree_of program.root), length-map, sum_by-items program.arrays.items) (grind (arith, nat_tests))
+    rw (length-map, sum_by-items program.arrays.items) (grind (arith, nat_tests))
 
 is_within_limits-kept : (program : Program) → is_within_limits (source_of program) ≡ true → KeepsLimits program
 is_within_limits-kept program is =
-    let all = rw (length-node_faults (source_of program) false 0 (tree_of program.root), length-map, sum_by-items program.arrays.items) at is in
+    let all = rw (length-map, sum_by-items program.arrays.items) at is in
     record {
       nodes = grind (arith, nat_tests);
       arrays = grind (arith, nat_tests);

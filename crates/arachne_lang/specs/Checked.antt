@@ -53,10 +53,25 @@ first_fault node [] = Ok tt
 first_fault node (None ∷ nodes) = first_fault (node + 1) nodes
 first_fault node (Some fault ∷ nodes) = Err (fault node)
 
+-- how many nodes an expression has
+abbrev pub node_count : Tree → ℕ
+node_count (Number n) = 1
+node_count (Variable k) = 1
+node_count (Length a) = 1
+node_count (Item a index) = 1 + node_count index
+node_count (Binary operation a b) = 1 + (node_count a + node_count b)
+node_count (Choose condition first second) = 1 + (node_count condition + node_count first + node_count second)
+node_count (Bind bound body) = 1 + (node_count bound + node_count body)
+node_count (Tally ledger amount body) = 1 + (node_count amount + node_count body)
+node_count (Hold lock body) = 1 + node_count body
+node_count (Fork class child during after) = 1 + (node_count child + node_count during + node_count after)
+node_count (Fold from to first body) = 1 + (node_count from + node_count to + node_count first + node_count body)
+node_count (Sweep reduction grain from to body) = 1 + (node_count from + node_count to + node_count body)
+
 -- nodes, arrays, items of all arrays, ledgers and locks
 abbrev pub is_within_limits : Source → Bool
 is_within_limits program =
-    nat_le (length (node_faults program false 0 program.root)) 4096 && nat_le (length program.arrays) 64
+    nat_le (node_count program.root) 4096 && nat_le (length program.arrays) 64
     && nat_le (sum_by length program.arrays) 1000000 && nat_le program.ledgers 16 && nat_le program.locks 16
 
 -- What the check of a program answers: first the nesting is judged, then the limits, then the nodes.

@@ -1,8 +1,8 @@
 ghost use Rattle.std.specs.Prelude.{◌≡◌, ◌+◌, ◌-◌, ◌*◌, ◌^◌, ◌<◌, ◌≤◌, ◌↔◌, ◌++◌, IsTrue, IfOk, SomeIff, length, sum_by, take};
 ghost use Rattle.arachne_lang.specs.Program.{tree_of, source_of};
 ghost use Rattle.arachne_lang.specs.Text.{nesting};
-ghost use Rattle.arachne_lang.specs.Checked.{node_faults, first_fault, verdict_of};
-ghost use Rattle.arachne_lang.specs.Judgement.{node_count, judged, KeepsLimits};
+ghost use Rattle.arachne_lang.specs.Checked.{node_faults, first_fault, node_count, verdict_of};
+ghost use Rattle.arachne_lang.specs.Judgement.{judged, KeepsLimits};
 
 use crate::check_fault::CheckFault;
 use crate::program::{Expr, Program};

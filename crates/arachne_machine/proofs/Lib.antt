@@ -13,4 +13,5 @@ pub mod Joining
 pub mod Soundness
 pub mod Advancing
 pub mod Waiting
+pub mod Crossing
 pub mod WorkedPrograms

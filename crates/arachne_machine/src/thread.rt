@@ -61,6 +61,13 @@ impl<'p> Thread<'p> {
         self.state.own.tag
     }
 
+    /// The name.
+    pub fn name(&self) -> &Name
+        ensures { result.now ≡ self.now.name }
+    {
+        &self.state.own.name
+    }
+
     /// The program.
     pub fn program(&self) -> &'p Program
         ensures { result.now ≡ self.now.program }

@@ -1,5 +1,7 @@
 pub mod Consistency
+pub mod Dealing
 pub mod Histories
 pub mod OneHolderLaw
+pub mod SomeLocks
 pub mod Threads
 mod WorkedHistories

@@ -4,3 +4,5 @@ pub mod OneHolder
 pub mod Lock
 pub mod WaitQueue
 pub mod Inside
+pub mod Seats
+pub mod SleepLock

@@ -13,6 +13,17 @@ pub struct Pass {
     pub at: usize,
 }
 
+impl Pass {
+    ghost use Rattle.std.specs.Prelude.{◌≡◌};
+
+    /// The pass with this lock's number.
+    pub(crate) fn of_lock(self, lock: u8) -> Pass
+        ensures { result ≡ record self { lock = lock } }
+    {
+        Pass { lock, ..self }
+    }
+}
+
 /// The answer to an ask that is let in.
 #[derive(Clone, Copy, Debug, PartialEq, Eq)]
 pub enum Asked {
@@ -23,6 +34,15 @@ pub enum Asked {
         /// The place of the ask in the lock's history, from 0.
         at: usize,
     },
+}
+
+/// What came of one try at a lock that kernel threads share.
+#[derive(Clone, Copy, Debug, PartialEq, Eq)]
+pub enum Tried<A> {
+    /// The lock's answer.
+    Answered(A),
+    /// Another kernel thread was at the lock. Nothing has changed, and the call may be made again.
+    Contended,
 }
 
 /// Why an ask is refused.

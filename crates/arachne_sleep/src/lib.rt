@@ -1,16 +1,21 @@
-//! The state of a sleep lock: who owns it, who waits for it in which order, and the history of all
-//! that was asked, granted and freed.
+//! Sleep locks, which block a user thread and leave its core to others.
+//!
+//! [`LockState`] is the state of one: who owns it, who waits for it in which order, and the history of all that was
+//! asked, granted and freed. [`SleepLock`] is one that kernel threads share, each through a [`LockSeat`].
 #![tactic(auto)]
 
 mod answer;
 mod event;
-mod laws;
+pub mod laws;
+mod lock_seat;
 mod lock_state;
+mod sleep_lock;
 mod wait_queue;
 mod who;
 
-pub use answer::{AskFault, Asked, Freed, NotHolder, Pass};
+pub use answer::{AskFault, Asked, Freed, NotHolder, Pass, Tried};
 pub use event::LockEvent;
-pub use laws::one_holder_at_a_time;
+pub use lock_seat::LockSeat;
 pub use lock_state::LockState;
+pub use sleep_lock::SleepLock;
 pub use who::Who;

@@ -39,6 +39,7 @@ impl LockState {
     ghost use Rattle.arachne_sleep.specs.Holding.{IsIn};
     ghost use Rattle.arachne_sleep.specs.History.{replay, IsSound};
     ghost use Rattle.arachne_sleep.specs.Lock.{owner_of, queue_of, AnswersAsk, AnswersFree, IsPassOf};
+    ghost use Rattle.arachne_sleep.specs.SleepLock.{IsAskedOfSome, IsFreedBySome, IsPassOfSome};
 
     /// A lock that nobody has asked for yet. It takes no memory.
     pub fn new(alloc: Global, lock: u8) -> Self
@@ -132,6 +133,46 @@ impl LockState {
         ensures sound { IsSound self.now.history }
     {
         &self.history
+    }
+
+    /// All that was asked, granted and freed, oldest first. The lock is gone.
+    pub fn into_history(self) -> Vec<LockEvent>
+        ensures events { result.items ≡ self.history }
+        ensures sound { IsSound self.history }
+    {
+        let LockState { history, .. } = self;
+        history
+    }
+
+    // ---- the same calls where nothing but the type is known of the lock, which makes its history sound
+
+    /// As `ask`. A pass gets the given number.
+    pub(crate) fn ask_as(&mut self, number: u8, who: Who) -> Result<Asked, AskFault>
+        ensures { IfOk result (IsAskedOfSome number who) }
+    {
+        let _ = self.history();
+        let asked = self.ask(who)?;
+        Ok(match asked {
+            Asked::Granted(pass) => Asked::Granted(pass.of_lock(number)),
+            Asked::Queued { at } => Asked::Queued { at },
+        })
+    }
+
+    /// As `free`.
+    pub(crate) fn free_as(&mut self, who: Who) -> Result<Freed, NotHolder>
+        ensures { IfOk result (IsFreedBySome who) }
+    {
+        let _ = self.history();
+        self.free(who)
+    }
+
+    /// As `check`. A pass gets the given number.
+    pub(crate) fn check_as(&self, number: u8, who: Who) -> Option<Pass>
+        ensures { IfSome result (IsPassOfSome number who) }
+    {
+        let _ = self.history();
+        let pass = self.check(who)?;
+        Some(pass.of_lock(number))
     }
 }
 

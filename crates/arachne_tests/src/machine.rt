@@ -36,7 +36,7 @@ fn expect(
     program: &Program,
     expected: &Expected,
 ) -> Result<(), Fail> {
-    for budget in [0, 1, 7, 100] {
+    for budget in [0, 1, 7, 100, 10_000, u32::MAX] {
         let meaning = run_alone(alloc, program, budget)?;
         let mut names = Vec::new(alloc);
         let mut holds = Vec::new(alloc);
@@ -288,7 +288,7 @@ fn end(thread: &mut Thread, budget: u32) -> Result<(), Fail>
 {
     match thread.advance(budget)? {
         Pause::Ended => Ok(()),
-        _ => Err("a sum of more than three steps")?,
+        _ => Err("not at its end")?,
     }
 }
 
@@ -304,6 +304,26 @@ fn a_sum_has_three_steps(rt: HostRuntime) -> Result<(), Fail> {
     let mut thread = Thread::start(alloc, &program, 0)?;
     cut(&mut thread, 2)?;
     end(&mut thread, 2)
+}
+
+/// A fold takes two steps beside those of its bounds, of its start and of its 5,000 turns, each a sum of two variables: 15,005 in all.
+#[test]
+fn budgets_up_to_the_greatest(rt: HostRuntime) -> Result<(), Fail> {
+    let alloc = rt.alloc();
+    let fold = "(fold (num 0) (num 5000) (num 0) (add (var 0) (var 1)))";
+    let program = program(alloc, 0, fold)?;
+    let mut thread = Thread::start(alloc, &program, 0)?;
+    cut(&mut thread, 10_000)?;
+    end(&mut thread, 10_000)?;
+    assert_eq!(rt; thread.finish().value(), 12_497_500);
+    let mut thread = Thread::start(alloc, &program, 0)?;
+    cut(&mut thread, 15_004)?;
+    end(&mut thread, 1)?;
+    assert_eq!(rt; thread.finish().value(), 12_497_500);
+    let mut thread = Thread::start(alloc, &program, 0)?;
+    end(&mut thread, u32::MAX)?;
+    assert_eq!(rt; thread.finish().value(), 12_497_500);
+    Ok(())
 }
 
 /// Goes on through the pauses of a hold with a tally in it, and answers them.
@@ -370,7 +390,7 @@ fn is_right_or_refused(alloc: Global, budget: u32) -> bool {
 /// Run with each allocation refused in turn (`rt try --test --fail-alloc N`) no answer changes but to want of memory.
 #[test]
 fn refused_memory_changes_no_answer(rt: HostRuntime) -> Result<(), Fail> {
-    for budget in [1, 7, 100] {
+    for budget in [1, 7, 100, 10_000, u32::MAX] {
         assert!(rt; is_right_or_refused(rt.alloc(), budget));
     }
     Ok(())

@@ -1,3 +1,5 @@
+mod shared;
+
 use arachne_core::ThreadId;
 use arachne_sleep::{AskFault, Asked, Freed, LockEvent, LockState, NotHolder, Pass, Who};
 use std::process::Abort;
@@ -86,6 +88,7 @@ fn three_threads_in_turn(rt: HostRuntime) -> Result<(), Fail> {
         LockEvent::Free(c),
     ];
     assert_eq!(rt; lock.history(), whole.as_slice());
+    assert_eq!(rt; lock.into_history().as_slice(), whole.as_slice());
     Ok(())
 }
 

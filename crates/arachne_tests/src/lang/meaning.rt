@@ -121,6 +121,24 @@ fn rows_are_checked_and_evaluated(rt: HostRuntime) -> Result<(), Fail> {
     Ok(())
 }
 
+/// A thread for each of 901 numbers. The child of each fork has the left half, so the last line's name is of the halves 450, 225, 112, 56, 28, 14, 7, 3, 1.
+#[test]
+fn many_threads_have_a_line_each(rt: HostRuntime) -> Result<(), Fail> {
+    let alloc = rt.alloc();
+    let sweep = "(sweep add 1 (num 0) (num 901) (hold 0 (tally 0 (num 5) (var 0))))";
+    let meaning = meaning_of(alloc, &program_of(alloc, "1", "1", sweep)?)?;
+    assert_eq!(rt; meaning.value, 405_450);
+    assert_eq!(rt; meaning.totals.as_slice(), [4505].as_slice());
+    let lines = meaning.threads.as_slice();
+    assert_eq!(rt; lines.len(), 901);
+    for line in lines {
+        assert_eq!(rt; line.holds.as_slice(), [1].as_slice());
+    }
+    assert!(rt; lines[0].name.forks().is_empty());
+    assert_eq!(rt; lines[900].name.forks(), [0; 9].as_slice());
+    Ok(())
+}
+
 #[test]
 fn limits_on_arrays(rt: HostRuntime) -> Result<(), Fail> {
     let alloc = rt.alloc();

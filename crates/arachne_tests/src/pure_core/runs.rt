@@ -486,6 +486,36 @@ fn an_event_names_what_is_not_there(rt: HostRuntime) -> Result<(), Fail> {
     Ok(())
 }
 
+/// A thread in the last place of sixteen cores, and its move to the first core.
+#[test]
+fn a_machine_of_sixteen_cores(rt: HostRuntime) -> Result<(), Fail> {
+    let mut world = World::new(rt.alloc(), 16, 0)?;
+    world.reserve(1, 1)?;
+    step(&rt, &mut world, claim(0, 895), 0x0, 0x0);
+    step(&rt, &mut world, post(0, 895, 7), 0x0, 0x0);
+    assert_eq!(rt; world.occ(15).word(), 0x0180_0000_0000_0000);
+    assert_eq!(rt; world.mark(895).word(), 0x3f71);
+    assert_eq!(rt;
+        world.context_at(Place {
+            core: 15,
+            index: 55
+        }),
+        895
+    );
+    refused(&rt, &mut world, claim(0, 896));
+    refused(&rt, &mut world, Event::CloseCore { core: 16 });
+    step(&rt, &mut world, Event::CloseCore { core: 15 }, 0x0, 0x0);
+    step(&rt, &mut world, claim(1, 0), ONE, 0x0);
+    step(&rt, &mut world, move_thread(1, 895, 0), ONE, 0x3f70);
+    step(&rt, &mut world, release(1, 0), ONE, 0x3f70);
+    assert_eq!(rt; world.occ(15).word(), 0x4000_0000_0000_0000);
+    assert_eq!(rt; world.mark(895).word(), 0x1);
+    step(&rt, &mut world, take(0, 895), ONE, 0x3f70);
+    step(&rt, &mut world, retire(0, 895), ONE, 0x3f70);
+    step(&rt, &mut world, release(0, 895), 0x0, 0x3f70);
+    Ok(())
+}
+
 /// Where no room was reserved a post may be refused for memory. It then stays possible.
 #[test]
 fn a_post_without_room(rt: HostRuntime) -> Result<(), Fail> {

@@ -1,5 +1,5 @@
-use Rattle.arachne_core.proofs.MarkWords.{mark_word-marked_of}
+use Rattle.arachne_core.proofs.MarkWords.{is_mark_word}
 use Rattle.arachne_core.proofs.laws.mark_words_pack_as_read.Goals as goal
 
 pub returns : goal.returns
-returns c = mark_word-marked_of
+returns c = is_mark_word

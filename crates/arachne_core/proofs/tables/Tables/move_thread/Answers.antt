@@ -7,7 +7,7 @@ pub returns : goal.returns
 returns c =
     let old = c.args.self.now in
     let e = c.swap_places.ensures in (
-      move_makes old c.swap_places.new.self c.args.carrier c.args.from c.args.to (omega (arith, e.sizes, c.requires.0)) (omega (arith, e.sizes, c.requires.1)) c.requires e.swapped,
+      move_makes old c.swap_places.new.self c.args.carrier c.args.from c.args.to (omega (arith, e.sizes, c.requires.from)) (omega (arith, e.sizes, c.requires.to)) c.requires e.swapped,
       omega (arith, ap (λ (t : ContextTable). t.posts) e.swapped),
       omega (arith, ap (λ (t : ContextTable). t.retires) e.swapped),
     )

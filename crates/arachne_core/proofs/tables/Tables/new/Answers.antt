@@ -25,4 +25,4 @@ returns-clause-opening c =
     let contexts = c.in_ok-contexts.ensures ∙ ap (λ (n : ℕ). map (first_context g) (range_with_len 0 n)) count in
     let T : List Context × List Occupancy × List Thread × List Thread → Type 0 =
     λ q. IsOpening (world_of (record { contexts = q.0; cores = q.1; given = q.2; ended = q.3; posts = 0; retires = 0 })) g in
-    subst T (λ i. (sym contexts i, sym c.in_ok-cores.ensures i, sym c.new.ensures.items i, sym c.new-2.ensures.items i)) (first_world c.args.cores g 0 0)
+    subst T (λ i. (sym contexts i, sym c.in_ok-cores.ensures i, sym c.new.ensures.items i, sym c.new-2.ensures.items i)) (first_world c.args.cores g 0 0 c.requires.generation)

@@ -1,0 +1,51 @@
+-- What a table's answers say.
+use Rattle.std.specs.Prelude.{◌≡◌, ℕ, ◌<◌, List, [], ◌∷◌}
+use Rattle.arachne_core.specs.declared.place.Place.{Place}
+use Rattle.arachne_core.specs.declared.thread_id.ThreadId.{ThreadId}
+use Rattle.arachne_contexts.specs.declared.answers.Claimed.{Claimed}
+use Rattle.arachne_contexts.specs.declared.answers.Claimed.TheVariants as claimed
+use Rattle.arachne_contexts.specs.declared.answers.Taken.{Taken}
+use Rattle.arachne_contexts.specs.declared.answers.Taken.TheVariants as taken
+use Rattle.arachne_contexts.specs.declared.answers.Woken.{Woken}
+use Rattle.arachne_contexts.specs.declared.answers.Woken.TheVariants as woken
+use Rattle.arachne_contexts.specs.declared.answers.Moved.{Moved}
+use Rattle.arachne_contexts.specs.declared.answers.Moved.TheVariants as moved
+use Rattle.arachne_contexts.specs.Words.{ShowsFull, ShowsClosed, ShowsInUse, ShowsNoRoom, ShowsReadyAt, ShowsWoken}
+
+-- a claim on a core: a place there, or a word that shows why not
+abbrev pub ClaimsOn : {C : Type 0} → (C → Place) → ℕ → Claimed C → Type 0
+ClaimsOn place_of core (claimed.Place claim) = (place_of claim).core ≡ core
+ClaimsOn place_of core (claimed.Full word) = ShowsFull word
+ClaimsOn place_of core (claimed.Closed word) = ShowsClosed word
+ClaimsOn place_of core (claimed.Lost word) = Unit {0}
+
+-- a claim of a whole core: its index 0, or a word that shows why not
+abbrev pub ClaimsWhole : {C : Type 0} → (C → Place) → ℕ → Claimed C → Type 0
+ClaimsWhole place_of core (claimed.Place claim) = place_of claim ≡ record { core = core; index = 0 }
+ClaimsWhole place_of core (claimed.Full word) = ShowsInUse word
+ClaimsWhole place_of core (claimed.Closed word) = ShowsClosed word
+ClaimsWhole place_of core (claimed.Lost word) = Unit {0}
+
+-- a take at a place: the thread there, or a word that shows none that is ready
+abbrev pub TakesAt : {T H : Type 0} → (H → Place) → Place → Taken T H → Type 0
+TakesAt place_of p (taken.Run held) = place_of held.hold ≡ p
+TakesAt place_of p (taken.NotReady word) = ShowsReadyAt p word → ⊥
+TakesAt place_of p (taken.Lost word) = Unit {0}
+
+-- a wake of an id
+abbrev pub WakesAs : ThreadId → Woken → Type 0
+WakesAs id woken.Woken = Unit {0}
+WakesAs id (woken.Already word) = ShowsWoken id word
+WakesAs id woken.Gone = Unit {0}
+WakesAs id (woken.Lost word) = Unit {0}
+
+-- a move to a core
+abbrev pub MovesAs : Moved → Type 0
+MovesAs (moved.NoRoom word) = ShowsNoRoom word
+MovesAs answer = Unit {0}
+
+-- the contexts rise, so no thread is in the list twice
+abbrev pub IsByContext : {T : Type 0} → List (ThreadId × T) → Type 0
+IsByContext [] = Unit {0}
+IsByContext (t ∷ []) = Unit {0}
+IsByContext (t ∷ u ∷ ts) = (t.0.context < u.0.context) × IsByContext (u ∷ ts)

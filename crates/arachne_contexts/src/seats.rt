@@ -1,0 +1,68 @@
+//! The seats of a table.
+ghost use Rattle.std.specs.Prelude.{◌≡◌, ◌≤◌, ◌↔◌, ℕ, IfOk, IsTrue};
+ghost use Rattle.arachne_weights.specs.Weight.{whole, first_part, second_part, joined};
+
+use arachne_core::{CORES, LAST_GENERATION};
+use std::alloc::{AllocError, Global};
+use std::sync::Wait;
+
+/// A table's seats, with which its threads step. Each has a part of the whole weight, so whoever has all of it knows that
+/// no other seat is in use. A seat is used with the table that it came from.
+pub trait Seats {
+    type Seat: Drop + Send;
+
+    /// The seat is of this table.
+    ghost sits: { Self → Self.Seat → Type 0 };
+
+    /// Nothing is out with the seat: whatever it claimed or took is spent.
+    ghost idle: { Self → Self.Seat → Type 0 };
+
+    /// The seat's part of the whole weight.
+    ghost weight: { Self.Seat → ℕ };
+
+    /// How many cores the table has.
+    ghost core_count: { Self → ℕ };
+
+    /// A table whose contexts are free and of one generation, and the seat with the whole weight.
+    fn new(
+        alloc: Global,
+        cores: u8,
+        first_generation: u64,
+    ) -> Result<(Self, Self::Seat), AllocError>
+        requires some { 1 ≤ cores }
+        requires cores { cores ≤ CORES }
+        requires generation { first_generation ≤ LAST_GENERATION }
+        ensures cores { IfOk result (λ made. Self.core_count made.0 ≡ cores) }
+        ensures sits { IfOk result (λ made. Self.sits made.0 made.1) }
+        ensures idle { IfOk result (λ made. Self.idle made.0 made.1) }
+        ensures weight { IfOk result (λ made. Self.weight made.1 ≡ whole) };
+
+    /// Halves the weight, rounded up for the first seat. At weight 1 or 0 neither gets any. Whatever was claimed or taken
+    /// through the seat must be spent before.
+    fn split<R: Wait>(&self, rt: &R, seat: Self::Seat) -> (Self::Seat, Self::Seat)
+        requires seat { Self.sits self.now seat }
+        requires idle { Self.idle self.now seat }
+        ensures first { Self.sits self.now result.0 }
+        ensures first_idle { Self.idle self.now result.0 }
+        ensures second { Self.sits self.now result.1 }
+        ensures second_idle { Self.idle self.now result.1 }
+        ensures first_weight { Self.weight result.0 ≡ first_part (Self.weight seat) }
+        ensures second_weight { Self.weight result.1 ≡ second_part (Self.weight seat) };
+
+    /// Adds up the weights, to at most the whole. Whatever was claimed or taken through either seat must be spent before.
+    fn join_seats<R: Wait>(&self, rt: &R, seat: Self::Seat, other: Self::Seat) -> Self::Seat
+        requires seat { Self.sits self.now seat }
+        requires other { Self.sits self.now other }
+        requires idle { Self.idle self.now seat }
+        requires other_idle { Self.idle self.now other }
+        ensures sits { Self.sits self.now result }
+        ensures idle { Self.idle self.now result }
+        ensures weight { Self.weight result ≡ joined (Self.weight seat) (Self.weight other) };
+
+    /// Whether all other seats were joined into this one.
+    fn is_whole(&self, seat: &Self::Seat) -> bool
+        ensures { IsTrue result ↔ (Self.weight seat.now ≡ whole) };
+
+    /// How many of the seat's claims and threads it hasn't spent.
+    fn out(&self, seat: &Self::Seat) -> u32;
+}

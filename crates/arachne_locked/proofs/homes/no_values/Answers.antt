@@ -1,0 +1,6 @@
+use Rattle.std.proofs.Common.{◌≡◌, None, [], ◌∷◌, ◌++◌, replicate, sym, ap, ◌∙◌}
+use Rattle.std.proofs.lemmas.Grind.{replicate_next}
+use Rattle.arachne_locked.proofs.homes.no_values.Goals as goal
+
+pub loop-preserved : goal.loop-preserved
+loop-preserved g c = c.in_ok-push.ensures.items ∙ ap (λ xs. xs ++ None ∷ []) c.loop.invariant ∙ sym (replicate_next c.loop.counter None)

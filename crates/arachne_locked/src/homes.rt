@@ -1,0 +1,170 @@
+//! The World, and the values of the threads at rest.
+ghost use Rattle.std.specs.Prelude.{◌≡◌, ◌<◌, ◌≤◌, ◌*◌, ℕ, IfOk, OnOk, OnErr, IfErr, IfSome, IfNone, None, Some, replicate, slice_set, Ok, Err, IsTrue, ◌↔◌};
+ghost use Rattle.arachne_core.specs.ContextTable.{world_of, Answers};
+ghost use Rattle.arachne_core.specs.World.{Allowed, HoldsIn, IsContext};
+ghost use Rattle.arachne_core.specs.OwnedOnce.{OwnedOnce};
+ghost use Rattle.arachne_core.specs.Run.{IsOpening};
+ghost use Rattle.arachne_core.specs.declared.event.Event.TheVariants as event;
+ghost use Rattle.arachne_core.specs.declared.state.State.TheVariants as state;
+ghost use Rattle.arachne_locked.specs.AtHome.{IsHome, LeavesValues, HoldsTagged, value_at};
+
+use arachne_contexts::Tagged;
+use arachne_core::{CORES, Event, LAST_GENERATION, NotApplied, Rest, SLOTS, State, World};
+use std::alloc::{AllocError, Global};
+use std::marker::Model;
+
+/// A World, and by context the value of each thread that is at rest.
+#[derive(Drop)]
+pub struct Homes<T: Tagged> {
+    world: World,
+    values: Vec<Option<T>>,
+}
+
+impl<T: Tagged> Model for Homes<T> {
+    ghost use Rattle.arachne_core.specs.ContextTable.{world_of};
+    ghost use Rattle.arachne_locked.specs.AtHome.{TableView, IsHome};
+
+    ghost Value = { TableView T };
+
+    ghost view = { λ h. record { table = h.world; values = h.values.items } };
+
+    ghost invariant = { λ h. IsHome T.tag_of (world_of h.world) h.values.items };
+}
+
+impl<T: Tagged + Drop> Homes<T> {
+    /// A table with this many cores, and no thread.
+    pub fn new(alloc: Global, cores: u8, first_generation: u64) -> Result<Self, AllocError>
+        requires some { 1 ≤ cores }
+        requires cores { cores ≤ CORES }
+        requires generation { first_generation ≤ LAST_GENERATION }
+        ensures cores { IfOk result (λ homes. (world_of homes.table).cores ≡ cores) }
+        ensures opening { IfOk result (λ homes. IsOpening (world_of homes.table) first_generation) }
+    {
+        let world = World::new(alloc, cores, first_generation)?;
+        let values = no_values(alloc, usize::from(cores) * usize::from(SLOTS))?;
+        Ok(Homes { world, values })
+    }
+
+    /// The World.
+    pub fn world(&self) -> &World
+        ensures world { result.now ≡ self.now.table }
+        ensures owned_once { OwnedOnce (world_of self.now.table) }
+        ensures home { IsHome T.tag_of (world_of self.now.table) self.now.values }
+    {
+        self.world.is_owned_once();
+        &self.world
+    }
+
+    /// How many contexts there are.
+    pub fn contexts(&self) -> usize
+        ensures { result ≡ (world_of self.now.table).cores * SLOTS }
+    {
+        self.values.len()
+    }
+
+    /// Makes room for so many more posts and retires.
+    pub fn reserve(&mut self, posts: usize, retires: usize) -> Result<(), AllocError>
+        ensures values { self.new.values ≡ self.old.values }
+        ensures kept { self.new.table ≡ record self.old.table { posts = self.new.table.posts; retires = self.new.table.retires } }
+        ensures grown { (self.old.table.posts ≤ self.new.table.posts) × (self.old.table.retires ≤ self.new.table.retires) }
+        ensures ok { OnOk result ((posts ≤ self.new.table.posts) × (retires ≤ self.new.table.retires)) }
+    {
+        self.world.reserve(posts, retires)
+    }
+
+    /// Makes an event that leaves the values where they are.
+    pub fn apply(&mut self, event: Event) -> Result<(), NotApplied>
+        requires { LeavesValues event }
+        ensures answer { Answers event self.old.table self.new.table result }
+        ensures values { self.new.values ≡ self.old.values }
+        ensures err { OnErr result (self.new ≡ self.old) }
+    {
+        self.world.apply(event)
+    }
+
+    /// Posts a thread in a context that the carrier has claimed. A value that isn't posted comes back.
+    pub fn post(&mut self, carrier: u32, context: u32, value: T) -> Result<(), (NotApplied, T)>
+        ensures made { OnOk result (Answers (event.Post carrier context (T.tag_of value)) self.old.table self.new.table (Ok tt)) }
+        ensures home { OnOk result (self.new.values ≡ slice_set self.old.values context (Some value)) }
+        ensures refused { IfErr result (λ back. Answers (event.Post carrier context (T.tag_of value)) self.old.table self.new.table (Err back.0)) }
+        ensures handed_back { IfErr result (λ back. back.1 ≡ value) }
+        ensures err { OnErr result (self.new ≡ self.old) }
+    {
+        let tag = value.tag();
+        let post = Event::Post {
+            carrier,
+            context,
+            tag,
+        };
+        match self.world.apply(post) {
+            Ok(()) => {
+                self.values[context as usize] = Some(value);
+                Ok(())
+            }
+            Err(refusal) => Err((refusal, value)),
+        }
+    }
+
+    /// Takes a thread that is ready.
+    pub fn take(&mut self, carrier: u32, context: u32) -> Option<T>
+        ensures made { IfSome result (λ value. Answers (event.Take carrier context) self.old.table self.new.table (Ok tt)) }
+        ensures value { IfSome result (λ value. value_at self.old.values context ≡ Some value) }
+        ensures out { IfSome result (λ value. self.new.values ≡ slice_set self.old.values context None) }
+        ensures refused { IfNone result (Allowed (world_of self.old.table) (event.Take carrier context) → ⊥) }
+        ensures none { IfNone result (self.new ≡ self.old) }
+    {
+        match self.world.apply(Event::Take { carrier, context }) {
+            Ok(()) => {
+                let value = self.values[context as usize].take().unwrap();
+                Some(value)
+            }
+            Err(_) => None,
+        }
+    }
+
+    /// Whether the carrier holds a thread with this tag in the context.
+    pub fn holds(&self, carrier: u32, context: u32, tag: u64) -> bool
+        ensures { IsTrue result ↔ HoldsTagged (world_of self.now.table) carrier context tag }
+    {
+        if context as usize >= self.values.len() {
+            return false;
+        }
+        match self.world.state(context) {
+            State::Held {
+                carrier: holder,
+                tag: own,
+                ..
+            } => holder == carrier && own == tag,
+            _ => false,
+        }
+    }
+
+    /// Puts back a thread that the carrier holds.
+    pub fn put_back(&mut self, carrier: u32, context: u32, value: T, rest: Rest)
+        requires { HoldsTagged (world_of self.old.table) carrier context (T.tag_of value) }
+        ensures made { Answers (event.Rest carrier context rest) self.old.table self.new.table (Ok tt) }
+        ensures home { self.new.values ≡ slice_set self.old.values context (Some value) }
+    {
+        let event = Event::Rest {
+            carrier,
+            context,
+            rest,
+        };
+        match self.world.apply(event) {
+            Ok(()) => {}
+            Err(_) => unreachable!(),
+        }
+        self.values[context as usize] = Some(value);
+    }
+}
+
+/// So many contexts with no value.
+fn no_values<T: Drop>(alloc: Global, count: usize) -> Result<Vec<Option<T>>, AllocError>
+    ensures { IfOk result (λ values. values.items ≡ replicate count None) }
+{
+    let mut values = Vec::with_capacity(alloc, count)?;
+    for _ in 0..count {
+        values.push(None)?;
+    }
+    Ok(values)
+}

@@ -1,0 +1,4 @@
+//! A context table behind a lock.
+#![tactic(auto)]
+
+mod homes;

@@ -1,0 +1,89 @@
+-- A history with one step more.
+use Rattle.std.proofs.Common.{◌≡◌, ◌≢◌, ℕ, zero, suc, ◌+◌, ◌*◌, ◌<◌, ◌≤◌, eqb, List, [], ◌∷◌, ◌++◌, length, length-set, refl, sym, ap, ◌∙◌, subst, arith, inl, inr, set, get_or}
+use Rattle.std.proofs.lemmas.Bool.{cond-true, cond-false, eq-eqb, ne_eqb}
+use mathlib.Core.Option.{some, some-ne-none}
+use lib.ListN.{get_elem?}
+use Rattle.atomic_table.proofs.Lists.{at_set}
+use Rattle.arachne_core.specs.declared.event.Event.{Event}
+use Rattle.arachne_core.specs.declared.event.Event.TheVariants as event
+use Rattle.arachne_core.specs.World.{World, Allowed, after}
+use Rattle.arachne_core.specs.Run.{IsRun, after_all}
+use Rattle.arachne_weights.specs.declared.token.Token.{Token}
+use Rattle.arachne_weights.specs.Tokens.{held}
+use Rattle.arachne_rule.specs.declared.view.Known.{Known}
+use Rattle.arachne_rule.specs.declared.view.Record.{Record}
+use Rattle.arachne_rule.specs.declared.view.Shape.{Shape}
+use Rattle.arachne_rule.specs.declared.view.Kind.{Kind}
+use Rattle.arachne_rule.specs.Views.{noted}
+use Rattle.arachne_rule.specs.History.{Makes, world_after, events_of, records_of, IsHistory, AreOfSeats, Entry}
+use Rattle.arachne_rule.specs.Table.{Table, Tells}
+
+-- an event changes no size
+pub same_size : (w : World) (e : Event) → ((after w e).cores ≡ w.cores) × ((after w e).slots ≡ w.slots) × ((after w e).last ≡ w.last)
+same_size w (event.Claim h x) = (refl, refl, refl)
+same_size w (event.Alone h x) = (refl, refl, refl)
+same_size w (event.Post h x t) = (refl, refl, refl)
+same_size w (event.Take h x) = (refl, refl, refl)
+same_size w (event.Rest h x r) = (refl, refl, refl)
+same_size w (event.Wake id) = (refl, refl, refl)
+same_size w (event.Retire h x) = (refl, refl, refl)
+same_size w (event.Release h x) = (refl, refl, refl)
+same_size w (event.CloseCore c) = (refl, refl, refl)
+same_size w (event.OpenCore c) = (refl, refl, refl)
+same_size w (event.Move h x y) = (refl, refl, refl)
+same_size w event.Still = (refl, refl, refl)
+
+pub there-in : {A : Type 0} (xs : List A) (i : ℕ) (v : A) → get_elem? xs i ≡ some v → i < length xs
+there-in [] i v e = absurd (some-ne-none v (sym e))
+there-in (x ∷ xs) zero v e = omega arith
+there-in (x ∷ xs) (suc i) v e = omega (arith, there-in xs i v e)
+
+-- the entry of a step
+abbrev pub entry : ℕ → Kind → ℕ → ℕ → ℕ → Event → Entry
+entry id kind word before after e = record { seat = id; step = record { kind = kind; word = word; before = before; after = after }; event = e }
+
+module _ {T : Type 0} (bits : ℕ) (shape : Shape) (w : World) (first : List ℕ) (history : List Entry) (s : Table T) (t : Tells bits shape w first history s)
+    (id weight : ℕ) (k : Known) (mine : get_elem? s.views id ≡ some (held weight k)) where
+  pub tells-more : (kind : Kind) (i new : ℕ) (e : Event) (k' : Known) (a : Table T) → k'.records ≡ k.records → Allowed w e
+      → Makes bits w (entry id kind i (get_or s.words i 0) new e)
+      → a.words ≡ set s.words i new → a.views ≡ set s.views id (held weight (noted kind i (get_or s.words i 0) new k'))
+      → Tells bits shape (after w e) first (entry id kind i (get_or s.words i 0) new e ∷ history) a
+  tells-more kind i new e k' a kept allowed makes words views =
+      let step : Entry = entry id kind i (get_or s.words i 0) new e in
+      let u : Token Known = held weight (noted kind i (get_or s.words i 0) new k') in
+      let v : World → World = λ (z : World). after z e in
+      record {
+        first_words = t.first_words;
+        lawful = (t.lawful, record {
+          found = sym (ap (λ (ws : List ℕ). get_or ws i 0) t.words);
+          allowed = subst (λ (z : World). Allowed z e) t.world allowed;
+          makes = subst (λ (z : World). Makes bits z step) t.world makes;
+        });
+        world = ap v t.world;
+        words = words ∙ ap (λ (ws : List ℕ). set ws i new) t.words;
+        seats = subst (λ (n : ℕ). (id < n) × AreOfSeats n history) (sym (ap length views ∙ length-set s.views id u)) (there-in s.views id (held weight k) mine, t.seats);
+        records = λ h q r got. elim (at_set s.views id h u (held q r) (sym (ap (λ (vs : List (Token Known)). get_elem? vs h) views) ∙ got)) [
+          | inl e ↦ ap (λ (z : Token Known). z.known.records) (sym e.1) ∙ ap (λ (rs : List Record). step.step ∷ rs) (kept ∙ t.records id weight k mine)
+              ∙ sym (cond-true (eqb id id) (step.step ∷ records_of id history) (records_of id history) (eq-eqb id id refl))
+              ∙ ap (λ (j : ℕ). records_of j (step ∷ history)) (sym e.0)
+          | inr n ↦ t.records h q r n.1 ∙ sym (cond-false (eqb id h) (step.step ∷ records_of h history) (records_of h history) (ne_eqb id h (λ e. n.0 (sym e))))
+        ];
+      }
+
+-- ---- a history is a run of the World
+
+after-snoc : (w : World) (es : List Event) (e : Event) → after_all w (es ++ e ∷ []) ≡ after (after_all w es) e
+after-snoc w [] e = refl
+after-snoc w (f ∷ es) e = after-snoc (after w f) es e
+
+run-snoc : (w : World) (es : List Event) (e : Event) → IsRun w es → Allowed (after_all w es) e → IsRun w (es ++ e ∷ [])
+run-snoc w [] e r a = (a, tt)
+run-snoc w (f ∷ es) e r a = (r.0, run-snoc (after w f) es e r.1 a)
+
+pub history-is-a-run : (bits : ℕ) (w : World) (first : List ℕ) (history : List Entry) → IsHistory bits w first history
+    → IsRun w (events_of history) × (after_all w (events_of history) ≡ world_after w history)
+history-is-a-run bits w first [] l = (tt, refl)
+history-is-a-run bits w first (e ∷ es) l =
+    let r = history-is-a-run bits w first es l.0 in
+    (run-snoc w (events_of es) e.event r.0 (subst (λ (z : World). Allowed z e.event) (sym r.1) l.1.allowed),
+      after-snoc w (events_of es) e.event ∙ ap (λ (z : World). after z e.event) r.1)

@@ -1,0 +1,51 @@
+-- What a mark word that was seen says of the World.
+use Rattle.std.proofs.Common.{◌≡◌, ◌≢◌, ℕ, ◌+◌, ◌-◌, ◌*◌, ◌<◌, ◌≤◌, ◌^◌, true, false, ◌&&◌, refl, ap, ◌∙◌, arith}
+use Rattle.arachne_core.specs.declared.place.Place.{Place}
+use Rattle.arachne_core.specs.declared.state.State.{State}
+use Rattle.arachne_core.specs.declared.state.State.TheVariants.{Free, Claimed, Ready, Blocked, Held, Spent}
+use Rattle.arachne_core.specs.declared.mark.Mark.TheVariants as mark
+use Rattle.arachne_core.specs.Marked.{marked_of}
+use Rattle.arachne_core.specs.World.{World, IsContext, IsAtRest}
+use Rattle.arachne_core.specs.ContextTable.{mark_of, is_live_state, marked}
+use Rattle.arachne_core.proofs.MarkWords.{marked_of-mark_word}
+use Rattle.arachne_rule.specs.Rule.{Coherent, Board, Phase, Shows}
+use Rattle.arachne_rule.specs.Plays.{IsRestMark}
+
+pub ready-mark : (s : State) → mark_of s ≡ mark.Ready → (t : ℕ) × (s ≡ Ready t)
+ready-mark Free e = absurd cc
+ready-mark (Claimed h) e = absurd cc
+ready-mark (Ready t) e = (t, refl)
+ready-mark (Blocked t) e = absurd cc
+ready-mark (Held h true t) e = absurd cc
+ready-mark (Held h false t) e = absurd cc
+ready-mark Spent e = absurd cc
+
+pub rest-mark : (s : State) → IsRestMark (mark_of s) → IsAtRest s
+rest-mark Free e = absurd e
+rest-mark (Claimed h) e = absurd e
+rest-mark (Ready t) e = tt
+rest-mark (Blocked t) e = tt
+rest-mark (Held h true t) e = absurd e
+rest-mark (Held h false t) e = absurd e
+rest-mark Spent e = absurd e
+
+pub rest-live : (s : State) → IsAtRest s → is_live_state s ≡ true
+rest-live (Ready t) e = refl
+rest-live (Blocked t) e = refl
+rest-live s e = absurd e
+
+-- a context that isn't claimed is at the place that its mark word says
+pub rest-coherent : (s : State) (p : Place) (a : Phase) → IsAtRest s → Coherent s p a → (a.away ≡ false) × (a.shown ≡ p)
+rest-coherent (Ready t) p a r c = c
+rest-coherent (Blocked t) p a r c = c
+rest-coherent s p a r c = absurd r
+
+pub coherent-rest : (s : State) (p : Place) (a : Phase) → IsAtRest s → (a.away ≡ false) × (a.shown ≡ p) → Coherent s p a
+coherent-rest (Ready t) p a r c = c
+coherent-rest (Blocked t) p a r c = c
+coherent-rest s p a r c = absurd r
+
+module _ {T : Type 0} (tag_in : T → ℕ) (bits : ℕ) (w : World) (d : ℕ → Phase) (b : Board T) (s : Shows tag_in bits w d b) where
+  pub seen : (x : ℕ) → IsContext w x → marked_of bits (b.mark x) ≡ record (marked w x) { place = (d x).shown }
+  seen x x_in = let p_in = (s.contexts x x_in).within in ap (marked_of bits) (s.contexts x x_in).mark
+      ∙ marked_of-mark_word bits (record (marked w x) { place = (d x).shown }) (omega (arith, p_in.1, s.fits.1)) (omega (arith, p_in.0, s.fits.0))

@@ -1,0 +1,6 @@
+use Rattle.std.proofs.Common.{refl}
+use Rattle.arachne_rule.proofs.Naming.{replace}
+use Rattle.arachne_rule.proofs.laws.replacing_is_still.Goals as goal
+
+pub returns : goal.returns
+returns g q tag_in bits w d b s h weight k mine c c_in has free = (tt, replace tag_in bits w d b s h weight k mine c.context c c_in has refl free)

@@ -1,0 +1,97 @@
+//! What the rule sees of a seat and of a table. These types are for proofs alone: no value of them is made.
+
+use arachne_core::{Place, ThreadId};
+use arachne_weights::Token;
+use std::collections::LinkedList;
+
+/// A context that a seat carries: it has claimed it, or holds its thread.
+pub struct Carried {
+    pub context: u32,
+    /// Where the context stands.
+    pub place: Place,
+    /// The place in its mark word.
+    pub shown: Place,
+    pub generation: u64,
+    /// Its thread is held; else it is claimed.
+    pub held: bool,
+    /// The tag of the thread that is held.
+    pub tag: u64,
+    /// Its core is alone.
+    pub alone: bool,
+    /// The place word of its place names it.
+    pub named: bool,
+    /// Its slot is out with the seat.
+    pub away: bool,
+}
+
+/// The kinds of step on a word of the table.
+pub enum Kind {
+    /// A load of an occupancy word or of a mark word.
+    Look,
+    /// A load of a place word. The empty slot of the context that it names may come to the seat.
+    Learn,
+    /// An exchange of an occupancy word, that claims an index.
+    Claim,
+    /// An exchange of an occupancy word from 0, that claims a whole core.
+    Alone,
+    /// A store of a mark word: a thread is posted, and its value goes home.
+    Post,
+    /// An exchange of a mark word: a ready thread is taken, and its value comes to the seat.
+    Take,
+    /// A store of a place word: the context that was taken is named at its place, and its empty slot goes home.
+    KeepName,
+    /// A swap of a mark word: a held thread has ended.
+    Retire,
+    /// A subtraction from an occupancy word: an index is free again.
+    Release,
+    /// A store of a mark word: a held thread is put back as ready, and its value goes home.
+    RestReady,
+    /// An exchange of a mark word: a held thread is put back as blocked, and its value goes home.
+    RestBlocked,
+    /// An exchange of a mark word: a blocked thread becomes ready.
+    Wake,
+    /// An exchange of a mark word: a held thread is marked as woken.
+    MarkWoken,
+    /// The closed bit of an occupancy word is set.
+    Close,
+    /// The closed bit of an occupancy word is cleared.
+    Open,
+    /// An exchange of a mark word: a thread at rest goes to another place.
+    Move,
+    /// An exchange of a place word: the place that a move went to names the context that came.
+    NameTarget,
+    /// A store of a mark word: the context whose place a move took says where it stands now.
+    Replace,
+    /// A store of a place word: the place that a move left names the context that stands there now.
+    NameSource,
+}
+
+/// One step on a word: its kind, the word, and the numbers that stood there before and stood there after.
+pub struct Record {
+    pub kind: Kind,
+    pub word: usize,
+    pub before: u64,
+    pub after: u64,
+}
+
+/// What a seat knows.
+pub struct Known {
+    /// The contexts that it has claimed or holds.
+    pub carried: LinkedList<Carried>,
+    /// The threads that it has posted, with their tags.
+    pub given: LinkedList<(ThreadId, u64)>,
+    /// The threads that it has ended, with their tags.
+    pub ended: LinkedList<(ThreadId, u64)>,
+    /// The steps that it has made, the newest first.
+    pub records: LinkedList<Record>,
+}
+
+pub type View = Token<Known>;
+
+/// The key of a table: how many cores it has, how many places each of them, and the first and the last generation.
+pub struct Shape {
+    pub cores: u8,
+    pub slots: u8,
+    pub first: u64,
+    pub last: u64,
+}
