@@ -11,3 +11,4 @@ pub mod JudgedInTurn
 pub mod Options
 pub mod Causes
 pub mod Refusals
+pub mod Choosers

@@ -148,7 +148,6 @@ is_order bytes rest left after core kind e is f order = (there, back)
         let same : made after kind core ≡ made order.after order.kind order.core = rw (one.0, two.0, last) refl in
         ap (λ (o : CoreOrder). Some o) same
 
-
 -- ---- the order of a word, as a function
 
 abbrev Found : Type 0

@@ -1,5 +1,8 @@
 -- What a run brings, and why it is refused.
-use Rattle.std.specs.Prelude.{◌≡◌, ◌≢◌, ◌≤◌, ◌<◌, ℕ, map, ⊤}
+use Rattle.std.specs.Prelude.{◌≡◌, ◌+◌, ◌%◌, ◌^◌, ◌≤◌, ℕ, List, map, ⊤}
+use Rattle.std.specs.List.{range_with_len}
+use Rattle.rand_xoshiro.specs.SplitMix64.{splitmix_seed}
+use Rattle.rand_xoshiro.specs.Xoshiro256.{of_seed}
 use Rattle.arachne_lang.specs.declared.meaning.Meaning.{Meaning}
 use Rattle.arachne_machine.specs.Outcome.{named_holds}
 use Rattle.arachne_policy.specs.Orders.{IsFirstFault}
@@ -29,3 +32,11 @@ IsRefusal settings run.Quantum = HasCores settings × (HasQuantum settings → �
 IsRefusal settings run.Choosers = ⊥
 IsRefusal settings (run.Orders fault) = HasCores settings × HasQuantum settings × IsFirstFault settings.cores settings.orders fault
 IsRefusal settings fault = ⊤
+
+-- the generator of a core's choices, which begins from the number `seed + core`
+abbrev pub chooser_of : ℕ → ℕ → List ℕ
+chooser_of seed core = of_seed (splitmix_seed 32 ((seed + core) % 2 ^ 64))
+
+-- those of the first cores
+abbrev pub choosers_of : ℕ → ℕ → List (List ℕ)
+choosers_of seed cores = map (chooser_of seed) (range_with_len 0 cores)

@@ -117,7 +117,9 @@ fn order_words<'a>(alloc: Global) -> Arg<'a>
     Arg::new(alloc, "order")
         .value_name("ORDER")
         .action(ArgAction::Append)
-        .help("AFTER:grant:CORE or AFTER:release:CORE: once so many slices have ended, a core is granted or taken back")
+        .help(
+            "AFTER:grant:CORE or AFTER:release:CORE: once so many slices have ended, a core is granted or taken back",
+        )
 }
 
 /// The subcommand that runs a program.
@@ -305,10 +307,7 @@ fn orders_in(alloc: Global, words: &[&str]) -> Result<Sequence<CoreOrder>, NotAs
 }
 
 /// The orders that the order words spell.
-fn orders_met(
-    alloc: Global,
-    matches: &ArgMatches<'_>,
-) -> Result<Sequence<CoreOrder>, NotAsked>
+fn orders_met(alloc: Global, matches: &ArgMatches<'_>) -> Result<Sequence<CoreOrder>, NotAsked>
     ensures orders { IfOk result (λ orders. orders_of (order_words (rows_of (found_of matches.now))) ≡ Ok orders) }
     ensures none { IfErr result (IsNoOrderAmong (order_words (rows_of (found_of matches.now)))) }
 {
@@ -380,8 +379,9 @@ pub fn read_words<'a, S: AsStr>(alloc: Global, words: &'a [S]) -> Result<Request
     };
     match request_in(alloc, &matches)? {
         Some(request) => Ok(request),
-        None => Err(NotAsked::Refused(
-            command.error(ErrorKind::InvalidSubcommand, "no such command")?,
-        )),
+        None => Err(NotAsked::Refused(command.error(
+            ErrorKind::InvalidSubcommand,
+            "no such command",
+        )?)),
     }
 }

@@ -1,9 +1,8 @@
 //! Running a program on the cores that the command line asks for.
-ghost use Rattle.std.specs.Prelude.{◌≡◌, ◌<◌, ◌+◌, ◌%◌, ◌^◌, ℕ, length, get_or, IfOk, IfErr};
-ghost use Rattle.rand_xoshiro.specs.Xoshiro256.{of_seed};
+ghost use Rattle.std.specs.Prelude.{◌≡◌, IfOk, IfErr};
 ghost use Rattle.arachne_lang.specs.Program.{source_of};
 ghost use Rattle.arachne_lang.specs.Meaning.{meaning_of};
-ghost use Rattle.arachne_commands.specs.Running.{IsRefusal, meaning_in};
+ghost use Rattle.arachne_commands.specs.Running.{IsRefusal, choosers_of, meaning_in};
 
 use crate::command_line::RunSettings;
 use arachne_lang::{Program, Sequence};
@@ -70,12 +69,8 @@ pub fn run_program<R: Threads + Wait + Sync>(
 }
 
 /// The choosers of so many cores. That of core k begins from the number `seed + k`.
-fn choosers(
-    alloc: Global,
-    seed: u64,
-    cores: u64,
-) -> Result<Vec<Xoshiro256PlusPlus>, AllocError>
-    ensures length { IfOk result (λ choosers. length choosers.items ≡ cores) }
+fn choosers(alloc: Global, seed: u64, cores: u64) -> Result<Vec<Xoshiro256PlusPlus>, AllocError>
+    ensures { IfOk result (λ choosers. choosers.items ≡ choosers_of seed cores) }
 {
     let mut choosers = Vec::with_capacity(alloc, cores as usize)?;
     for core in 0..cores {

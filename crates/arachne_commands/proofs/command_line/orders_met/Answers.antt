@@ -1,3 +1,4 @@
+use Rattle.std.proofs.Common.{rules}
 use Rattle.clap.specs.Words.{found_of}
 use Rattle.arachne_commands.proofs.Options.{some_words, no_words}
 use Rattle.arachne_commands.proofs.command_line.orders_met.Goals as goal
