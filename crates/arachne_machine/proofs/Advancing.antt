@@ -1,5 +1,5 @@
 -- What callers see of an advance.
-use Rattle.std.proofs.Common.{ℕ, List, [], ◌∷◌, ◌++◌, Option, None, Some, inl, inr, ◌≡◌, refl, ap, sym, subst, ◌∙◌, arith}
+use Rattle.std.proofs.Common.{ℕ, ◌+◌, List, [], ◌∷◌, ◌++◌, Option, None, Some, inl, inr, ◌≡◌, refl, ap, sym, subst, ◌∙◌, arith}
 use Rattle.std.specs.Prelude.{max}
 use Rattle.std.proofs.lemmas.Bool.{cases_lt}
 use Rattle.arachne_lang.specs.Tree.{Tree, Source, Number, Variable, Length, Item, Binary, Choose, Bind, Tally, Hold, Fork, Fold, Sweep}
@@ -11,13 +11,13 @@ use Rattle.arachne_machine.specs.declared.frame.Control.{Control}
 use Rattle.arachne_machine.specs.declared.frame.Control.TheVariants.{Begin, Give, Cover, Forked, Halved, Awaits, AwaitsHalf, Asks, Frees, Tallies, Ended}
 use Rattle.arachne_machine.specs.declared.pause.Pending.TheVariants as pause
 use Rattle.arachne_machine.specs.Suspended.{IsNext}
-use Rattle.arachne_machine.specs.Ending.{stretch_task, begun, begun_trace, resume_trace, frames_left, trace_left}
+use Rattle.arachne_machine.specs.Ending.{stretch_task, begun, begun_trace, begun_work, resume_trace, resume_work, frames_left, trace_left, work_left}
 use Rattle.arachne_machine.specs.declared.state.State.{State}
 use Rattle.arachne_machine.specs.declared.state.Stop.{Stop}
 use Rattle.arachne_machine.specs.declared.state.Stop.TheVariants as stop
-use Rattle.arachne_machine.specs.Advance.{Advanced}
-use Rattle.arachne_machine.specs.Stops.{pause_of, IsSoundStop}
-use Rattle.arachne_machine.specs.Steps.{AfterSteps, pending_of, suspended}
+use Rattle.arachne_machine.specs.Advance.{Advanced, IsSpentAt, TakesAllAt, pending_at, shown}
+use Rattle.arachne_machine.specs.Stops.{halt_of, IsSoundStop}
+use Rattle.arachne_machine.specs.Steps.{AfterSteps, IsSpent, TakesAll, pending_of, suspended}
 use Rattle.arachne_lang.specs.Program.{source_of, tree_of}
 use Rattle.arachne_lang.specs.Checked.{IsChecked}
 use Rattle.arachne_machine.specs.Faultless.{PausesWithin}
@@ -38,7 +38,7 @@ pub sound_stop : (n : ℕ) (old new : State) (s : Option Stop) → IsSound old �
 sound_stop n old new (Some (stop.Forks class child)) s h = sound_child n old new child.value _ s h
 sound_stop n old new _ s h = tt
 
-pub advanced_seen : (n : ℕ) (old new : State) (s : Option Stop) → IsSound old → AfterSteps n old s new → Advanced n (suspended old) (pause_of s) (suspended new)
+pub advanced_seen : (n : ℕ) (old new : State) (s : Option Stop) → IsSound old → AfterSteps n old s new → Advanced n (suspended old) (shown (halt_of s)) (suspended new)
 advanced_seen n old new None s h =
     (same_thread n old new h.0, h.2, h.1, record { made = n; at_least = omega arith; at_most = omega arith; work = h.0.work; trace = sym h.0.trace })
 advanced_seen n old new (Some (stop.Forks class child)) s h = forked_seen n old new child.value _ s h
@@ -50,6 +50,24 @@ advanced_seen n old new (Some (stop.Frees lock)) s h =
 advanced_seen n old new (Some (stop.Tallies ledger amount)) s h = (same_thread h.0.made old new h.0.goes, h.2, h.1, within_seen 1 n old new h.0)
 advanced_seen n old new (Some stop.Ended) s h =
     (same_thread h.0.made old new h.0.goes, sym h.3 ∙ h.4, h.4, h.1, h.2, h.5, within_seen 1 n old new h.0)
+
+pub spent_seen : (had left : ℕ) (s : Option Stop) → IsSpent s had left → IsSpentAt (shown (halt_of s)) had left
+spent_seen had left None h = h
+spent_seen had left (Some (stop.Forks class child)) h = h
+spent_seen had left (Some stop.Joins) h = h
+spent_seen had left (Some (stop.Asks lock)) h = h
+spent_seen had left (Some (stop.Frees lock)) h = h
+spent_seen had left (Some (stop.Tallies ledger amount)) h = h
+spent_seen had left (Some stop.Ended) h = h
+
+pub takes_seen : (had left : ℕ) (old new : State) (s : Option Stop) → TakesAll s had left old new → TakesAllAt (shown (halt_of s)) had left (suspended old) (suspended new)
+takes_seen had left old new None h = h
+takes_seen had left old new (Some (stop.Forks class child)) h = tt
+takes_seen had left old new (Some stop.Joins) h = h
+takes_seen had left old new (Some (stop.Asks lock)) h = h
+takes_seen had left old new (Some (stop.Frees lock)) h = h
+takes_seen had left old new (Some (stop.Tallies ledger amount)) h = h
+takes_seen had left old new (Some stop.Ended) h = h
 
 program_after : (n : ℕ) (old new : State) (s : Option Stop) → AfterSteps n old s new → new.program ≡ old.program
 program_after n old new None h = h.0.program
@@ -111,3 +129,30 @@ next_event source name fs env (Ended value) = (_, refl)
 
 pub trace_next : (t : State) → IsNext (pending_of t.control) (trace_left t)
 trace_next t = next_event (source_of t.program.now) t.own.name t.frames.items t.environment.items t.control
+
+-- a thread that has ended has nothing left
+ended_left : (source : Source) (name : List ℕ) (fs : List Frame) (env : List ℕ) (k : Control) → pending_of k ≡ Some pause.Ended →
+    begun_work source name k env + resume_work source name (frames_left k fs) (begun source name k env) ≡ 0
+ended_left source name fs env (Begin expr) e = cc
+ended_left source name fs env (Give value) e = cc
+ended_left source name fs env (Cover stretch) e = cc
+ended_left source name fs env (Forked expr) e = cc
+ended_left source name fs env (Halved stretch) e = cc
+ended_left source name fs env (Awaits number during next) e = cc
+ended_left source name fs env (AwaitsHalf number right reduction) e = cc
+ended_left source name fs env (Asks lock body) e = cc
+ended_left source name fs env (Frees lock value) e = cc
+ended_left source name fs env (Tallies ledger amount body) e = cc
+ended_left source name fs env (Ended value) e = refl
+
+pub ended_work : (t : State) → pending_of t.control ≡ Some pause.Ended → work_left t ≡ 0
+ended_work t e = ended_left (source_of t.program.now) t.own.name t.frames.items t.environment.items t.control e
+
+pub pending_seen : (n : ℕ) (old new : State) (s : Option Stop) → AfterSteps n old s new → pending_of new.control ≡ pending_at (shown (halt_of s))
+pending_seen n old new None h = h.1
+pending_seen n old new (Some (stop.Forks class child)) h = h.pending
+pending_seen n old new (Some stop.Joins) h = h.1
+pending_seen n old new (Some (stop.Asks lock)) h = h.1
+pending_seen n old new (Some (stop.Frees lock)) h = h.1
+pending_seen n old new (Some (stop.Tallies ledger amount)) h = h.1
+pending_seen n old new (Some stop.Ended) h = h.1

@@ -128,7 +128,7 @@ awaited_child t n k name is_control one is_awaited =
 
 -- An answer that counts, and goes on.
 counts_by : (old new : State) (answered : Pending) (effects : Effects) (k k' : Control) → old.control ≡ k → new.control ≡ k' →
-    new.program ≡ old.program → new.own.name ≡ old.own.name → new.own.tag ≡ old.own.tag → new.below.items ≡ old.below.items → new.forks ≡ old.forks →
+    new.program ≡ old.program → new.own.name ≡ old.own.name → new.own.label ≡ old.own.label → new.below.items ≡ old.below.items → new.forks ≡ old.forks →
     new.frames.items ≡ old.frames.items → new.environment.items ≡ old.environment.items →
     ((n : ℕ) (own : ℕ → ℕ) → old.sums.items ≡ tabulated n own → new.sums.items ≡ tabulated n (λ ledger. own ledger + effects.sums ledger)) →
     ((n : ℕ) (own : ℕ → ℕ) → old.own.holds.items ≡ tabulated n own → new.own.holds.items ≡ tabulated n (λ lock. own lock + effects.holds lock)) →
@@ -136,7 +136,7 @@ counts_by : (old new : State) (answered : Pending) (effects : Effects) (k k' : C
     fork_awaited k' ≡ fork_awaited k → lock_freed k' ≡ lock_freed k → pending_of k' ≡ None →
     SameOutlook 0 0 (At answered ∷ []) Any (after old.own.name effects) (source_of old.program.now) old.own.name k [] old.environment.items k' [] old.environment.items →
     Counts answered effects old new
-counts_by old new answered effects k k' is_k is_k' program is_name tag below forks frames environment sums holds left left' awaits locks pending outlook =
+counts_by old new answered effects k k' is_k is_k' program is_name label below forks frames environment sums holds left left' awaits locks pending outlook =
     let source = source_of old.program.now in
     let name = old.own.name in
     let fs = old.frames.items in
@@ -153,7 +153,7 @@ counts_by old new answered effects k k' is_k is_k' program is_name tag below for
     record {
       program = program;
       name = is_name;
-      tag = tag;
+      label = label;
       below = below;
       forks = forks;
       unjoined = ap (λ x. fork_awaited x ++ forks_of new.frames.items) is_k' ∙ ap (λ l. l ++ forks_of new.frames.items) awaits
@@ -171,21 +171,21 @@ counts_by old new answered effects k k' is_k is_k' program is_name tag below for
     }
 
 pub counts_hold : (old new : State) (lock : ℕ) (body : Bor Expr) → old.control ≡ Asks lock body → new.control ≡ Begin body →
-    new.program ≡ old.program → new.own.name ≡ old.own.name → new.own.tag ≡ old.own.tag → new.below.items ≡ old.below.items → new.forks ≡ old.forks →
+    new.program ≡ old.program → new.own.name ≡ old.own.name → new.own.label ≡ old.own.label → new.below.items ≡ old.below.items → new.forks ≡ old.forks →
     new.frames.items ≡ old.frames.items → new.environment.items ≡ old.environment.items →
     ((n : ℕ) (own : ℕ → ℕ) → old.sums.items ≡ tabulated n own → new.sums.items ≡ tabulated n (λ ledger. own ledger + (held lock).sums ledger)) →
     ((n : ℕ) (own : ℕ → ℕ) → old.own.holds.items ≡ tabulated n own → new.own.holds.items ≡ tabulated n (λ other. own other + (held lock).holds other)) →
     Counts (pause.Asks lock) (held lock) old new
-counts_hold old new lock body asks begins program is_name tag below forks frames environment sums holds =
-    counts_by old new (pause.Asks lock) (held lock) (Asks lock body) (Begin body) asks begins program is_name tag below forks frames environment sums holds
+counts_hold old new lock body asks begins program is_name label below forks frames environment sums holds =
+    counts_by old new (pause.Asks lock) (held lock) (Asks lock body) (Begin body) asks begins program is_name label below forks frames environment sums holds
     (λ fs. refl) (λ fs. refl) refl refl refl (record { ending = refl; account = λ a any. refl; work = omega arith; trace = refl; faultless = λ held h. (tt, h.1.1) })
 
 pub counts_tally : (old new : State) (ledger amount : ℕ) (body : Bor Expr) → old.control ≡ Tallies ledger amount body → new.control ≡ Begin body →
-    new.program ≡ old.program → new.own.name ≡ old.own.name → new.own.tag ≡ old.own.tag → new.below.items ≡ old.below.items → new.forks ≡ old.forks →
+    new.program ≡ old.program → new.own.name ≡ old.own.name → new.own.label ≡ old.own.label → new.below.items ≡ old.below.items → new.forks ≡ old.forks →
     new.frames.items ≡ old.frames.items → new.environment.items ≡ old.environment.items →
     ((n : ℕ) (own : ℕ → ℕ) → old.sums.items ≡ tabulated n own → new.sums.items ≡ tabulated n (λ other. own other + (tallied ledger amount).sums other)) →
     ((n : ℕ) (own : ℕ → ℕ) → old.own.holds.items ≡ tabulated n own → new.own.holds.items ≡ tabulated n (λ lock. own lock + (tallied ledger amount).holds lock)) →
     Counts (pause.Tallies ledger amount) (tallied ledger amount) old new
-counts_tally old new ledger amount body tallies begins program is_name tag below forks frames environment sums holds =
-    counts_by old new (pause.Tallies ledger amount) (tallied ledger amount) (Tallies ledger amount body) (Begin body) tallies begins program is_name tag below forks frames environment sums holds
+counts_tally old new ledger amount body tallies begins program is_name label below forks frames environment sums holds =
+    counts_by old new (pause.Tallies ledger amount) (tallied ledger amount) (Tallies ledger amount body) (Begin body) tallies begins program is_name label below forks frames environment sums holds
     (λ fs. refl) (λ fs. refl) refl refl refl (record { ending = refl; account = λ a any. refl; work = omega arith; trace = refl; faultless = λ held h. (tt, h.1.1) })

@@ -13,5 +13,6 @@ pub mod Joining
 pub mod Soundness
 pub mod Advancing
 pub mod Waiting
+pub mod Nesting
 pub mod Crossing
 pub mod WorkedPrograms

@@ -19,8 +19,8 @@ use Rattle.arachne_machine.specs.declared.state.Stop.{Stop}
 use Rattle.arachne_machine.specs.declared.state.Stop.TheVariants as stop
 use Rattle.arachne_machine.specs.Outcome.{Finished, named_holds, meaning_as, meaning_in, outcome_of, IsOfItsName}
 use Rattle.arachne_machine.specs.Account.{Account, untouched, after, with_fork, with_join}
-use Rattle.arachne_machine.specs.Ending.{child_task, ending, account_at_end, trace_left, unjoined_of, locks_of, resume, resume_account, frames_left, begun, begun_account, fork_awaited, forks_of, lock_freed, releases}
-use Rattle.arachne_machine.specs.Steps.{Goes, GoesWithin, GoesToFork, IsNew, Joins, KeepsOverJoin, Counts, AfterSteps, IsUnchanged, pending_of, suspended}
+use Rattle.arachne_machine.specs.Ending.{child_task, account_joined, ending, account_at_end, trace_left, unjoined_of, locks_of, resume, resume_account, frames_left, begun, begun_account, fork_awaited, forks_of, lock_freed, releases}
+use Rattle.arachne_machine.specs.Steps.{Goes, GoesWithin, GoesToFork, IsNew, Joins, KeepsOverJoin, Counts, AfterSteps, TakesAll, IsUnchanged, pending_of, suspended}
 use Rattle.arachne_lang.specs.Checked.{IsChecked}
 use Rattle.arachne_machine.specs.Faultless.{IsWithoutFault}
 use Rattle.arachne_machine.specs.Sound.{IsSound}
@@ -101,6 +101,15 @@ goes_then_stops m n k a b c (stop.Asks lock) p l q le = (within_more 1 (m + n) k
 goes_then_stops m n k a b c (stop.Frees lock) p l q le = (within_more 1 (m + n) k a c (goes_on_within m 1 n a b c p q.0) le, q.1, q.2 ∙ l, q.3)
 goes_then_stops m n k a b c (stop.Tallies ledger amount) p l q le = (within_more 1 (m + n) k a c (goes_on_within m 1 n a b c p q.0) le, q.1, q.2 ∙ l)
 goes_then_stops m n k a b c stop.Ended p l q le = (within_more 1 (m + n) k a c (goes_on_within m 1 n a b c p q.0) le, q.1, q.2, q.3 ∙ l, q.4, q.5)
+
+-- the steps that were made are those that are not left any more
+pub takes_all : (m had left : ℕ) (a b c : State) (s : Stop) → Goes m [] a b → AfterSteps 1 b (Some s) c → left + (m + 1) ≡ had → TakesAll (Some s) had left a c
+takes_all m had left a b c (stop.Forks class child) p q e = tt
+takes_all m had left a b c stop.Joins p q e = omega (arith, p.work, q.0.goes.work, q.0.at_least, q.0.at_most, e)
+takes_all m had left a b c (stop.Asks lock) p q e = omega (arith, p.work, q.0.goes.work, q.0.at_least, q.0.at_most, e)
+takes_all m had left a b c (stop.Frees lock) p q e = omega (arith, p.work, q.0.goes.work, q.0.at_least, q.0.at_most, e)
+takes_all m had left a b c (stop.Tallies ledger amount) p q e = omega (arith, p.work, q.0.goes.work, q.0.at_least, q.0.at_most, e)
+takes_all m had left a b c stop.Ended p q e = omega (arith, p.work, q.0.goes.work, q.0.at_least, q.0.at_most, e)
 
 -- the same, with or without a reason to stop
 pub goes_then_made : (a b c : State) (s : Option Stop) → Goes 0 [] a b → locks_of b ≡ locks_of a → AfterSteps 1 b s c → AfterSteps 1 a s c
@@ -367,7 +376,7 @@ pub counted_seen : (old new : State) (answered : Pending) (effects : Effects) �
 counted_seen old new answered effects g = record {
   program = ap (λ p. p.now) g.program;
   name = g.name;
-  tag = g.tag;
+  label = g.label;
   forks = g.forks;
   unjoined = g.unjoined;
   below = g.below;
@@ -378,7 +387,7 @@ pub same_thread : (n : ℕ) (old new : State) → Goes n [] old new → SameThre
 same_thread n old new g = record {
   program = ap (λ p. p.now) g.program;
   name = ap (λ o. o.name) g.own;
-  tag = ap (λ o. o.tag) g.own;
+  label = ap (λ o. o.label) g.own;
   forks = g.forks;
   unjoined = g.unjoined;
   below = g.below;
@@ -402,7 +411,7 @@ forked_seen n old new child made s g =
     record {
       program = ap (λ p. p.now) g.program;
       name = ap (λ o. o.name) g.own;
-      tag = ap (λ o. o.tag) g.own;
+      label = ap (λ o. o.label) g.own;
       forks = g.forks;
       unjoined = g.unjoined;
       locks = g.locks;
@@ -411,7 +420,7 @@ forked_seen n old new child made s g =
       fresh = record {
         same_program = g.fresh.same_program;
         has_name = g.fresh.has_name;
-        has_tag = g.fresh.has_tag;
+        has_label = g.fresh.has_label;
         no_forks = g.fresh.forks;
         none_unjoined = g.fresh.unjoined;
         no_sums = g.fresh.sums;
@@ -473,7 +482,7 @@ joined_seen old new outcome s of_name same_source j =
       of_child = ap (λ l. option_map (λ k. old.own.name ++ k ∷ []) (slice_get l 0)) j.unjoined ∙ ap (λ n. Some n) (sym j.name);
       program = ap (λ p. p.now) j.program;
       name = ap (λ o. o.name) j.own;
-      tag = ap (λ o. o.tag) j.own;
+      label = ap (λ o. o.label) j.own;
       forks = j.forks;
       unjoined = (j.number, j.unjoined);
       locks = j.locks;
@@ -525,6 +534,37 @@ goes_nowhere old new u =
 -- nor have its locks
 pub locks_unchanged : (old new : State) → IsUnchanged old new → locks_of new ≡ locks_of old
 locks_unchanged old new u = ap (λ x. lock_freed x ++ releases new.frames.items) u.control_is ∙ ap (λ x. lock_freed old.control ++ releases x) u.frames_are
+
+-- a join after room was made
+pub joins_after : (a b c : State) (outcome : Finished) → IsUnchanged a b → Joins b outcome c → Joins a outcome c
+joins_after a b c outcome u j =
+    let g = goes_nowhere a b u in
+    let source_is = ap (λ p. source_of p.now) u.program in
+    let name_is = ap (λ o. o.name) u.own in
+    record {
+      program = j.program ∙ u.program;
+      own = j.own ∙ u.own;
+      forks = j.forks ∙ u.forks;
+      pending = j.pending;
+      number = j.number;
+      name = j.name ∙ ap (λ n. n ++ j.number ∷ []) name_is;
+      unjoined = sym g.unjoined ∙ j.unjoined;
+      locks = j.locks ∙ locks_unchanged a b u;
+      below = j.below ∙ ap (λ l. l ++ outcome.lines) u.below;
+      sums = λ n own childs e f. j.sums n own childs (u.sums ∙ e) f;
+      keeps = λ h.
+        let value : outcome.value ≡ task_value (source_of b.program.now).arrays (child_task (source_of b.program.now) b.own.name j.number) =
+        h ∙ ap (λ s. task_value s.arrays (child_task s a.own.name j.number)) (sym source_is) ∙ ap (λ n. task_value (source_of b.program.now).arrays (child_task (source_of b.program.now) n j.number)) (sym name_is) in
+        let k = j.keeps value in
+        record {
+          ending = k.ending ∙ g.ending;
+          account = λ account. ap (λ s. account_at_end c (account_joined s a.own.name j.number account)) (sym source_is)
+          ∙ ap (λ n. account_at_end c (account_joined (source_of b.program.now) n j.number account)) (sym name_is) ∙ k.account account ∙ g.account account;
+          work = omega (arith, k.work, g.work);
+          trace = k.trace ∙ g.trace;
+          faultless = λ f. k.faultless (g.faultless f);
+        };
+    }
 
 -- the join of the outcome of a child, or none
 pub sound_joined : {E : Type 0} (r : Result (Unit {0}) E) (old new : State) (outcome : Finished) → IsSound old → IsOfItsName outcome → source_of outcome.program ≡ source_of old.program.now →

@@ -16,7 +16,7 @@ pub same_on : (a b c : Suspended) → SameThread a b → SameThread b c → Same
 same_on a b c p q = record {
   program = q.program ∙ p.program;
   name = q.name ∙ p.name;
-  tag = q.tag ∙ p.tag;
+  label = q.label ∙ p.label;
   forks = q.forks ∙ p.forks;
   unjoined = q.unjoined ∙ p.unjoined;
   below = q.below ∙ p.below;

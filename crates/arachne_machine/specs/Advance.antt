@@ -1,20 +1,25 @@
 -- What the calls of a thread do.
-use Rattle.std.specs.Prelude.{◌≡◌, ℕ, List, [], ◌∷◌, None, Some, IsSome, Result, Ok, Err}
+use Rattle.std.specs.Prelude.{◌≡◌, ◌+◌, ◌-◌, ◌<◌, ℕ, List, [], ◌∷◌, Option, None, Some, IsSome, Result, Ok, Err}
+use Rattle.arachne_machine.specs.declared.pause.Pending.{Pending}
 use Rattle.arachne_machine.specs.declared.pause.Pending.TheVariants as pause
 use Rattle.arachne_machine.specs.declared.pause.Pause.{Pause}
 use Rattle.arachne_machine.specs.declared.pause.Pause.TheVariants as pauses
 use Rattle.arachne_machine.specs.declared.pause.NotJoined.{NotJoined}
 use Rattle.arachne_machine.specs.declared.pause.NotJoined.TheVariants as refused
+use Rattle.arachne_machine.specs.declared.strand.Halt.{Halt}
+use Rattle.arachne_machine.specs.declared.strand.Halt.TheVariants as halts
+use Rattle.arachne_machine.specs.Faultless.{PausesWithin}
+use Rattle.arachne_machine.specs.Nested.{Nested, FallsBy, IsChildOf, IsForked, SameWhole, Stops, alone, pending_in, work_in}
 use Rattle.arachne_machine.specs.Outcome.{Finished}
 use Rattle.arachne_machine.specs.Suspended.{Suspended, SameThread, MakesSteps, Forked, awaited}
 
--- What an advance does, by the pause that it gives.
+-- What an advance does to a thread in whose place no other is, by the pause that it gives.
 abbrev pub Advanced : ℕ → Suspended → Pause → Suspended → Type 0
 -- the whole budget was used
 Advanced budget old pauses.Budget new =
     SameThread old new × (new.locks ≡ old.locks) × (new.pending ≡ None) × MakesSteps budget budget old new
 -- a child was forked
-Advanced budget old (pauses.Forks class child) new = Forked budget class old new child
+Advanced budget old (pauses.Forks class child) new = Forked budget class old new child.running
 -- a child is awaited, the one of the newest fork that is not joined
 Advanced budget old pauses.Joins new =
     SameThread old new × (new.locks ≡ old.locks) × (new.pending ≡ Some pause.Joins) × IsSome (awaited new) × MakesSteps 1 budget old new
@@ -32,6 +37,74 @@ Advanced budget old (pauses.Tallies ledger amount) new =
 Advanced budget old pauses.Ended new =
     SameThread old new × (old.locks ≡ []) × (new.locks ≡ []) × (new.pending ≡ Some pause.Ended) × (new.unjoined ≡ []) × (new.work ≡ 0)
     × MakesSteps 1 budget old new
+
+-- and what it leaves as it was
+pub record AdvancedAlone (budget : ℕ) (old : Nested) (gives : Pause) (new : Nested) : Type 0 where
+  pub does : Advanced budget old.running gives new.running
+  pub sums : new.running.sums ≡ old.running.sums
+  pub holds : new.running.holds ≡ old.running.holds
+
+-- An advance of such a thread was refused memory.
+pub record RefusedAlone (budget : ℕ) (old new : Nested) : Type 0 where
+  pub same : SameThread old.running new.running
+  pub steps : MakesSteps 0 (budget - 1) old.running new.running
+  pub locks : new.running.locks ≡ old.running.locks
+  pub sums : new.running.sums ≡ old.running.sums
+  pub holds : new.running.holds ≡ old.running.holds
+
+-- What an advance does to a thread with others in its place. The budget counts the steps of all of them.
+abbrev pub Moves : ℕ → Nested → Pause → Nested → Type 0
+Moves budget old pauses.Budget new = SameWhole old new × (pending_in new ≡ None) × (work_in new + budget ≡ work_in old)
+Moves budget old (pauses.Forks class child) new =
+    SameWhole old new × (pending_in new ≡ Some pause.Forks) × IsForked class new.running child × IsChildOf new child
+    × FallsBy 1 budget (work_in old) (work_in new + work_in child)
+Moves budget old pauses.Joins new = Stops budget old new pause.Joins
+Moves budget old (pauses.Asks lock) new = Stops budget old new (pause.Asks lock)
+Moves budget old (pauses.Frees lock) new = Stops budget old new (pause.Frees lock)
+Moves budget old (pauses.Tallies ledger amount) new = Stops budget old new (pause.Tallies ledger amount)
+Moves budget old pauses.Ended new = Stops budget old new pause.Ended × (new.parents ≡ [])
+
+-- what a pause names is there
+abbrev pub PausesAt : Pause → Suspended → Type 0
+PausesAt pauses.Budget thread = Unit {0}
+PausesAt _ thread = PausesWithin thread
+
+-- the pause that callers see where a thread by itself stops
+abbrev pub shown : Halt → Pause
+shown halts.Budget = pauses.Budget
+shown (halts.Forks class child) = pauses.Forks class (alone child)
+shown halts.Joins = pauses.Joins
+shown (halts.Asks lock) = pauses.Asks lock
+shown (halts.Frees lock) = pauses.Frees lock
+shown (halts.Tallies ledger amount) = pauses.Tallies ledger amount
+shown halts.Ended = pauses.Ended
+
+-- what is to be answered then
+abbrev pub pending_at : Pause → Option Pending
+pending_at pauses.Budget = None
+pending_at (pauses.Forks class child) = Some pause.Forks
+pending_at pauses.Joins = Some pause.Joins
+pending_at (pauses.Asks lock) = Some (pause.Asks lock)
+pending_at (pauses.Frees lock) = Some (pause.Frees lock)
+pending_at (pauses.Tallies ledger amount) = Some (pause.Tallies ledger amount)
+pending_at pauses.Ended = Some pause.Ended
+
+-- it may be one after which another thread goes on in the same place
+abbrev pub IsPassed : Pause → Type 0
+IsPassed pauses.Budget = Unit {0}
+IsPassed pauses.Joins = Unit {0}
+IsPassed pauses.Ended = Unit {0}
+IsPassed _ = ⊥
+
+-- So many steps were left and so many are: none where the budget is used, else fewer.
+abbrev pub IsSpentAt : Pause → ℕ → ℕ → Type 0
+IsSpentAt pauses.Budget had left = left ≡ 0
+IsSpentAt _ had left = left < had
+
+-- The steps that were made are those that are not left any more.
+abbrev pub TakesAllAt : Pause → ℕ → ℕ → Suspended → Suspended → Type 0
+TakesAllAt (pauses.Forks class child) had left old new = Unit {0}
+TakesAllAt _ had left old new = new.work + had ≡ old.work + left
 
 -- the outcome that was refused
 abbrev pub handed_back : NotJoined → Finished

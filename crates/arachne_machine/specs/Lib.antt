@@ -1,5 +1,6 @@
 pub mod Outcome
 pub mod Suspended
+pub mod Nested
 pub mod Advance
 pub mod Work
 pub mod Trace

@@ -47,7 +47,7 @@ abbrev pub suspended : State → Suspended
 suspended t = record {
   program = t.program.now;
   name = t.own.name;
-  tag = t.own.tag;
+  label = t.own.label;
   forks = t.forks;
   unjoined = unjoined_of t;
   locks = locks_of t;
@@ -135,7 +135,7 @@ pub record GoesWithin (least most : ℕ) (old new : State) : Type 0 where
 pub record IsNew (program : Program) (name : List ℕ) (tag : ℕ) (task : Task) (t : State) : Type 0 where
   pub same_program : t.program.now ≡ program
   pub has_name : t.own.name ≡ name
-  pub has_tag : t.own.tag ≡ tag
+  pub has_label : t.own.label ≡ record { tag = tag; in_place = false }
   pub holds : t.own.holds.items ≡ tabulated program.locks (λ lock. 0)
   pub below : t.below.items ≡ []
   pub sums : t.sums.items ≡ tabulated program.ledgers (λ ledger. 0)
@@ -190,6 +190,16 @@ AfterSteps steps old (Some (stop.Tallies ledger amount)) new =
 AfterSteps steps old (Some stop.Ended) new =
     GoesWithin 1 steps old new × (pending_of new.control ≡ Some pause.Ended) × (unjoined_of new ≡ []) × (locks_of new ≡ locks_of old) × (locks_of new ≡ [])
     × (work_left new ≡ 0)
+
+-- So many steps were left and so many are: all where the thread has not stopped, else at least one.
+abbrev pub IsSpent : Option Stop → ℕ → ℕ → Type 0
+IsSpent None old new = new ≡ 0
+IsSpent (Some s) old new = new < old
+
+-- The steps that were made are those that are not left any more.
+abbrev pub TakesAll : Option Stop → ℕ → ℕ → State → State → Type 0
+TakesAll (Some (stop.Forks class child)) had left old new = Unit {0}
+TakesAll _ had left old new = work_left new + had ≡ work_left old + left
 
 -- the thread that hands on this value next
 abbrev pub giving : State → ℕ → State
@@ -255,7 +265,7 @@ pub record Joins (old : State) (outcome : Finished) (new : State) : Type 0 where
 pub record Counts (answered : Pending) (effects : Effects) (old new : State) : Type 0 where
   pub program : new.program ≡ old.program
   pub name : new.own.name ≡ old.own.name
-  pub tag : new.own.tag ≡ old.own.tag
+  pub label : new.own.label ≡ old.own.label
   pub below : new.below.items ≡ old.below.items
   pub forks : new.forks ≡ old.forks
   pub unjoined : unjoined_of new ≡ unjoined_of old
@@ -273,7 +283,7 @@ pub record Counts (answered : Pending) (effects : Effects) (old new : State) : T
 pub record CountsHold (old new : State) (lock : ℕ) : Type 0 where
   pub program : new.program ≡ old.program
   pub name : new.own.name ≡ old.own.name
-  pub tag : new.own.tag ≡ old.own.tag
+  pub label : new.own.label ≡ old.own.label
   pub below : new.below.items ≡ old.below.items
   pub sums : new.sums.items ≡ old.sums.items
   pub forks : new.forks ≡ old.forks

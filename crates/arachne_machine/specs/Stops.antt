@@ -1,21 +1,21 @@
 -- The stops of a thread as callers see them.
 use Rattle.std.specs.Prelude.{Option, None, Some}
-use Rattle.arachne_machine.specs.declared.pause.Pause.{Pause}
-use Rattle.arachne_machine.specs.declared.pause.Pause.TheVariants as pauses
+use Rattle.arachne_machine.specs.declared.strand.Halt.{Halt}
+use Rattle.arachne_machine.specs.declared.strand.Halt.TheVariants as halts
 use Rattle.arachne_machine.specs.declared.state.Stop.{Stop}
 use Rattle.arachne_machine.specs.declared.state.Stop.TheVariants as stop
 use Rattle.arachne_machine.specs.Steps.{suspended}
 use Rattle.arachne_machine.specs.Sound.{IsSound}
 
--- the pause that a stop is
-abbrev pub pause_of : Option Stop → Pause
-pause_of None = pauses.Budget
-pause_of (Some (stop.Forks class child)) = pauses.Forks class (suspended child.value)
-pause_of (Some stop.Joins) = pauses.Joins
-pause_of (Some (stop.Asks lock)) = pauses.Asks lock
-pause_of (Some (stop.Frees lock)) = pauses.Frees lock
-pause_of (Some (stop.Tallies ledger amount)) = pauses.Tallies ledger amount
-pause_of (Some stop.Ended) = pauses.Ended
+-- a stop, with the child as callers see it
+abbrev pub halt_of : Option Stop → Halt
+halt_of None = halts.Budget
+halt_of (Some (stop.Forks class child)) = halts.Forks class (suspended child.value)
+halt_of (Some stop.Joins) = halts.Joins
+halt_of (Some (stop.Asks lock)) = halts.Asks lock
+halt_of (Some (stop.Frees lock)) = halts.Frees lock
+halt_of (Some (stop.Tallies ledger amount)) = halts.Tallies ledger amount
+halt_of (Some stop.Ended) = halts.Ended
 
 -- a child that is forked is sound
 abbrev pub IsSoundStop : Option Stop → Type 0

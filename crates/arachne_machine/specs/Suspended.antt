@@ -6,6 +6,7 @@ use Rattle.arachne_lang.specs.declared.program.Class.{Class}
 use Rattle.arachne_lang.specs.declared.program.Program.{Program}
 use Rattle.arachne_lang.specs.Program.{source_of}
 use Rattle.arachne_lang.specs.Meaning.{child_of}
+use Rattle.arachne_machine.specs.declared.line.Label.{Label}
 use Rattle.arachne_machine.specs.declared.line.ThreadLine.{ThreadLine}
 use Rattle.arachne_machine.specs.declared.pause.Pending.{Pending}
 use Rattle.arachne_machine.specs.declared.pause.Pending.TheVariants as pause
@@ -16,7 +17,8 @@ use Rattle.arachne_machine.specs.Trace.{Event, Step, At, with_steps, task_trace}
 pub record Suspended : Type 0 where
   pub program : Program
   pub name : List ℕ
-  pub tag : ℕ
+  -- its tag, and whether it runs in its parent's place
+  pub label : Label
   -- how many threads it has forked
   pub forks : ℕ
   -- the numbers of its forks that are not joined, the newest first
@@ -42,7 +44,7 @@ awaited thread = option_map (λ number. thread.name ++ number ∷ []) (slice_get
 
 -- its own line, once it has ended
 abbrev pub own_line_of : Suspended → ThreadLine
-own_line_of thread = record { name = thread.name; tag = thread.tag; holds = thread.holds; in_place = false }
+own_line_of thread = record { name = thread.name; tag = thread.label.tag; holds = thread.holds; in_place = thread.label.in_place }
 
 -- the numbers with the one at this place raised by an amount, modulo 2 ^ 64; nothing where there is none
 abbrev pub raised : List ℕ → ℕ → ℕ → List ℕ
@@ -74,11 +76,11 @@ IsNext (Some next) trace = (others : List Event) × (trace ≡ At next ∷ other
 abbrev pub IsAnswered : Suspended → Suspended → Type 0
 IsAnswered old new = (answered : Pending) × (old.pending ≡ Some answered) × (old.trace ≡ At answered ∷ new.trace)
 
--- both are of one program, have one name and tag, and have made and joined the same forks; the rest may differ
+-- both are of one program, have one name and label, and have made and joined the same forks; the rest may differ
 pub record SameThread (old new : Suspended) : Type 0 where
   pub program : new.program ≡ old.program
   pub name : new.name ≡ old.name
-  pub tag : new.tag ≡ old.tag
+  pub label : new.label ≡ old.label
   pub forks : new.forks ≡ old.forks
   pub unjoined : new.unjoined ≡ old.unjoined
   pub below : new.below ≡ old.below
@@ -91,11 +93,11 @@ pub record MakesSteps (least most : ℕ) (old new : Suspended) : Type 0 where
   pub work : new.work + made ≡ old.work
   pub trace : old.trace ≡ with_steps made new.trace
 
--- a thread of this name that has not begun
+-- a thread of this name and tag that has not begun, and not in its parent's place
 pub record IsFresh (program : Program) (name : List ℕ) (tag : ℕ) (thread : Suspended) : Type 0 where
   pub same_program : thread.program ≡ program
   pub has_name : thread.name ≡ name
-  pub has_tag : thread.tag ≡ tag
+  pub has_label : thread.label ≡ record { tag = tag; in_place = false }
   pub no_forks : thread.forks ≡ 0
   pub none_unjoined : thread.unjoined ≡ []
   pub no_locks : thread.locks ≡ []
@@ -109,7 +111,7 @@ pub record IsFresh (program : Program) (name : List ℕ) (tag : ℕ) (thread : S
 pub record Forked (budget : ℕ) (class : Class) (old new child : Suspended) : Type 0 where
   pub program : new.program ≡ old.program
   pub name : new.name ≡ old.name
-  pub tag : new.tag ≡ old.tag
+  pub label : new.label ≡ old.label
   pub forks : new.forks ≡ old.forks + 1
   pub unjoined : new.unjoined ≡ old.forks ∷ old.unjoined
   pub locks : new.locks ≡ old.locks
@@ -131,7 +133,7 @@ pub record Joined (old : Suspended) (outcome : Finished) (new : Suspended) : Typ
   pub of_child : awaited old ≡ Some outcome.name
   pub program : new.program ≡ old.program
   pub name : new.name ≡ old.name
-  pub tag : new.tag ≡ old.tag
+  pub label : new.label ≡ old.label
   pub forks : new.forks ≡ old.forks
   pub unjoined : (number : ℕ) × (old.unjoined ≡ number ∷ new.unjoined)
   pub locks : new.locks ≡ old.locks

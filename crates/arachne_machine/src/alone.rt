@@ -6,8 +6,8 @@ ghost use Rattle.arachne_machine.specs.Alone.{Rests, key, turns_left};
 
 use crate::line::ThreadLine;
 use crate::outcome::Outcome;
-use crate::pause::{NotJoined, Pause};
-use crate::thread::Thread;
+use crate::pause::NotJoined;
+use crate::strand::{Halt, Strand};
 use arachne_lang::{Line, Meaning, Program, Sequence};
 use std::alloc::{AllocError, Global};
 
@@ -20,7 +20,7 @@ pub fn run_alone(alloc: Global, program: &Program, budget: u32) -> Result<Meanin
     let budget = budget.max(1);
     let mut threads = Vec::new(alloc);
     let mut outcomes: Vec<Outcome> = Vec::new(alloc);
-    threads.push(Thread::start(alloc, program, 0)?)?;
+    threads.push(Strand::start(alloc, program, 0)?)?;
     while let Some(thread) = threads.pop() {
         take_turn(&mut threads, &mut outcomes, thread, budget)?;
     }
@@ -30,9 +30,9 @@ pub fn run_alone(alloc: Global, program: &Program, budget: u32) -> Result<Meanin
 /// A turn of the newest thread, which is given apart from the list. An outcome lies ready until its parent
 /// joins it. The outcomes that were brought last are those of the newest thread's children, and so on.
 fn take_turn<'p>(
-    threads: &mut Vec<Thread<'p>>,
+    threads: &mut Vec<Strand<'p>>,
     outcomes: &mut Vec<Outcome<'p>>,
-    mut thread: Thread<'p>,
+    mut thread: Strand<'p>,
     budget: u32,
 ) -> Result<(), AllocError>
     requires some { 1 ≤ budget }
@@ -40,14 +40,15 @@ fn take_turn<'p>(
     ensures rests { OnOk result (Rests thread.entry.program (reverse threads.new.items) (map key (reverse outcomes.new.items))) }
     ensures falls { OnOk result (sum_by turns_left threads.new.items < sum_by turns_left threads.old.items + turns_left thread.entry) }
 {
-    match thread.advance(budget)? {
-        Pause::Budget => threads.push(thread)?,
-        Pause::Forks(_, child) => {
+    let mut left = budget;
+    match thread.advance(&mut left)? {
+        Halt::Budget => threads.push(thread)?,
+        Halt::Forks(_, child) => {
             thread.forked();
             threads.push(thread)?;
             threads.push(child)?;
         }
-        Pause::Joins => {
+        Halt::Joins => {
             let outcome = outcomes.pop().unwrap();
             match thread.joined(outcome) {
                 Ok(()) => threads.push(thread)?,
@@ -55,19 +56,19 @@ fn take_turn<'p>(
                 Err(NotJoined::Foreign(_)) => unreachable!(),
             }
         }
-        Pause::Asks(_) => {
+        Halt::Asks(_) => {
             thread.granted();
             threads.push(thread)?;
         }
-        Pause::Frees(_) => {
+        Halt::Frees(_) => {
             thread.freed();
             threads.push(thread)?;
         }
-        Pause::Tallies(_, _) => {
+        Halt::Tallies(_, _) => {
             thread.tallied();
             threads.push(thread)?;
         }
-        Pause::Ended => outcomes.push(thread.finish())?,
+        Halt::Ended => outcomes.push(thread.finish())?,
     }
     Ok(())
 }

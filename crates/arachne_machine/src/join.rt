@@ -39,6 +39,20 @@ impl<'p> State<'p> {
         if self.make_room(outcome.below.len()).is_err() {
             return Err(outcome);
         }
+        self.join_with_room(outcome);
+        Ok(())
+    }
+
+    /// Joins the child that it awaits, for which there is room.
+    pub fn join_with_room(&mut self, outcome: Outcome<'p>)
+        requires awaits { pending_of self.old.control ≡ Some pause.Joins }
+        requires child { awaited (suspended self.old) ≡ Some outcome.name }
+        requires sums { length outcome.sums ≡ length self.old.sums.items }
+        requires environment { vec_len self.old.environment + 2 ≤ vec_capacity self.old.environment }
+        requires frames { vec_len self.old.frames + 1 ≤ vec_capacity self.old.frames }
+        requires below { vec_len self.old.below + length outcome.lines ≤ vec_capacity self.old.below }
+        ensures { Joins self.old outcome.entry self.new }
+    {
         match self.control {
             Control::Awaits { during, after, .. } => {
                 let length = self.environment.len();
@@ -58,11 +72,10 @@ impl<'p> State<'p> {
             }
             _ => unreachable!(),
         }
-        Ok(())
     }
 
     /// Room for what a join adds, with so many lines below the child.
-    fn make_room(&mut self, lines: usize) -> Result<(), AllocError>
+    pub fn make_room(&mut self, lines: usize) -> Result<(), AllocError>
         requires { lines < 2 ^ 63 }
         ensures same { IsUnchanged self.old self.new }
         ensures environment { OnOk result (vec_len self.new.environment + 2 ≤ vec_capacity self.new.environment) }

@@ -12,6 +12,7 @@ mod line;
 mod outcome;
 mod pause;
 mod state;
+mod strand;
 mod tables;
 mod thread;
 

@@ -1,5 +1,14 @@
 use arachne_lang::{Name, Sequence};
 
+/// What is told of a thread beside what it does.
+#[derive(Clone, Copy, Debug)]
+pub struct Label {
+    /// The tag that it runs under.
+    pub tag: u64,
+    /// It runs in its parent's place.
+    pub in_place: bool,
+}
+
 /// What is known of a thread once it has ended.
 #[derive(Debug, Drop)]
 pub struct ThreadLine {

@@ -8,7 +8,7 @@ use thiserror::Error;
 pub enum Pause<'p> {
     /// The budget is used up: advance it again.
     Budget,
-    /// It forks a child of this class: give the child away and answer `forked`.
+    /// It forks a child of this class: give the child away and answer `forked`, or hand it to `in_place`.
     Forks(Class, Thread<'p>),
     /// It awaits the outcome of a child: answer `joined`.
     Joins,

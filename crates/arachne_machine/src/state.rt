@@ -1,5 +1,5 @@
 use crate::frame::{Control, Frame};
-use crate::line::ThreadLine;
+use crate::line::{Label, ThreadLine};
 use crate::outcome::Outcome;
 use crate::pause::Pending;
 use crate::tables::zeros;
@@ -10,7 +10,7 @@ use std::alloc::{AllocError, Global};
 #[derive(Drop)]
 pub struct Own {
     pub name: Name,
-    pub tag: u64,
+    pub label: Label,
     /// For each lock how often it held it, modulo 2^64.
     pub holds: Vec<u64>,
 }
@@ -66,7 +66,7 @@ impl<'p> State<'p> {
     ghost use Rattle.arachne_machine.specs.Ending.{locks_of};
     ghost use Rattle.arachne_machine.specs.Suspended.{own_line_of};
     ghost use Rattle.arachne_machine.specs.Faultless.{IsFaultlessNext, IsWithoutFault};
-    ghost use Rattle.arachne_machine.specs.Steps.{pending_of, suspended, task_begun, IsBeginning, IsNumbered, IsUnchanged, GoesWithin, IsNew, AfterSteps};
+    ghost use Rattle.arachne_machine.specs.Steps.{pending_of, suspended, task_begun, IsBeginning, IsNumbered, IsUnchanged, GoesWithin, IsNew, AfterSteps, IsSpent, TakesAll};
     ghost use Rattle.arachne_machine.specs.declared.pause.Pending.TheVariants as pause;
 
     /// A thread that begins like this.
@@ -84,12 +84,16 @@ impl<'p> State<'p> {
         ensures same { IfOk result (λ t. t.value.program ≡ program.entry) }
         ensures faultless { IfOk result (λ t. IsFaultlessNext (source_of program.now) false control.entry → IsWithoutFault t.value) }
     {
+        let label = Label {
+            tag,
+            in_place: false,
+        };
         let holds = zeros(alloc, program.locks)?;
         let sums = zeros(alloc, program.ledgers)?;
         let state = State {
             program,
             alloc,
-            own: Own { name, tag, holds },
+            own: Own { name, label, holds },
             below: Vec::new(alloc),
             sums,
             forks: 0,
@@ -101,19 +105,24 @@ impl<'p> State<'p> {
     }
 
     /// So many steps, if it does not stop before. Where memory is refused it stands before the refused step.
-    pub fn advance(&mut self, budget: u32) -> Result<Option<Stop<'p>>, AllocError>
+    pub fn advance(&mut self, left: &mut u32) -> Result<Option<Stop<'p>>, AllocError>
         requires running { pending_of self.old.control ≡ None }
         requires numbered { IsNumbered self.old }
-        ensures ok { IfOk result (λ stop. AfterSteps budget self.old stop self.new) }
-        ensures err { OnErr result (GoesWithin 0 (budget - 1) self.old self.new) }
+        ensures ok { IfOk result (λ stop. AfterSteps left.old self.old stop self.new) }
+        ensures spent { IfOk result (λ stop. IsSpent stop left.old left.new) }
+        ensures exact { IfOk result (λ stop. TakesAll stop left.old left.new self.old self.new) }
+        ensures err { OnErr result (GoesWithin 0 (left.old - 1) self.old self.new) }
         ensures err_locks { OnErr result (locks_of self.new ≡ locks_of self.old) }
         ensures running { OnErr result (pending_of self.new.control ≡ None) }
     {
-        for _ in 0..budget {
+        let budget = *left;
+        for counter in 0..budget {
             if let Some(stop) = self.step()? {
+                *left = budget - counter - 1;
                 return Ok(Some(stop));
             }
         }
+        *left = 0;
         Ok(None)
     }
 
@@ -177,16 +186,16 @@ impl<'p> State<'p> {
             frames: _,
             control: _,
         } = self;
-        let Own { name, tag, holds } = own;
+        let Own { name, label, holds } = own;
         Outcome {
             program,
             value,
             sums,
             own: ThreadLine {
                 name,
-                tag,
+                tag: label.tag,
                 holds: Sequence::from(holds),
-                in_place: false,
+                in_place: label.in_place,
             },
             below,
         }

@@ -1,207 +1,391 @@
-ghost use Rattle.std.specs.Prelude.{◌≡◌, ◌≢◌, ◌↔◌, ◌≤◌, ◌+◌, ◌-◌, ℕ, [], ◌∷◌, ◌++◌, None, Some, IfOk, OnOk, IfErr, OnErr};
-ghost use Rattle.arachne_machine.specs.Suspended.{SameThread, MakesSteps, IsFresh, IsNext, IsAnswered, Joined, IsAsk, IsFree, IsTally, awaited, own_line_of, raised};
-ghost use Rattle.arachne_machine.specs.Advance.{Advanced, IsForeign, handed_back};
-ghost use Rattle.arachne_machine.specs.Stops.{pause_of, IsSoundStop};
-ghost use Rattle.arachne_lang.specs.Program.{source_of};
-ghost use Rattle.arachne_machine.specs.Work.{work_of};
-ghost use Rattle.arachne_machine.specs.Trace.{At, trace_of};
+ghost use Rattle.std.specs.Prelude.{◌≡◌, ◌≢◌, ◌↔◌, ◌≤◌, ◌+◌, ◌-◌, ℕ, ◌∷◌, [], ◌++◌, false, None, Some, IfOk, OnOk, IfErr, OnErr, IsTrue};
+ghost use Rattle.arachne_machine.specs.Suspended.{IsAnswered, IsAsk, IsFree, IsFresh, IsNext, IsTally, Joined, SameThread, awaited, own_line_of, raised};
+ghost use Rattle.arachne_machine.specs.Advance.{AdvancedAlone, Moves, RefusedAlone, IsForeign, IsPassed, PausesAt, handed_back, pending_at, shown};
+ghost use Rattle.arachne_machine.specs.Nested.{FallsBy, IsAlone, IsChildOf, IsNested, SameWhole, alone, in_place_of, pending_in, whole, with_tag, work_in};
 ghost use Rattle.arachne_machine.specs.Faultless.{PausesWithin};
+ghost use Rattle.arachne_machine.specs.Trace.{At, trace_of};
+ghost use Rattle.arachne_machine.specs.Work.{work_of};
 ghost use Rattle.arachne_lang.specs.Checked.{IsChecked};
+ghost use Rattle.arachne_lang.specs.Program.{source_of};
 ghost use Rattle.arachne_machine.specs.declared.pause.Pending.TheVariants as pause;
 
-use crate::frame::Control;
 use crate::outcome::Outcome;
 use crate::pause::{NotJoined, Pause, Pending};
-use crate::state::{State, Stop};
+use crate::strand::{Halt, Strand};
 use arachne_lang::{Name, Program};
 use std::alloc::{AllocError, Global};
 use std::marker::Model;
+use std::mem::replace;
 
-/// A thread of a program between two steps. It is not cloned: each thread runs once.
+/// A thread of a program between two steps, with the threads that run in its place: a child that was placed
+/// here runs once its parent awaits it, and its parent goes on once it has ended. It is not cloned: each thread
+/// runs once.
 #[derive(Drop)]
 pub struct Thread<'p> {
-    state: Box<State<'p>>,
+    alloc: Global,
+    /// The one that goes on next.
+    running: Strand<'p>,
+    /// Each of these awaits the one after it, the last of them the one that goes on.
+    parents: Vec<Strand<'p>>,
+    /// Children that were placed here and have not begun, the newest last. For each of them there is room
+    /// among the parents.
+    placed: Vec<Strand<'p>>,
 }
 
 impl<'p> Model for Thread<'p> {
-    ghost use Rattle.arachne_machine.specs.Suspended.{Suspended};
-    ghost use Rattle.arachne_machine.specs.Steps.{suspended};
-    ghost use Rattle.arachne_machine.specs.Sound.{IsSound};
+    ghost use Rattle.std.specs.Prelude.{◌+◌, ◌≤◌, reverse, vec_len, vec_capacity};
+    ghost use Rattle.arachne_machine.specs.Nested.{Nested, IsNested};
 
-    ghost Value = { Suspended };
+    ghost Value = { Nested };
 
     ghost use Rattle.std.specs.Coded.{codes};
     ghost use Rattle.arachne_lang.specs.contracts.program.Expr as expr;
 
     ghost coded = { Prim.hlevel (codes, expr.the_row.coded) };
 
-    ghost view = { λ t. suspended t.state.value };
+    ghost view = { λ t. record { running = t.running; parents = reverse t.parents.items; placed = reverse t.placed.items } };
 
-    ghost invariant = { λ t. IsSound t.state.value };
+    ghost invariant = { λ t. IsNested (record { running = t.running; parents = reverse t.parents.items; placed = reverse t.placed.items }) × (vec_len t.parents + vec_len t.placed ≤ vec_capacity t.parents) };
 }
 
 impl<'p> Thread<'p> {
     /// The root thread of a program.
     pub fn start(alloc: Global, program: &'p Program, tag: u64) -> Result<Thread<'p>, AllocError>
-        ensures fresh { IfOk result (IsFresh program.now [] tag) }
-        ensures work { IfOk result (λ thread. thread.work ≡ work_of (source_of program.now).arrays (source_of program.now).root []) }
-        ensures trace { IfOk result (λ thread. thread.trace ≡ trace_of (source_of program.now).arrays (source_of program.now).root [] ++ At pause.Ended ∷ []) }
+        ensures alone { IfOk result IsAlone }
+        ensures fresh { IfOk result (λ thread. IsFresh program.now [] tag thread.running) }
+        ensures work { IfOk result (λ thread. work_in thread ≡ work_of (source_of program.now).arrays (source_of program.now).root []) }
+        ensures trace { IfOk result (λ thread. thread.running.trace ≡ trace_of (source_of program.now).arrays (source_of program.now).root [] ++ At pause.Ended ∷ []) }
     {
-        let root = Name::root(alloc);
-        let begins = Control::Begin(&program.root);
-        let environment = Vec::new(alloc);
-        let state = State::new(alloc, program, root, tag, begins, environment)?;
-        Ok(Thread { state })
+        let strand = Strand::start(alloc, program, tag)?;
+        Ok(thread_of(alloc, strand))
     }
 
-    /// The tag that it runs under.
+    /// The tag.
     pub fn tag(&self) -> u64
-        ensures { result ≡ self.now.tag }
+        ensures { result ≡ (whole self.now).label.tag }
     {
-        self.state.own.tag
+        self.outermost().tag()
     }
 
     /// The name.
     pub fn name(&self) -> &Name
-        ensures { result.now ≡ self.now.name }
+        ensures { result.now ≡ (whole self.now).name }
     {
-        &self.state.own.name
+        self.outermost().name()
     }
 
     /// The program.
     pub fn program(&self) -> &'p Program
-        ensures { result.now ≡ self.now.program }
+        ensures { result.now ≡ (whole self.now).program }
     {
-        self.state.program
+        self.outermost().program()
     }
 
-    /// The pause that is not answered, if there is one.
-    pub fn pending(&self) -> Option<Pending>
-        ensures pending { result ≡ self.now.pending }
-        ensures next { IsNext self.now.pending self.now.trace }
-        ensures within { IsChecked (source_of self.now.program) → PausesWithin self.now }
+    /// The tag of the innermost thread that runs in this one's place: the one that makes the next step, and
+    /// whose the pause is that is not answered.
+    pub fn running_tag(&self) -> u64
+        ensures { result ≡ self.now.running.label.tag }
     {
-        self.state.pending()
+        self.running.tag()
+    }
+
+    /// Gives a thread that has not begun its tag.
+    pub fn set_tag(&mut self, tag: u64)
+        requires { self.old.parents ≡ [] }
+        ensures { self.new ≡ record self.old { running = with_tag tag self.old.running } }
+    {
+        self.running.set_tag(tag);
+    }
+
+    /// The thread in whose place the others run.
+    fn outermost(&self) -> &Strand<'p>
+        ensures { result.now ≡ whole self.now }
+    {
+        if self.parents.is_empty() {
+            return &self.running;
+        }
+        &self.parents[0]
+    }
+
+    /// The pause that is not answered, if there is one. It is that of the innermost thread.
+    pub fn pending(&self) -> Option<Pending>
+        ensures pending { result ≡ pending_in self.now }
+        ensures next { IsNext self.now.running.pending self.now.running.trace }
+        ensures within { IsChecked (source_of (whole self.now).program) → PausesWithin self.now.running }
+        ensures nested { IsNested self.now }
+    {
+        let pending = self.running.pending();
+        match pending {
+            Some(Pending::Ended) if !self.parents.is_empty() => None,
+            _ => pending,
+        }
     }
 
     /// Goes on for at most so many steps, each beginning of a node being a step of its own. Where memory is
     /// refused the thread stands before the refused step, and the same call goes on from there.
     pub fn advance(&mut self, budget: u32) -> Result<Pause<'p>, AllocError>
-        requires not_paused { self.old.pending ≡ None }
+        requires not_paused { pending_in self.old ≡ None }
         requires some { 1 ≤ budget }
-        ensures ok { IfOk result (λ pause. Advanced budget self.old pause self.new) }
-        ensures next { IsNext self.new.pending self.new.trace }
-        ensures sums { self.new.sums ≡ self.old.sums }
-        ensures holds { self.new.holds ≡ self.old.holds }
-        ensures within { IfOk result (λ pause. IsChecked (source_of self.old.program) → PausesWithin self.new) }
-        ensures err_same { OnErr result (SameThread self.old self.new) }
-        ensures err_locks { OnErr result (self.new.locks ≡ self.old.locks) }
-        ensures err_work { OnErr result (MakesSteps 0 (budget - 1) self.old self.new) }
-        ensures err_pending { OnErr result (self.new.pending ≡ None) }
+        ensures ok { IfOk result (λ pause. Moves budget self.old pause self.new) }
+        ensures within { IfOk result (λ pause. IsChecked (source_of (whole self.old).program) → PausesAt pause self.new.running) }
+        ensures alone { IfOk result (λ pause. IsAlone self.old → AdvancedAlone budget self.old pause self.new) }
+        ensures err_same { OnErr result (SameWhole self.old self.new) }
+        ensures err_work { OnErr result (FallsBy 0 (budget - 1) (work_in self.old) (work_in self.new)) }
+        ensures err_pending { OnErr result (pending_in self.new ≡ None) }
+        ensures err_alone { OnErr result (IsAlone self.old → RefusedAlone budget self.old self.new) }
     {
-        let stop = self.state.advance(budget)?;
-        Ok(pause_at(stop))
+        if !self.is_alone() {
+            return self.advance_nested(budget);
+        }
+        let mut left = budget;
+        let halt = self.running.advance(&mut left)?;
+        Ok(pause_at(self.alloc, halt))
+    }
+
+    /// Whether no other thread is in its place.
+    fn is_alone(&self) -> bool
+        ensures { IsTrue result ↔ IsAlone self.now }
+    {
+        self.parents.is_empty() && self.placed.is_empty()
+    }
+
+    /// The same for a thread with others in its place.
+    fn advance_nested(&mut self, budget: u32) -> Result<Pause<'p>, AllocError>
+        requires not_paused { pending_in self.old ≡ None }
+        requires some { 1 ≤ budget }
+        ensures ok { IfOk result (λ pause. Moves budget self.old pause self.new) }
+        ensures within { IfOk result (λ pause. IsChecked (source_of (whole self.old).program) → PausesAt pause self.new.running) }
+        ensures err_same { OnErr result (SameWhole self.old self.new) }
+        ensures err_work { OnErr result (FallsBy 0 (budget - 1) (work_in self.old) (work_in self.new)) }
+        ensures err_pending { OnErr result (pending_in self.new ≡ None) }
+    {
+        let mut left = budget;
+        while left > 0 {
+            self.rejoin()?;
+            let halt = self.running.advance(&mut left)?;
+            if !self.goes_on(&halt) {
+                return Ok(pause_at(self.alloc, halt));
+            }
+        }
+        Ok(Pause::Budget)
+    }
+
+    /// Whether it goes on without a pause where the innermost thread stops so: with a child that was placed here
+    /// and is awaited now, or with the parent of a thread that has ended here.
+    fn goes_on(&mut self, halt: &Halt<'p>) -> bool
+        requires { self.old.running.pending ≡ pending_at (shown halt.now) }
+        ensures same { SameWhole self.old self.new }
+        ensures work { work_in self.new ≡ work_in self.old }
+        ensures on { IsTrue result → (pending_in self.new ≡ None) × IsPassed (shown halt.now) }
+        ensures stays { result ≡ false → self.new ≡ self.old }
+        ensures pauses { result ≡ false → (pending_in self.new ≡ pending_at (shown halt.now)) × (pending_in self.new ≢ None) }
+    {
+        match halt {
+            Halt::Budget => true,
+            Halt::Joins => self.take_up(),
+            Halt::Ended => !self.parents.is_empty(),
+            Halt::Forks(_, _) | Halt::Asks(_) | Halt::Frees(_) | Halt::Tallies(_, _) => false,
+        }
+    }
+
+    /// Where the thread that goes on has ended in another's place, that one joins it and goes on. Where memory
+    /// is refused nothing has changed.
+    fn rejoin(&mut self) -> Result<(), AllocError>
+        requires { pending_in self.old ≡ None }
+        ensures same { SameWhole self.old self.new }
+        ensures work { work_in self.new ≡ work_in self.old }
+        ensures ok { OnOk result (self.new.running.pending ≡ None) }
+        ensures pending { pending_in self.new ≡ None }
+    {
+        let Some(Pending::Ended) = self.running.pending() else {
+            return Ok(());
+        };
+        let Some(parent) = self.parents.pop() else {
+            unreachable!()
+        };
+        let child = replace(&mut self.running, parent);
+        if let Err(child) = self.running.join_ended(child) {
+            let parent = replace(&mut self.running, child);
+            self.parents.push_reserved(parent);
+            return Err(AllocError);
+        }
+        Ok(())
+    }
+
+    /// Where the thread that goes on awaits the newest child that was placed here, that one goes on in its
+    /// place.
+    fn take_up(&mut self) -> bool
+        requires { self.old.running.pending ≡ Some pause.Joins }
+        ensures same { SameWhole self.old self.new }
+        ensures work { work_in self.new ≡ work_in self.old }
+        ensures taken { IsTrue result → self.new.running.pending ≡ None }
+        ensures left { result ≡ false → self.new ≡ self.old }
+    {
+        let Some(child) = self.placed.pop() else {
+            return false;
+        };
+        if !self.running.awaits(child.name()) {
+            self.placed.push_reserved(child);
+            return false;
+        }
+        let parent = replace(&mut self.running, child);
+        self.parents.push_reserved(parent);
+        true
     }
 
     /// Answers a fork once the child was given away. It takes no memory.
     pub fn forked(&mut self)
-        requires { self.old.pending ≡ Some pause.Forks }
-        ensures same { SameThread self.old self.new }
-        ensures sums { self.new.sums ≡ self.old.sums }
-        ensures holds { self.new.holds ≡ self.old.holds }
-        ensures locks { self.new.locks ≡ self.old.locks }
-        ensures pending { self.new.pending ≡ None }
-        ensures work { self.new.work ≡ self.old.work }
-        ensures trace { IsAnswered self.old self.new }
+        requires { pending_in self.old ≡ Some pause.Forks }
+        ensures same { SameThread self.old.running self.new.running }
+        ensures sums { self.new.running.sums ≡ self.old.running.sums }
+        ensures holds { self.new.running.holds ≡ self.old.running.holds }
+        ensures locks { self.new.running.locks ≡ self.old.running.locks }
+        ensures others { self.new ≡ record self.old { running = self.new.running } }
+        ensures pending { pending_in self.new ≡ None }
+        ensures work { work_in self.new ≡ work_in self.old }
+        ensures trace { IsAnswered self.old.running self.new.running }
     {
-        self.state.forked();
+        self.running.forked();
+    }
+
+    /// Answers a fork with its child, which runs in this thread's place once it is awaited. Where memory is
+    /// refused nothing has changed, and the child comes back.
+    pub fn in_place(&mut self, child: Thread<'p>) -> Result<(), Thread<'p>>
+        requires pending { pending_in self.old ≡ Some pause.Forks }
+        requires child { IsChildOf self.old child }
+        ensures same { OnOk result (SameThread self.old.running self.new.running) }
+        ensures sums { OnOk result (self.new.running.sums ≡ self.old.running.sums) }
+        ensures holds { OnOk result (self.new.running.holds ≡ self.old.running.holds) }
+        ensures locks { OnOk result (self.new.running.locks ≡ self.old.running.locks) }
+        ensures parents { OnOk result (self.new.parents ≡ self.old.parents) }
+        ensures placed { OnOk result (self.new.placed ≡ in_place_of child.entry.running ∷ self.old.placed) }
+        ensures pending { OnOk result (pending_in self.new ≡ None) }
+        ensures work { OnOk result (work_in self.new ≡ work_in self.old + work_in child.entry) }
+        ensures trace { OnOk result (IsAnswered self.old.running self.new.running) }
+        ensures err { OnErr result (self.new ≡ self.old) }
+        ensures handed_back { IfErr result (λ c. c ≡ child.entry) }
+    {
+        if self.parents.try_reserve(self.placed.len() + 1).is_err()
+            || self.placed.try_reserve(1).is_err()
+        {
+            return Err(child);
+        }
+        let mut child = child.into_running();
+        child.run_in_place();
+        self.placed.push_reserved(child);
+        self.running.forked();
+        Ok(())
+    }
+
+    /// The one that goes on next.
+    fn into_running(self) -> Strand<'p>
+        ensures { result ≡ self.entry.running }
+    {
+        let Thread {
+            alloc: _,
+            running,
+            parents: _,
+            placed: _,
+        } = self;
+        running
     }
 
     /// Answers that the thread holds the lock that it asked for. It takes no memory.
     pub fn granted(&mut self)
-        requires { IsAsk self.old.pending }
-        ensures same { SameThread self.old self.new }
-        ensures sums { self.new.sums ≡ self.old.sums }
-        ensures holds { (lock : ℕ) × (self.old.pending ≡ Some (pause.Asks lock)) × (self.new.holds ≡ raised self.old.holds lock 1) }
-        ensures locks { self.new.locks ≡ self.old.locks }
-        ensures pending { self.new.pending ≡ None }
-        ensures work { self.new.work ≡ self.old.work }
-        ensures trace { IsAnswered self.old self.new }
+        requires { IsAsk (pending_in self.old) }
+        ensures same { SameThread self.old.running self.new.running }
+        ensures sums { self.new.running.sums ≡ self.old.running.sums }
+        ensures holds { (lock : ℕ) × (pending_in self.old ≡ Some (pause.Asks lock)) × (self.new.running.holds ≡ raised self.old.running.holds lock 1) }
+        ensures locks { self.new.running.locks ≡ self.old.running.locks }
+        ensures others { self.new ≡ record self.old { running = self.new.running } }
+        ensures pending { pending_in self.new ≡ None }
+        ensures work { work_in self.new ≡ work_in self.old }
+        ensures trace { IsAnswered self.old.running self.new.running }
     {
-        self.state.granted();
+        self.running.granted();
     }
 
     /// Answers that the lock was freed. It takes no memory.
     pub fn freed(&mut self)
-        requires { IsFree self.old.pending }
-        ensures same { SameThread self.old self.new }
-        ensures sums { self.new.sums ≡ self.old.sums }
-        ensures holds { self.new.holds ≡ self.old.holds }
-        ensures locks { (lock : ℕ) × (self.old.pending ≡ Some (pause.Frees lock)) × (self.old.locks ≡ lock ∷ self.new.locks) }
-        ensures pending { self.new.pending ≡ None }
-        ensures work { self.new.work ≡ self.old.work }
-        ensures trace { IsAnswered self.old self.new }
+        requires { IsFree (pending_in self.old) }
+        ensures same { SameThread self.old.running self.new.running }
+        ensures sums { self.new.running.sums ≡ self.old.running.sums }
+        ensures holds { self.new.running.holds ≡ self.old.running.holds }
+        ensures locks { (lock : ℕ) × (pending_in self.old ≡ Some (pause.Frees lock)) × (self.old.running.locks ≡ lock ∷ self.new.running.locks) }
+        ensures others { self.new ≡ record self.old { running = self.new.running } }
+        ensures pending { pending_in self.new ≡ None }
+        ensures work { work_in self.new ≡ work_in self.old }
+        ensures trace { IsAnswered self.old.running self.new.running }
     {
-        self.state.freed();
+        self.running.freed();
     }
 
     /// Answers that the amount was added to the ledger. It takes no memory.
     pub fn tallied(&mut self)
-        requires { IsTally self.old.pending }
-        ensures same { SameThread self.old self.new }
-        ensures sums { (ledger amount : ℕ) × (self.old.pending ≡ Some (pause.Tallies ledger amount)) × (self.new.sums ≡ raised self.old.sums ledger amount) }
-        ensures holds { self.new.holds ≡ self.old.holds }
-        ensures locks { self.new.locks ≡ self.old.locks }
-        ensures pending { self.new.pending ≡ None }
-        ensures work { self.new.work ≡ self.old.work }
-        ensures trace { IsAnswered self.old self.new }
+        requires { IsTally (pending_in self.old) }
+        ensures same { SameThread self.old.running self.new.running }
+        ensures sums { (ledger amount : ℕ) × (pending_in self.old ≡ Some (pause.Tallies ledger amount)) × (self.new.running.sums ≡ raised self.old.running.sums ledger amount) }
+        ensures holds { self.new.running.holds ≡ self.old.running.holds }
+        ensures locks { self.new.running.locks ≡ self.old.running.locks }
+        ensures others { self.new ≡ record self.old { running = self.new.running } }
+        ensures pending { pending_in self.new ≡ None }
+        ensures work { work_in self.new ≡ work_in self.old }
+        ensures trace { IsAnswered self.old.running self.new.running }
     {
-        self.state.tallied();
+        self.running.tallied();
     }
 
     /// Joins the outcome of the child that is awaited. Where it answers an error nothing has changed, and the
     /// outcome comes back.
     pub fn joined(&mut self, outcome: Outcome<'p>) -> Result<(), NotJoined<'p>>
-        requires pending { self.old.pending ≡ Some pause.Joins }
-        requires program { source_of outcome.program ≡ source_of self.old.program }
-        ensures ok { OnOk result (Joined self.old outcome.entry self.new) }
-        ensures foreign { IsForeign result ↔ (awaited self.old ≢ Some outcome.entry.name) }
+        requires pending { pending_in self.old ≡ Some pause.Joins }
+        requires program { source_of outcome.program ≡ source_of (whole self.old).program }
+        ensures ok { OnOk result (Joined self.old.running outcome.entry self.new.running) }
+        ensures others { self.new ≡ record self.old { running = self.new.running } }
+        ensures pending { OnOk result (pending_in self.new ≡ None) }
+        ensures work { work_in self.new ≡ work_in self.old }
+        ensures foreign { IsForeign result ↔ (awaited self.old.running ≢ Some outcome.entry.name) }
         ensures err { OnErr result (self.new ≡ self.old) }
         ensures handed_back { IfErr result (λ e. handed_back e ≡ outcome.entry) }
     {
-        if !self.state.awaits(&outcome.own.name) {
-            return Err(NotJoined::Foreign(outcome));
-        }
-        if let Err(outcome) = self.state.join(outcome) {
-            return Err(NotJoined::Memory(outcome));
-        }
-        Ok(())
+        self.running.joined(outcome)
     }
 
     /// The outcome of a thread that has ended. It takes no memory.
     pub fn finish(self) -> Outcome<'p>
-        requires { self.pending ≡ Some pause.Ended }
-        ensures program { result.program ≡ self.entry.program }
-        ensures name { result.name ≡ self.entry.name }
-        ensures sums { result.sums ≡ self.entry.sums }
-        ensures lines { result.lines ≡ own_line_of self.entry ∷ self.entry.below }
+        requires { pending_in self ≡ Some pause.Ended }
+        ensures program { result.program ≡ (whole self.entry).program }
+        ensures name { result.name ≡ (whole self.entry).name }
+        ensures sums { result.sums ≡ (whole self.entry).sums }
+        ensures lines { result.lines ≡ own_line_of (whole self.entry) ∷ (whole self.entry).below }
     {
-        Box::into_inner(self.state).finish()
+        self.into_running().finish()
     }
 }
 
-/// The pause that a stop is.
-fn pause_at<'p>(stop: Option<Stop<'p>>) -> Pause<'p>
-    requires { IsSoundStop stop }
-    ensures { result ≡ pause_of stop.entry }
+/// A thread in whose place no other is.
+fn thread_of<'p>(alloc: Global, strand: Strand<'p>) -> Thread<'p>
+    ensures { result ≡ alone strand.entry }
 {
-    match stop {
-        None => Pause::Budget,
-        Some(Stop::Forks(class, state)) => Pause::Forks(class, Thread { state }),
-        Some(Stop::Joins) => Pause::Joins,
-        Some(Stop::Asks(lock)) => Pause::Asks(lock),
-        Some(Stop::Frees(lock)) => Pause::Frees(lock),
-        Some(Stop::Tallies(ledger, amount)) => Pause::Tallies(ledger, amount),
-        Some(Stop::Ended) => Pause::Ended,
+    Thread {
+        alloc,
+        running: strand,
+        parents: Vec::new(alloc),
+        placed: Vec::new(alloc),
+    }
+}
+
+/// What callers see of why the innermost thread stops.
+fn pause_at<'p>(alloc: Global, halt: Halt<'p>) -> Pause<'p>
+    ensures { result ≡ shown halt.entry }
+{
+    match halt {
+        Halt::Budget => Pause::Budget,
+        Halt::Forks(class, child) => Pause::Forks(class, thread_of(alloc, child)),
+        Halt::Joins => Pause::Joins,
+        Halt::Asks(lock) => Pause::Asks(lock),
+        Halt::Frees(lock) => Pause::Frees(lock),
+        Halt::Tallies(ledger, amount) => Pause::Tallies(ledger, amount),
+        Halt::Ended => Pause::Ended,
     }
 }

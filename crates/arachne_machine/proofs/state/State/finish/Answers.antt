@@ -12,6 +12,6 @@ invariant_of-result c =
       name = t.own.name;
       value = c.in-Ended.value;
       sums = t.sums.items;
-      lines = (record { name = t.own.name; tag = t.own.tag; holds = h; in_place = false }) ∷ t.below.items;
+      lines = (record { name = t.own.name; tag = t.own.label.tag; holds = h; in_place = t.own.label.in_place }) ∷ t.below.items;
     }))
     (sym c.from.ensures) (sound_end t c.in-Ended.value c.requires.sound c.in-Ended.is)

@@ -11,6 +11,6 @@ returns c =
     let lock = c.in-Asks.lock in (
       lock,
       ap pending_of c.in-Asks.is,
-      counts_hold t _ lock c.in-Asks.body c.in-Asks.is refl h.program h.name h.tag h.below h.forks h.frames h.environment
+      counts_hold t _ lock c.in-Asks.body c.in-Asks.is refl h.program h.name h.label h.below h.forks h.frames h.environment
           (λ n own e. tabulated-kept n own _ (h.sums ∙ e)) h.holds,
     )

@@ -13,6 +13,6 @@ returns c =
       ledger,
       amount,
       ap pending_of c.in-Tallies.is,
-      counts_tally t _ ledger amount c.in-Tallies.body c.in-Tallies.is refl h.program (ap (λ o. o.name) h.own) (ap (λ o. o.tag) h.own) h.below h.forks h.frames h.environment
+      counts_tally t _ ledger amount c.in-Tallies.body c.in-Tallies.is refl h.program (ap (λ o. o.name) h.own) (ap (λ o. o.label) h.own) h.below h.forks h.frames h.environment
           h.sums (λ n own e. tabulated-kept n own _ (ap (λ o. o.holds.items) h.own ∙ e)),
     )

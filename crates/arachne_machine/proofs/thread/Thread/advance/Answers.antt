@@ -1,42 +1,19 @@
-use Rattle.std.proofs.Common.{sym, ap, ◌∙◌, subst}
-use Rattle.arachne_machine.specs.Advance.{Advanced}
-use Rattle.arachne_lang.specs.Program.{source_of}
-use Rattle.arachne_lang.specs.Checked.{IsChecked}
-use Rattle.arachne_machine.specs.Steps.{suspended}
-use Rattle.arachne_machine.specs.Sound.{IsSound}
-use Rattle.arachne_machine.proofs.Advancing.{sound_after, sound_stop, advanced_seen, within_after, trace_next}
+use Rattle.std.proofs.Common.{◌≡◌, [], List, reverse, refl, sym, ap, ◌∙◌, subst}
+use Rattle.arachne_machine.specs.Suspended.{Suspended}
+use Rattle.arachne_machine.specs.Advance.{Moves}
+use Rattle.arachne_machine.specs.Nested.{Nested, IsAlone}
+use Rattle.arachne_machine.proofs.Nesting.{alone_at, alone_moves}
 use Rattle.arachne_machine.proofs.thread.Thread.advance.Goals as goal
-
-pub pause_at-requires : goal.pause_at-requires
-pause_at-requires c =
-    let t = c.deref_mut.result.now in
-    let sound : IsSound t = subst IsSound (sym c.deref_mut.ensures.value) c.self.invariant in
-    sound_stop c.args.budget t c.advance.new.self c.in_ok-stop.stop sound c.in_ok-stop.ensures.ok
-
-pub invariant_of-self-2 : goal.invariant_of-self-2
-invariant_of-self-2 c =
-    let t = c.deref_mut.result.now in
-    let sound : IsSound t = subst IsSound (sym c.deref_mut.ensures.value) c.self.invariant in
-    sound_after c.args.budget t c.advance.new.self c.in_ok-stop.stop sound c.in_ok-stop.ensures.ok
 
 pub returns-clause-ok : goal.returns-clause-ok
 returns-clause-ok c =
-    let t = c.deref_mut.result.now in
-    let new = c.advance.new.self in
-    let sound : IsSound t = subst IsSound (sym c.deref_mut.ensures.value) c.self.invariant in
-    let seen = advanced_seen c.args.budget t new c.in_ok-stop.stop sound c.in_ok-stop.ensures.ok in
-    subst (λ v. Advanced c.args.budget v c.pause_at.result (suspended new)) (ap suspended c.deref_mut.ensures.value ∙ c.self.view_is)
-    (subst (λ p. Advanced c.args.budget (suspended t) p (suspended new)) (sym c.pause_at.ensures) seen)
-
-pub returns-clause-within : goal.returns-clause-within
-returns-clause-within c = λ checked.
-    let t = c.deref_mut.result.now in
-    let sound : IsSound t = subst IsSound (sym c.deref_mut.ensures.value) c.self.invariant in
-    let seen = ap suspended c.deref_mut.ensures.value ∙ c.self.view_is in
-    within_after c.args.budget t c.advance.new.self c.in_ok-stop.stop sound c.in_ok-stop.ensures.ok (subst (λ v. IsChecked (source_of v.program)) (sym seen) checked)
-
-pub returns-in_err-stop-clause-next : goal.returns-in_err-stop-clause-next
-returns-in_err-stop-clause-next c = trace_next c.advance.new.self
-
-pub returns-clause-next : goal.returns-clause-next
-returns-clause-next c = trace_next c.advance.new.self
+    let a = c.self.inside.running in
+    let b : Suspended = c.advance.new.self in
+    let ps : List Suspended = reverse c.self.inside.parents.items in
+    let qs : List Suspended = reverse c.self.inside.placed.items in
+    let new : Nested = record { running = b; parents = ps; placed = qs } in
+    let is : IsAlone c.args.self.now = c.if-not-is_alone.ensures.0 refl in
+    subst (λ v. Moves c.args.budget v c.pause_at.result new) c.self.view_is
+    (subst (λ p. Moves c.args.budget (record { running = a; parents = ps; placed = qs }) p new) (sym c.pause_at.ensures)
+     (alone_at c.args.budget a b _ ps qs (ap (λ v. v.parents) c.self.view_is ∙ is.0) (ap (λ v. v.placed) c.self.view_is ∙ is.1)
+      (alone_moves c.args.budget a b c.in_ok-halt.halt c.in_ok-halt.ensures.ok c.in_ok-halt.ensures.pending)))

@@ -7,7 +7,7 @@ use Rattle.arachne_machine.specs.Trace.{At, trace_of}
 use Rattle.arachne_machine.specs.declared.pause.Pending.TheVariants as pause
 use Rattle.arachne_machine.proofs.Faultlessness.{checked_root}
 use Rattle.arachne_machine.proofs.Soundness.{sound_new}
-use Rattle.arachne_machine.proofs.thread.Thread.start.Goals as goal
+use Rattle.arachne_machine.proofs.strand.Strand.start.Goals as goal
 
 pub invariant_of-result : goal.invariant_of-result
 invariant_of-result c =

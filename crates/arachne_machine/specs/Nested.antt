@@ -1,0 +1,120 @@
+-- What callers see of a thread with the threads that run in its place.
+use Rattle.std.specs.Prelude.{◌≡◌, ◌≤◌, ℕ, ◌+◌, true, List, [], ◌∷◌, ◌++◌, Option, None, Some}
+use Rattle.arachne_lang.specs.declared.program.Class.{Class}
+use Rattle.arachne_lang.specs.Effects.{Task}
+use Rattle.arachne_lang.specs.Meaning.{child_of}
+use Rattle.arachne_lang.specs.Tree.{Source}
+use Rattle.arachne_lang.specs.Program.{source_of}
+use Rattle.arachne_machine.specs.declared.pause.Pending.{Pending}
+use Rattle.arachne_machine.specs.declared.pause.Pending.TheVariants as pause
+use Rattle.arachne_machine.specs.Suspended.{Suspended, IsFresh, awaited}
+
+pub record Nested : Type 0 where
+  -- the innermost thread, which goes on next
+  pub running : Suspended
+  -- Each of these awaits the one before it, and the first the innermost thread. The last is the one in whose place all the others run.
+  pub parents : List Suspended
+  -- the children that were placed here and have not begun, the newest first
+  pub placed : List Suspended
+
+-- a thread in whose place no other is
+abbrev pub alone : Suspended → Nested
+alone thread = record { running = thread; parents = []; placed = [] }
+
+abbrev pub IsAlone : Nested → Type 0
+IsAlone t = (t.parents ≡ []) × (t.placed ≡ [])
+
+-- the last of a thread and those that wait for it
+abbrev pub outermost : Suspended → List Suspended → Suspended
+outermost thread [] = thread
+outermost thread (parent ∷ parents) = outermost parent parents
+
+-- the thread in whose place the others run
+abbrev pub whole : Nested → Suspended
+whole t = outermost t.running t.parents
+
+-- The pause that is not answered is the innermost thread's. One that ran in place and has ended is joined by the next advance.
+abbrev pub pending_below : Option Pending → List Suspended → Option Pending
+pending_below (Some pause.Ended) (parent ∷ parents) = None
+pending_below next parents = next
+
+abbrev pub pending_in : Nested → Option Pending
+pending_in t = pending_below t.running.pending t.parents
+
+abbrev pub works : List Suspended → ℕ
+works [] = 0
+works (thread ∷ threads) = thread.work + works threads
+
+-- the steps that all of them have left
+abbrev pub work_in : Nested → ℕ
+work_in t = t.running.work + works t.parents + works t.placed
+
+-- one number is less than another by at least so many, and at most so many
+pub record FallsBy (least most from to : ℕ) : Type 0 where
+  pub made : ℕ
+  pub at_least : least ≤ made
+  pub at_most : made ≤ most
+  pub left : to + made ≡ from
+
+-- with another tag
+abbrev pub with_tag : ℕ → Suspended → Suspended
+with_tag tag thread = record thread { label = record thread.label { tag = tag } }
+
+-- as one that runs in its parent's place
+abbrev pub in_place_of : Suspended → Suspended
+in_place_of thread = record thread { label = record thread.label { in_place = true } }
+
+-- The parent awaits this child, which runs in its place.
+pub record IsAwaiting (child parent : Suspended) : Type 0 where
+  pub joins : parent.pending ≡ Some pause.Joins
+  pub of_child : awaited parent ≡ Some child.name
+  pub same_source : source_of child.program ≡ source_of parent.program
+  pub in_place : child.label.in_place ≡ true
+
+abbrev pub Await : Suspended → List Suspended → Type 0
+Await child [] = Unit {0}
+Await child (parent ∷ parents) = IsAwaiting child parent × Await parent parents
+
+-- a child that was placed in a thread of this program
+pub record IsPlaced (source : Source) (child : Suspended) : Type 0 where
+  pub same_source : source_of child.program ≡ source
+  pub not_paused : child.pending ≡ None
+  pub in_place : child.label.in_place ≡ true
+
+abbrev pub ArePlaced : Source → List Suspended → Type 0
+ArePlaced source [] = Unit {0}
+ArePlaced source (child ∷ children) = IsPlaced source child × ArePlaced source children
+
+pub record IsNested (t : Nested) : Type 0 where
+  pub awaiting : Await t.running t.parents
+  pub waiting : ArePlaced (source_of t.running.program) t.placed
+
+-- both are of one program, and have one name and label
+pub record SameWhole (old new : Nested) : Type 0 where
+  pub program : (whole new).program ≡ (whole old).program
+  pub name : (whole new).name ≡ (whole old).name
+  pub label : (whole new).label ≡ (whole old).label
+
+-- The child is the one that the innermost thread has just forked, has no pause that is not answered, and no other thread is in its place.
+pub record IsChildOf (t child : Nested) : Type 0 where
+  pub awaits : awaited t.running ≡ Some child.running.name
+  pub same_source : source_of child.running.program ≡ source_of t.running.program
+  pub not_paused : child.running.pending ≡ None
+  pub no_parents : child.parents ≡ []
+  pub none_placed : child.placed ≡ []
+
+-- The child is new, and its class and task are those that the program gives to the thread's newest fork.
+pub record IsForked (class : Class) (thread : Suspended) (child : Nested) : Type 0 where
+  pub number : ℕ
+  pub others : List ℕ
+  pub unjoined : thread.unjoined ≡ number ∷ others
+  pub alone : IsAlone child
+  pub fresh : IsFresh thread.program (thread.name ++ number ∷ []) 0 child.running
+  pub task : Task
+  pub is_child : child_of (source_of thread.program) thread.name number ≡ Some (record { class = class; task = task })
+
+-- at least one step was made and at most so many, and this pause is not answered
+pub record Stops (budget : ℕ) (old new : Nested) (next : Pending) : Type 0 where
+  pub same : SameWhole old new
+  pub pending : pending_in new ≡ Some next
+  pub work : FallsBy 1 budget (work_in old) (work_in new)
