@@ -12,3 +12,4 @@ pub mod Options
 pub mod Causes
 pub mod Refusals
 pub mod Choosers
+pub mod RunRefusals

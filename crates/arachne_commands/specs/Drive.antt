@@ -21,7 +21,7 @@ use Rattle.arachne_commands.specs.Fault.{fault_line}
 use Rattle.clap.specs.Words.{kind_of}
 use Rattle.clap.specs.declared.error.kind.ErrorKind.TheVariants.{OutOfMemory}
 use Rattle.arachne_commands.specs.declared.command_line.RunSettings.{RunSettings}
-use Rattle.arachne_commands.specs.declared.running.RunFault.{RunFault}
+use Rattle.arachne_run.specs.declared.fault.RunFault.{RunFault}
 use Rattle.arachne_commands.specs.Running.{IsRefusal}
 use Rattle.arachne_commands.specs.Samples.{AreInRange, samples_text}
 use Rattle.arachne_commands.specs.Samples as samples

@@ -7,8 +7,8 @@ use Rattle.arachne_lang.specs.declared.check_fault.CheckFault.TheVariants as che
 use Rattle.arachne_policy.specs.declared.orders.OrderFault.{OrderFault}
 use Rattle.arachne_policy.specs.declared.orders.OrderFaultKind.{OrderFaultKind}
 use Rattle.arachne_policy.specs.declared.orders.OrderFaultKind.TheVariants.{NoSuchCore, ReleasesCoreZero, AfterFalls}
-use Rattle.arachne_commands.specs.declared.running.RunFault.{RunFault}
-use Rattle.arachne_commands.specs.declared.running.RunFault.TheVariants as run
+use Rattle.arachne_run.specs.declared.fault.RunFault.{RunFault}
+use Rattle.arachne_run.specs.declared.fault.RunFault.TheVariants as run
 use Rattle.arachne_commands.specs.declared.fault.Fault.{Fault}
 use Rattle.arachne_commands.specs.declared.fault.Fault.TheVariants.{InText, InProgram, BadSample, NoOrder, InRun, Memory, TooLong, Read, Write}
 

@@ -1,9 +1,9 @@
 ghost use Rattle.std.specs.Prelude.{◌≡◌};
 ghost use Rattle.arachne_commands.specs.declared.fault.Fault.TheVariants.{InRun, InText, InProgram, Memory};
 
-use crate::running::RunFault;
 use arachne_lang::{CheckFault, TextFault};
 use arachne_policy::{OrderFault, OrderFaultKind};
+use arachne_run::RunFault;
 use std::alloc::AllocError;
 use std::fmt;
 

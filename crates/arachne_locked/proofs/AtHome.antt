@@ -11,10 +11,11 @@ use Rattle.arachne_core.specs.declared.event.Event.{Event}
 use Rattle.arachne_core.specs.declared.event.Event.TheVariants as event
 use Rattle.arachne_core.specs.World.{World, IsContext, IsReady, IsHeldBy, CanBeWoken, Allowed, after, with_at, taken, put_back, woken, tag_of}
 use Rattle.arachne_core.specs.declared.event.NotApplied.{NotApplied}
+use Rattle.arachne_core.specs.declared.event.NotApplied.TheVariants as refusal
 use Rattle.arachne_core.specs.ContextTable.{ContextTable, Answers, world_of}
 use Rattle.arachne_core.specs.Run.{IsOpening}
 use Rattle.arachne_core.proofs.Changes.{with_at-same, with_at-other}
-use Rattle.arachne_locked.specs.AtHome.{IsHome, IsKeptAt, LeavesValues}
+use Rattle.arachne_locked.specs.AtHome.{IsHome, IsKeptAt, LeavesValues, WantsNoRoom}
 
 module _ {T : Type 0} (tag : T → ℕ) where
   -- the state of one context and its value were changed
@@ -160,3 +161,19 @@ module _ {T : Type 0} (tag : T → ℕ) where
   ready_some (Claimed h) o r k = absurd r
   ready_some (Held h w t) o r k = absurd r
   ready_some Spent o r k = absurd r
+
+-- an event that is allowed and wants no room is made
+pub plain_made : (e : Event) (old new : ContextTable) (r : NotApplied) → WantsNoRoom e → Allowed (world_of old) e → Answers e old new (Err r) → ⊥
+plain_made e old new refusal.NotAllowed l h a = a.0 h
+plain_made (event.Claim h x) old new refusal.Memory l k a = a.1
+plain_made (event.Alone h x) old new refusal.Memory l k a = a.1
+plain_made (event.Post h x tag) old new refusal.Memory l k a = absurd l
+plain_made (event.Take h x) old new refusal.Memory l k a = a.1
+plain_made (event.Rest h x r) old new refusal.Memory l k a = a.1
+plain_made (event.Wake id) old new refusal.Memory l k a = a.1
+plain_made (event.Retire h x) old new refusal.Memory l k a = absurd l
+plain_made (event.Release h x) old new refusal.Memory l k a = a.1
+plain_made (event.CloseCore c) old new refusal.Memory l k a = a.1
+plain_made (event.OpenCore c) old new refusal.Memory l k a = a.1
+plain_made (event.Move h x y) old new refusal.Memory l k a = a.1
+plain_made event.Still old new refusal.Memory l k a = a.1

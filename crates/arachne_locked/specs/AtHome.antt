@@ -4,6 +4,7 @@ use Rattle.arachne_core.specs.declared.state.State.{State}
 use Rattle.arachne_core.specs.declared.state.State.TheVariants as state
 use Rattle.arachne_core.specs.declared.event.Event.{Event}
 use Rattle.arachne_core.specs.declared.event.Event.TheVariants as event
+use Rattle.arachne_core.specs.declared.thread_id.ThreadId.{ThreadId}
 use Rattle.arachne_core.specs.ContextTable.{ContextTable}
 use Rattle.arachne_core.specs.World.{World, IsContext, HoldsIn, tag_of}
 
@@ -23,10 +24,17 @@ LeavesValues (event.Take h x) = ⊥
 LeavesValues (event.Rest h x r) = ⊥
 LeavesValues e = Unit {0}
 
--- h holds a thread with this tag in x
-pub record HoldsTagged (w : World) (h x tag : ℕ) : Type 0 where
-  pub holds : HoldsIn w h x
-  pub tagged : tag_of (w.state x) ≡ tag
+-- the event wants no room, as a post and a retire do
+abbrev pub WantsNoRoom : Event → Type 0
+WantsNoRoom (event.Post h x tag) = ⊥
+WantsNoRoom (event.Retire h x) = ⊥
+WantsNoRoom e = Unit {0}
+
+-- h holds the thread of this id and tag
+pub record HoldsThread (w : World) (h : ℕ) (id : ThreadId) (tag : ℕ) : Type 0 where
+  pub holds : HoldsIn w h id.context
+  pub generation : w.generation id.context ≡ id.generation
+  pub tagged : tag_of (w.state id.context) ≡ tag
 
 module _ {T : Type 0} (tag : T → ℕ) where
   -- a value with this tag

@@ -1,1 +1,4 @@
 pub mod AtHome
+pub mod Room
+pub mod Calls
+pub mod Closing

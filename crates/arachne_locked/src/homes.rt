@@ -6,10 +6,13 @@ ghost use Rattle.arachne_core.specs.OwnedOnce.{OwnedOnce};
 ghost use Rattle.arachne_core.specs.Run.{IsOpening};
 ghost use Rattle.arachne_core.specs.declared.event.Event.TheVariants as event;
 ghost use Rattle.arachne_core.specs.declared.state.State.TheVariants as state;
-ghost use Rattle.arachne_locked.specs.AtHome.{IsHome, LeavesValues, HoldsTagged, value_at};
+ghost use Rattle.arachne_locked.specs.Closing.{at_rest_below};
+ghost use Rattle.arachne_locked.specs.AtHome.{IsHome, LeavesValues, WantsNoRoom, HoldsThread, value_at};
 
 use arachne_contexts::Tagged;
-use arachne_core::{CORES, Event, LAST_GENERATION, NotApplied, Rest, SLOTS, State, World};
+use arachne_core::{
+    CORES, Event, LAST_GENERATION, NotApplied, Rest, SLOTS, State, ThreadId, World,
+};
 use std::alloc::{AllocError, Global};
 use std::marker::Model;
 
@@ -62,6 +65,21 @@ impl<T: Tagged + Drop> Homes<T> {
         self.values.len()
     }
 
+    /// Whether the table has the context.
+    pub fn has(&self, context: u32) -> bool
+        ensures { IsTrue result ↔ IsContext (world_of self.now.table) context }
+    {
+        (context as usize) < self.values.len()
+    }
+
+    /// The generation of a context.
+    pub fn generation(&self, context: u32) -> u64
+        requires { IsContext (world_of self.now.table) context }
+        ensures { result ≡ (world_of self.now.table).generation context }
+    {
+        self.world.mark(context).generation()
+    }
+
     /// Makes room for so many more posts and retires.
     pub fn reserve(&mut self, posts: usize, retires: usize) -> Result<(), AllocError>
         ensures values { self.new.values ≡ self.old.values }
@@ -80,6 +98,20 @@ impl<T: Tagged + Drop> Homes<T> {
         ensures err { OnErr result (self.new ≡ self.old) }
     {
         self.world.apply(event)
+    }
+
+    /// Makes an event that is allowed, and wants no memory.
+    pub fn make(&mut self, event: Event)
+        requires values { LeavesValues event }
+        requires memory { WantsNoRoom event }
+        requires allowed { Allowed (world_of self.old.table) event }
+        ensures made { Answers event self.old.table self.new.table (Ok tt) }
+        ensures values { self.new.values ≡ self.old.values }
+    {
+        match self.world.apply(event) {
+            Ok(()) => {}
+            Err(_) => unreachable!(),
+        }
     }
 
     /// Posts a thread in a context that the carrier has claimed. A value that isn't posted comes back.
@@ -122,14 +154,14 @@ impl<T: Tagged + Drop> Homes<T> {
         }
     }
 
-    /// Whether the carrier holds a thread with this tag in the context.
-    pub fn holds(&self, carrier: u32, context: u32, tag: u64) -> bool
-        ensures { IsTrue result ↔ HoldsTagged (world_of self.now.table) carrier context tag }
+    /// Whether the carrier holds the thread of this id and tag.
+    pub fn holds(&self, carrier: u32, id: ThreadId, tag: u64) -> bool
+        ensures { IsTrue result ↔ HoldsThread (world_of self.now.table) carrier id tag }
     {
-        if context as usize >= self.values.len() {
+        if !self.has(id.context) || self.generation(id.context) != id.generation {
             return false;
         }
-        match self.world.state(context) {
+        match self.world.state(id.context) {
             State::Held {
                 carrier: holder,
                 tag: own,
@@ -140,21 +172,49 @@ impl<T: Tagged + Drop> Homes<T> {
     }
 
     /// Puts back a thread that the carrier holds.
-    pub fn put_back(&mut self, carrier: u32, context: u32, value: T, rest: Rest)
-        requires { HoldsTagged (world_of self.old.table) carrier context (T.tag_of value) }
-        ensures made { Answers (event.Rest carrier context rest) self.old.table self.new.table (Ok tt) }
-        ensures home { self.new.values ≡ slice_set self.old.values context (Some value) }
+    pub fn put_back(&mut self, carrier: u32, id: ThreadId, value: T, rest: Rest)
+        requires { HoldsThread (world_of self.old.table) carrier id (T.tag_of value) }
+        ensures made { Answers (event.Rest carrier id.context rest) self.old.table self.new.table (Ok tt) }
+        ensures home { self.new.values ≡ slice_set self.old.values id.context (Some value) }
     {
         let event = Event::Rest {
             carrier,
-            context,
+            context: id.context,
             rest,
         };
         match self.world.apply(event) {
             Ok(()) => {}
             Err(_) => unreachable!(),
         }
-        self.values[context as usize] = Some(value);
+        self.values[id.context as usize] = Some(value);
+    }
+}
+
+impl<T: Tagged + Drop> Homes<T> {
+    /// The threads whose values are at home, by context. All comes back where memory is refused.
+    pub fn close(self, alloc: Global) -> Result<Vec<(ThreadId, T)>, Self>
+        ensures rest { IfOk result (λ rest. rest.items ≡ at_rest_below (world_of self.table) self.values ((world_of self.table).cores * SLOTS)) }
+        ensures handed_back { IfErr result (λ back. back ≡ self) }
+    {
+        let cores = self.world.cores();
+        let Ok(mut rest) = Vec::with_capacity(alloc, self.values.len()) else {
+            return Err(self);
+        };
+        let Homes { world, mut values } = self;
+        for context in 0..u32::from(cores) * u32::from(SLOTS) {
+            if let Some(value) = values[context as usize].take() {
+                let generation = world.mark(context).generation();
+                rest.push((
+                    ThreadId {
+                        context,
+                        generation,
+                    },
+                    value,
+                ))
+                .unwrap();
+            }
+        }
+        Ok(rest)
     }
 }
 

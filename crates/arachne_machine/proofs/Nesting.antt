@@ -16,7 +16,7 @@ use Rattle.arachne_machine.specs.Faultless.{PausesWithin}
 use Rattle.arachne_machine.specs.Suspended.{Suspended, SameThread, MakesSteps, Forked, Joined, IsAsk, IsFree, IsFresh, IsTally, awaited}
 use Rattle.arachne_machine.specs.Outcome.{Finished}
 use Rattle.arachne_machine.specs.Advance.{Advanced, IsPassed, IsSpentAt, Moves, PausesAt, TakesAllAt, pending_at, shown}
-use Rattle.arachne_machine.specs.Nested.{Nested, FallsBy, IsNested, IsAwaiting, Await, ArePlaced, SameWhole, IsChildOf, IsForked, Stops, alone, whole, outermost, pending_below, pending_in, works, work_in}
+use Rattle.arachne_machine.specs.Nested.{Nested, FallsBy, IsNested, IsAwaiting, Await, ArePlaced, SameWhole, IsChildOf, IsForked, Stops, alone, whole, outermost, pending_below, pending_in, with_tag, works, work_in}
 
 -- A pause that callers see is that of the thread that goes on.
 pub pending_is : (next : Option Pending) (parents : List Suspended) (p : Pending) → pending_below next parents ≡ Some p → next ≡ Some p
@@ -123,7 +123,7 @@ pub nested_thread : (a b : Suspended) (parents placed : List Suspended) → Same
     IsNested (record { running = a; parents = parents; placed = placed }) → IsNested (record { running = b; parents = parents; placed = placed })
 nested_thread a b parents placed s h = nested_same a b parents placed s.program s.name s.label h
 
-whole_same : (a b : Suspended) (parents placed others : List Suspended) → b.program ≡ a.program → b.name ≡ a.name → b.label ≡ a.label →
+pub whole_same : (a b : Suspended) (parents placed others : List Suspended) → b.program ≡ a.program → b.name ≡ a.name → b.label ≡ a.label →
     SameWhole (record { running = a; parents = parents; placed = placed }) (record { running = b; parents = parents; placed = others })
 whole_same a b parents placed others program name label = record {
   program = outer_program a b parents program;
@@ -133,6 +133,36 @@ whole_same a b parents placed others program name label = record {
 
 pub whole_on : (a b c : Nested) → SameWhole a b → SameWhole b c → SameWhole a c
 whole_on a b c p q = record { program = q.program ∙ p.program; name = q.name ∙ p.name; label = q.label ∙ p.label }
+
+pub whole_thread : (a b : Suspended) (parents placed : List Suspended) → SameThread a b →
+    SameWhole (record { running = a; parents = parents; placed = placed }) (record { running = b; parents = parents; placed = placed })
+whole_thread a b parents placed s = whole_same a b parents placed placed s.program s.name s.label
+
+-- a thread in whose place no other is
+pub whole_is : (t : Nested) → t.parents ≡ [] → whole t ≡ t.running
+whole_is t e = ap (outermost t.running) e
+
+pub next_is : (next : Option Pending) (parents : List Suspended) → parents ≡ [] → pending_below next parents ≡ None → next ≡ None
+next_is next (parent ∷ parents) none e = cc
+next_is None [] none e = refl
+next_is (Some pause.Ended) [] none e = e
+next_is (Some pause.Forks) [] none e = e
+next_is (Some pause.Joins) [] none e = e
+next_is (Some (pause.Asks lock)) [] none e = e
+next_is (Some (pause.Frees lock)) [] none e = e
+next_is (Some (pause.Tallies ledger amount)) [] none e = e
+
+pub tagged_child : (t child tagged : Nested) (tag : ℕ) → child.parents ≡ [] → tagged ≡ record child { running = with_tag tag child.running } → IsChildOf t child → IsChildOf t tagged
+tagged_child t child tagged tag none e h =
+    let new : Nested = record child { running = with_tag tag child.running } in
+    let was : whole child ≡ child.running = whole_is child none in
+    let is : whole new ≡ with_tag tag child.running = whole_is new none in
+    subst (λ v. IsChildOf t v) (sym e) (record {
+      awaits = h.awaits ∙ ap (λ v. Some v.name) was ∙ sym (ap (λ v. Some v.name) is);
+      same_source = ap (λ v. source_of v.program) is ∙ sym (ap (λ v. source_of v.program) was) ∙ h.same_source;
+      not_paused = h.not_paused;
+      alone = h.alone;
+    })
 
 -- the newest child that was placed here goes on in the place of the thread that awaits it
 pub nested_taken : (a child : Suspended) (parents placed : List Suspended) → a.pending ≡ Some pause.Joins → awaited a ≡ Some child.name →
@@ -243,18 +273,17 @@ stops first new next budget had left same work spent some pending = record {
   };
 }
 
-pub forked_child : (budget : ℕ) (class : Class) (a b child : Suspended) (parents placed : List Suspended) → Forked budget class a b child →
+forked_child : (budget : ℕ) (class : Class) (a b child : Suspended) (parents placed : List Suspended) → Await a parents → Forked budget class a b child →
     IsChildOf (record { running = b; parents = parents; placed = placed }) (alone child)
-forked_child budget class a b child parents placed f = record {
+forked_child budget class a b child parents placed h f = record {
   awaits = ap (λ u. option_map (λ number. b.name ++ number ∷ []) (slice_get u 0)) f.unjoined
-  ∙ ap (λ n. Some (n ++ a.forks ∷ [])) f.name ∙ ap Some (sym f.fresh.has_name);
-  same_source = ap source_of (f.fresh.same_program ∙ sym f.program);
-  not_paused = f.fresh.not_paused;
-  no_parents = refl;
-  none_placed = refl;
+      ∙ ap (λ n. Some (n ++ a.forks ∷ [])) f.name ∙ ap Some (sym f.fresh.has_name);
+  same_source = ap source_of (f.fresh.same_program ∙ sym f.program) ∙ sym (outer_source b parents (await_same a b parents f.program f.name f.label h));
+  not_paused = pending_none child.pending [] f.fresh.not_paused;
+  alone = (refl, refl);
 }
 
-pub forked_new : (budget : ℕ) (class : Class) (a b child : Suspended) → Forked budget class a b child → IsForked class b (alone child)
+forked_new : (budget : ℕ) (class : Class) (a b child : Suspended) → Forked budget class a b child → IsForked class b (alone child)
 forked_new budget class a b child f = record {
   number = a.forks;
   others = a.unjoined;
@@ -282,22 +311,26 @@ forked_work first loop mid a b child class parents placed budget had p some q se
 pub moved_on : (first loop mid : Nested) (a b : Suspended) (parents placed : List Suspended) (budget had left : ℕ) (halt : Halt) →
     SameWhole first loop → SameWhole loop mid → work_in loop + budget ≡ work_in first + had → had ≤ budget → work_in mid ≡ work_in loop →
     ◌≡◌ {A = Nested} (record { running = a; parents = parents; placed = placed }) mid →
-    Advanced had a (shown halt) b → IsSpentAt (shown halt) had left → TakesAllAt (shown halt) had left a b →
+    Await a parents → Advanced had a (shown halt) b → IsSpentAt (shown halt) had left → TakesAllAt (shown halt) had left a b →
     pending_below b.pending parents ≡ pending_at (shown halt) → pending_below b.pending parents ≢ None →
     Moves budget first (shown halt) (record { running = b; parents = parents; placed = placed })
-moved_on first loop mid a b parents placed budget had left halts.Budget s t w some v seen h spent all is paused = absurd (paused is)
-moved_on first loop mid a b parents placed budget had left (halts.Forks class child) s t w some v seen h spent all is paused =
-    (going first loop mid a b parents placed s t seen (advanced_look had a b (halts.Forks class child) h), is, forked_new had class a b child h,
-     forked_child had class a b child parents placed h, forked_work first loop mid a b child class parents placed budget had w some v seen h)
-moved_on first loop mid a b parents placed budget had left halts.Joins s t w some v seen h spent all is paused =
+moved_on first loop mid a b parents placed budget had left halts.Budget s t w some v seen wait h spent all is paused = absurd (paused is)
+moved_on first loop mid a b parents placed budget had left (halts.Forks class child) s t w some v seen wait h spent all is paused = (
+  going first loop mid a b parents placed s t seen (advanced_look had a b (halts.Forks class child) h),
+  is,
+  forked_new had class a b child h,
+  forked_child had class a b child parents placed wait h,
+  forked_work first loop mid a b child class parents placed budget had w some v seen h,
+)
+moved_on first loop mid a b parents placed budget had left halts.Joins s t w some v seen wait h spent all is paused =
     stops first _ pause.Joins budget had left (going first loop mid a b parents placed s t seen (look a b h.0)) (going_work first loop mid a b parents placed budget had left w v seen all) spent some is
-moved_on first loop mid a b parents placed budget had left (halts.Asks lock) s t w some v seen h spent all is paused =
+moved_on first loop mid a b parents placed budget had left (halts.Asks lock) s t w some v seen wait h spent all is paused =
     stops first _ (pause.Asks lock) budget had left (going first loop mid a b parents placed s t seen (look a b h.0)) (going_work first loop mid a b parents placed budget had left w v seen all) spent some is
-moved_on first loop mid a b parents placed budget had left (halts.Frees lock) s t w some v seen h spent all is paused =
+moved_on first loop mid a b parents placed budget had left (halts.Frees lock) s t w some v seen wait h spent all is paused =
     stops first _ (pause.Frees lock) budget had left (going first loop mid a b parents placed s t seen (look a b h.0)) (going_work first loop mid a b parents placed budget had left w v seen all) spent some is
-moved_on first loop mid a b parents placed budget had left (halts.Tallies ledger amount) s t w some v seen h spent all is paused =
+moved_on first loop mid a b parents placed budget had left (halts.Tallies ledger amount) s t w some v seen wait h spent all is paused =
     stops first _ (pause.Tallies ledger amount) budget had left (going first loop mid a b parents placed s t seen (look a b h.0)) (going_work first loop mid a b parents placed budget had left w v seen all) spent some is
-moved_on first loop mid a b parents placed budget had left halts.Ended s t w some v seen h spent all is paused = (
+moved_on first loop mid a b parents placed budget had left halts.Ended s t w some v seen wait h spent all is paused = (
   stops first _ pause.Ended budget had left (going first loop mid a b parents placed s t seen (look a b h.0)) (going_work first loop mid a b parents placed budget had left w v seen all) spent some is,
   ended_alone b.pending parents is,
 )
@@ -328,7 +361,7 @@ alone_moves budget a b (halts.Forks class child) h e = (
   whole_moves a b (advanced_look budget a b (halts.Forks class child) h),
   alone_pending (halts.Forks class child) b.pending e,
   forked_new budget class a b child h,
-  forked_child budget class a b child [] [] h,
+  forked_child budget class a b child [] [] tt h,
   record { made = h.made; at_least = h.at_least; at_most = h.at_most; left = omega (arith, h.work) },
 )
 alone_moves budget a b halts.Joins h e = alone_stops budget a b pause.Joins h.0 (alone_pending halts.Joins b.pending e) h.4
@@ -404,3 +437,8 @@ pub nested_answered : {E : Type 0} (r : Result (Unit {0}) E) (a b : Suspended) (
     IsNested (record { running = a; parents = parents; placed = placed }) → IsNested (record { running = b; parents = parents; placed = placed })
 nested_answered (Ok done) a b outcome parents placed j e h = nested_same a b parents placed j.program j.name j.label h
 nested_answered (Err refused) a b outcome parents placed j e h = nested_same a b parents placed (ap (λ v. v.program) e) (ap (λ v. v.name) e) (ap (λ v. v.label) e) h
+
+pub whole_answered : {E : Type 0} (r : Result (Unit {0}) E) (a b : Suspended) (outcome : Finished) (parents placed : List Suspended) → OnOk r (Joined a outcome b) → OnErr r (b ≡ a) →
+    SameWhole (record { running = a; parents = parents; placed = placed }) (record { running = b; parents = parents; placed = placed })
+whole_answered (Ok done) a b outcome parents placed j e = whole_same a b parents placed placed j.program j.name j.label
+whole_answered (Err refused) a b outcome parents placed j e = whole_same a b parents placed placed (ap (λ v. v.program) e) (ap (λ v. v.name) e) (ap (λ v. v.label) e)

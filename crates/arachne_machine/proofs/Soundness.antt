@@ -553,17 +553,17 @@ joins_after a b c outcome u j =
       below = j.below ∙ ap (λ l. l ++ outcome.lines) u.below;
       sums = λ n own childs e f. j.sums n own childs (u.sums ∙ e) f;
       keeps = λ h.
-        let value : outcome.value ≡ task_value (source_of b.program.now).arrays (child_task (source_of b.program.now) b.own.name j.number) =
-        h ∙ ap (λ s. task_value s.arrays (child_task s a.own.name j.number)) (sym source_is) ∙ ap (λ n. task_value (source_of b.program.now).arrays (child_task (source_of b.program.now) n j.number)) (sym name_is) in
-        let k = j.keeps value in
-        record {
-          ending = k.ending ∙ g.ending;
-          account = λ account. ap (λ s. account_at_end c (account_joined s a.own.name j.number account)) (sym source_is)
-          ∙ ap (λ n. account_at_end c (account_joined (source_of b.program.now) n j.number account)) (sym name_is) ∙ k.account account ∙ g.account account;
-          work = omega (arith, k.work, g.work);
-          trace = k.trace ∙ g.trace;
-          faultless = λ f. k.faultless (g.faultless f);
-        };
+          let value : outcome.value ≡ task_value (source_of b.program.now).arrays (child_task (source_of b.program.now) b.own.name j.number) =
+          h ∙ ap (λ s. task_value s.arrays (child_task s a.own.name j.number)) (sym source_is) ∙ ap (λ n. task_value (source_of b.program.now).arrays (child_task (source_of b.program.now) n j.number)) (sym name_is) in
+          let k = j.keeps value in
+          record {
+            ending = k.ending ∙ g.ending;
+            account = λ account. ap (λ s. account_at_end c (account_joined s a.own.name j.number account)) (sym source_is)
+                ∙ ap (λ n. account_at_end c (account_joined (source_of b.program.now) n j.number account)) (sym name_is) ∙ k.account account ∙ g.account account;
+            work = omega (arith, k.work, g.work);
+            trace = k.trace ∙ g.trace;
+            faultless = λ f. k.faultless (g.faultless f);
+          };
     }
 
 -- the join of the outcome of a child, or none

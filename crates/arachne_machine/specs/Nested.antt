@@ -95,13 +95,12 @@ pub record SameWhole (old new : Nested) : Type 0 where
   pub name : (whole new).name ≡ (whole old).name
   pub label : (whole new).label ≡ (whole old).label
 
--- The child is the one that the innermost thread has just forked, has no pause that is not answered, and no other thread is in its place.
+-- The child is the one that the innermost thread has just forked, of an equal program, has no pause that is not answered, and no other thread is in its place.
 pub record IsChildOf (t child : Nested) : Type 0 where
-  pub awaits : awaited t.running ≡ Some child.running.name
-  pub same_source : source_of child.running.program ≡ source_of t.running.program
-  pub not_paused : child.running.pending ≡ None
-  pub no_parents : child.parents ≡ []
-  pub none_placed : child.placed ≡ []
+  pub awaits : awaited t.running ≡ Some (whole child).name
+  pub same_source : source_of (whole child).program ≡ source_of (whole t).program
+  pub not_paused : pending_in child ≡ None
+  pub alone : IsAlone child
 
 -- The child is new, and its class and task are those that the program gives to the thread's newest fork.
 pub record IsForked (class : Class) (thread : Suspended) (child : Nested) : Type 0 where
@@ -109,7 +108,7 @@ pub record IsForked (class : Class) (thread : Suspended) (child : Nested) : Type
   pub others : List ℕ
   pub unjoined : thread.unjoined ≡ number ∷ others
   pub alone : IsAlone child
-  pub fresh : IsFresh thread.program (thread.name ++ number ∷ []) 0 child.running
+  pub fresh : IsFresh thread.program (thread.name ++ number ∷ []) 0 (whole child)
   pub task : Task
   pub is_child : child_of (source_of thread.program) thread.name number ≡ Some (record { class = class; task = task })
 

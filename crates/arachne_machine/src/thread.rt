@@ -1,7 +1,7 @@
 ghost use Rattle.std.specs.Prelude.{◌≡◌, ◌≢◌, ◌↔◌, ◌≤◌, ◌+◌, ◌-◌, ℕ, ◌∷◌, [], ◌++◌, false, None, Some, IfOk, OnOk, IfErr, OnErr, IsTrue};
 ghost use Rattle.arachne_machine.specs.Suspended.{IsAnswered, IsAsk, IsFree, IsFresh, IsNext, IsTally, Joined, SameThread, awaited, own_line_of, raised};
 ghost use Rattle.arachne_machine.specs.Advance.{AdvancedAlone, Moves, RefusedAlone, IsForeign, IsPassed, PausesAt, handed_back, pending_at, shown};
-ghost use Rattle.arachne_machine.specs.Nested.{FallsBy, IsAlone, IsChildOf, IsNested, SameWhole, alone, in_place_of, pending_in, whole, with_tag, work_in};
+ghost use Rattle.arachne_machine.specs.Nested.{FallsBy, IsAlone, IsChildOf, IsNested, Nested, SameWhole, alone, in_place_of, pending_in, whole, with_tag, work_in};
 ghost use Rattle.arachne_machine.specs.Faultless.{PausesWithin};
 ghost use Rattle.arachne_machine.specs.Trace.{At, trace_of};
 ghost use Rattle.arachne_machine.specs.Work.{work_of};
@@ -92,7 +92,9 @@ impl<'p> Thread<'p> {
     /// Gives a thread that has not begun its tag.
     pub fn set_tag(&mut self, tag: u64)
         requires { self.old.parents ≡ [] }
-        ensures { self.new ≡ record self.old { running = with_tag tag self.old.running } }
+        ensures tagged { self.new ≡ record self.old { running = with_tag tag self.old.running } }
+        ensures whole { whole self.new ≡ with_tag tag (whole self.old) }
+        ensures child { (t : Nested) → IsChildOf t self.old → IsChildOf t self.new }
     {
         self.running.set_tag(tag);
     }
@@ -236,6 +238,7 @@ impl<'p> Thread<'p> {
     /// Answers a fork once the child was given away. It takes no memory.
     pub fn forked(&mut self)
         requires { pending_in self.old ≡ Some pause.Forks }
+        ensures whole { SameWhole self.old self.new }
         ensures same { SameThread self.old.running self.new.running }
         ensures sums { self.new.running.sums ≡ self.old.running.sums }
         ensures holds { self.new.running.holds ≡ self.old.running.holds }
@@ -253,6 +256,7 @@ impl<'p> Thread<'p> {
     pub fn in_place(&mut self, child: Thread<'p>) -> Result<(), Thread<'p>>
         requires pending { pending_in self.old ≡ Some pause.Forks }
         requires child { IsChildOf self.old child }
+        ensures whole { SameWhole self.old self.new }
         ensures same { OnOk result (SameThread self.old.running self.new.running) }
         ensures sums { OnOk result (self.new.running.sums ≡ self.old.running.sums) }
         ensures holds { OnOk result (self.new.running.holds ≡ self.old.running.holds) }
@@ -293,6 +297,7 @@ impl<'p> Thread<'p> {
     /// Answers that the thread holds the lock that it asked for. It takes no memory.
     pub fn granted(&mut self)
         requires { IsAsk (pending_in self.old) }
+        ensures whole { SameWhole self.old self.new }
         ensures same { SameThread self.old.running self.new.running }
         ensures sums { self.new.running.sums ≡ self.old.running.sums }
         ensures holds { (lock : ℕ) × (pending_in self.old ≡ Some (pause.Asks lock)) × (self.new.running.holds ≡ raised self.old.running.holds lock 1) }
@@ -308,6 +313,7 @@ impl<'p> Thread<'p> {
     /// Answers that the lock was freed. It takes no memory.
     pub fn freed(&mut self)
         requires { IsFree (pending_in self.old) }
+        ensures whole { SameWhole self.old self.new }
         ensures same { SameThread self.old.running self.new.running }
         ensures sums { self.new.running.sums ≡ self.old.running.sums }
         ensures holds { self.new.running.holds ≡ self.old.running.holds }
@@ -323,6 +329,7 @@ impl<'p> Thread<'p> {
     /// Answers that the amount was added to the ledger. It takes no memory.
     pub fn tallied(&mut self)
         requires { IsTally (pending_in self.old) }
+        ensures whole { SameWhole self.old self.new }
         ensures same { SameThread self.old.running self.new.running }
         ensures sums { (ledger amount : ℕ) × (pending_in self.old ≡ Some (pause.Tallies ledger amount)) × (self.new.running.sums ≡ raised self.old.running.sums ledger amount) }
         ensures holds { self.new.running.holds ≡ self.old.running.holds }
@@ -340,6 +347,7 @@ impl<'p> Thread<'p> {
     pub fn joined(&mut self, outcome: Outcome<'p>) -> Result<(), NotJoined<'p>>
         requires pending { pending_in self.old ≡ Some pause.Joins }
         requires program { source_of outcome.program ≡ source_of (whole self.old).program }
+        ensures whole { SameWhole self.old self.new }
         ensures ok { OnOk result (Joined self.old.running outcome.entry self.new.running) }
         ensures others { self.new ≡ record self.old { running = self.new.running } }
         ensures pending { OnOk result (pending_in self.new ≡ None) }

@@ -1,5 +1,5 @@
--- S14: a claim of a whole core, whose word is 0.
-use Rattle.std.proofs.Common.{◌≡◌, ◌≢◌, ℕ, ◌+◌, ◌-◌, ◌*◌, ◌<◌, ◌≤◌, ◌^◌, Bool, true, false, ◌&&◌, List, ◌∷◌, refl, sym, ap, ◌∙◌, subst, arith, inl, inr, set, get_or, get_or-set_other, ◌⊎◌, []}
+-- A claim of a whole core, whose word is 0.
+use Rattle.std.proofs.Common.{◌≡◌, ℕ, ◌+◌, ◌<◌, ◌^◌, Bool, true, false, ◌&&◌, List, ◌∷◌, refl, sym, ap, ◌∙◌, subst, arith, inl, inr, set, get_or, get_or-set_other, []}
 use Rattle.std.proofs.lemmas.List.{get_or-set_same}
 use Rattle.std.proofs.lemmas.Bool.{true≢false, cases_eq}
 use mathlib.Core.Option as opt
@@ -7,9 +7,7 @@ use lib.ListN.{get_elem?}
 use Rattle.arachne_core.specs.declared.place.Place.{Place}
 use Rattle.arachne_core.specs.declared.state.State.{State}
 use Rattle.arachne_core.specs.declared.state.State.TheVariants.{Free, Claimed}
-use Rattle.arachne_core.specs.declared.state.Rest.TheVariants as rest
 use Rattle.arachne_core.specs.declared.event.Event.TheVariants as event
-use Rattle.arachne_core.specs.declared.mark.Mark.TheVariants as mark
 use Rattle.arachne_core.specs.Occupancy.{Occupancy, occupancy_of, HasOneMore}
 use Rattle.arachne_core.specs.Marked.{Marked, mark_word}
 use Rattle.arachne_core.specs.World.{World, IsContext, core_of, with_at, with_place, Allowed, after}
@@ -33,7 +31,6 @@ use Rattle.arachne_rule.proofs.Claim.{free-if-vacant}
 
 module _ {T : Type 0} (tag_in : T → ℕ) (bits : ℕ) (w : World) (d : ℕ → Phase) (b : Board T) (s : Shows tag_in bits w d b)
     (h weight : ℕ) (k : Known) (mine : get_elem? b.views h ≡ opt.some (held weight k)) where
-
   pub claim_alone : (c : ℕ) → c < w.cores → 0 < w.slots → b.occ c ≡ 0
       → (x : ℕ) × (w.at x ≡ record { core = c; index = 0 }) × Allowed w (event.Alone h x)
       × Shows tag_in bits (after w (event.Alone h x)) d (record b {
@@ -77,40 +74,51 @@ module _ {T : Type 0} (tag_in : T → ℕ) (bits : ℕ) (w : World) (d : ℕ →
       let was : (j : ℕ) → get_or (occupancy_of (0 + 2 ^ 63)).occupied j false ≡ w.occupied (record { core = c; index = j }) = λ j.
       ap (λ (o : Occupancy). get_or o.occupied j false) flag.1 ∙ ap (λ (o : Occupancy). get_or o.occupied j false) packs_vacant.1 ∙ vacant-flag j
       ∙ sym (ap (λ (i : ℕ). w.occupied (record { core = i; index = j })) core ∙ none j) in
-      let word_here : ShowsWord v c new = record { packed = m.new_word; shows = record {
-        occupied = λ j. ap (λ (bs : List Bool). get_or bs j false) m.occupied ∙ elim (cases_eq j 0) [
-          | inl e ↦ ap (λ (n : ℕ). get_or (set (occupancy_of (0 + 2 ^ 63)).occupied 0 true) n false) e
-              ∙ get_or-set_same (occupancy_of (0 + 2 ^ 63)).occupied 0 true false (omega (arith, length-flags 56 (0 + 2 ^ 63)))
-              ∙ sym (with_place-same w.occupied (w.at x) true)
-              ∙ ap (λ (n : ℕ). with_place w.occupied (w.at x) true (record { core = c; index = n })) (index ∙ sym e)
-          | inr n ↦ get_or-set_other (occupancy_of (0 + 2 ^ 63)).occupied 0 j true false n ∙ was j
-              ∙ sym (with_place-other w.occupied (w.at x) true (record { core = c; index = j }) (λ e. n (ap (λ (q : Place). q.index) e ∙ index)))
-        ];
-        closed = m.closed ∙ ap (λ (o : Occupancy). o.closed) flag.1 ∙ ap (λ (o : Occupancy). o.closed) packs_vacant.1 ∙ vacant-open.0 ∙ sym closed;
-        exclusive = m.exclusive ∙ ap (λ (o : Occupancy). o.exclusive) flag.1 ∙ sym (with_at-same w.alone c true);
-      } } in
-      (x, at, may, occupying tag_in bits w x (Claimed h) true al d d b a h weight k k' s x_in
-        (record {
-          mine = mine; views = refl;
-          occ = λ j _ n. with_at-other b.occ c0 new j (λ e. n (e ∙ sym core));
-          mark = λ y _. refl; home = λ y _. refl; name = λ q _. refl;
-          phase = λ y n. refl;
-          carried = λ y n. with-else g x y k.carried refl n;
-          given = refl; ended = refl;
-          alone = λ j _ n. with_at-other w.alone c true j n;
-          beside = λ y y_in n ny. elim (cases_eq (core_of w y) c) [
-            | inl e ↦ absurd (true≢false (sym ((s.owned.occupied y y_in).1 ny) ∙ ap (λ (j : ℕ). w.occupied (record { core = j; index = (w.at y).index })) (e ∙ core) ∙ none (w.at y).index))
-            | inr e ↦ with_at-other w.alone c true (core_of w y) e
+      let word_here : ShowsWord v c new = record {
+        packed = m.new_word;
+        shows = record {
+          occupied = λ j. ap (λ (bs : List Bool). get_or bs j false) m.occupied ∙ elim (cases_eq j 0) [
+            | inl e ↦ ap (λ (n : ℕ). get_or (set (occupancy_of (0 + 2 ^ 63)).occupied 0 true) n false) e
+                ∙ get_or-set_same (occupancy_of (0 + 2 ^ 63)).occupied 0 true false (omega (arith, length-flags 56 (0 + 2 ^ 63)))
+                ∙ sym (with_place-same w.occupied (w.at x) true)
+                ∙ ap (λ (n : ℕ). with_place w.occupied (w.at x) true (record { core = c; index = n })) (index ∙ sym e)
+            | inr n ↦ get_or-set_other (occupancy_of (0 + 2 ^ 63)).occupied 0 j true false n ∙ was j
+                ∙ sym (with_place-other w.occupied (w.at x) true (record { core = c; index = j }) (λ e. n (ap (λ (q : Place). q.index) e ∙ index)))
           ];
-        })
-        (keeps_owned_once w (event.Alone h x) s.owned may)
-        (subst (ShowsWord v c) (sym (ap (with_at b.occ c0 new) core ∙ with_at-same b.occ c0 new)) word_here)
-        (record {
-          within = old.within;
-          coherent = subst (λ (t : State). Coherent t (w.at x) (d x)) (sym now) (λ _. rest.2);
-          mark = old.mark ∙ ap (λ (r : Marked). mark_word bits (record r { place = (d x).shown })) (before ∙ sym here);
-          named = old.named;
-          value = λ e. subst (λ (t : State). HasValue tag_in t (b.home x)) (sym now) (subst (λ (t : State). HasValue tag_in t (b.home x)) is_free (old.value e));
-        })
-        (with-at g x k.carried refl ∙ ap (λ (r : Carried). r ∷ []) same ∙ sym (ap (λ (t : State). carried_if t h (carried_of v d x)) now ∙ mine-claimed h (carried_of v d x)))
-        (λ j n. ap (λ (t : State). carried_if t j (carried_of w d x)) is_free ∙ sym (not-claimed h j (carried_of v d x) n) ∙ sym (ap (λ (t : State). carried_if t j (carried_of v d x)) now)))
+          closed = m.closed ∙ ap (λ (o : Occupancy). o.closed) flag.1 ∙ ap (λ (o : Occupancy). o.closed) packs_vacant.1 ∙ vacant-open.0 ∙ sym closed;
+          exclusive = m.exclusive ∙ ap (λ (o : Occupancy). o.exclusive) flag.1 ∙ sym (with_at-same w.alone c true);
+        };
+      } in (
+        x,
+        at,
+        may,
+        occupying tag_in bits w x (Claimed h) true al d d b a h weight k k' s x_in
+            (record {
+              mine = mine;
+              views = refl;
+              occ = λ j _ n. with_at-other b.occ c0 new j (λ e. n (e ∙ sym core));
+              mark = λ y _. refl;
+              home = λ y _. refl;
+              name = λ q _. refl;
+              phase = λ y n. refl;
+              carried = λ y n. with-else g x y k.carried refl n;
+              given = refl;
+              ended = refl;
+              alone = λ j _ n. with_at-other w.alone c true j n;
+              beside = λ y y_in n ny. elim (cases_eq (core_of w y) c) [
+                | inl e ↦ absurd (true≢false (sym ((s.owned.occupied y y_in).1 ny) ∙ ap (λ (j : ℕ). w.occupied (record { core = j; index = (w.at y).index })) (e ∙ core) ∙ none (w.at y).index))
+                | inr e ↦ with_at-other w.alone c true (core_of w y) e
+              ];
+            })
+            (keeps_owned_once w (event.Alone h x) s.owned may)
+            (subst (ShowsWord v c) (sym (ap (with_at b.occ c0 new) core ∙ with_at-same b.occ c0 new)) word_here)
+            (record {
+              within = old.within;
+              coherent = subst (λ (t : State). Coherent t (w.at x) (d x)) (sym now) (λ _. rest.2);
+              mark = old.mark ∙ ap (λ (r : Marked). mark_word bits (record r { place = (d x).shown })) (before ∙ sym here);
+              named = old.named;
+              value = λ e. subst (λ (t : State). HasValue tag_in t (b.home x)) (sym now) (subst (λ (t : State). HasValue tag_in t (b.home x)) is_free (old.value e));
+            })
+            (with-at g x k.carried refl ∙ ap (λ (r : Carried). r ∷ []) same ∙ sym (ap (λ (t : State). carried_if t h (carried_of v d x)) now ∙ mine-claimed h (carried_of v d x)))
+            (λ j n. ap (λ (t : State). carried_if t j (carried_of w d x)) is_free ∙ sym (not-claimed h j (carried_of v d x) n) ∙ sym (ap (λ (t : State). carried_if t j (carried_of v d x)) now)),
+      )

@@ -1,5 +1,5 @@
 -- Words that change, and what the table shows then.
-use Rattle.std.proofs.Common.{◌≡◌, ◌≢◌, ℕ, ◌+◌, ◌*◌, ◌<◌, ◌≤◌, List, [], ◌∷◌, length, refl, sym, ap, ◌∙◌, subst, arith, inl, inr, set, get_or, get_or-set_other, Option}
+use Rattle.std.proofs.Common.{◌≡◌, ℕ, ◌*◌, ◌<◌, ◌≤◌, List, length, refl, sym, ap, ◌∙◌, subst, arith, inl, inr, set, get_or, get_or-set_other, Option}
 use Rattle.std.proofs.lemmas.List.{get_or-set_same}
 use Rattle.std.proofs.lemmas.Bool.{cases_eq}
 use mathlib.Core.Option as opt
@@ -67,7 +67,7 @@ module _ {T : Type 0} where
   pub core-steps : (shape : Shape) (s : Table T) (c m id : ℕ) (l : List (ℕ × Option T)) (u : Token Known)
       → length s.words ≡ words_in shape → c < shape.cores → shape.slots ≤ 56
       → Same shape (record (board_of (contexts_in shape) s) { occ = with_at (λ (k : ℕ). get_or s.words (occ_index (contexts_in shape) k) 0) c m; views = set s.views id u })
-          (board_of (contexts_in shape) (stepped s (occ_index (contexts_in shape) c) m id l u keeps))
+      (board_of (contexts_in shape) (stepped s (occ_index (contexts_in shape) c) m id l u keeps))
   core-steps shape s c m id l u long c_in few =
       let n : ℕ = contexts_in shape in
       let at : ℕ = occ_index n c in
@@ -87,7 +87,7 @@ module _ {T : Type 0} where
       → length s.words ≡ words_in shape → x < contexts_in shape
       → ((y : ℕ) → y < contexts_in shape → get_elem? (homes_after s.homes l act) y ≡ home y)
       → Same shape (record (board_of (contexts_in shape) s) { mark = with_at (λ (k : ℕ). get_or s.words k 0) x m; home = home; views = set s.views id u })
-          (board_of (contexts_in shape) (stepped s x m id l u act))
+      (board_of (contexts_in shape) (stepped s x m id l u act))
   mark-steps shape s x m id l u act home long x_in homes =
       let n : ℕ = contexts_in shape in
       let f : ℕ → ℕ = λ (k : ℕ). get_or s.words k 0 in record {
@@ -106,7 +106,7 @@ module _ {T : Type 0} where
       → length s.words ≡ words_in shape → IsIn shape q → shape.slots ≤ 56
       → ((y : ℕ) → y < contexts_in shape → get_elem? (homes_after s.homes l act) y ≡ home y)
       → Same shape (record (board_of (contexts_in shape) s) { name = with_name (λ (p : Place). get_or s.words (name_index (contexts_in shape) p) 0) q m; home = home; views = set s.views id u })
-          (board_of (contexts_in shape) (stepped s (name_index (contexts_in shape) q) m id l u act))
+      (board_of (contexts_in shape) (stepped s (name_index (contexts_in shape) q) m id l u act))
   name-steps shape s q m id l u act home long q_in few homes =
       let n : ℕ = contexts_in shape in
       let i : ℕ = name_index n q in

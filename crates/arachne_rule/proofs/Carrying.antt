@@ -1,5 +1,5 @@
--- Lists of carried, and views of which one is changed.
-use Rattle.std.proofs.Common.{◌≡◌, ◌≢◌, ℕ, zero, suc, ◌+◌, ◌<◌, cond, eqb, List, ◌∷◌, ◌++◌, length, set, get_or, refl, sym, ap, ◌∙◌, arith, inl, inr, []}
+-- Lists of carried contexts, and views of which one is changed.
+use Rattle.std.proofs.Common.{◌≡◌, ℕ, zero, suc, ◌+◌, cond, eqb, List, ◌∷◌, length, set, get_or, refl, sym, ap, ◌∙◌, arith, inl, inr, []}
 use Rattle.std.proofs.lemmas.Bool.{eq-eqb, ne_eqb, cases_eq, cond-true, cond-false}
 use mathlib.Core.Option.{some, some-injective, some-ne-none}
 use lib.ListN.{get_elem?}
@@ -29,11 +29,11 @@ with-at g x gs e = cond-true (eqb g.context x) _ _ (eq-eqb _ _ e) ∙ ap (λ (r 
 pub with-else : (g : Carried) (x y : ℕ) (gs : List Carried) → g.context ≡ x → (y ≡ x → ⊥) → carried_at y (with_carried g gs) ≡ carried_at y gs
 with-else g x y gs e n = cond-false (eqb g.context y) _ _ (ne_eqb _ _ (λ f. n (sym f ∙ e))) ∙ without-else g.context y gs (λ f. n (f ∙ e))
 
--- the number of carried
+-- how many there are
 pub without-length : (x : ℕ) (gs : List Carried) → length (without x gs) + length (carried_at x gs) ≡ length gs
 without-length x [] = refl
 without-length x (g ∷ gs) = elim (cases_eq g.context x) [
-  | inl e ↦ 
+  | inl e ↦
       let a = ap length (cond-true (eqb g.context x) (without x gs) (g ∷ without x gs) (eq-eqb _ _ e)) in
       let b = ap length (cond-true (eqb g.context x) (g ∷ carried_at x gs) (carried_at x gs) (eq-eqb _ _ e)) in
       let r = without-length x gs in omega arith

@@ -1,5 +1,5 @@
--- S2: a claim.
-use Rattle.std.proofs.Common.{◌≡◌, ◌≢◌, ℕ, ◌+◌, ◌*◌, ◌<◌, ◌≤◌, ◌^◌, true, false, ◌&&◌, ◌∷◌, refl, sym, ap, ◌∙◌, subst, arith, set, get_or, []}
+-- A claim.
+use Rattle.std.proofs.Common.{◌≡◌, ℕ, ◌+◌, ◌^◌, true, false, ◌&&◌, ◌∷◌, refl, sym, ap, ◌∙◌, subst, arith, set, get_or, []}
 use Rattle.std.proofs.lemmas.Bool.{true≢false}
 use mathlib.Core.Option as opt
 use lib.ListN.{get_elem?}
@@ -33,7 +33,6 @@ free-if-vacant Spent n = absurd (n (λ e. cc))
 
 module _ {T : Type 0} (tag_in : T → ℕ) (bits : ℕ) (w : World) (d : ℕ → Phase) (b : Board T) (s : Shows tag_in bits w d b)
     (h weight : ℕ) (k : Known) (mine : get_elem? b.views h ≡ opt.some (held weight k)) where
-
   abbrev pub after_claim : ℕ → Place → Board T
   after_claim x p = record b {
     occ = with_at b.occ p.core (b.occ p.core + (2 ^ p.index + 2 ^ 56));
@@ -64,33 +63,37 @@ module _ {T : Type 0} (tag_in : T → ℕ) (bits : ℕ) (w : World) (d : ℕ →
       let before : marked w x ≡ plain = λ i. record { mark = mark_of (is_free i); alone = is_live_state (is_free i) && w.alone c; place = w.at x; generation = w.generation x } in
       let here : marked v x ≡ plain = λ i. record { mark = mark_of (now i); alone = is_live_state (now i) && w.alone c; place = w.at x; generation = w.generation x } in
       let g : Carried = claimed_context x p (w.generation x) in
-      let same : g ≡ carried_of v d x false 0 = λ i. record { context = x; place = sym at i; shown = (sym at ∙ sym rest.2) i; generation = w.generation x; held = false; tag = 0; alone = sym alone i; named = sym rest.1 i; away = sym rest.0 i } in
-      (x, at, may, occupying tag_in bits w x (Claimed h) true w.alone d d b (after_claim x p) h weight k (with_context k g) s x_in
-        (record {
-          mine = mine;
-          views = refl;
-          occ = λ j _ n. with_at-other b.occ p.core _ j (λ e. n (e ∙ sym core));
-          mark = λ y _. refl;
-          home = λ y _. refl;
-          name = λ q _. refl;
-          phase = λ y n. refl;
-          carried = λ y n. with-else g x y k.carried refl n;
-          given = refl;
-          ended = refl;
-          alone = λ j _ n. refl;
-          beside = λ y _ n m. refl;
-        })
-        (keeps_owned_once w (event.Claim h x) s.owned may)
-        (subst (λ (n : ℕ). ShowsWord v c n)
-          (ap (λ (q : Place). b.occ q.core + (2 ^ q.index + 2 ^ 56)) at ∙ sym (ap (with_at b.occ p.core (b.occ p.core + (2 ^ p.index + 2 ^ 56))) core ∙ with_at-same b.occ p.core _))
-          (one-more-shows w x (b.occ c) (w.at x).index (Claimed h) w.alone (s.cores c (s.owned.placed x x_in).0) refl (omega (arith, (s.owned.placed x x_in).1, s.fits.1)) refl
+      let same : g ≡ carried_of v d x false 0 = λ i. record { context = x; place = sym at i; shown = (sym at ∙ sym rest.2) i; generation = w.generation x; held = false; tag = 0; alone = sym alone i; named = sym rest.1 i; away = sym rest.0 i } in (
+        x,
+        at,
+        may,
+        occupying tag_in bits w x (Claimed h) true w.alone d d b (after_claim x p) h weight k (with_context k g) s x_in
+            (record {
+              mine = mine;
+              views = refl;
+              occ = λ j _ n. with_at-other b.occ p.core _ j (λ e. n (e ∙ sym core));
+              mark = λ y _. refl;
+              home = λ y _. refl;
+              name = λ q _. refl;
+              phase = λ y n. refl;
+              carried = λ y n. with-else g x y k.carried refl n;
+              given = refl;
+              ended = refl;
+              alone = λ j _ n. refl;
+              beside = λ y _ n m. refl;
+            })
+            (keeps_owned_once w (event.Claim h x) s.owned may)
+            (subst (λ (n : ℕ). ShowsWord v c n)
+            (ap (λ (q : Place). b.occ q.core + (2 ^ q.index + 2 ^ 56)) at ∙ sym (ap (with_at b.occ p.core (b.occ p.core + (2 ^ p.index + 2 ^ 56))) core ∙ with_at-same b.occ p.core _))
+            (one-more-shows w x (b.occ c) (w.at x).index (Claimed h) w.alone (s.cores c (s.owned.placed x x_in).0) refl (omega (arith, (s.owned.placed x x_in).1, s.fits.1)) refl
             (ap (λ (q : Place). get_or (occupancy_of (b.occ q.core)).occupied q.index false) at ∙ vacant)))
-        (record {
-          within = old.within;
-          coherent = subst (λ (t : State). Coherent t (w.at x) (d x)) (sym now) (λ _. rest.2);
-          mark = old.mark ∙ ap (λ (m : Marked). mark_word bits (record m { place = (d x).shown })) (before ∙ sym here);
-          named = old.named;
-          value = λ e. subst (λ (t : State). HasValue tag_in t (b.home x)) (sym now) (subst (λ (t : State). HasValue tag_in t (b.home x)) is_free (old.value e));
-        })
-        (with-at g x k.carried refl ∙ ap (λ (r : Carried). r ∷ []) same ∙ sym (ap (λ (t : State). carried_if t h (carried_of v d x)) now ∙ mine-claimed h (carried_of v d x)))
-        (λ j n. ap (λ (t : State). carried_if t j (carried_of w d x)) is_free ∙ sym (not-claimed h j (carried_of v d x) n) ∙ sym (ap (λ (t : State). carried_if t j (carried_of v d x)) now)))
+            (record {
+              within = old.within;
+              coherent = subst (λ (t : State). Coherent t (w.at x) (d x)) (sym now) (λ _. rest.2);
+              mark = old.mark ∙ ap (λ (m : Marked). mark_word bits (record m { place = (d x).shown })) (before ∙ sym here);
+              named = old.named;
+              value = λ e. subst (λ (t : State). HasValue tag_in t (b.home x)) (sym now) (subst (λ (t : State). HasValue tag_in t (b.home x)) is_free (old.value e));
+            })
+            (with-at g x k.carried refl ∙ ap (λ (r : Carried). r ∷ []) same ∙ sym (ap (λ (t : State). carried_if t h (carried_of v d x)) now ∙ mine-claimed h (carried_of v d x)))
+            (λ j n. ap (λ (t : State). carried_if t j (carried_of w d x)) is_free ∙ sym (not-claimed h j (carried_of v d x) n) ∙ sym (ap (λ (t : State). carried_if t j (carried_of v d x)) now)),
+      )

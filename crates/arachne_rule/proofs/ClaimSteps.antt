@@ -1,5 +1,5 @@
 -- What the table asks of a claim, of a claim of a whole core, and of a release.
-use Rattle.std.proofs.Common.{◌≡◌, ◌≢◌, ℕ, zero, suc, ◌+◌, ◌-◌, ◌*◌, ◌%◌, ◌<◌, ◌≤◌, ◌^◌, Bool, true, false, if◌then◌else◌, List, [], ◌∷◌, length, refl, sym, ap, ◌∙◌, subst, arith, inl, inr, set, get_or, Option, eqb}
+use Rattle.std.proofs.Common.{◌≡◌, ℕ, zero, suc, ◌+◌, ◌-◌, ◌*◌, ◌%◌, ◌<◌, ◌≤◌, ◌^◌, Bool, true, false, if◌then◌else◌, List, length, refl, sym, ap, ◌∙◌, subst, arith, inl, inr, set, get_or, Option, eqb}
 use Rattle.std.proofs.lemmas.Bool.{cases_order}
 use Rattle.std.proofs.lemmas.Nat.{pow_pos}
 use Rattle.std.proofs.Math.Nat.{pow-suc}
@@ -24,13 +24,14 @@ use Rattle.arachne_rule.specs.Changes.{claimed_context, alone_context, index_sum
 use Rattle.arachne_rule.specs.Layout.{contexts_in, occ_index, board_of}
 use Rattle.arachne_rule.specs.Table.{Mine, Holds}
 use Rattle.arachne_rule.specs.Plays.{Carries, IsLive, Claims, ClaimsAlone, Releases}
+use Rattle.arachne_rule.proofs.Shares.{my-share}
 use Rattle.arachne_rule.proofs.Marking.{claimed-carried}
 use Rattle.arachne_rule.proofs.Slots.{carried-says}
 use Rattle.arachne_rule.proofs.Claim.{claim}
 use Rattle.arachne_rule.proofs.Alone.{claim_alone}
 use Rattle.arachne_rule.proofs.Release.{release, less_by, wraps, holds-index, holds-flag, not-free}
 use Rattle.arachne_rule.proofs.Stepping.{sees, core-made, for-seat}
-use Rattle.arachne_rule.proofs.OwnWords.{my-share, same-at-place, not-mine, free-nobody}
+use Rattle.arachne_rule.proofs.OwnWords.{same-at-place, not-mine, free-nobody}
 
 pow-lt : (i j : ℕ) → 2 ^ i < 2 ^ (i + suc j)
 pow-lt i zero = let a : 2 ^ (i + 1) ≡ 2 ^ suc i = ap (λ (n : ℕ). 2 ^ n) (omega arith) in omega (arith, a, pow-suc 2 i, pow_pos i)
@@ -61,7 +62,7 @@ module _ {T : Type 0} (tag_in : T → ℕ) (bits : ℕ) (shape : Shape) where
   claims : (id weight : ℕ) (k : Known) (l : List (ℕ × Option T)) (p : Place) (old new : ℕ) → new ≡ old + index_sum p.index → p.core < shape.cores → p.index < shape.slots
       → get_or (occupancy_of old).occupied p.index false ≡ false → (occupancy_of old).closed ≡ false → (occupancy_of old).exclusive ≡ false
       → Allows (Holds tag_in bits shape) (contexts_in shape) id (held weight k, l) (occ_index (contexts_in shape) p.core) (λ m. either (eqb m old) new m)
-          (Claims (step (contexts_in shape) (occ_index (contexts_in shape) p.core) old new none) (held weight k, l))
+      (Claims (step (contexts_in shape) (occ_index (contexts_in shape) p.core) old new none) (held weight k, l))
   claims id weight k l p old new more c_in i_in vacant opened shared s hs long mine small =
       let w : World = hs.world in
       let n : ℕ = contexts_in shape in
@@ -69,25 +70,33 @@ module _ {T : Type 0} (tag_in : T → ℕ) (bits : ℕ) (shape : Shape) where
       let b : Board T = board_of n s in
       let me : Mine T = (held weight k, l) in
       let F : ℕ → Type 0 = λ (m : ℕ). (u : Token Known) × (a : Act (Option T)) × Valid s.homes l a × Holds tag_in bits shape (stepped s i m id l u a)
-          × Claims (step n i old new none) me (get_or s.words i 0) (u, carried_after l a) in
+      × Claims (step n i old new none) me (get_or s.words i 0) (u, carried_after l a) in
       exchanged (get_or s.words i 0) old new F
-        (λ hit.
-          let found : b.occ p.core ≡ old = hit in
-          let r = claim tag_in bits w hs.phase b hs.shows id weight k mine p (omega (arith, c_in, hs.fits.cores), omega (arith, i_in, hs.fits.slots))
-              (ap (λ (m : ℕ). get_or (occupancy_of m).occupied p.index false) found ∙ vacant) (ap (λ (m : ℕ). (occupancy_of m).closed) found ∙ opened) (ap (λ (m : ℕ). (occupancy_of m).exclusive) found ∙ shared) in
-          let x : ℕ = r.0 in
-          let k' : Known = with_context k (claimed_context x p (w.generation x)) in
-          let becomes : b.occ p.core + index_sum p.index ≡ new = ap (λ (m : ℕ). m + index_sum p.index) found ∙ sym more in
-          let x_in : x < n = subst (λ (m : ℕ). x < m) (λ j. hs.fits.cores j * hs.fits.slots j) (r.2).context in
-          (held weight (noted kind.Claim i (b.occ p.core) new k'), keeps, tt,
-            core-made tag_in bits shape s hs id weight k mine kind.Claim p.core new l (event.Claim id x) hs.phase k' c_in refl r.2
-              (inr (x, (λ j. occ_index (sym hs.fits.cores j * sym hs.fits.slots j) (sym r.1 j).core), sym becomes ∙ ap (λ (q : Place). b.occ p.core + index_sum q.index) (sym r.1), refl))
-              (subst (λ (m : ℕ). Shows tag_in bits (after w (event.Claim id x)) hs.phase (record b { occ = with_at b.occ p.core m; views = set s.views id (held weight k') })) becomes r.3),
-            λ q at_q is_q.
-              let same : p ≡ q = same-place p q (omega (arith, at_q)) (pow-injective p.index q.index (omega (arith, is_q, more))) in
-              ((λ _. (x, w.generation x, x_in, not-mine tag_in bits w hs.phase b hs.shows id weight k mine x (r.2).context (free-nobody (w.state x) (r.2).free id), λ j. (held weight (noted kind.Claim i (b.occ p.core) new (with_context k (claimed_context x (same j) (w.generation x)))), l))), (λ miss. absurd (miss hit)))))
-        (λ miss. (held weight (noted kind.Claim i (get_or s.words i 0) (get_or s.words i 0) k), keeps, tt, sees tag_in bits shape s hs id weight k mine kind.Claim i l (inl (tt, refl, refl)),
-          λ q at_q is_q. ((λ hit. absurd (miss hit)), (λ _. refl))))
+      (λ hit.
+      let found : b.occ p.core ≡ old = hit in
+      let r = claim tag_in bits w hs.phase b hs.shows id weight k mine p (omega (arith, c_in, hs.fits.cores), omega (arith, i_in, hs.fits.slots))
+      (ap (λ (m : ℕ). get_or (occupancy_of m).occupied p.index false) found ∙ vacant) (ap (λ (m : ℕ). (occupancy_of m).closed) found ∙ opened) (ap (λ (m : ℕ). (occupancy_of m).exclusive) found ∙ shared) in
+      let x : ℕ = r.0 in
+      let k' : Known = with_context k (claimed_context x p (w.generation x)) in
+      let becomes : b.occ p.core + index_sum p.index ≡ new = ap (λ (m : ℕ). m + index_sum p.index) found ∙ sym more in
+      let x_in : x < n = subst (λ (m : ℕ). x < m) (λ j. hs.fits.cores j * hs.fits.slots j) (r.2).context in (
+        held weight (noted kind.Claim i (b.occ p.core) new k'),
+        keeps,
+        tt,
+        core-made tag_in bits shape s hs id weight k mine kind.Claim p.core new l (event.Claim id x) hs.phase k' c_in refl r.2
+            (inr (x, (λ j. occ_index (sym hs.fits.cores j * sym hs.fits.slots j) (sym r.1 j).core), sym becomes ∙ ap (λ (q : Place). b.occ p.core + index_sum q.index) (sym r.1), refl))
+            (subst (λ (m : ℕ). Shows tag_in bits (after w (event.Claim id x)) hs.phase (record b { occ = with_at b.occ p.core m; views = set s.views id (held weight k') })) becomes r.3),
+        λ q at_q is_q.
+            let same : p ≡ q = same-place p q (omega (arith, at_q)) (pow-injective p.index q.index (omega (arith, is_q, more))) in
+            ((λ _. (x, w.generation x, x_in, not-mine tag_in bits w hs.phase b hs.shows id weight k mine x (r.2).context (free-nobody (w.state x) (r.2).free id), λ j. (held weight (noted kind.Claim i (b.occ p.core) new (with_context k (claimed_context x (same j) (w.generation x)))), l))), (λ miss. absurd (miss hit))),
+      ))
+      (λ miss. (
+        held weight (noted kind.Claim i (get_or s.words i 0) (get_or s.words i 0) k),
+        keeps,
+        tt,
+        sees tag_in bits shape s hs id weight k mine kind.Claim i l (inl (tt, refl, refl)),
+        λ q at_q is_q. ((λ hit. absurd (miss hit)), (λ _. refl)),
+      ))
 
   pub claim-allowed : (slots id : ℕ) (me : Mine T) (p : Place) (i old new : ℕ) → slots ≡ contexts_in shape → IsLive me → i ≡ occ_index slots p.core → new ≡ old + index_sum p.index
       → p.core < shape.cores → p.index < shape.slots
@@ -101,7 +110,7 @@ module _ {T : Type 0} (tag_in : T → ℕ) (bits : ℕ) (shape : Shape) where
 
   claims-alone : (id weight : ℕ) (k : Known) (l : List (ℕ × Option T)) (c : ℕ) → c < shape.cores → 0 < shape.slots
       → Allows (Holds tag_in bits shape) (contexts_in shape) id (held weight k, l) (occ_index (contexts_in shape) c) (λ m. either (eqb m 0) (2 ^ 63 + index_sum 0) m)
-          (ClaimsAlone (step (contexts_in shape) (occ_index (contexts_in shape) c) 0 (2 ^ 63 + index_sum 0) none) (held weight k, l))
+      (ClaimsAlone (step (contexts_in shape) (occ_index (contexts_in shape) c) 0 (2 ^ 63 + index_sum 0) none) (held weight k, l))
   claims-alone id weight k l c c_in some_slot s hs long mine small =
       let w : World = hs.world in
       let n : ℕ = contexts_in shape in
@@ -110,30 +119,38 @@ module _ {T : Type 0} (tag_in : T → ℕ) (bits : ℕ) (shape : Shape) where
       let me : Mine T = (held weight k, l) in
       let new : ℕ = 2 ^ 63 + index_sum 0 in
       let F : ℕ → Type 0 = λ (m : ℕ). (u : Token Known) × (a : Act (Option T)) × Valid s.homes l a × Holds tag_in bits shape (stepped s i m id l u a)
-          × ClaimsAlone (step n i 0 new none) me (get_or s.words i 0) (u, carried_after l a) in
+      × ClaimsAlone (step n i 0 new none) me (get_or s.words i 0) (u, carried_after l a) in
       exchanged (get_or s.words i 0) 0 new F
-        (λ hit.
-          let r = claim_alone tag_in bits w hs.phase b hs.shows id weight k mine c (omega (arith, c_in, hs.fits.cores)) (omega (arith, some_slot, hs.fits.slots)) hit in
-          let x : ℕ = r.0 in
-          let k' : Known = with_context k (alone_context x c (w.generation x)) in
-          let x_in : x < n = subst (λ (m : ℕ). x < m) (λ j. hs.fits.cores j * hs.fits.slots j) (r.2).context in
-          (held weight (noted kind.Alone i (b.occ c) new k'), keeps, tt,
-            core-made tag_in bits shape s hs id weight k mine kind.Alone c new l (event.Alone id x) hs.phase k' c_in refl r.2
-              (inr (x, (λ j. occ_index (sym hs.fits.cores j * sym hs.fits.slots j) (sym r.1 j).core), hit, refl, refl))
-              r.3,
-            λ q at_q.
-              let same : c ≡ q = omega (arith, at_q) in
-              ((λ _. (x, w.generation x, x_in, not-mine tag_in bits w hs.phase b hs.shows id weight k mine x (r.2).context (free-nobody (w.state x) (r.2).free id), λ j. (held weight (noted kind.Alone i (b.occ c) new (with_context k (alone_context x (same j) (w.generation x)))), l))), (λ miss. absurd (miss hit)))))
-        (λ miss. (held weight (noted kind.Alone i (get_or s.words i 0) (get_or s.words i 0) k), keeps, tt, sees tag_in bits shape s hs id weight k mine kind.Alone i l (inl (tt, refl, refl)),
-          λ q at_q. ((λ hit. absurd (miss hit)), (λ _. refl))))
+      (λ hit.
+      let r = claim_alone tag_in bits w hs.phase b hs.shows id weight k mine c (omega (arith, c_in, hs.fits.cores)) (omega (arith, some_slot, hs.fits.slots)) hit in
+      let x : ℕ = r.0 in
+      let k' : Known = with_context k (alone_context x c (w.generation x)) in
+      let x_in : x < n = subst (λ (m : ℕ). x < m) (λ j. hs.fits.cores j * hs.fits.slots j) (r.2).context in (
+        held weight (noted kind.Alone i (b.occ c) new k'),
+        keeps,
+        tt,
+        core-made tag_in bits shape s hs id weight k mine kind.Alone c new l (event.Alone id x) hs.phase k' c_in refl r.2
+            (inr (x, (λ j. occ_index (sym hs.fits.cores j * sym hs.fits.slots j) (sym r.1 j).core), hit, refl, refl))
+            r.3,
+        λ q at_q.
+            let same : c ≡ q = omega (arith, at_q) in
+            ((λ _. (x, w.generation x, x_in, not-mine tag_in bits w hs.phase b hs.shows id weight k mine x (r.2).context (free-nobody (w.state x) (r.2).free id), λ j. (held weight (noted kind.Alone i (b.occ c) new (with_context k (alone_context x (same j) (w.generation x)))), l))), (λ miss. absurd (miss hit))),
+      ))
+      (λ miss. (
+        held weight (noted kind.Alone i (get_or s.words i 0) (get_or s.words i 0) k),
+        keeps,
+        tt,
+        sees tag_in bits shape s hs id weight k mine kind.Alone i l (inl (tt, refl, refl)),
+        λ q at_q. ((λ hit. absurd (miss hit)), (λ _. refl)),
+      ))
 
   pub alone-allowed : (slots id : ℕ) (me : Mine T) (c i old new : ℕ) → slots ≡ contexts_in shape → IsLive me → i ≡ occ_index slots c → old ≡ 0 → new ≡ 2 ^ 63 + index_sum 0 → c < shape.cores → 0 < shape.slots
       → Allows (Holds tag_in bits shape) slots id me i (λ m. either (eqb m old) new m) (ClaimsAlone (step slots i old new none) me)
   alone-allowed slots id me c i old new laid live there old_is new_is c_in some_slot =
       subst (λ (a : ℕ). Allows (Holds tag_in bits shape) slots id me i (λ m. either (eqb m a) new m) (ClaimsAlone (step slots i a new none) me)) (sym old_is)
       (subst (λ (a : ℕ). Allows (Holds tag_in bits shape) slots id me i (λ m. either (eqb m 0) a m) (ClaimsAlone (step slots i 0 a none) me)) (sym new_is)
-        (for-seat (λ m j e. Allows (Holds tag_in bits shape) m id e j (λ q. either (eqb q 0) (2 ^ 63 + index_sum 0) q) (ClaimsAlone (step m j 0 (2 ^ 63 + index_sum 0) none) e)) slots i (contexts_in shape) (occ_index (contexts_in shape) c) me
-          laid (there ∙ ap (λ (m : ℕ). occ_index m c) laid) live (claims-alone id me.0.weight me.0.known me.1 c c_in some_slot)))
+      (for-seat (λ m j e. Allows (Holds tag_in bits shape) m id e j (λ q. either (eqb q 0) (2 ^ 63 + index_sum 0) q) (ClaimsAlone (step m j 0 (2 ^ 63 + index_sum 0) none) e)) slots i (contexts_in shape) (occ_index (contexts_in shape) c) me
+      laid (there ∙ ap (λ (m : ℕ). occ_index m c) laid) live (claims-alone id me.0.weight me.0.known me.1 c c_in some_slot)))
 
   -- ---- a release
 
@@ -155,7 +172,7 @@ module _ {T : Type 0} (tag_in : T → ℕ) (bits : ℕ) (shape : Shape) where
 
   releases : (id weight : ℕ) (k : Known) (l : List (ℕ × Option T)) (c : Carried) (less : ℕ) → c.context < contexts_in shape → Carries k c → c.held ≡ false → c.named ≡ true → c.away ≡ false → less ≡ release_sum c
       → Allows (Holds tag_in bits shape) (contexts_in shape) id (held weight k, l) (occ_index (contexts_in shape) c.place.core) (λ m. (m + (2 ^ 64 - less)) % 2 ^ 64)
-          (Releases (step (contexts_in shape) (occ_index (contexts_in shape) c.place.core) less 0 none) (held weight k, l))
+      (Releases (step (contexts_in shape) (occ_index (contexts_in shape) c.place.core) less 0 none) (held weight k, l))
   releases id weight k l c less c_in has free named home less_is s hs long mine small =
       let w : World = hs.world in
       let n : ℕ = contexts_in shape in
@@ -177,20 +194,23 @@ module _ {T : Type 0} (tag_in : T → ℕ) (bits : ℕ) (shape : Shape) where
       let new : ℕ = (word + (2 ^ 64 - less)) % 2 ^ 64 in
       let by : new ≡ less_by c word = ap (λ (m : ℕ). (word + (2 ^ 64 - m)) % 2 ^ 64) less_is ∙ less-sums c.alone word (index_sum c.place.index) (occupancy_word-of word o.packed) (subst (λ (m : ℕ). m ≤ word) less_is fits) in
       let sub : new ≡ word - less = wraps word less (occupancy_word-of word o.packed) fits in
-      let k' : Known = without_context k c in
-      (held weight (noted kind.Release i word new k'), keeps, tt,
+      let k' : Known = without_context k c in (
+        held weight (noted kind.Release i word new k'),
+        keeps,
+        tt,
         core-made tag_in bits shape s hs id weight k mine kind.Release c.place.core new l (event.Release id x) hs.phase k' core_in refl r.0
-          (inr (x, (λ j. occ_index (sym hs.fits.cores j * sym hs.fits.slots j) (p_is j).core), sub ∙ ap (λ (m : ℕ). word - m) less_is ∙ (λ j. word - (if alone_is j then 2 ^ 63 + index_sum (p_is j).index else index_sum (p_is j).index)) , refl))
-          (subst (λ (q : ℕ). Shows tag_in bits (after w (event.Release id x)) hs.phase (record b { occ = with_at b.occ c.place.core q; views = set s.views id (held weight k') })) (sym by) r.1),
+            (inr (x, (λ j. occ_index (sym hs.fits.cores j * sym hs.fits.slots j) (p_is j).core), sub ∙ ap (λ (m : ℕ). word - m) less_is ∙ (λ j. word - (if alone_is j then 2 ^ 63 + index_sum (p_is j).index else index_sum (p_is j).index)), refl))
+            (subst (λ (q : ℕ). Shows tag_in bits (after w (event.Release id x)) hs.phase (record b { occ = with_at b.occ c.place.core q; views = set s.views id (held weight k') })) (sym by) r.1),
         λ f f_in f_has at sum.
-          let f_share = my-share tag_in bits w hs.phase b hs.shows id weight k mine f.context f (context_in f.context f_in) f_has in
-          let f_place : f.place ≡ w.at f.context = carried-says (w.state f.context) id (carried_of w hs.phase f.context) (λ (u : Carried). u.place) f (w.at f.context) f_share (λ q t. refl) in
-          let f_alone : f.alone ≡ w.alone (core_of w f.context) = carried-says (w.state f.context) id (carried_of w hs.phase f.context) (λ (u : Carried). u.alone) f (w.alone (core_of w f.context)) f_share (λ q t. refl) in
-          let core : c.place.core ≡ f.place.core = omega (arith, at) in
-          let flags : c.alone ≡ f.alone = alone_is ∙ ap (λ (p : Place). w.alone p.core) (sym p_is) ∙ ap w.alone core ∙ ap (λ (p : Place). w.alone p.core) f_place ∙ sym f_alone in
-          let index : c.place.index ≡ f.place.index = same-sum c.alone f.alone c.place.index f.place.index flags (sym less_is ∙ sum) in
-          let one : c ≡ f = same-at-place tag_in bits w hs.phase b hs.shows id weight k mine c f (context_in x c_in) (context_in f.context f_in) has f_has (same-place c.place f.place core index) in
-          λ j. (held weight (noted kind.Release i word (sub j) (without_context k (one j))), l))
+            let f_share = my-share tag_in bits w hs.phase b hs.shows id weight k mine f.context f (context_in f.context f_in) f_has in
+            let f_place : f.place ≡ w.at f.context = carried-says (w.state f.context) id (carried_of w hs.phase f.context) (λ (u : Carried). u.place) f (w.at f.context) f_share (λ q t. refl) in
+            let f_alone : f.alone ≡ w.alone (core_of w f.context) = carried-says (w.state f.context) id (carried_of w hs.phase f.context) (λ (u : Carried). u.alone) f (w.alone (core_of w f.context)) f_share (λ q t. refl) in
+            let core : c.place.core ≡ f.place.core = omega (arith, at) in
+            let flags : c.alone ≡ f.alone = alone_is ∙ ap (λ (p : Place). w.alone p.core) (sym p_is) ∙ ap w.alone core ∙ ap (λ (p : Place). w.alone p.core) f_place ∙ sym f_alone in
+            let index : c.place.index ≡ f.place.index = same-sum c.alone f.alone c.place.index f.place.index flags (sym less_is ∙ sum) in
+            let one : c ≡ f = same-at-place tag_in bits w hs.phase b hs.shows id weight k mine c f (context_in x c_in) (context_in f.context f_in) has f_has (same-place c.place f.place core index) in
+            λ j. (held weight (noted kind.Release i word (sub j) (without_context k (one j))), l),
+      )
 
   pub release-allowed : (slots id : ℕ) (me : Mine T) (c : Carried) (i less : ℕ) → slots ≡ contexts_in shape → IsLive me → i ≡ occ_index slots c.place.core → c.context < slots
       → Carries me.0.known c → c.held ≡ false → c.named ≡ true → c.away ≡ false → less ≡ release_sum c

@@ -1,5 +1,5 @@
 -- The table at the end: what a whole seat knows that carries nothing.
-use Rattle.std.proofs.Common.{◌≡◌, ◌≢◌, ℕ, zero, suc, ◌+◌, ◌-◌, ◌*◌, ◌/◌, ◌%◌, ◌<◌, ◌≤◌, ◌^◌, Bool, true, false, cond, eqb, List, [], ◌∷◌, length, refl, sym, ap, ◌∙◌, arith, inl, inr, get_or}
+use Rattle.std.proofs.Common.{◌≡◌, ℕ, zero, suc, ◌+◌, ◌*◌, ◌<◌, ◌≤◌, Bool, true, false, cond, eqb, List, [], ◌∷◌, length, refl, sym, ap, ◌∙◌, arith, inl, inr, get_or}
 use Rattle.std.specs.Prelude.{count_by}
 use Rattle.std.proofs.lemmas.Bool.{cases_eq, cond-true, cond-false, eq-eqb, ne_eqb, and_left, and_right, lt-ltb, le-ltb, cases_lt}
 use mathlib.Core.Option as opt
@@ -9,7 +9,6 @@ use Rattle.std.specs.declared.option.Option.TheVariants.{None, Some}
 use Rattle.arachne_core.specs.declared.place.Place.{Place}
 use Rattle.arachne_core.specs.declared.state.State.{State}
 use Rattle.arachne_core.specs.declared.state.State.TheVariants.{Free, Claimed, Ready, Blocked, Held, Spent}
-use Rattle.arachne_core.specs.declared.mark.Mark.TheVariants as mark
 use Rattle.arachne_core.specs.Marked.{Marked, marked_of}
 use Rattle.arachne_core.specs.World.{World, Thread, IsContext, same_thread}
 use Rattle.arachne_core.specs.OwnedOnce.{is_live, has_thread}
@@ -21,7 +20,7 @@ use Rattle.arachne_rule.specs.declared.view.Carried.{Carried}
 use Rattle.arachne_rule.specs.declared.view.Known.{Known}
 use Rattle.arachne_rule.specs.declared.view.Shape.{Shape}
 use Rattle.arachne_rule.specs.Views.{blank, known_at, carried_at}
-use Rattle.arachne_rule.specs.Rule.{settled, Coherent, carried_if, carried_of, HasValue, Board, Phase, Shows}
+use Rattle.arachne_rule.specs.Rule.{Coherent, carried_if, carried_of, HasValue, Board, Phase, Shows}
 use Rattle.arachne_rule.specs.Layout.{contexts_in, board_of}
 use Rattle.arachne_rule.specs.Table.{Table, Holds}
 use Rattle.arachne_rule.specs.Ending.{left_from, threads_of, IsSettled}
@@ -77,7 +76,7 @@ module _ {T : Type 0} (tag_in : T → ℕ) (bits : ℕ) (words : List ℕ) (t : 
   count-at x zero (None ∷ slots) slot at e =
       none-before (suc x) slots (omega (arith, at))
       ∙ sym (cond-false {A = ℕ} (eqb (marked_of bits (get_or words (x + 0) 0)).generation t.0.generation && has_tag tag_in slot t.1) 1 0
-        (and_right _ _ (ap (λ (o : Option T). has_tag tag_in o t.1) (sym (opt.some-injective None slot e)))))
+      (and_right _ _ (ap (λ (o : Option T). has_tag tag_in o t.1) (sym (opt.some-injective None slot e)))))
   count-at x zero (Some v ∷ slots) slot at e =
       let g : ℕ = (marked_of bits (get_or words x 0)).generation in
       let u : Thread = (record { context = x; generation = g }, tag_in v) in
@@ -196,5 +195,5 @@ module _ {T : Type 0} (tag_in : T → ℕ) (bits : ℕ) (shape : Shape) (s : Tab
   all-settled = record {
     once = λ t. omega (arith, hs.shows.owned.once t, hs.shows.given t, whole-total blank (λ (v : Token Known). count_by (same_thread t) v.known.given) refl hs.shows.seats i (held whole k) mine refl);
     settled = λ t. settles tag_in bits w hs.phase b hs.shows i k mine none_out t ∙ lifted (is_live w t) (count_by (same_thread t) k.ended)
-      ∙ ap (λ (m : ℕ). count_by (same_thread t) k.ended + m) (sym (counts t));
+        ∙ ap (λ (m : ℕ). count_by (same_thread t) k.ended + m) (sym (counts t));
   }

@@ -1,5 +1,5 @@
 -- A thread that has ended is gone for good.
-use Rattle.std.proofs.Common.{◌≡◌, ℕ, ◌+◌, ◌*◌, ◌<◌, ◌≤◌, true, false, ◌&&◌, ◌⊎◌, inl, inr, refl, sym, ap, ◌∙◌, arith}
+use Rattle.std.proofs.Common.{◌≡◌, ℕ, ◌+◌, ◌<◌, true, false, ◌⊎◌, inl, inr, refl, sym, ap, ◌∙◌, arith}
 use Rattle.std.proofs.lemmas.Bool.{cases_Bool, cond-true, cond-false, and_from, eq-eqb, lt-ltb, true≢false}
 use Rattle.arachne_core.specs.declared.state.State.{State}
 use Rattle.arachne_core.specs.declared.state.State.TheVariants.{Free, Claimed, Ready, Blocked, Held, Spent}
@@ -7,7 +7,7 @@ use Rattle.arachne_core.specs.World.{World, Thread}
 use Rattle.arachne_core.specs.OwnedOnce.{OwnedOnce, is_live, has_thread, HasGivenId}
 
 -- given once, ended, and so not live
-not-live : (w : World) (t : Thread) → OwnedOnce w → 0 < w.ended t → (0 < w.given t) × (is_live w t ≡ false)
+pub not-live : (w : World) (t : Thread) → OwnedOnce w → 0 < w.ended t → (0 < w.given t) × (is_live w t ≡ false)
 not-live w t o e = elim (cases_Bool (is_live w t)) [
   | inl l ↦ absurd (omega (arith, o.once t, o.live t, cond-true (is_live w t) (w.ended t + 1) (w.ended t) l, e))
   | inr l ↦ (omega (arith, o.live t, cond-false (is_live w t) (w.ended t + 1) (w.ended t) l, e), l)

@@ -1,7 +1,7 @@
 -- A history with one step more.
-use Rattle.std.proofs.Common.{◌≡◌, ◌≢◌, ℕ, zero, suc, ◌+◌, ◌*◌, ◌<◌, ◌≤◌, eqb, List, [], ◌∷◌, ◌++◌, length, length-set, refl, sym, ap, ◌∙◌, subst, arith, inl, inr, set, get_or}
-use Rattle.std.proofs.lemmas.Bool.{cond-true, cond-false, eq-eqb, ne_eqb}
-use mathlib.Core.Option.{some, some-ne-none}
+use Rattle.std.proofs.Common.{◌≡◌, ℕ, zero, suc, ◌<◌, eqb, List, [], ◌∷◌, ◌++◌, length, length-set, refl, sym, ap, ◌∙◌, subst, arith, inl, inr, set, get_or}
+use Rattle.std.proofs.lemmas.Bool.{cases_eq, cond-true, cond-false, eq-eqb, ne_eqb}
+use mathlib.Core.Option.{some, some-injective, some-ne-none}
 use lib.ListN.{get_elem?}
 use Rattle.atomic_table.proofs.Lists.{at_set}
 use Rattle.arachne_core.specs.declared.event.Event.{Event}
@@ -15,7 +15,7 @@ use Rattle.arachne_rule.specs.declared.view.Record.{Record}
 use Rattle.arachne_rule.specs.declared.view.Shape.{Shape}
 use Rattle.arachne_rule.specs.declared.view.Kind.{Kind}
 use Rattle.arachne_rule.specs.Views.{noted}
-use Rattle.arachne_rule.specs.History.{Makes, world_after, events_of, records_of, IsHistory, AreOfSeats, Entry}
+use Rattle.arachne_rule.specs.History.{Makes, world_after, events_of, records_of, IsHistory, AreOfSeats, Entry, IsStepOf}
 use Rattle.arachne_rule.specs.Table.{Table, Tells}
 
 -- an event changes no size
@@ -54,11 +54,14 @@ module _ {T : Type 0} (bits : ℕ) (shape : Shape) (w : World) (first : List ℕ
       let v : World → World = λ (z : World). after z e in
       record {
         first_words = t.first_words;
-        lawful = (t.lawful, record {
-          found = sym (ap (λ (ws : List ℕ). get_or ws i 0) t.words);
-          allowed = subst (λ (z : World). Allowed z e) t.world allowed;
-          makes = subst (λ (z : World). Makes bits z step) t.world makes;
-        });
+        lawful = (
+          t.lawful,
+          record {
+            found = sym (ap (λ (ws : List ℕ). get_or ws i 0) t.words);
+            allowed = subst (λ (z : World). Allowed z e) t.world allowed;
+            makes = subst (λ (z : World). Makes bits z step) t.world makes;
+          },
+        );
         world = ap v t.world;
         words = words ∙ ap (λ (ws : List ℕ). set ws i new) t.words;
         seats = subst (λ (n : ℕ). (id < n) × AreOfSeats n history) (sym (ap length views ∙ length-set s.views id u)) (there-in s.views id (held weight k) mine, t.seats);
@@ -84,6 +87,28 @@ pub history-is-a-run : (bits : ℕ) (w : World) (first : List ℕ) (history : Li
     → IsRun w (events_of history) × (after_all w (events_of history) ≡ world_after w history)
 history-is-a-run bits w first [] l = (tt, refl)
 history-is-a-run bits w first (e ∷ es) l =
-    let r = history-is-a-run bits w first es l.0 in
-    (run-snoc w (events_of es) e.event r.0 (subst (λ (z : World). Allowed z e.event) (sym r.1) l.1.allowed),
-      after-snoc w (events_of es) e.event ∙ ap (λ (z : World). after z e.event) r.1)
+    let r = history-is-a-run bits w first es l.0 in (
+      run-snoc w (events_of es) e.event r.0 (subst (λ (z : World). Allowed z e.event) (sym r.1) l.1.allowed),
+      after-snoc w (events_of es) e.event ∙ ap (λ (z : World). after z e.event) r.1,
+    )
+
+-- ---- what a seat has noted is in the history
+
+one-newer : (bits : ℕ) (w : World) (first : List ℕ) (f : Entry) (es : List Entry) (h : ℕ) (r : Record) → IsStepOf bits w first es h r → IsStepOf bits w first (f ∷ es) h r
+one-newer bits w first f es h r s = record { newer = f ∷ s.newer; older = s.older; entry = s.entry; whole = ap (λ (xs : List Entry). f ∷ xs) s.whole; by_seat = s.by_seat; is = s.is; next = s.next }
+
+first-record : (bits : ℕ) (w : World) (first : List ℕ) (f : Entry) (es : List Entry) (h at : ℕ) (r : Record) → IsHistory bits w first (f ∷ es) → f.seat ≡ h
+    → get_elem? (f.step ∷ records_of h es) at ≡ some r → ((more : ℕ) → get_elem? (records_of h es) more ≡ some r → IsStepOf bits w first es h r)
+    → IsStepOf bits w first (f ∷ es) h r
+first-record bits w first f es h zero r l same e later = record { newer = []; older = es; entry = f; whole = refl; by_seat = same; is = some-injective f.step r e; next = l.1 }
+first-record bits w first f es h (suc at) r l same e later = one-newer bits w first f es h r (later at e)
+
+pub record-is-a-step : (bits : ℕ) (w : World) (first : List ℕ) (history : List Entry) (h at : ℕ) (r : Record) → IsHistory bits w first history → get_elem? (records_of h history) at ≡ some r
+    → IsStepOf bits w first history h r
+record-is-a-step bits w first [] h at r l e = absurd (some-ne-none r (sym e))
+record-is-a-step bits w first (f ∷ es) h at r l e = elim (cases_eq f.seat h) [
+  | inl same ↦ first-record bits w first f es h at r l same (sym (ap (λ (rs : List Record). get_elem? rs at) (cond-true (eqb f.seat h) (f.step ∷ records_of h es) (records_of h es) (eq-eqb f.seat h same))) ∙ e)
+      (λ more got. record-is-a-step bits w first es h more r l.0 got)
+  | inr other ↦ one-newer bits w first f es h r (record-is-a-step bits w first es h at r l.0
+      (sym (ap (λ (rs : List Record). get_elem? rs at) (cond-false (eqb f.seat h) (f.step ∷ records_of h es) (records_of h es) (ne_eqb f.seat h other))) ∙ e))
+]

@@ -1,5 +1,5 @@
 -- A split and a join of seats, neither of which changes the World. A seat that is joined into another carries nothing.
-use Rattle.std.proofs.Common.{◌≡◌, ◌≢◌, ℕ, zero, suc, ◌+◌, ◌*◌, ◌<◌, ◌≤◌, cond, ◌&&◌, List, ◌∷◌, ◌++◌, length, refl, sym, ap, ◌∙◌, arith, inl, inr, set, get_or, ◌↔◌, ◌⊎◌, []}
+use Rattle.std.proofs.Common.{◌≡◌, ◌≢◌, ℕ, zero, suc, ◌+◌, cond, List, ◌∷◌, ◌++◌, length, refl, sym, ap, ◌∙◌, arith, inl, inr, set, get_or, []}
 use Rattle.std.specs.Prelude.{count_by}
 use Rattle.std.specs.List.{sum_by}
 use Rattle.std.proofs.lemmas.List.Sums.{sum_by-append}
@@ -40,7 +40,6 @@ get_or-past (x ∷ xs) d = get_or-past xs d
 
 module _ {T : Type 0} (tag_in : T → ℕ) (bits : ℕ) (w : World) (d : ℕ → Phase) (b : Board T) (s : Shows tag_in bits w d b)
     (h weight : ℕ) (k : Known) (mine : get_elem? b.views h ≡ opt.some (held weight k)) where
-
   abbrev pub split_views : List (Token Known)
   split_views = set b.views h (held (first_part weight) k) ++ held (second_part weight) blank ∷ []
 
@@ -64,7 +63,9 @@ module _ {T : Type 0} (tag_in : T → ℕ) (bits : ℕ) (w : World) (d : ℕ →
 
   pub split : Shows tag_in bits w d (record b { views = split_views })
   split = record {
-    owned = s.owned; fits = s.fits; cores = s.cores;
+    owned = s.owned;
+    fits = s.fits;
+    cores = s.cores;
     contexts = λ x x_in. let o = s.contexts x x_in in record { within = o.within; coherent = o.coherent; mark = o.mark; named = o.named; value = o.value };
     names = s.names;
     carried = λ j x x_in. ap (λ (r : Known). carried_at x r.carried) (known-split j) ∙ s.carried j x x_in;
@@ -78,7 +79,6 @@ module _ {T : Type 0} (tag_in : T → ℕ) (bits : ℕ) (w : World) (d : ℕ →
 module _ {T : Type 0} (tag_in : T → ℕ) (bits : ℕ) (w : World) (d : ℕ → Phase) (b : Board T) (s : Shows tag_in bits w d b)
     (i weight : ℕ) (k : Known) (mine : get_elem? b.views i ≡ opt.some (held weight k))
     (j added : ℕ) (o : Known) (apart : j ≢ i) (theirs : get_elem? b.views j ≡ opt.some (held added o)) (none_out : o.carried ≡ []) where
-
   abbrev pub join_views : List (Token Known)
   join_views = set (set b.views i (held (joined weight added) (joined_known k o))) j (spent blank)
 
@@ -107,7 +107,9 @@ module _ {T : Type 0} (tag_in : T → ℕ) (bits : ℕ) (w : World) (d : ℕ →
 
   pub join : Shows tag_in bits w d (record b { views = join_views })
   join = record {
-    owned = s.owned; fits = s.fits; cores = s.cores;
+    owned = s.owned;
+    fits = s.fits;
+    cores = s.cores;
     contexts = λ x x_in. let q = s.contexts x x_in in record { within = q.within; coherent = q.coherent; mark = q.mark; named = q.named; value = q.value };
     names = s.names;
     carried = joined-carried;

@@ -1,5 +1,6 @@
 pub mod Carrying
 pub mod Views
+pub mod Shares
 pub mod OneContext
 pub mod Marking
 pub mod Occupying
@@ -20,6 +21,7 @@ pub mod Naming
 pub mod Move
 pub mod Joining
 pub mod Gone
+pub mod Carriers
 pub mod Boards
 pub mod Histories
 pub mod Stepping
@@ -33,3 +35,4 @@ pub mod MoveSteps
 pub mod SeatSteps
 pub mod Opening
 pub mod Ending
+mod WorkedSteps

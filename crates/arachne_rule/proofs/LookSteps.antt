@@ -1,5 +1,5 @@
 -- What the table asks of loads, and of a load that takes a slot.
-use Rattle.std.proofs.Common.{None, ◌≡◌, ◌≢◌, ℕ, ◌+◌, ◌-◌, ◌*◌, ◌<◌, ◌≤◌, ◌^◌, true, false, List, [], ◌∷◌, length-set, refl, sym, ap, ◌∙◌, subst, arith, inl, inr, set, get_or, Option}
+use Rattle.std.proofs.Common.{None, ◌≡◌, ℕ, ◌*◌, ◌<◌, ◌≤◌, true, false, List, ◌∷◌, length-set, refl, sym, ap, ◌∙◌, subst, arith, inl, inr, set, get_or, Option}
 use mathlib.Core.Option.{some, none}
 use mathlib.Core.Option as opt
 use Rattle.atomic_table.specs.Table.{Act, keeps, takes, step, Allows}
@@ -35,10 +35,15 @@ same-names tag_in bits w d b s p =
       | inr n ↦ with_name-other b.name p (b.name p) q n
     ] in
     record {
-      owned = s.owned; fits = s.fits; cores = s.cores;
+      owned = s.owned;
+      fits = s.fits;
+      cores = s.cores;
       contexts = λ x x_in. let o = s.contexts x x_in in record { within = o.within; coherent = o.coherent; mark = o.mark; named = λ e. f (w.at x) ∙ o.named e; value = o.value };
       names = λ q q_in. subst (IsContext w) (sym (f q)) (s.names q q_in);
-      carried = s.carried; seats = s.seats; given = s.given; ended = s.ended;
+      carried = s.carried;
+      seats = s.seats;
+      given = s.given;
+      ended = s.ended;
     }
 
 module _ {T : Type 0} (tag_in : T → ℕ) (bits : ℕ) (shape : Shape) where
@@ -46,12 +51,15 @@ module _ {T : Type 0} (tag_in : T → ℕ) (bits : ℕ) (shape : Shape) where
 
   looks-core : (id weight : ℕ) (k : Known) (l : List (ℕ × Option T)) (c : ℕ) → c < shape.cores
       → Allows (Holds tag_in bits shape) (contexts_in shape) id (held weight k, l) (occ_index (contexts_in shape) c) (λ m. m)
-          (LooksCore (step (contexts_in shape) (occ_index (contexts_in shape) c) 0 0 none) (held weight k, l))
+      (LooksCore (step (contexts_in shape) (occ_index (contexts_in shape) c) 0 0 none) (held weight k, l))
   looks-core id weight k l c c_in s hs long mine small =
-      let i : ℕ = occ_index (contexts_in shape) c in
-      (held weight (noted kind.Look i (get_or s.words i 0) (get_or s.words i 0) k), keeps, tt,
+      let i : ℕ = occ_index (contexts_in shape) c in (
+        held weight (noted kind.Look i (get_or s.words i 0) (get_or s.words i 0) k),
+        keeps,
+        tt,
         sees tag_in bits shape s hs id weight k mine kind.Look i l (inr (refl, refl)),
-        ((hs.shows.cores c (omega (arith, c_in, hs.fits.cores))).packed, refl))
+        ((hs.shows.cores c (omega (arith, c_in, hs.fits.cores))).packed, refl),
+      )
 
   pub look-core-allowed : (slots id : ℕ) (me : Mine T) (c i : ℕ) → slots ≡ contexts_in shape → IsLive me → i ≡ occ_index slots c → c < shape.cores
       → Allows (Holds tag_in bits shape) slots id me i (λ m. m) (LooksCore (step slots i 0 0 none) me)
@@ -63,7 +71,7 @@ module _ {T : Type 0} (tag_in : T → ℕ) (bits : ℕ) (shape : Shape) where
 
   looks-mark : (id weight : ℕ) (k : Known) (l : List (ℕ × Option T)) (x : ℕ) → x < contexts_in shape
       → Allows (Holds tag_in bits shape) (contexts_in shape) id (held weight k, l) x (λ m. m)
-          (LooksMark bits (step (contexts_in shape) x 0 0 none) (held weight k, l))
+      (LooksMark bits (step (contexts_in shape) x 0 0 none) (held weight k, l))
   looks-mark id weight k l x x_in s hs long mine small =
       let w : World = hs.world in
       let x_is : IsContext w x = subst (λ (m : ℕ). x < m) (λ j. sym hs.fits.cores j * sym hs.fits.slots j) x_in in
@@ -73,12 +81,18 @@ module _ {T : Type 0} (tag_in : T → ℕ) (bits : ℕ) (shape : Shape) where
       let reads : marked_of bits (mark_word bits m) ≡ m = marked_of-mark_word bits m (omega (arith, index_in)) (omega (arith, c.within.0, hs.shows.fits.0)) in
       let is : (mark_word bits (marked_of bits (mark_word bits m)) ≡ mark_word bits m) × ((marked_of bits (mark_word bits m)).place.index < 56) =
       (ap (mark_word bits) reads, subst (λ (q : Marked). q.place.index < 56) (sym reads) index_in) in
-      let whole : IsMarkWord bits (get_or s.words x 0) = (ap (λ (q : ℕ). mark_word bits (marked_of bits q)) c.mark ∙ is.0 ∙ sym c.mark, subst (λ (q : ℕ). (marked_of bits q).place.index < 56) (sym c.mark) is.1, small) in
-      (held weight (noted kind.Look x (get_or s.words x 0) (get_or s.words x 0) k), keeps, tt,
+      let whole : IsMarkWord bits (get_or s.words x 0) = (ap (λ (q : ℕ). mark_word bits (marked_of bits q)) c.mark ∙ is.0 ∙ sym c.mark, subst (λ (q : ℕ). (marked_of bits q).place.index < 56) (sym c.mark) is.1, small) in (
+        held weight (noted kind.Look x (get_or s.words x 0) (get_or s.words x 0) k),
+        keeps,
+        tt,
         sees tag_in bits shape s hs id weight k mine kind.Look x l (inr (refl, refl)),
-        (whole, refl,
+        (
+          whole,
+          refl,
           (λ c same has. says-carried tag_in bits w hs.phase (board_of (contexts_in shape) s) hs.shows id weight k mine x c x_is same has),
-          (λ t same has. says-gone tag_in bits w hs.phase (board_of (contexts_in shape) s) hs.shows id weight k mine x t x_is same has)))
+          (λ t same has. says-gone tag_in bits w hs.phase (board_of (contexts_in shape) s) hs.shows id weight k mine x t x_is same has),
+        ),
+      )
 
   pub look-mark-allowed : (slots id : ℕ) (me : Mine T) (x : ℕ) → slots ≡ contexts_in shape → IsLive me → x < slots
       → Allows (Holds tag_in bits shape) slots id me x (λ m. m) (LooksMark bits (step slots x 0 0 none) me)
@@ -90,21 +104,27 @@ module _ {T : Type 0} (tag_in : T → ℕ) (bits : ℕ) (shape : Shape) where
 
   learns-name : (id weight : ℕ) (k : Known) (l : List (ℕ × Option T)) (p : Place) → IsIn shape p
       → Allows (Holds tag_in bits shape) (contexts_in shape) id (held weight k, l) (name_index (contexts_in shape) p) (λ m. m)
-          (LearnsName (step (contexts_in shape) (name_index (contexts_in shape) p) 0 0 none) (held weight k, l))
+      (LearnsName (step (contexts_in shape) (name_index (contexts_in shape) p) 0 0 none) (held weight k, l))
   learns-name id weight k l p p_in s hs long mine small =
       let w : World = hs.world in
       let n : ℕ = contexts_in shape in
       let i : ℕ = name_index n p in
       let p_is : IsPlace w p = (omega (arith, p_in.0, hs.fits.cores), omega (arith, p_in.1, hs.fits.slots)) in
-      let few : shape.slots ≤ 56 = subst (λ (m : ℕ). m ≤ 56) hs.fits.slots hs.shows.fits.1 in
-      (held weight (noted kind.Learn i (get_or s.words i 0) (get_or s.words i 0) k), keeps, tt,
+      let few : shape.slots ≤ 56 = subst (λ (m : ℕ). m ≤ 56) hs.fits.slots hs.shows.fits.1 in (
+        held weight (noted kind.Learn i (get_or s.words i 0) (get_or s.words i 0) k),
+        keeps,
+        tt,
         sees tag_in bits shape s hs id weight k mine kind.Learn i l (inr (refl, refl)),
-        (subst (λ (m : ℕ). get_or s.words i 0 < m) (λ j. hs.fits.cores j * hs.fits.slots j) (hs.shows.names p p_is), refl,
+        (
+          subst (λ (m : ℕ). get_or s.words i 0 < m) (λ j. hs.fits.cores j * hs.fits.slots j) (hs.shows.names p p_is),
+          refl,
           (λ c c_in has named at.
-            let c_is : IsContext w c.context = subst (λ (m : ℕ). c.context < m) (λ j. sym hs.fits.cores j * sym hs.fits.slots j) c_in in
-            let in_place = placed-in tag_in bits w hs.phase (board_of n s) hs.shows id weight k mine c c_is has in
-            let same : p ≡ c.place = name-apart n p c.place (omega (arith, p_in.1, few)) (omega (arith, in_place.0.1, hs.shows.fits.1)) at in
-            ap (λ (q : Place). get_or s.words (name_index n q) 0) same ∙ in_place.1 named)))
+              let c_is : IsContext w c.context = subst (λ (m : ℕ). c.context < m) (λ j. sym hs.fits.cores j * sym hs.fits.slots j) c_in in
+              let in_place = placed-in tag_in bits w hs.phase (board_of n s) hs.shows id weight k mine c c_is has in
+              let same : p ≡ c.place = name-apart n p c.place (omega (arith, p_in.1, few)) (omega (arith, in_place.0.1, hs.shows.fits.1)) at in
+              ap (λ (q : Place). get_or s.words (name_index n q) 0) same ∙ in_place.1 named),
+        ),
+      )
 
   pub learn-allowed : (slots id : ℕ) (me : Mine T) (p : Place) (i : ℕ) → slots ≡ contexts_in shape → IsLive me → i ≡ name_index slots p → p.core < shape.cores → p.index < shape.slots
       → Allows (Holds tag_in bits shape) slots id me i (λ m. m) (LearnsName (step slots i 0 0 none) me)
@@ -114,7 +134,7 @@ module _ {T : Type 0} (tag_in : T → ℕ) (bits : ℕ) (shape : Shape) where
 
   takes-slot : (id weight : ℕ) (k : Known) (l : List (ℕ × Option T)) (c : Carried) → c.context < contexts_in shape → Carries k c → c.named ≡ true → c.away ≡ false
       → Allows (Holds tag_in bits shape) (contexts_in shape) id (held weight k, l) (name_index (contexts_in shape) c.place) (λ m. m)
-          (TakesSlot (step (contexts_in shape) (name_index (contexts_in shape) c.place) 0 0 none) (held weight k, l))
+      (TakesSlot (step (contexts_in shape) (name_index (contexts_in shape) c.place) 0 0 none) (held weight k, l))
   takes-slot id weight k l c c_in has named home s hs long mine small =
       let w : World = hs.world in
       let n : ℕ = contexts_in shape in
@@ -127,18 +147,22 @@ module _ {T : Type 0} (tag_in : T → ℕ) (bits : ℕ) (shape : Shape) where
       let found : get_or s.words i 0 ≡ x = r.1 named in
       let k' : Known = with_context k (record c { away = true }) in
       let act : Act (Option T) = takes x None in
-      let p_in : IsIn shape c.place = (omega (arith, in_place.0.0, hs.fits.cores), omega (arith, in_place.0.1, hs.fits.slots)) in
-      (held weight (noted kind.Learn i (get_or s.words i 0) (get_or s.words i 0) k'), act, r.0,
+      let p_in : IsIn shape c.place = (omega (arith, in_place.0.0, hs.fits.cores), omega (arith, in_place.0.1, hs.fits.slots)) in (
+        held weight (noted kind.Learn i (get_or s.words i 0) (get_or s.words i 0) k'),
+        act,
+        r.0,
         name-made tag_in bits shape s hs id weight k mine kind.Learn c.place (b.name c.place) l act event.Still (with_at hs.phase x (record (hs.phase x) { away = true })) k' (with_at b.home x (opt.some opt.none))
-          p_in refl tt (inr (refl, refl)) (length-set s.homes x opt.none) (λ y _. home-set s.homes x opt.none (omega (arith, c_in, hs.fits.homes)) y)
-          (same-names tag_in bits w (with_at hs.phase x (record (hs.phase x) { away = true })) (record b { home = with_at b.home x (opt.some opt.none); views = set s.views id (held weight k') }) r.2 c.place),
+            p_in refl tt (inr (refl, refl)) (length-set s.homes x opt.none) (λ y _. home-set s.homes x opt.none (omega (arith, c_in, hs.fits.homes)) y)
+            (same-names tag_in bits w (with_at hs.phase x (record (hs.phase x) { away = true })) (record b { home = with_at b.home x (opt.some opt.none); views = set s.views id (held weight k') }) r.2 c.place),
         λ f f_in f_has f_named f_home at.
-          let f_is : IsContext w f.context = subst (λ (m : ℕ). f.context < m) (λ j. sym hs.fits.cores j * sym hs.fits.slots j) f_in in
-          let f_place = placed-in tag_in bits w hs.phase b hs.shows id weight k mine f f_is f_has in
-          let same : c.place ≡ f.place = name-apart n c.place f.place (omega (arith, in_place.0.1, hs.shows.fits.1)) (omega (arith, f_place.0.1, hs.shows.fits.1)) at in
-          let is : c ≡ f = same-at-place tag_in bits w hs.phase b hs.shows id weight k mine c f c_is f_is has f_has same in
-          (found ∙ ap (λ (u : Carried). u.context) is,
-            λ j. (held weight (noted kind.Learn i (get_or s.words i 0) (get_or s.words i 0) (with_context k (record (is j) { away = true }))), ((is j).context, None) ∷ l)))
+            let f_is : IsContext w f.context = subst (λ (m : ℕ). f.context < m) (λ j. sym hs.fits.cores j * sym hs.fits.slots j) f_in in
+            let f_place = placed-in tag_in bits w hs.phase b hs.shows id weight k mine f f_is f_has in
+            let same : c.place ≡ f.place = name-apart n c.place f.place (omega (arith, in_place.0.1, hs.shows.fits.1)) (omega (arith, f_place.0.1, hs.shows.fits.1)) at in
+            let is : c ≡ f = same-at-place tag_in bits w hs.phase b hs.shows id weight k mine c f c_is f_is has f_has same in (
+              found ∙ ap (λ (u : Carried). u.context) is,
+              λ j. (held weight (noted kind.Learn i (get_or s.words i 0) (get_or s.words i 0) (with_context k (record (is j) { away = true }))), ((is j).context, None) ∷ l),
+            ),
+      )
 
   pub take-slot-allowed : (slots id : ℕ) (me : Mine T) (c : Carried) (i : ℕ) → slots ≡ contexts_in shape → IsLive me → i ≡ name_index slots c.place → c.context < slots
       → Carries me.0.known c → c.named ≡ true → c.away ≡ false

@@ -1,5 +1,5 @@
 -- Steps that leave the occupancy words alone.
-use Rattle.std.proofs.Common.{◌≡◌, ◌≢◌, ℕ, ◌+◌, ◌*◌, ◌<◌, ◌≤◌, ◌^◌, Bool, true, false, cond, eqb, ◌&&◌, List, ◌∷◌, refl, sym, ap, ◌∙◌, subst, set, []}
+use Rattle.std.proofs.Common.{◌≡◌, ℕ, ◌<◌, Bool, true, false, cond, eqb, List, ◌∷◌, refl, sym, ap, ◌∙◌, subst, set, []}
 use Rattle.std.proofs.lemmas.Bool.{eqb-true, eq-eqb, ne_eqb, cond-true, cond-false, true≢false}
 use mathlib.Core.Option.{some}
 use lib.ListN.{get_elem?}
@@ -67,15 +67,15 @@ module _ {T : Type 0} (tag_in : T → ℕ) (bits : ℕ) where
       })
       owned
       (λ k k_in. let q = s.cores k k_in in subst (λ (n : ℕ). ShowsWord (changed w all) k n) (sym (o.occ k k_in))
-        (record { packed = q.packed; shows = record { occupied = q.shows.occupied; closed = q.shows.closed; exclusive = q.shows.exclusive } }))
+      (record { packed = q.packed; shows = record { occupied = q.shows.occupied; closed = q.shows.closed; exclusive = q.shows.exclusive } }))
       here name
       (λ k. ap (λ (vs : List (Token Known)). carried_at x (known_at vs k).carried) o.views
-          ∙ learned-here b.views h weight before after o.mine x (λ (j : ℕ). share_of (small w c) e j x) share (λ j n. s.carried j x x_in ∙ others j n) k)
+      ∙ learned-here b.views h weight before after o.mine x (λ (j : ℕ). share_of (small w c) e j x) share (λ j n. s.carried j x x_in ∙ others j n) k)
       (subst (IsReachable blank) (sym o.views) (learns s.seats h weight before after o.mine))
       (λ t. given t ∙ ap (given_in t) (sym o.views))
       (λ t. ended t ∙ ap (ended_in t) (sym o.views))
 
--- ---- what a carried says of the state
+-- ---- what a carried context says of its state
 
 pub no-carried : (g : Carried) → g ∷ [] ≡ [] → ⊥
 no-carried g e = cc
@@ -91,7 +91,7 @@ pub carried-of-held : (b : Bool) (f g : Carried) → cond b (f ∷ []) [] ≡ g 
 carried-of-held true f g e = (refl, sym (one-carried f g e))
 carried-of-held false f g e = absurd (no-carried g (sym e))
 
--- a carried that is no hold is that of a claimed context
+-- a context that is carried and not held is claimed
 pub claimed-carried : (s : State) (h : ℕ) (f : Bool → ℕ → Carried) (g : Carried) → ((b : Bool) (t : ℕ) → (f b t).held ≡ b) → carried_if s h f ≡ g ∷ [] → g.held ≡ false → (s ≡ Claimed h) × (g ≡ f false 0)
 claimed-carried (Claimed k) h f g hs e n = let q = carried-of-held (eqb k h) (f false 0) g e in (ap Claimed (eqb-true k h q.0), q.1)
 claimed-carried (Held k w t) h f g hs e n = let q = carried-of-held (eqb k h) (f true t) g e in absurd (true≢false (sym (hs true t) ∙ ap (λ (r : Carried). r.held) (sym q.1) ∙ n))
@@ -100,7 +100,7 @@ claimed-carried (Ready t) h f g hs e n = absurd (no-carried g (sym e))
 claimed-carried (Blocked t) h f g hs e n = absurd (no-carried g (sym e))
 claimed-carried Spent h f g hs e n = absurd (no-carried g (sym e))
 
--- a hold is that of a held context
+-- and one that is held is held in the World
 pub held-carried : (s : State) (h : ℕ) (f : Bool → ℕ → Carried) (g : Carried) → ((b : Bool) (t : ℕ) → (f b t).held ≡ b) → carried_if s h f ≡ g ∷ [] → g.held ≡ true
     → (woken : Bool) × (tag : ℕ) × (s ≡ Held h woken tag) × (g ≡ f true tag)
 held-carried (Claimed k) h f g hs e n = let q = carried-of-held (eqb k h) (f false 0) g e in absurd (true≢false (sym n ∙ ap (λ (r : Carried). r.held) q.1 ∙ hs false 0))

@@ -1,5 +1,5 @@
--- S15: a move, the mark word of x.
-use Rattle.std.proofs.Common.{◌≡◌, ◌≢◌, ℕ, ◌+◌, ◌*◌, ◌<◌, ◌≤◌, ◌^◌, Bool, true, false, ◌&&◌, ◌∷◌, refl, sym, ap, ◌∙◌, subst, inl, inr, set, []}
+-- A move: the mark word of x changes, and two contexts swap places.
+use Rattle.std.proofs.Common.{◌≡◌, ◌≢◌, ℕ, Bool, true, false, ◌&&◌, ◌∷◌, refl, sym, ap, ◌∙◌, subst, inl, inr, set, []}
 use Rattle.std.proofs.lemmas.Bool.{true≢false, cases_eq}
 use mathlib.Core.Option as opt
 use lib.ListN.{get_elem?}
@@ -35,7 +35,6 @@ rest-not-claimed s r h e = subst IsAtRest e r
 
 module _ {T : Type 0} (tag_in : T → ℕ) (bits : ℕ) (w : World) (d : ℕ → Phase) (b : Board T) (s : Shows tag_in bits w d b)
     (h weight : ℕ) (k : Known) (mine : get_elem? b.views h ≡ opt.some (held weight k)) where
-
   abbrev pub after_move : ℕ → Marked → Carried → Board T
   after_move x m g = record b {
     mark = with_at b.mark x (mark_word bits (record m { place = g.place }));
@@ -89,7 +88,9 @@ module _ {T : Type 0} (tag_in : T → ℕ) (bits : ℕ) (w : World) (d : ℕ →
         mark = with_at-other b.mark x _ y (λ f. apart (sym f)) ∙ oldy.mark ∙ ap (mark_word bits) (λ i. record {
           mark = mark_of (w.state y);
           alone = (ap (λ (t : State). is_live_state t && w.alone (core_of w y)) claimed ∙ sym (ap (λ (t : State). is_live_state t && w.alone (core_of v y)) claimed)) i;
-          place = (sym e_y i).shown; generation = w.generation y });
+          place = (sym e_y i).shown;
+          generation = w.generation y;
+        });
         named = λ f. absurd (true≢false (sym f ∙ ap (λ (r : Phase). r.named) e_y));
         value = λ f. oldy.value (ap (λ (r : Phase). r.away) (sym e_y) ∙ f);
       } in
@@ -97,7 +98,11 @@ module _ {T : Type 0} (tag_in : T → ℕ) (bits : ℕ) (w : World) (d : ℕ →
         within = subst (λ (r : Phase). IsPlace w r.shown) (sym (e_z z n o)) old.within;
         coherent = subst (λ (r : Phase). Coherent (w.state z) (v.at z) r) (sym (e_z z n o)) (subst (λ (p : Place). Coherent (w.state z) p (d z)) (sym (at_z z n o)) old.coherent);
         mark = with_at-other b.mark x _ z n ∙ old.mark ∙ ap (mark_word bits) (λ i. record {
-          mark = mark_of (w.state z); alone = is_live_state (w.state z) && w.alone (sym (at_z z n o) i).core; place = (sym (e_z z n o) i).shown; generation = w.generation z });
+          mark = mark_of (w.state z);
+          alone = is_live_state (w.state z) && w.alone (sym (at_z z n o) i).core;
+          place = (sym (e_z z n o) i).shown;
+          generation = w.generation z;
+        });
         named = λ f. ap b.name (at_z z n o) ∙ old.named (ap (λ (r : Phase). r.named) (sym (e_z z n o)) ∙ f);
         value = λ f. old.value (ap (λ (r : Phase). r.away) (sym (e_z z n o)) ∙ f);
       } in
@@ -105,8 +110,15 @@ module _ {T : Type 0} (tag_in : T → ℕ) (bits : ℕ) (w : World) (d : ℕ →
       learned-else b.views h weight k new mine x (with-else (left_context g m.place) y x k.carried same apart) j
       ∙ s.carried j x x_in ∙ no-share (w.state x) x_rests j (carried_of w d x) ∙ sym (no-share (w.state x) x_rests j (carried_of v e x)) in
       let now_left : left_context g m.place ≡ carried_of v e y false 0 = λ i. record {
-        context = same i; place = (p_is ∙ sym at_y) i; shown = (ap (λ (r : Carried). r.shown) is.1 ∙ ap (λ (r : Phase). r.shown) (sym e_y)) i; generation = (is.1 i).generation;
-        held = (is.1 i).held; tag = (is.1 i).tag; alone = (mine_shared ∙ sym x_alone ∙ ap (λ (p : Place). w.alone p.core) (sym at_y)) i; named = (sym e_y i).named; away = (ap (λ (r : Carried). r.away) is.1 ∙ ap (λ (r : Phase). r.away) (sym e_y)) i;
+        context = same i;
+        place = (p_is ∙ sym at_y) i;
+        shown = (ap (λ (r : Carried). r.shown) is.1 ∙ ap (λ (r : Phase). r.shown) (sym e_y)) i;
+        generation = (is.1 i).generation;
+        held = (is.1 i).held;
+        tag = (is.1 i).tag;
+        alone = (mine_shared ∙ sym x_alone ∙ ap (λ (p : Place). w.alone p.core) (sym at_y)) i;
+        named = (sym e_y i).named;
+        away = (ap (λ (r : Carried). r.away) is.1 ∙ ap (λ (r : Phase). r.away) (sym e_y)) i;
       } in
       let carried_y : (j : ℕ) → carried_at y (known_at a.views j).carried ≡ share_of v e j y =
       learned-here b.views h weight k new mine y (λ (j : ℕ). share_of v e j y)
@@ -115,28 +127,38 @@ module _ {T : Type 0} (tag_in : T → ℕ) (bits : ℕ) (w : World) (d : ℕ →
       let carried_z : (j z : ℕ) → IsContext w z → (z ≡ x → ⊥) → (z ≡ y → ⊥) → carried_at z (known_at a.views j).carried ≡ share_of v e j z = λ j z z_in n o.
       learned-else b.views h weight k new mine z (with-else (left_context g m.place) y z k.carried same o) j
       ∙ s.carried j z z_in ∙ ap (carried_if (w.state z) j) (λ i held tag. record {
-        context = z; place = sym (at_z z n o) i; shown = (sym (e_z z n o) i).shown; generation = w.generation z; held = held; tag = tag;
-        alone = w.alone (sym (at_z z n o) i).core; named = (sym (e_z z n o) i).named; away = (sym (e_z z n o) i).away }) in
-      (may, record {
-        owned = keeps_owned_once w (event.Move h x y) s.owned may;
-        fits = s.fits;
-        cores = λ c c_in. let old = s.cores c c_in in record { packed = old.packed; shows = record { occupied = old.shows.occupied; closed = old.shows.closed; exclusive = old.shows.exclusive } };
-        contexts = λ z z_in. elim (cases_eq z x) [
-          | inl f ↦ subst (ShowsContext tag_in bits v e a) (sym f) here_x
-          | inr n ↦ elim (cases_eq z y) [
-            | inl f ↦ subst (ShowsContext tag_in bits v e a) (sym f) here_y
-            | inr o ↦ here_z z z_in n o
-          ]
-        ];
-        names = s.names;
-        carried = λ j z z_in. elim (cases_eq z x) [
-          | inl f ↦ subst (λ (u : ℕ). carried_at u (known_at a.views j).carried ≡ share_of v e j u) (sym f) (carried_x j)
-          | inr n ↦ elim (cases_eq z y) [
-            | inl f ↦ subst (λ (u : ℕ). carried_at u (known_at a.views j).carried ≡ share_of v e j u) (sym f) (carried_y j)
-            | inr o ↦ carried_z j z z_in n o
-          ]
-        ];
-        seats = learns s.seats h weight k new mine;
-        given = λ t. s.given t ∙ given-same b.views h weight k new mine refl t;
-        ended = λ t. s.ended t ∙ ended-same b.views h weight k new mine refl t;
-      })
+        context = z;
+        place = sym (at_z z n o) i;
+        shown = (sym (e_z z n o) i).shown;
+        generation = w.generation z;
+        held = held;
+        tag = tag;
+        alone = w.alone (sym (at_z z n o) i).core;
+        named = (sym (e_z z n o) i).named;
+        away = (sym (e_z z n o) i).away;
+      }) in (
+        may,
+        record {
+          owned = keeps_owned_once w (event.Move h x y) s.owned may;
+          fits = s.fits;
+          cores = λ c c_in. let old = s.cores c c_in in record { packed = old.packed; shows = record { occupied = old.shows.occupied; closed = old.shows.closed; exclusive = old.shows.exclusive } };
+          contexts = λ z z_in. elim (cases_eq z x) [
+            | inl f ↦ subst (ShowsContext tag_in bits v e a) (sym f) here_x
+            | inr n ↦ elim (cases_eq z y) [
+              | inl f ↦ subst (ShowsContext tag_in bits v e a) (sym f) here_y
+              | inr o ↦ here_z z z_in n o
+            ]
+          ];
+          names = s.names;
+          carried = λ j z z_in. elim (cases_eq z x) [
+            | inl f ↦ subst (λ (u : ℕ). carried_at u (known_at a.views j).carried ≡ share_of v e j u) (sym f) (carried_x j)
+            | inr n ↦ elim (cases_eq z y) [
+              | inl f ↦ subst (λ (u : ℕ). carried_at u (known_at a.views j).carried ≡ share_of v e j u) (sym f) (carried_y j)
+              | inr o ↦ carried_z j z z_in n o
+            ]
+          ];
+          seats = learns s.seats h weight k new mine;
+          given = λ t. s.given t ∙ given-same b.views h weight k new mine refl t;
+          ended = λ t. s.ended t ∙ ended-same b.views h weight k new mine refl t;
+        },
+      )

@@ -1,5 +1,5 @@
 -- What the table asks of the steps of a move: the exchange of the mark word, the two place words, and the mark word of the context whose place was taken.
-use Rattle.std.proofs.Common.{◌≡◌, ◌≢◌, ℕ, ◌+◌, ◌-◌, ◌*◌, ◌<◌, ◌≤◌, ◌^◌, true, false, List, [], ◌∷◌, refl, sym, ap, ◌∙◌, subst, arith, inl, inr, set, get_or, Option, eqb, if◌then◌else◌}
+use Rattle.std.proofs.Common.{◌≡◌, ◌≢◌, ℕ, ◌<◌, true, false, List, refl, sym, ap, ◌∙◌, subst, arith, inl, inr, set, get_or, Option, eqb}
 use Rattle.std.proofs.lemmas.Bool.{cond-true, cond-false, eq-eqb, ne_eqb}
 use mathlib.Core.Option.{none}
 use prog.Atomic.{either}
@@ -23,6 +23,7 @@ use Rattle.arachne_rule.specs.Changes.{with_name, left_context, marked_free, mov
 use Rattle.arachne_rule.specs.Layout.{contexts_in, name_index, board_of}
 use Rattle.arachne_rule.specs.Table.{Table, Mine, Holds}
 use Rattle.arachne_rule.specs.Plays.{Carries, IsRestMark, IsLive, Moves, NamesTarget, Replaces, NamesSource}
+use Rattle.arachne_rule.proofs.Shares.{my-share}
 use Rattle.arachne_rule.proofs.Seen.{seen, rest-coherent}
 use Rattle.arachne_rule.proofs.Slots.{carried-says}
 use Rattle.arachne_rule.proofs.Move.{move}
@@ -30,7 +31,7 @@ use Rattle.arachne_rule.proofs.Naming.{name_target, replace, name_source}
 use Rattle.arachne_rule.proofs.Noted.{noted_board}
 use Rattle.arachne_rule.proofs.Boards.{IsIn}
 use Rattle.arachne_rule.proofs.Stepping.{sees, mark-made, name-made, for-seat}
-use Rattle.arachne_rule.proofs.OwnWords.{my-share, same-carried, same-at-place, placed-in}
+use Rattle.arachne_rule.proofs.OwnWords.{same-carried, same-at-place, placed-in}
 use Rattle.arachne_rule.proofs.ThreadSteps.{is-context}
 
 module _ {T : Type 0} (tag_in : T → ℕ) (bits : ℕ) (shape : Shape) where
@@ -54,27 +55,35 @@ module _ {T : Type 0} (tag_in : T → ℕ) (bits : ℕ) (shape : Shape) where
       let y_is : IsContext w y = is-context tag_in bits shape s hs y c_in in
       let x_is : IsContext w x = is-context tag_in bits shape s hs x x_in in
       let F : ℕ → Type 0 = λ (q : ℕ). (u : Token Known) × (a : Act (Option T)) × Valid s.homes l a × Holds tag_in bits shape (stepped s x q id l u a)
-          × Moves bits (step n x old new none) (held weight k, l) (get_or s.words x 0) (u, carried_after l a) in
+      × Moves bits (step n x old new none) (held weight k, l) (get_or s.words x 0) (u, carried_after l a) in
       let at : IsPlace w c.place = (placed-in tag_in bits w hs.phase b hs.shows id weight k mine c y_is has).0 in
       let place_is : c.place ≡ w.at y = carried-says (w.state y) id (carried_of w hs.phase y) (λ (u : Carried). u.place) c (w.at y) (my-share tag_in bits w hs.phase b hs.shows id weight k mine y c y_is has) (λ q t. refl) in
       let reads : (marked_of bits new).place ≡ c.place = ap (λ (q : ℕ). (marked_of bits q).place) new_is
-          ∙ ap (λ (u : Marked). u.place) (marked_of-mark_word bits (record m { place = c.place }) (omega (arith, at.1, hs.shows.fits.1)) (omega (arith, at.0, hs.shows.fits.0))) in
+      ∙ ap (λ (u : Marked). u.place) (marked_of-mark_word bits (record m { place = c.place }) (omega (arith, at.1, hs.shows.fits.1)) (omega (arith, at.0, hs.shows.fits.0))) in
       let only : (f : Carried) → f.context < n → Carries k f → (marked_of bits new).place ≡ f.place → c ≡ f = λ f f_in f_has f_at.
-          same-at-place tag_in bits w hs.phase b hs.shows id weight k mine c f y_is (is-context tag_in bits shape s hs f.context f_in) has f_has (sym reads ∙ f_at) in
+      same-at-place tag_in bits w hs.phase b hs.shows id weight k mine c f y_is (is-context tag_in bits shape s hs f.context f_in) has f_has (sym reads ∙ f_at) in
       exchanged (get_or s.words x 0) old new F
-        (λ hit.
-          let r = move tag_in bits w hs.phase b hs.shows id weight k mine x y m c x_is y_is (ap (marked_of bits) hit) rests shared has refl free named mine_shared apart in
-          let k' : Known = with_context k (left_context c m.place) in
-          let e : Event = event.Move id x y in
-          let d : ℕ → Phase = moved_phase hs.phase x y c.place in
-          let was : (marked_of bits (get_or s.words x 0)).place ≡ w.at x = ap (λ (u : Marked). u.place) (seen tag_in bits w hs.phase b hs.shows x x_is) ∙ (rest-coherent (w.state x) (w.at x) (hs.phase x) r.0.at_rest (hs.shows.contexts x x_is).coherent).1 in
-          (held weight (noted kind.Move x (b.mark x) new k'), keeps, tt,
-            mark-made tag_in bits shape s hs id weight k mine kind.Move x new l keeps e d k' b.home x_in refl r.0 (inr (y, was, reads ∙ place_is, refl)) refl (λ z _. refl)
-              (subst (λ (q : ℕ). Shows tag_in bits (after w e) d (record b { mark = with_at b.mark x q; views = set s.views id (held weight k') })) (sym new_is) r.1),
-            λ f f_in f_has f_at. let one : c ≡ f = only f f_in f_has f_at in
-            ((λ _. λ j. (held weight (noted kind.Move x (b.mark x) new (with_context k (left_context (one j) m.place))), l)), (λ miss. absurd (miss hit)))))
-        (λ miss. (held weight (noted kind.Move x (get_or s.words x 0) (get_or s.words x 0) k), keeps, tt, sees tag_in bits shape s hs id weight k mine kind.Move x l (inl (tt, refl, refl)),
-          λ f f_in f_has f_at. ((λ hit. absurd (miss hit)), (λ _. refl))))
+      (λ hit.
+      let r = move tag_in bits w hs.phase b hs.shows id weight k mine x y m c x_is y_is (ap (marked_of bits) hit) rests shared has refl free named mine_shared apart in
+      let k' : Known = with_context k (left_context c m.place) in
+      let e : Event = event.Move id x y in
+      let d : ℕ → Phase = moved_phase hs.phase x y c.place in
+      let was : (marked_of bits (get_or s.words x 0)).place ≡ w.at x = ap (λ (u : Marked). u.place) (seen tag_in bits w hs.phase b hs.shows x x_is) ∙ (rest-coherent (w.state x) (w.at x) (hs.phase x) r.0.at_rest (hs.shows.contexts x x_is).coherent).1 in (
+        held weight (noted kind.Move x (b.mark x) new k'),
+        keeps,
+        tt,
+        mark-made tag_in bits shape s hs id weight k mine kind.Move x new l keeps e d k' b.home x_in refl r.0 (inr (y, was, reads ∙ place_is, refl)) refl (λ z _. refl)
+            (subst (λ (q : ℕ). Shows tag_in bits (after w e) d (record b { mark = with_at b.mark x q; views = set s.views id (held weight k') })) (sym new_is) r.1),
+        λ f f_in f_has f_at. let one : c ≡ f = only f f_in f_has f_at in
+            ((λ _. λ j. (held weight (noted kind.Move x (b.mark x) new (with_context k (left_context (one j) m.place))), l)), (λ miss. absurd (miss hit))),
+      ))
+      (λ miss. (
+        held weight (noted kind.Move x (get_or s.words x 0) (get_or s.words x 0) k),
+        keeps,
+        tt,
+        sees tag_in bits shape s hs id weight k mine kind.Move x l (inl (tt, refl, refl)),
+        λ f f_in f_has f_at. ((λ hit. absurd (miss hit)), (λ _. refl)),
+      ))
 
   pub move-allowed : (slots id : ℕ) (me : Mine T) (c : Carried) (x old new : ℕ) (m : Marked) → slots ≡ contexts_in shape → IsLive me → x < slots → c.context < slots → marked_of bits old ≡ m → IsRestMark m.mark → m.alone ≡ false
       → Carries me.0.known c → c.held ≡ false → c.named ≡ true → c.alone ≡ false → m.place.core ≢ c.place.core → new ≡ mark_word bits (record m { place = c.place })
@@ -82,8 +91,8 @@ module _ {T : Type 0} (tag_in : T → ℕ) (bits : ℕ) (shape : Shape) where
   move-allowed slots id me c x old new m laid live x_in c_in read rests shared has free named mine_shared apart new_is =
       for-seat (λ a j e. Allows (Holds tag_in bits shape) a id e j (λ q. either (eqb q old) new q) (Moves bits (step a j old new none) e)) slots x n x me laid refl live
       (moves id me.0.weight me.0.known me.1 c x old new (subst (λ (a : ℕ). x < a) laid x_in) (subst (λ (a : ℕ). c.context < a) laid c_in)
-        (subst (λ (u : Marked). IsRestMark u.mark) (sym read) rests) (ap (λ (u : Marked). u.alone) read ∙ shared) has free named mine_shared
-        (subst (λ (u : Marked). u.place.core ≢ c.place.core) (sym read) apart) (new_is ∙ ap (λ (u : Marked). mark_word bits (record u { place = c.place })) (sym read)))
+      (subst (λ (u : Marked). IsRestMark u.mark) (sym read) rests) (ap (λ (u : Marked). u.alone) read ∙ shared) has free named mine_shared
+      (subst (λ (u : Marked). u.place.core ≢ c.place.core) (sym read) apart) (new_is ∙ ap (λ (u : Marked). mark_word bits (record u { place = c.place })) (sym read)))
 
   -- ---- the place word of the place that was taken: from the context that stood there to the one that came
 
@@ -96,16 +105,24 @@ module _ {T : Type 0} (tag_in : T → ℕ) (bits : ℕ) (shape : Shape) where
       let found : ℕ = get_or s.words i 0 in
       let tells : ℕ → Mine T = λ (a : ℕ). (held weight (noted kind.NameTarget i found a k), l) in
       let F : ℕ → Type 0 = λ (m : ℕ). (u : Token Known) × (a : Act (Option T)) × Valid s.homes l a × Holds tag_in bits shape (stepped s i m id l u a)
-          × NamesTarget (step n i old x none) (held weight k, l) found (u, carried_after l a) in
+      × NamesTarget (step n i old x none) (held weight k, l) found (u, carried_after l a) in
       exchanged found old x F
-        (λ hit.
-          let r = name_target tag_in bits w hs.phase b hs.shows id weight k mine q x c.context c (is-context tag_in bits shape s hs x x_in) (is-context tag_in bits shape s hs c.context c_in) (hit ∙ old_is) has free unnamed in
-          (held weight (noted kind.NameTarget i found x k), keeps, tt,
-            name-made tag_in bits shape s hs id weight k mine kind.NameTarget q x l keeps event.Still hs.phase k b.home q_in refl tt (inr refl) refl (λ z _. refl)
-              (noted_board tag_in bits w hs.phase (record b { name = with_name b.name q x }) r id weight k mine k refl refl refl),
-            ap tells (sym (cond-true (eqb found old) x found (eq-eqb found old hit)))))
-        (λ miss. (held weight (noted kind.NameTarget i found found k), keeps, tt, sees tag_in bits shape s hs id weight k mine kind.NameTarget i l (inl (tt, refl, refl)),
-          ap tells (sym (cond-false (eqb found old) x found (ne_eqb found old miss)))))
+      (λ hit.
+      let r = name_target tag_in bits w hs.phase b hs.shows id weight k mine q x c.context c (is-context tag_in bits shape s hs x x_in) (is-context tag_in bits shape s hs c.context c_in) (hit ∙ old_is) has free unnamed in (
+        held weight (noted kind.NameTarget i found x k),
+        keeps,
+        tt,
+        name-made tag_in bits shape s hs id weight k mine kind.NameTarget q x l keeps event.Still hs.phase k b.home q_in refl tt (inr refl) refl (λ z _. refl)
+            (noted_board tag_in bits w hs.phase (record b { name = with_name b.name q x }) r id weight k mine k refl refl refl),
+        ap tells (sym (cond-true (eqb found old) x found (eq-eqb found old hit))),
+      ))
+      (λ miss. (
+        held weight (noted kind.NameTarget i found found k),
+        keeps,
+        tt,
+        sees tag_in bits shape s hs id weight k mine kind.NameTarget i l (inl (tt, refl, refl)),
+        ap tells (sym (cond-false (eqb found old) x found (ne_eqb found old miss))),
+      ))
 
   pub name-target-allowed : (slots id : ℕ) (me : Mine T) (q : Place) (c : Carried) (i x old : ℕ) → slots ≡ contexts_in shape → IsLive me → i ≡ name_index slots q → q.core < shape.cores → q.index < shape.slots → x < slots → c.context < slots
       → Carries me.0.known c → c.held ≡ false → c.named ≡ false → old ≡ c.context
@@ -124,12 +141,15 @@ module _ {T : Type 0} (tag_in : T → ℕ) (bits : ℕ) (shape : Shape) where
       let y : ℕ = c.context in
       let r = replace tag_in bits w hs.phase b hs.shows id weight k mine y c (is-context tag_in bits shape s hs y c_in) has refl free in
       let k' : Known = with_context k (record c { shown = c.place }) in
-      let d : ℕ → Phase = with_at hs.phase y (record (hs.phase y) { shown = c.place }) in
-      (held weight (noted kind.Replace y (b.mark y) new k'), keeps, tt,
+      let d : ℕ → Phase = with_at hs.phase y (record (hs.phase y) { shown = c.place }) in (
+        held weight (noted kind.Replace y (b.mark y) new k'),
+        keeps,
+        tt,
         mark-made tag_in bits shape s hs id weight k mine kind.Replace y new l keeps event.Still d k' b.home c_in refl tt (inr refl) refl (λ z _. refl)
-          (subst (λ (q : ℕ). Shows tag_in bits w d (record b { mark = with_at b.mark y q; views = set s.views id (held weight k') })) (sym new_is) r),
+            (subst (λ (q : ℕ). Shows tag_in bits w d (record b { mark = with_at b.mark y q; views = set s.views id (held weight k') })) (sym new_is) r),
         λ f f_at f_has. let one : c ≡ f = same-carried k c f has f_has (sym f_at) in
-        (b.mark y, λ j. (held weight (noted kind.Replace y (b.mark y) new (with_context k (record (one j) { shown = (one j).place }))), l)))
+            (b.mark y, λ j. (held weight (noted kind.Replace y (b.mark y) new (with_context k (record (one j) { shown = (one j).place }))), l)),
+      )
 
   pub replace-allowed : (slots id : ℕ) (me : Mine T) (c : Carried) (y new : ℕ) → slots ≡ contexts_in shape → IsLive me → y ≡ c.context → y < slots → Carries me.0.known c → c.held ≡ false → new ≡ mark_word bits (marked_free c)
       → Allows (Holds tag_in bits shape) slots id me y (λ _. new) (λ _. Replaces (step slots y new 0 none) me new)
@@ -150,15 +170,18 @@ module _ {T : Type 0} (tag_in : T → ℕ) (bits : ℕ) (shape : Shape) where
       let p_is : IsPlace w c.place = (placed-in tag_in bits w hs.phase b hs.shows id weight k mine c y_is has).0 in
       let r = name_source tag_in bits w hs.phase b hs.shows id weight k mine y c y_is has refl free settled in
       let k' : Known = with_context k (record c { named = true }) in
-      let d : ℕ → Phase = with_at hs.phase y (record (hs.phase y) { named = true }) in
-      (held weight (noted kind.NameSource i (b.name c.place) y k'), keeps, tt,
+      let d : ℕ → Phase = with_at hs.phase y (record (hs.phase y) { named = true }) in (
+        held weight (noted kind.NameSource i (b.name c.place) y k'),
+        keeps,
+        tt,
         name-made tag_in bits shape s hs id weight k mine kind.NameSource c.place y l keeps event.Still d k' b.home (in-place s hs c.place p_is) refl tt (inr refl) refl (λ z _. refl) r,
         λ f f_at f_has. let one : c ≡ f = same-carried k c f has f_has (sym f_at) in
-        (b.name c.place, λ j. (held weight (noted kind.NameSource i (b.name c.place) y (with_context k (record (one j) { named = true }))), l)))
+            (b.name c.place, λ j. (held weight (noted kind.NameSource i (b.name c.place) y (with_context k (record (one j) { named = true }))), l)),
+      )
 
   pub name-source-allowed : (slots id : ℕ) (me : Mine T) (c : Carried) (y i : ℕ) → slots ≡ contexts_in shape → IsLive me → y ≡ c.context → y < slots → i ≡ name_index slots c.place → Carries me.0.known c → c.held ≡ false → c.shown ≡ c.place
       → Allows (Holds tag_in bits shape) slots id me i (λ _. y) (λ _. NamesSource (step slots i y 0 none) me y)
   name-source-allowed slots id me c y i laid live same y_in there has free settled =
       subst (λ (z : ℕ). Allows (Holds tag_in bits shape) slots id me i (λ _. z) (λ _. NamesSource (step slots i z 0 none) me z)) (sym same)
       (for-seat (λ a j e. Allows (Holds tag_in bits shape) a id e j (λ _. c.context) (λ _. NamesSource (step a j c.context 0 none) e c.context)) slots i n (name_index n c.place) me laid (there ∙ ap (λ (a : ℕ). name_index a c.place) laid) live
-        (names-source id me.0.weight me.0.known me.1 c (subst (λ (q : ℕ). q < n) same (subst (λ (a : ℕ). y < a) laid y_in)) has free settled))
+      (names-source id me.0.weight me.0.known me.1 c (subst (λ (q : ℕ). q < n) same (subst (λ (a : ℕ). y < a) laid y_in)) has free settled))

@@ -1,12 +1,12 @@
--- S16, S17, S18 and S19: after a move, and after a take.
-use Rattle.std.proofs.Common.{◌≡◌, ◌≢◌, ℕ, ◌+◌, ◌*◌, ◌<◌, ◌≤◌, ◌^◌, Bool, true, false, ◌&&◌, ◌∷◌, refl, sym, ap, ◌∙◌, subst, inl, inr, set, []}
+-- The words that are mended after a move, and after a take.
+use Rattle.std.proofs.Common.{◌≡◌, ℕ, Bool, true, false, ◌&&◌, ◌∷◌, refl, sym, ap, ◌∙◌, subst, inl, inr, set, []}
 use Rattle.std.proofs.lemmas.Bool.{true≢false, cond-true, cond-false, false_from_ne_true}
 use mathlib.Core.Option as opt
 use lib.ListN.{get_elem?}
 use Rattle.std.specs.declared.option.Option.TheVariants.{None}
 use Rattle.arachne_core.specs.declared.place.Place.{Place}
 use Rattle.arachne_core.specs.declared.state.State.{State}
-use Rattle.arachne_core.specs.declared.state.State.TheVariants.{Free, Claimed, Held}
+use Rattle.arachne_core.specs.declared.state.State.TheVariants.{Claimed, Held}
 use Rattle.arachne_core.specs.declared.mark.Mark.TheVariants as mark
 use Rattle.arachne_core.specs.Place.{same_place}
 use Rattle.arachne_core.specs.Marked.{Marked, mark_word}
@@ -17,9 +17,10 @@ use Rattle.arachne_weights.specs.Tokens.{held}
 use Rattle.arachne_rule.specs.declared.view.Carried.{Carried}
 use Rattle.arachne_rule.specs.declared.view.Known.{Known}
 use Rattle.arachne_rule.specs.Views.{carried_at, with_context}
-use Rattle.arachne_rule.specs.Rule.{settled, Coherent, carried_if, carried_of, share_of, HasValue, Board, Phase, Shows}
+use Rattle.arachne_rule.specs.Rule.{settled, Coherent, carried_if, carried_of, HasValue, Board, Phase, Shows}
 use Rattle.arachne_rule.specs.Changes.{with_name}
-use Rattle.arachne_rule.proofs.Carrying.{with-at, with-else, known-there}
+use Rattle.arachne_rule.proofs.Shares.{my-share}
+use Rattle.arachne_rule.proofs.Carrying.{with-at, with-else}
 use Rattle.arachne_rule.proofs.Views.{given-same, ended-same}
 use Rattle.arachne_rule.proofs.Marking.{Small, marking, claimed-carried, held-carried, mine-claimed, not-claimed, mine-held, not-held}
 
@@ -31,15 +32,11 @@ with_name-other f p x q n = cond-false (same_place q p) x (f q) (false_from_ne_t
 
 module _ {T : Type 0} (tag_in : T → ℕ) (bits : ℕ) (w : World) (d : ℕ → Phase) (b : Board T) (s : Shows tag_in bits w d b)
     (h weight : ℕ) (k : Known) (mine : get_elem? b.views h ≡ opt.some (held weight k)) where
-
-  my-share : (x : ℕ) (g : Carried) → IsContext w x → carried_at x k.carried ≡ g ∷ [] → share_of w d h x ≡ g ∷ []
-  my-share x g x_in got = sym (s.carried h x x_in) ∙ ap (λ (r : Known). carried_at x r.carried) (known-there b.views h (held weight k) mine) ∙ got
-
-  -- S16: the place word of any place that names y, which my move has left unnamed, may name any context instead
+  -- the place word of any place that names y, which my move has left unnamed, may name any context instead
   pub name_target : (q : Place) (x y : ℕ) (g : Carried) → IsContext w x → IsContext w y → b.name q ≡ y → carried_at y k.carried ≡ g ∷ [] → g.held ≡ false → g.named ≡ false
       → Shows tag_in bits w d (record b { name = with_name b.name q x })
   name_target q x y g x_in y_in found got free unnamed =
-      let is = claimed-carried (w.state y) h (carried_of w d y) g (λ q t. refl) (my-share y g y_in got) free in
+      let is = claimed-carried (w.state y) h (carried_of w d y) g (λ q t. refl) (my-share tag_in bits w d b s h weight k mine y g y_in got) free in
       let unnamed' : (d y).named ≡ false = sym (ap (λ (r : Carried). r.named) is.1) ∙ unnamed in
       record {
         owned = s.owned;
@@ -50,8 +47,8 @@ module _ {T : Type 0} (tag_in : T → ℕ) (bits : ℕ) (w : World) (d : ℕ →
           coherent = old.coherent;
           mark = old.mark;
           named = λ e. with_name-other b.name q x (w.at z) (λ f.
-            let zy : z ≡ y = sym (old.named e) ∙ ap b.name f ∙ found in
-            true≢false (sym e ∙ ap (λ (u : ℕ). (d u).named) zy ∙ unnamed')) ∙ old.named e;
+              let zy : z ≡ y = sym (old.named e) ∙ ap b.name f ∙ found in
+              true≢false (sym e ∙ ap (λ (u : ℕ). (d u).named) zy ∙ unnamed')) ∙ old.named e;
           value = old.value;
         };
         names = λ p p_in. elim (cases_place p q) [
@@ -67,14 +64,14 @@ module _ {T : Type 0} (tag_in : T → ℕ) (bits : ℕ) (w : World) (d : ℕ →
   abbrev unchanged : Small
   unchanged = record { state = w.state; generation = w.generation; given = w.given; ended = w.ended }
 
-  -- S17: the mark word of y says where it stands now
+  -- the mark word of y says where it stands now
   pub replace : (y : ℕ) (g : Carried) → IsContext w y → carried_at y k.carried ≡ g ∷ [] → g.context ≡ y → g.held ≡ false
       → Shows tag_in bits w (with_at d y (record (d y) { shown = g.place })) (record b {
         mark = with_at b.mark y (mark_word bits (record { mark = mark.Free; alone = false; place = g.place; generation = g.generation }));
         views = set b.views h (held weight (with_context k (record g { shown = g.place })));
       })
   replace y g y_in got same free =
-      let is = claimed-carried (w.state y) h (carried_of w d y) g (λ q t. refl) (my-share y g y_in got) free in
+      let is = claimed-carried (w.state y) h (carried_of w d y) g (λ q t. refl) (my-share tag_in bits w d b s h weight k mine y g y_in got) free in
       let claimed : w.state y ≡ Claimed h = is.0 in
       let place : g.place ≡ w.at y = ap (λ (r : Carried). r.place) is.1 in
       let r : Phase = record (d y) { shown = g.place } in
@@ -84,41 +81,52 @@ module _ {T : Type 0} (tag_in : T → ℕ) (bits : ℕ) (w : World) (d : ℕ →
       let a : Board T = record b { mark = with_at b.mark y (mark_word bits n); views = set b.views h (held weight (with_context k g')) } in
       let now : e y ≡ r = with_at-same d y r in
       let old = s.contexts y y_in in
-      let g_is : g' ≡ carried_of w e y false 0 = λ i. record { context = same i; place = place i; shown = sym (ap (λ (u : Phase). u.shown) now) i; generation = (is.1 i).generation;
-        held = (is.1 i).held; tag = (is.1 i).tag; alone = (is.1 i).alone; named = (ap (λ (u : Carried). u.named) is.1 ∙ sym (ap (λ (u : Phase). u.named) now)) i; away = (ap (λ (u : Carried). u.away) is.1 ∙ sym (ap (λ (u : Phase). u.away) now)) i } in
+      let g_is : g' ≡ carried_of w e y false 0 = λ i. record {
+        context = same i;
+        place = place i;
+        shown = sym (ap (λ (u : Phase). u.shown) now) i;
+        generation = (is.1 i).generation;
+        held = (is.1 i).held;
+        tag = (is.1 i).tag;
+        alone = (is.1 i).alone;
+        named = (ap (λ (u : Carried). u.named) is.1 ∙ sym (ap (λ (u : Phase). u.named) now)) i;
+        away = (ap (λ (u : Carried). u.away) is.1 ∙ sym (ap (λ (u : Phase). u.away) now)) i;
+      } in
       marking tag_in bits w unchanged d e b a y h weight k (with_context k g') s y_in
-        (record {
-          mine = mine; views = refl;
-          occ = λ j _. refl;
-          mark = λ z _ m. with_at-other b.mark y (mark_word bits n) z m;
-          home = λ z _ m. refl;
-          name = λ p _ m. refl;
-          phase = λ z m. with_at-other d y r z m;
-          carried = λ z m. with-else g' y z k.carried same m;
-          state = λ z m. refl; generation = λ z m. refl;
-        })
-        s.owned
-        (record {
-          within = subst (λ (u : Phase). IsPlace w u.shown) (sym now) (subst (IsPlace w) (sym place) (s.owned.placed y y_in));
-          coherent = subst (λ (t : State). Coherent t (w.at y) (e y)) (sym claimed) (λ _. ap (λ (u : Phase). u.shown) now ∙ place);
-          mark = with_at-same b.mark y (mark_word bits n) ∙ sym (ap (mark_word bits) (λ i. record { mark = mark_of (claimed i); alone = is_live_state (claimed i) && w.alone (core_of w y); place = (now i).shown; generation = (sym (ap (λ (u : Carried). u.generation) is.1)) i }));
-          named = λ f. old.named (ap (λ (u : Phase). u.named) (sym now) ∙ f);
-          value = λ f. old.value (ap (λ (u : Phase). u.away) (sym now) ∙ f);
-        })
-        (s.names (w.at y) (s.owned.placed y y_in))
-        (with-at g' y k.carried same ∙ ap (λ (u : Carried). u ∷ []) g_is ∙ sym (ap (λ (t : State). carried_if t h (carried_of w e y)) claimed ∙ mine-claimed h (carried_of w e y)))
-        (λ j m. ap (λ (t : State). carried_if t j (carried_of w d y)) claimed ∙ not-claimed h j (carried_of w d y) m ∙ sym (ap (λ (t : State). carried_if t j (carried_of w e y)) claimed ∙ not-claimed h j (carried_of w e y) m))
-        (λ t. s.given t ∙ given-same b.views h weight k (with_context k g') mine refl t)
-        (λ t. s.ended t ∙ ended-same b.views h weight k (with_context k g') mine refl t)
+      (record {
+        mine = mine;
+        views = refl;
+        occ = λ j _. refl;
+        mark = λ z _ m. with_at-other b.mark y (mark_word bits n) z m;
+        home = λ z _ m. refl;
+        name = λ p _ m. refl;
+        phase = λ z m. with_at-other d y r z m;
+        carried = λ z m. with-else g' y z k.carried same m;
+        state = λ z m. refl;
+        generation = λ z m. refl;
+      })
+      s.owned
+      (record {
+        within = subst (λ (u : Phase). IsPlace w u.shown) (sym now) (subst (IsPlace w) (sym place) (s.owned.placed y y_in));
+        coherent = subst (λ (t : State). Coherent t (w.at y) (e y)) (sym claimed) (λ _. ap (λ (u : Phase). u.shown) now ∙ place);
+        mark = with_at-same b.mark y (mark_word bits n) ∙ sym (ap (mark_word bits) (λ i. record { mark = mark_of (claimed i); alone = is_live_state (claimed i) && w.alone (core_of w y); place = (now i).shown; generation = (sym (ap (λ (u : Carried). u.generation) is.1)) i }));
+        named = λ f. old.named (ap (λ (u : Phase). u.named) (sym now) ∙ f);
+        value = λ f. old.value (ap (λ (u : Phase). u.away) (sym now) ∙ f);
+      })
+      (s.names (w.at y) (s.owned.placed y y_in))
+      (with-at g' y k.carried same ∙ ap (λ (u : Carried). u ∷ []) g_is ∙ sym (ap (λ (t : State). carried_if t h (carried_of w e y)) claimed ∙ mine-claimed h (carried_of w e y)))
+      (λ j m. ap (λ (t : State). carried_if t j (carried_of w d y)) claimed ∙ not-claimed h j (carried_of w d y) m ∙ sym (ap (λ (t : State). carried_if t j (carried_of w e y)) claimed ∙ not-claimed h j (carried_of w e y) m))
+      (λ t. s.given t ∙ given-same b.views h weight k (with_context k g') mine refl t)
+      (λ t. s.ended t ∙ ended-same b.views h weight k (with_context k g') mine refl t)
 
-  -- S18: the place word of the place that was left names y
+  -- the place word of the place that was left names y
   pub name_source : (y : ℕ) (g : Carried) → IsContext w y → carried_at y k.carried ≡ g ∷ [] → g.context ≡ y → g.held ≡ false → g.shown ≡ g.place
       → Shows tag_in bits w (with_at d y (record (d y) { named = true })) (record b {
         name = with_name b.name g.place y;
         views = set b.views h (held weight (with_context k (record g { named = true })));
       })
   name_source y g y_in got same free settled =
-      let is = claimed-carried (w.state y) h (carried_of w d y) g (λ q t. refl) (my-share y g y_in got) free in
+      let is = claimed-carried (w.state y) h (carried_of w d y) g (λ q t. refl) (my-share tag_in bits w d b s h weight k mine y g y_in got) free in
       let claimed : w.state y ≡ Claimed h = is.0 in
       let place : g.place ≡ w.at y = ap (λ (r : Carried). r.place) is.1 in
       let r : Phase = record (d y) { named = true } in
@@ -128,35 +136,46 @@ module _ {T : Type 0} (tag_in : T → ℕ) (bits : ℕ) (w : World) (d : ℕ →
       let now : e y ≡ r = with_at-same d y r in
       let old = s.contexts y y_in in
       let shown : (d y).shown ≡ w.at y = sym (ap (λ (u : Carried). u.shown) is.1) ∙ settled ∙ place in
-      let g_is : g' ≡ carried_of w e y false 0 = λ i. record { context = same i; place = place i; shown = (ap (λ (u : Carried). u.shown) is.1 ∙ sym (ap (λ (u : Phase). u.shown) now)) i; generation = (is.1 i).generation;
-        held = (is.1 i).held; tag = (is.1 i).tag; alone = (is.1 i).alone; named = (sym (ap (λ (u : Phase). u.named) now)) i; away = (ap (λ (u : Carried). u.away) is.1 ∙ sym (ap (λ (u : Phase). u.away) now)) i } in
+      let g_is : g' ≡ carried_of w e y false 0 = λ i. record {
+        context = same i;
+        place = place i;
+        shown = (ap (λ (u : Carried). u.shown) is.1 ∙ sym (ap (λ (u : Phase). u.shown) now)) i;
+        generation = (is.1 i).generation;
+        held = (is.1 i).held;
+        tag = (is.1 i).tag;
+        alone = (is.1 i).alone;
+        named = (sym (ap (λ (u : Phase). u.named) now)) i;
+        away = (ap (λ (u : Carried). u.away) is.1 ∙ sym (ap (λ (u : Phase). u.away) now)) i;
+      } in
       let names : a.name (w.at y) ≡ y = ap a.name (sym place) ∙ with_name-same b.name g.place y in
       marking tag_in bits w unchanged d e b a y h weight k (with_context k g') s y_in
-        (record {
-          mine = mine; views = refl;
-          occ = λ j _. refl;
-          mark = λ z _ m. refl;
-          home = λ z _ m. refl;
-          name = λ p _ m. with_name-other b.name g.place y p (λ f. m (f ∙ place));
-          phase = λ z m. with_at-other d y r z m;
-          carried = λ z m. with-else g' y z k.carried same m;
-          state = λ z m. refl; generation = λ z m. refl;
-        })
-        s.owned
-        (record {
-          within = subst (λ (u : Phase). IsPlace w u.shown) (sym now) old.within;
-          coherent = subst (λ (t : State). Coherent t (w.at y) (e y)) (sym claimed) (λ _. ap (λ (u : Phase). u.shown) now ∙ shown);
-          mark = old.mark ∙ ap (λ (u : Phase). mark_word bits (record (marked w y) { place = u.shown })) (sym now);
-          named = λ _. names;
-          value = λ f. old.value (ap (λ (u : Phase). u.away) (sym now) ∙ f);
-        })
-        (subst (IsContext w) (sym names) y_in)
-        (with-at g' y k.carried same ∙ ap (λ (u : Carried). u ∷ []) g_is ∙ sym (ap (λ (t : State). carried_if t h (carried_of w e y)) claimed ∙ mine-claimed h (carried_of w e y)))
-        (λ j m. ap (λ (t : State). carried_if t j (carried_of w d y)) claimed ∙ not-claimed h j (carried_of w d y) m ∙ sym (ap (λ (t : State). carried_if t j (carried_of w e y)) claimed ∙ not-claimed h j (carried_of w e y) m))
-        (λ t. s.given t ∙ given-same b.views h weight k (with_context k g') mine refl t)
-        (λ t. s.ended t ∙ ended-same b.views h weight k (with_context k g') mine refl t)
+      (record {
+        mine = mine;
+        views = refl;
+        occ = λ j _. refl;
+        mark = λ z _ m. refl;
+        home = λ z _ m. refl;
+        name = λ p _ m. with_name-other b.name g.place y p (λ f. m (f ∙ place));
+        phase = λ z m. with_at-other d y r z m;
+        carried = λ z m. with-else g' y z k.carried same m;
+        state = λ z m. refl;
+        generation = λ z m. refl;
+      })
+      s.owned
+      (record {
+        within = subst (λ (u : Phase). IsPlace w u.shown) (sym now) old.within;
+        coherent = subst (λ (t : State). Coherent t (w.at y) (e y)) (sym claimed) (λ _. ap (λ (u : Phase). u.shown) now ∙ shown);
+        mark = old.mark ∙ ap (λ (u : Phase). mark_word bits (record (marked w y) { place = u.shown })) (sym now);
+        named = λ _. names;
+        value = λ f. old.value (ap (λ (u : Phase). u.away) (sym now) ∙ f);
+      })
+      (subst (IsContext w) (sym names) y_in)
+      (with-at g' y k.carried same ∙ ap (λ (u : Carried). u ∷ []) g_is ∙ sym (ap (λ (t : State). carried_if t h (carried_of w e y)) claimed ∙ mine-claimed h (carried_of w e y)))
+      (λ j m. ap (λ (t : State). carried_if t j (carried_of w d y)) claimed ∙ not-claimed h j (carried_of w d y) m ∙ sym (ap (λ (t : State). carried_if t j (carried_of w e y)) claimed ∙ not-claimed h j (carried_of w e y) m))
+      (λ t. s.given t ∙ given-same b.views h weight k (with_context k g') mine refl t)
+      (λ t. s.ended t ∙ ended-same b.views h weight k (with_context k g') mine refl t)
 
-  -- S19: the place word of a held context's place names it, and the empty slot goes home
+  -- the place word of a held context's place names it, and the empty slot goes home
   pub keep_name : (x : ℕ) (g : Carried) → IsContext w x → carried_at x k.carried ≡ g ∷ [] → g.context ≡ x → g.held ≡ true
       → Shows tag_in bits w (with_at d x (record (d x) { named = true; away = false })) (record b {
         name = with_name b.name g.place x;
@@ -164,7 +183,7 @@ module _ {T : Type 0} (tag_in : T → ℕ) (bits : ℕ) (w : World) (d : ℕ →
         views = set b.views h (held weight (with_context k (record g { named = true; away = false })));
       })
   keep_name x g x_in got same holds =
-      let is = held-carried (w.state x) h (carried_of w d x) g (λ q t. refl) (my-share x g x_in got) holds in
+      let is = held-carried (w.state x) h (carried_of w d x) g (λ q t. refl) (my-share tag_in bits w d b s h weight k mine x g x_in got) holds in
       let woken : Bool = is.0 in
       let tag : ℕ = is.1 in
       let here : w.state x ≡ Held h woken tag = is.2 in
@@ -176,30 +195,41 @@ module _ {T : Type 0} (tag_in : T → ℕ) (bits : ℕ) (w : World) (d : ℕ →
       let now : e x ≡ r = with_at-same d x r in
       let old = s.contexts x x_in in
       let shown : (d x).shown ≡ w.at x = subst (λ (t : State). Coherent t (w.at x) (d x)) here old.coherent in
-      let g_is : g' ≡ carried_of w e x true tag = λ i. record { context = same i; place = place i; shown = (ap (λ (u : Carried). u.shown) is.3 ∙ sym (ap (λ (u : Phase). u.shown) now)) i; generation = (is.3 i).generation;
-        held = (is.3 i).held; tag = (is.3 i).tag; alone = (is.3 i).alone; named = (sym (ap (λ (u : Phase). u.named) now)) i; away = (sym (ap (λ (u : Phase). u.away) now)) i } in
+      let g_is : g' ≡ carried_of w e x true tag = λ i. record {
+        context = same i;
+        place = place i;
+        shown = (ap (λ (u : Carried). u.shown) is.3 ∙ sym (ap (λ (u : Phase). u.shown) now)) i;
+        generation = (is.3 i).generation;
+        held = (is.3 i).held;
+        tag = (is.3 i).tag;
+        alone = (is.3 i).alone;
+        named = (sym (ap (λ (u : Phase). u.named) now)) i;
+        away = (sym (ap (λ (u : Phase). u.away) now)) i;
+      } in
       let names : a.name (w.at x) ≡ x = ap a.name (sym place) ∙ with_name-same b.name g.place x in
       marking tag_in bits w unchanged d e b a x h weight k (with_context k g') s x_in
-        (record {
-          mine = mine; views = refl;
-          occ = λ j _. refl;
-          mark = λ z _ m. refl;
-          home = λ z _ m. with_at-other b.home x (opt.some (opt.some None)) z m;
-          name = λ p _ m. with_name-other b.name g.place x p (λ f. m (f ∙ place));
-          phase = λ z m. with_at-other d x r z m;
-          carried = λ z m. with-else g' x z k.carried same m;
-          state = λ z m. refl; generation = λ z m. refl;
-        })
-        s.owned
-        (record {
-          within = subst (λ (u : Phase). IsPlace w u.shown) (sym now) old.within;
-          coherent = subst (λ (t : State). Coherent t (w.at x) (e x)) (sym here) (ap (λ (u : Phase). u.shown) now ∙ shown);
-          mark = old.mark ∙ ap (λ (u : Phase). mark_word bits (record (marked w x) { place = u.shown })) (sym now);
-          named = λ _. names;
-          value = λ _. subst (λ (t : State). HasValue tag_in t (a.home x)) (sym here) (with_at-same b.home x (opt.some (opt.some None)));
-        })
-        (subst (IsContext w) (sym names) x_in)
-        (with-at g' x k.carried same ∙ ap (λ (u : Carried). u ∷ []) g_is ∙ sym (ap (λ (t : State). carried_if t h (carried_of w e x)) here ∙ mine-held h woken tag (carried_of w e x)))
-        (λ j m. ap (λ (t : State). carried_if t j (carried_of w d x)) here ∙ not-held h woken tag j (carried_of w d x) m ∙ sym (ap (λ (t : State). carried_if t j (carried_of w e x)) here ∙ not-held h woken tag j (carried_of w e x) m))
-        (λ t. s.given t ∙ given-same b.views h weight k (with_context k g') mine refl t)
-        (λ t. s.ended t ∙ ended-same b.views h weight k (with_context k g') mine refl t)
+      (record {
+        mine = mine;
+        views = refl;
+        occ = λ j _. refl;
+        mark = λ z _ m. refl;
+        home = λ z _ m. with_at-other b.home x (opt.some (opt.some None)) z m;
+        name = λ p _ m. with_name-other b.name g.place x p (λ f. m (f ∙ place));
+        phase = λ z m. with_at-other d x r z m;
+        carried = λ z m. with-else g' x z k.carried same m;
+        state = λ z m. refl;
+        generation = λ z m. refl;
+      })
+      s.owned
+      (record {
+        within = subst (λ (u : Phase). IsPlace w u.shown) (sym now) old.within;
+        coherent = subst (λ (t : State). Coherent t (w.at x) (e x)) (sym here) (ap (λ (u : Phase). u.shown) now ∙ shown);
+        mark = old.mark ∙ ap (λ (u : Phase). mark_word bits (record (marked w x) { place = u.shown })) (sym now);
+        named = λ _. names;
+        value = λ _. subst (λ (t : State). HasValue tag_in t (a.home x)) (sym here) (with_at-same b.home x (opt.some (opt.some None)));
+      })
+      (subst (IsContext w) (sym names) x_in)
+      (with-at g' x k.carried same ∙ ap (λ (u : Carried). u ∷ []) g_is ∙ sym (ap (λ (t : State). carried_if t h (carried_of w e x)) here ∙ mine-held h woken tag (carried_of w e x)))
+      (λ j m. ap (λ (t : State). carried_if t j (carried_of w d x)) here ∙ not-held h woken tag j (carried_of w d x) m ∙ sym (ap (λ (t : State). carried_if t j (carried_of w e x)) here ∙ not-held h woken tag j (carried_of w e x) m))
+      (λ t. s.given t ∙ given-same b.views h weight k (with_context k g') mine refl t)
+      (λ t. s.ended t ∙ ended-same b.views h weight k (with_context k g') mine refl t)

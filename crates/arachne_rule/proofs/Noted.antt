@@ -1,5 +1,5 @@
 -- A seat writes down what it has seen, which changes nothing else that it knows.
-use Rattle.std.proofs.Common.{◌≡◌, ℕ, ◌∷◌, set, ap, ◌∙◌}
+use Rattle.std.proofs.Common.{◌≡◌, ℕ, set, ap, ◌∙◌}
 use mathlib.Core.Option as opt
 use lib.ListN.{get_elem?}
 use Rattle.arachne_core.specs.World.{World}
@@ -13,7 +13,9 @@ module _ {T : Type 0} (tag_in : T → ℕ) (bits : ℕ) (w : World) (d : ℕ →
     (h weight : ℕ) (k : Known) (mine : get_elem? b.views h ≡ opt.some (held weight k)) where
   pub noted_board : (k' : Known) → k'.carried ≡ k.carried → k'.given ≡ k.given → k'.ended ≡ k.ended → Shows tag_in bits w d (record b { views = set b.views h (held weight k') })
   noted_board k' same given ended = record {
-    owned = s.owned; fits = s.fits; cores = s.cores;
+    owned = s.owned;
+    fits = s.fits;
+    cores = s.cores;
     contexts = λ x x_in. let o = s.contexts x x_in in record { within = o.within; coherent = o.coherent; mark = o.mark; named = o.named; value = o.value };
     names = s.names;
     carried = λ j x x_in. learned-else b.views h weight k k' mine x (ap (carried_at x) same) j ∙ s.carried j x x_in;

@@ -1,5 +1,5 @@
 -- Steps on an occupancy word.
-use Rattle.std.proofs.Common.{◌≡◌, ◌≢◌, ℕ, ◌+◌, ◌-◌, ◌*◌, ◌<◌, ◌≤◌, ◌^◌, Bool, true, false, ◌&&◌, List, ◌∷◌, refl, sym, ap, ◌∙◌, subst, arith, inl, inr, set, get_or, get_or-set_other}
+use Rattle.std.proofs.Common.{◌≡◌, ℕ, ◌+◌, ◌<◌, ◌^◌, Bool, true, false, List, refl, sym, ap, ◌∙◌, subst, arith, inl, inr, set, get_or, get_or-set_other}
 use Rattle.std.proofs.lemmas.List.{get_or-set_same}
 use Rattle.std.proofs.lemmas.Bool.{cases_eq}
 use mathlib.Core.Option.{some}
@@ -65,16 +65,19 @@ module _ {T : Type 0} (tag_in : T → ℕ) (bits : ℕ) where
       (λ k k_in. elim (cases_eq k (core_of w x)) [
         | inl f ↦ subst (λ (j : ℕ). ShowsWord (changed w all) j (a.occ j)) (sym f) word
         | inr n ↦ let v = s.cores k k_in in subst (λ (m : ℕ). ShowsWord (changed w all) k m) (sym (o.occ k k_in n))
-            (record { packed = v.packed; shows = record {
-              occupied = λ i. v.shows.occupied i ∙ sym (with_place-other w.occupied (w.at x) q (record { core = k; index = i }) (λ f. n (ap (λ (p : Place). p.core) f)));
-              closed = v.shows.closed;
-              exclusive = v.shows.exclusive ∙ sym (o.alone k k_in n);
-            } })
+            (record {
+              packed = v.packed;
+              shows = record {
+                occupied = λ i. v.shows.occupied i ∙ sym (with_place-other w.occupied (w.at x) q (record { core = k; index = i }) (λ f. n (ap (λ (p : Place). p.core) f)));
+                closed = v.shows.closed;
+                exclusive = v.shows.exclusive ∙ sym (o.alone k k_in n);
+              };
+            })
       ])
       here
       (subst (IsContext w) (sym (o.name (w.at x) (s.owned.placed x x_in))) (s.names (w.at x) (s.owned.placed x x_in)))
       (λ k. ap (λ (vs : List (Token Known)). carried_at x (known_at vs k).carried) o.views
-          ∙ learned-here b.views h weight before after o.mine x (λ (j : ℕ). share_of (occupying_world w x st q al) e j x) share (λ j n. s.carried j x x_in ∙ others j n) k)
+      ∙ learned-here b.views h weight before after o.mine x (λ (j : ℕ). share_of (occupying_world w x st q al) e j x) share (λ j n. s.carried j x x_in ∙ others j n) k)
       (subst (IsReachable blank) (sym o.views) (learns s.seats h weight before after o.mine))
       (λ t. s.given t ∙ given-same b.views h weight before after o.mine o.given t ∙ ap (given_in t) (sym o.views))
       (λ t. s.ended t ∙ ended-same b.views h weight before after o.mine o.ended t ∙ ap (ended_in t) (sym o.views))
@@ -87,15 +90,18 @@ pub one-more-shows : (w : World) (x word i : ℕ) (st : State) (al : ℕ → Boo
 one-more-shows w x word i st al v at_i i_in same free =
     let m : HasOneMore word i (word + (2 ^ i + 2 ^ 56)) = has_one_more word i v.packed i_in free in
     let c : ℕ = core_of w x in
-    record { packed = m.new_word; shows = record {
-      occupied = λ j. ap (λ (bs : List Bool). get_or bs j false) m.occupied ∙ elim (cases_eq j i) [
-        | inl f ↦ ap (λ (n : ℕ). get_or (set (occupancy_of word).occupied i true) n false) f
-            ∙ get_or-set_same (occupancy_of word).occupied i true false (omega (arith, length-flags 56 word))
-            ∙ sym (with_place-same w.occupied (w.at x) true)
-            ∙ ap (λ (n : ℕ). with_place w.occupied (w.at x) true (record { core = c; index = n })) (at_i ∙ sym f)
-        | inr n ↦ get_or-set_other (occupancy_of word).occupied i j true false n ∙ v.shows.occupied j
-            ∙ sym (with_place-other w.occupied (w.at x) true (record { core = c; index = j }) (λ f. n (ap (λ (p : Place). p.index) f ∙ at_i)))
-      ];
-      closed = m.closed ∙ v.shows.closed;
-      exclusive = m.exclusive ∙ v.shows.exclusive ∙ sym same;
-    } }
+    record {
+      packed = m.new_word;
+      shows = record {
+        occupied = λ j. ap (λ (bs : List Bool). get_or bs j false) m.occupied ∙ elim (cases_eq j i) [
+          | inl f ↦ ap (λ (n : ℕ). get_or (set (occupancy_of word).occupied i true) n false) f
+              ∙ get_or-set_same (occupancy_of word).occupied i true false (omega (arith, length-flags 56 word))
+              ∙ sym (with_place-same w.occupied (w.at x) true)
+              ∙ ap (λ (n : ℕ). with_place w.occupied (w.at x) true (record { core = c; index = n })) (at_i ∙ sym f)
+          | inr n ↦ get_or-set_other (occupancy_of word).occupied i j true false n ∙ v.shows.occupied j
+              ∙ sym (with_place-other w.occupied (w.at x) true (record { core = c; index = j }) (λ f. n (ap (λ (p : Place). p.index) f ∙ at_i)))
+        ];
+        closed = m.closed ∙ v.shows.closed;
+        exclusive = m.exclusive ∙ v.shows.exclusive ∙ sym same;
+      };
+    }

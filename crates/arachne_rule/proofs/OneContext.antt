@@ -1,5 +1,5 @@
 -- One context changed: what a step owes there, and nothing else.
-use Rattle.std.proofs.Common.{◌≡◌, ◌≢◌, ℕ, ◌+◌, ◌*◌, ◌<◌, ◌≤◌, ◌^◌, Bool, true, false, cond, eqb, ◌&&◌, ◌∷◌, refl, sym, ap, ◌∙◌, subst, inl, inr, []}
+use Rattle.std.proofs.Common.{◌≡◌, ℕ, ◌<◌, Bool, true, false, cond, eqb, ◌&&◌, ◌∷◌, refl, sym, ap, ◌∙◌, subst, inl, inr, []}
 use Rattle.std.proofs.lemmas.Bool.{cases_eq}
 use Rattle.arachne_core.specs.declared.place.Place.{Place}
 use Rattle.arachne_core.specs.declared.state.State.{State}
@@ -96,8 +96,15 @@ module _ {T : Type 0} (tag_in : T → ℕ) (bits : ℕ) where
       | inr n ↦ h.carried k y y_in n ∙ s.carried k y y_in
           ∙ sym (ap (λ (t : State). carried_if t k (carried_of (changed w c) e y)) (h.state y n)
           ∙ carried-same (w.state y) k (carried_of (changed w c) e y) (carried_of w d y) (λ m held tag. λ i. record {
-            context = y; place = w.at y; shown = (h.phase y n i).shown; generation = h.generation y n i; held = held; tag = tag;
-            alone = h.alone y y_in n m i; named = (h.phase y n i).named; away = (h.phase y n i).away;
+            context = y;
+            place = w.at y;
+            shown = (h.phase y n i).shown;
+            generation = h.generation y n i;
+            held = held;
+            tag = tag;
+            alone = h.alone y y_in n m i;
+            named = (h.phase y n i).named;
+            away = (h.phase y n i).away;
           }))
     ];
     seats = seats;

@@ -1,12 +1,11 @@
 -- The table at first.
-use Rattle.std.proofs.Common.{◌≡◌, ◌≢◌, ℕ, zero, suc, ◌+◌, ◌-◌, ◌*◌, ◌/◌, ◌%◌, ◌<◌, ◌≤◌, ◌^◌, false, List, [], ◌∷◌, length, refl, sym, ap, ◌∙◌, subst, arith, get_or, mul-le-mul_right, suc-mul, div-add-mod'}
+use Rattle.std.proofs.Common.{◌≡◌, ℕ, zero, suc, ◌*◌, ◌<◌, ◌≤◌, false, List, [], ◌∷◌, length, refl, sym, ap, ◌∙◌, subst, arith, get_or, mul-le-mul_right, suc-mul, div-add-mod'}
 use mathlib.Core.Option as opt
 use Rattle.atomic_table.specs.Table.{opening}
 use Rattle.std.proofs.Common.{map, replicate, Option, None}
 use lib.ListN.{get_elem?}
 use Rattle.std.specs.declared.option.Option.TheVariants.{None}
 use Rattle.arachne_core.specs.declared.place.Place.{Place}
-use Rattle.arachne_core.specs.declared.mark.Mark.TheVariants as mark
 use Rattle.arachne_core.specs.Occupancy.{Occupancy}
 use Rattle.arachne_core.specs.Place.{first_place, number_of}
 use Rattle.arachne_core.specs.World.{World, IsContext}
@@ -59,10 +58,14 @@ module _ {T : Type 0} (tag_in : T → ℕ) (bits : ℕ) (shape : Shape) (words :
       record {
         owned = owned;
         fits = (is.cores, is.slots, is.last);
-        cores = λ c c_in. subst (ShowsWord w c) (sym (first_words.occ c c_in)) (record { packed = packs_vacant.0; shows = record {
-          occupied = λ i. ap (λ (o : Occupancy). get_or o.occupied i false) packs_vacant.1 ∙ vacant-flag i;
-          closed = ap (λ (o : Occupancy). o.closed) packs_vacant.1 ∙ vacant-open.0;
-          exclusive = ap (λ (o : Occupancy). o.exclusive) packs_vacant.1 ∙ vacant-open.1 } });
+        cores = λ c c_in. subst (ShowsWord w c) (sym (first_words.occ c c_in)) (record {
+          packed = packs_vacant.0;
+          shows = record {
+            occupied = λ i. ap (λ (o : Occupancy). get_or o.occupied i false) packs_vacant.1 ∙ vacant-flag i;
+            closed = ap (λ (o : Occupancy). o.closed) packs_vacant.1 ∙ vacant-open.0;
+            exclusive = ap (λ (o : Occupancy). o.exclusive) packs_vacant.1 ∙ vacant-open.1;
+          };
+        });
         contexts = λ x x_in. record {
           within = owned.placed x x_in;
           coherent = (refl, refl, refl);

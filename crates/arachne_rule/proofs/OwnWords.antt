@@ -1,5 +1,5 @@
 -- What the words say to the seat that carries a context, or that has ended a thread.
-use Rattle.std.proofs.Common.{◌≡◌, ◌≢◌, ℕ, zero, suc, ◌+◌, ◌-◌, ◌*◌, ◌<◌, ◌≤◌, ◌^◌, ◌⊎◌, Bool, true, false, ◌&&◌, List, [], ◌∷◌, refl, sym, ap, ◌∙◌, subst, arith, inl, inr, count_by}
+use Rattle.std.proofs.Common.{◌≡◌, ℕ, zero, suc, ◌<◌, ◌≤◌, Bool, true, false, ◌&&◌, List, [], ◌∷◌, refl, sym, ap, ◌∙◌, subst, arith, inl, inr, count_by}
 use Rattle.std.specs.List.{sum_by}
 use mathlib.Core.Option as opt
 use Rattle.std.specs.declared.option.Option.TheVariants.{None}
@@ -7,8 +7,9 @@ use lib.ListN.{get_elem?}
 use Rattle.arachne_core.specs.declared.state.State.{State}
 use Rattle.arachne_core.specs.declared.state.State.TheVariants.{Free, Ready, Held, Spent}
 use Rattle.arachne_core.specs.declared.mark.Mark.TheVariants as mark
+use Rattle.arachne_core.specs.declared.event.Event.TheVariants as event
 use Rattle.arachne_core.specs.Marked.{Marked, marked_of}
-use Rattle.arachne_core.specs.World.{World, Thread, IsReady, IsContext, IsPlace, core_of, same_thread}
+use Rattle.arachne_core.specs.World.{World, Thread, IsReady, CanBeWoken, Allowed, IsContext, IsPlace, core_of, same_thread}
 use Rattle.arachne_core.specs.ContextTable.{mark_of, is_live_state}
 use Rattle.arachne_weights.specs.declared.token.Token.{Token}
 use Rattle.arachne_weights.specs.Tokens.{held}
@@ -18,11 +19,15 @@ use Rattle.arachne_rule.specs.declared.view.Known.{Known}
 use Rattle.arachne_rule.specs.Views.{carried_at}
 use Rattle.arachne_rule.specs.Rule.{carried_if, carried_of, share_of, Board, Phase, Shows}
 use Rattle.arachne_rule.specs.Plays.{Carries, IsHeldMark, SaysCarried, IsGone, HasEnded}
+use Rattle.arachne_rule.proofs.Shares.{my-share}
 use Rattle.arachne_rule.proofs.Carrying.{known-there}
 use Rattle.arachne_rule.proofs.Marking.{one-carried, claimed-carried, held-carried}
 use Rattle.arachne_rule.proofs.Slots.{carried-says, carried-empty, one-claim}
 use Rattle.arachne_rule.proofs.Seen.{seen}
-use Rattle.arachne_rule.proofs.Gone.{ended-is-gone}
+use Rattle.arachne_rule.proofs.Gone.{ended-is-gone, not-live}
+
+not-woken-spent : (s : State) → s ≡ Spent → CanBeWoken s → ⊥
+not-woken-spent s e c = subst CanBeWoken e c
 
 pub ready-nobody : (s : State) → IsReady s → (h : ℕ) (f : Bool → ℕ → Carried) → carried_if s h f ≡ []
 ready-nobody (Ready t) r h f = refl
@@ -49,9 +54,6 @@ part-of f (u ∷ us) (suc h) v e = let all = sum_by-cons f u us in let r = part-
 
 module _ {T : Type 0} (tag_in : T → ℕ) (bits : ℕ) (w : World) (d : ℕ → Phase) (b : Board T) (s : Shows tag_in bits w d b)
     (h weight : ℕ) (k : Known) (mine : get_elem? b.views h ≡ opt.some (held weight k)) where
-  pub my-share : (x : ℕ) (c : Carried) → IsContext w x → carried_at x k.carried ≡ c ∷ [] → share_of w d h x ≡ c ∷ []
-  my-share x c x_in got = sym (s.carried h x x_in) ∙ ap (λ (r : Known). carried_at x r.carried) (known-there b.views h (held weight k) mine) ∙ got
-
   -- a context that is nobody's isn't the seat's
   pub not-mine : (x : ℕ) → IsContext w x → ((f : Bool → ℕ → Carried) → carried_if (w.state x) h f ≡ []) → carried_at x k.carried ≡ []
   not-mine x x_in nobody = sym (ap (λ (r : Known). carried_at x r.carried) (known-there b.views h (held weight k) mine)) ∙ s.carried h x x_in ∙ nobody (carried_of w d x)
@@ -59,7 +61,7 @@ module _ {T : Type 0} (tag_in : T → ℕ) (bits : ℕ) (w : World) (d : ℕ →
   -- its place is one of the World, and where it is named the place word says so
   pub placed-in : (c : Carried) → IsContext w c.context → Carries k c → IsPlace w c.place × (c.named ≡ true → b.name c.place ≡ c.context)
   placed-in c c_in has =
-      let share = my-share c.context c c_in has in
+      let share = my-share tag_in bits w d b s h weight k mine c.context c c_in has in
       let f : Bool → ℕ → Carried = carried_of w d c.context in
       let at : c.place ≡ w.at c.context = carried-says (w.state c.context) h f (λ (u : Carried). u.place) c (w.at c.context) share (λ q t. refl) in
       let named : c.named ≡ (d c.context).named = carried-says (w.state c.context) h f (λ (u : Carried). u.named) c (d c.context).named share (λ q t. refl) in
@@ -72,23 +74,26 @@ module _ {T : Type 0} (tag_in : T → ℕ) (bits : ℕ) (w : World) (d : ℕ →
   -- its slot is at home and empty, unless it is out
   pub home-empty : (c : Carried) → IsContext w c.context → Carries k c → c.away ≡ false → b.home c.context ≡ opt.some (opt.some None)
   home-empty c c_in has home =
-      let share = my-share c.context c c_in has in
+      let share = my-share tag_in bits w d b s h weight k mine c.context c c_in has in
       let f : Bool → ℕ → Carried = carried_of w d c.context in
       let away : c.away ≡ (d c.context).away = carried-says (w.state c.context) h f (λ (u : Carried). u.away) c (d c.context).away share (λ q t. refl) in
       carried-empty tag_in (w.state c.context) h f c (b.home c.context) share ((s.contexts c.context c_in).value (sym away ∙ home))
 
   pub says-carried : (x : ℕ) (c : Carried) → IsContext w x → c.context ≡ x → Carries k c → SaysCarried bits c (b.mark x)
   says-carried x c x_in same has =
-      let share : share_of w d h x ≡ c ∷ [] = my-share x c x_in (ap (λ (y : ℕ). carried_at y k.carried) (sym same) ∙ has) in
+      let share : share_of w d h x ≡ c ∷ [] = my-share tag_in bits w d b s h weight k mine x c x_in (ap (λ (y : ℕ). carried_at y k.carried) (sym same) ∙ has) in
       let reads = seen tag_in bits w d b s x x_in in (
         (λ free. let is = claimed-carried (w.state x) h (carried_of w d x) c (λ q t. refl) share free in
-          reads ∙ (λ i. record { mark = mark_of (is.0 i); alone = is_live_state (is.0 i) && w.alone (core_of w x); place = (sym is.1 i).shown; generation = (sym is.1 i).generation })),
-        (λ holds. let is = held-carried (w.state x) h (carried_of w d x) c (λ q t. refl) share holds in
-          (subst IsHeldMark (sym (ap (λ (u : Marked). u.mark) reads ∙ ap mark_of is.2)) (held-says h is.0 is.1),
-            (λ i. record { mark = (marked_of bits (b.mark x)).mark;
-              alone = (ap (λ (u : Marked). u.alone) reads ∙ ap (λ (t : State). is_live_state t && w.alone (core_of w x)) is.2 ∙ ap (λ (u : Carried). u.alone) (sym is.3)) i;
-              place = (ap (λ (u : Marked). u.place) reads ∙ ap (λ (u : Carried). u.shown) (sym is.3)) i;
-              generation = (ap (λ (u : Marked). u.generation) reads ∙ ap (λ (u : Carried). u.generation) (sym is.3)) i })))
+            reads ∙ (λ i. record { mark = mark_of (is.0 i); alone = is_live_state (is.0 i) && w.alone (core_of w x); place = (sym is.1 i).shown; generation = (sym is.1 i).generation })),
+        (λ holds. let is = held-carried (w.state x) h (carried_of w d x) c (λ q t. refl) share holds in (
+          subst IsHeldMark (sym (ap (λ (u : Marked). u.mark) reads ∙ ap mark_of is.2)) (held-says h is.0 is.1),
+          (λ i. record {
+            mark = (marked_of bits (b.mark x)).mark;
+            alone = (ap (λ (u : Marked). u.alone) reads ∙ ap (λ (t : State). is_live_state t && w.alone (core_of w x)) is.2 ∙ ap (λ (u : Carried). u.alone) (sym is.3)) i;
+            place = (ap (λ (u : Marked). u.place) reads ∙ ap (λ (u : Carried). u.shown) (sym is.3)) i;
+            generation = (ap (λ (u : Marked). u.generation) reads ∙ ap (λ (u : Carried). u.generation) (sym is.3)) i;
+          }),
+        )),
       )
 
   pub says-gone : (x : ℕ) (t : Thread) → IsContext w x → t.0.context ≡ x → HasEnded k t → IsGone bits t.0 (b.mark x)
@@ -99,3 +104,16 @@ module _ {T : Type 0} (tag_in : T → ℕ) (bits : ℕ) (w : World) (d : ℕ →
         | inl l ↦ inl (λ e. omega (arith, l, ap w.generation same, ap (λ (u : Marked). u.generation) reads, e))
         | inr p ↦ inr (inr (ap (λ (u : Marked). u.mark) reads ∙ spent-says (w.state x) (ap w.state (sym same) ∙ p)))
       ]
+
+  -- an ended thread was given, so its context is one of the World's; and it can't be woken
+  pub ended-for-good : (t : Thread) → HasEnded k t → IsContext w t.0.context × IsGone bits t.0 (b.mark t.0.context) × (Allowed w (event.Wake t.0) → ⊥)
+  ended-for-good t has =
+      let ended : 0 < w.ended t = omega (arith, has, s.ended t, part-of (λ (v : Token Known). count_by (same_thread t) v.known.ended) b.views h (held weight k) mine) in
+      let x_in : IsContext w t.0.context = (s.owned.generations t (not-live w t s.owned ended).0).0 in (
+        x_in,
+        says-gone t.0.context t x_in refl has,
+        λ may. elim (ended-is-gone w t s.owned ended) [
+          | inl l ↦ omega (arith, l, may.generation)
+          | inr p ↦ not-woken-spent (w.state t.0.context) p may.waits
+        ],
+      )

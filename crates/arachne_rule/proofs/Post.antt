@@ -1,5 +1,5 @@
--- S4: a post.
-use Rattle.std.proofs.Common.{◌≡◌, ◌≢◌, ℕ, ◌+◌, ◌*◌, ◌<◌, ◌≤◌, ◌^◌, true, false, ◌&&◌, ◌∷◌, refl, sym, ap, ◌∙◌, subst, set, []}
+-- A post.
+use Rattle.std.proofs.Common.{◌≡◌, ℕ, true, false, ◌&&◌, ◌∷◌, refl, sym, ap, ◌∙◌, subst, set, []}
 use mathlib.Core.Option as opt
 use lib.ListN.{get_elem?}
 use Rattle.std.specs.declared.option.Option.TheVariants.{Some}
@@ -25,7 +25,6 @@ use Rattle.arachne_rule.proofs.Marking.{Small, small, marking, claimed-carried, 
 
 module _ {T : Type 0} (tag_in : T → ℕ) (bits : ℕ) (w : World) (d : ℕ → Phase) (b : Board T) (s : Shows tag_in bits w d b)
     (h weight : ℕ) (k : Known) (mine : get_elem? b.views h ≡ opt.some (held weight k)) where
-
   pub post : (x : ℕ) (g : Carried) (v : T) → IsContext w x → carried_at x k.carried ≡ g ∷ [] → g.context ≡ x → g.held ≡ false → g.named ≡ true
       → Allowed w (event.Post h x (tag_in v))
       × Shows tag_in bits (after w (event.Post h x (tag_in v))) (with_at d x (settled g.place)) (record b {
@@ -53,30 +52,32 @@ module _ {T : Type 0} (tag_in : T → ℕ) (bits : ℕ) (w : World) (d : ℕ →
         views = set b.views h (held weight (posted k g tag));
       } in
       let old = s.contexts x x_in in
-      let al : (is_live_state (c.state x) && w.alone (core_of w x)) ≡ g.alone = ap (λ (t : State). is_live_state t && w.alone (core_of w x)) now ∙ sym alone in
-      (may, marking tag_in bits w c d e b a x h weight k (posted k g tag) s x_in
-        (record {
-          mine = mine;
-          views = refl;
-          occ = λ j _. refl;
-          mark = λ y _ n. with_at-other b.mark x _ y n;
-          home = λ y _ n. with_at-other b.home x _ y n;
-          name = λ p _ n. refl;
-          phase = λ y n. with_at-other d x (settled g.place) y n;
-          carried = λ y n. without-else g.context y k.carried (λ f. n (f ∙ same));
-          state = λ y n. with_at-other w.state x (Ready tag) y n;
-          generation = λ y n. refl;
-        })
-        (keeps_owned_once w (event.Post h x tag) s.owned may)
-        (record {
-          within = subst (λ (p : Place). IsPlace w p) (sym (ap (λ (r : Phase). r.shown) phase ∙ place)) (s.owned.placed x x_in);
-          coherent = subst (λ (t : State). Coherent t (w.at x) (e x)) (sym now) ((ap (λ (r : Phase). r.away) phase), ap (λ (r : Phase). r.shown) phase ∙ place);
-          mark = with_at-same b.mark x _ ∙ sym (ap (mark_word bits) (λ i. record { mark = mark_of (now i); alone = al i; place = (phase i).shown; generation = sym gen i }));
-          named = λ _. old.named has_name;
-          value = λ _. subst (λ (t : State). HasValue tag_in t (a.home x)) (sym now) (v, with_at-same b.home x _, refl);
-        })
-        (s.names (w.at x) (s.owned.placed x x_in))
-        (ap (λ (y : ℕ). carried_at y (without g.context k.carried)) (sym same) ∙ without-at g.context k.carried ∙ sym (ap (λ (t : State). carried_if t h (carried_of (small w c) e x)) now))
-        (λ j n. ap (λ (t : State). carried_if t j (carried_of w d x)) claimed ∙ not-claimed h j (carried_of w d x) n ∙ sym (ap (λ (t : State). carried_if t j (carried_of (small w c) e x)) now))
-        (given-more b.views h weight k (posted k g tag) mine w.given (id_of w x, tag) s.given (λ i. (record { context = same i; generation = gen i }, tag) ∷ k.given))
-        (λ t. s.ended t ∙ ended-same b.views h weight k (posted k g tag) mine refl t))
+      let al : (is_live_state (c.state x) && w.alone (core_of w x)) ≡ g.alone = ap (λ (t : State). is_live_state t && w.alone (core_of w x)) now ∙ sym alone in (
+        may,
+        marking tag_in bits w c d e b a x h weight k (posted k g tag) s x_in
+            (record {
+              mine = mine;
+              views = refl;
+              occ = λ j _. refl;
+              mark = λ y _ n. with_at-other b.mark x _ y n;
+              home = λ y _ n. with_at-other b.home x _ y n;
+              name = λ p _ n. refl;
+              phase = λ y n. with_at-other d x (settled g.place) y n;
+              carried = λ y n. without-else g.context y k.carried (λ f. n (f ∙ same));
+              state = λ y n. with_at-other w.state x (Ready tag) y n;
+              generation = λ y n. refl;
+            })
+            (keeps_owned_once w (event.Post h x tag) s.owned may)
+            (record {
+              within = subst (λ (p : Place). IsPlace w p) (sym (ap (λ (r : Phase). r.shown) phase ∙ place)) (s.owned.placed x x_in);
+              coherent = subst (λ (t : State). Coherent t (w.at x) (e x)) (sym now) ((ap (λ (r : Phase). r.away) phase), ap (λ (r : Phase). r.shown) phase ∙ place);
+              mark = with_at-same b.mark x _ ∙ sym (ap (mark_word bits) (λ i. record { mark = mark_of (now i); alone = al i; place = (phase i).shown; generation = sym gen i }));
+              named = λ _. old.named has_name;
+              value = λ _. subst (λ (t : State). HasValue tag_in t (a.home x)) (sym now) (v, with_at-same b.home x _, refl);
+            })
+            (s.names (w.at x) (s.owned.placed x x_in))
+            (ap (λ (y : ℕ). carried_at y (without g.context k.carried)) (sym same) ∙ without-at g.context k.carried ∙ sym (ap (λ (t : State). carried_if t h (carried_of (small w c) e x)) now))
+            (λ j n. ap (λ (t : State). carried_if t j (carried_of w d x)) claimed ∙ not-claimed h j (carried_of w d x) n ∙ sym (ap (λ (t : State). carried_if t j (carried_of (small w c) e x)) now))
+            (given-more b.views h weight k (posted k g tag) mine w.given (id_of w x, tag) s.given (λ i. (record { context = same i; generation = gen i }, tag) ∷ k.given))
+            (λ t. s.ended t ∙ ended-same b.views h weight k (posted k g tag) mine refl t),
+      )

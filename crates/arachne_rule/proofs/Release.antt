@@ -1,14 +1,12 @@
--- S7: a release.
-use Rattle.std.proofs.Common.{◌%◌, ◌≡◌, ◌≢◌, ℕ, ◌+◌, ◌-◌, ◌*◌, ◌<◌, ◌≤◌, ◌^◌, Bool, true, false, if◌then◌else◌, ◌&&◌, List, ◌∷◌, refl, sym, ap, ◌∙◌, subst, arith, inl, inr, IsTrue, set, get_or, get_or-set_other, ◌⊎◌, []}
+-- A release.
+use Rattle.std.proofs.Common.{◌%◌, ◌≡◌, ℕ, ◌+◌, ◌-◌, ◌<◌, ◌≤◌, ◌^◌, Bool, true, false, if◌then◌else◌, ◌&&◌, List, ◌∷◌, refl, sym, ap, ◌∙◌, subst, arith, inl, inr, IsTrue, set, get_or, get_or-set_other, []}
 use Rattle.std.proofs.lemmas.Bool.{cases_eq, false_from_ne_true}
 use mathlib.Core.Option as opt
 use lib.ListN.{get_elem?}
 use Rattle.arachne_core.specs.declared.place.Place.{Place}
 use Rattle.arachne_core.specs.declared.state.State.{State}
 use Rattle.arachne_core.specs.declared.state.State.TheVariants.{Free, Claimed}
-use Rattle.arachne_core.specs.declared.state.Rest.TheVariants as rest
 use Rattle.arachne_core.specs.declared.event.Event.TheVariants as event
-use Rattle.arachne_core.specs.declared.mark.Mark.TheVariants as mark
 use Rattle.arachne_core.specs.Occupancy.{bit, Occupancy, occupancy_of, IsOccupancyWord, HasOneMore}
 use Rattle.arachne_core.specs.Marked.{mark_word}
 use Rattle.arachne_core.specs.World.{World, IsContext, core_of, with_at, with_place, Allowed, after}
@@ -21,9 +19,10 @@ use Rattle.arachne_weights.specs.Tokens.{held}
 use Rattle.arachne_rule.specs.declared.view.Carried.{Carried}
 use Rattle.arachne_rule.specs.declared.view.Known.{Known}
 use Rattle.arachne_rule.specs.Views.{carried_at, without, without_context}
-use Rattle.arachne_rule.specs.Rule.{Coherent, carried_if, carried_of, share_of, HasValue, Board, Phase, ShowsWord, Shows}
+use Rattle.arachne_rule.specs.Rule.{Coherent, carried_if, carried_of, HasValue, Board, Phase, ShowsWord, Shows}
 use Rattle.arachne_rule.specs.Changes.{index_sum, release_sum}
-use Rattle.arachne_rule.proofs.Carrying.{without-at, without-else, known-there}
+use Rattle.arachne_rule.proofs.Shares.{my-share}
+use Rattle.arachne_rule.proofs.Carrying.{without-at, without-else}
 use Rattle.arachne_rule.proofs.Marking.{claimed-carried, not-claimed}
 use Rattle.arachne_rule.proofs.Occupying.{occupying_world, occupying}
 
@@ -49,17 +48,20 @@ one-less-shows w x word i st al packed occupied closed exclusive at_i i_in full 
     let less : ℕ = word - (2 ^ i + 2 ^ 56) in
     let m : HasOneMore less i word = has_one_less word i packed i_in full in
     let c : ℕ = core_of w x in
-    record { packed = m.old_word; shows = record {
-      occupied = λ j. elim (cases_eq j i) [
-        | inl f ↦ ap (λ (n : ℕ). get_or (occupancy_of less).occupied n false) f ∙ m.was_free
-            ∙ sym (with_place-same w.occupied (w.at x) false)
-            ∙ ap (λ (n : ℕ). with_place w.occupied (w.at x) false (record { core = c; index = n })) (at_i ∙ sym f)
-        | inr n ↦ sym (get_or-set_other (occupancy_of less).occupied i j true false n) ∙ ap (λ (bs : List Bool). get_or bs j false) (sym m.occupied) ∙ occupied j
-            ∙ sym (with_place-other w.occupied (w.at x) false (record { core = c; index = j }) (λ f. n (ap (λ (p : Place). p.index) f ∙ at_i)))
-      ];
-      closed = sym m.closed ∙ closed;
-      exclusive = sym m.exclusive ∙ exclusive;
-    } }
+    record {
+      packed = m.old_word;
+      shows = record {
+        occupied = λ j. elim (cases_eq j i) [
+          | inl f ↦ ap (λ (n : ℕ). get_or (occupancy_of less).occupied n false) f ∙ m.was_free
+              ∙ sym (with_place-same w.occupied (w.at x) false)
+              ∙ ap (λ (n : ℕ). with_place w.occupied (w.at x) false (record { core = c; index = n })) (at_i ∙ sym f)
+          | inr n ↦ sym (get_or-set_other (occupancy_of less).occupied i j true false n) ∙ ap (λ (bs : List Bool). get_or bs j false) (sym m.occupied) ∙ occupied j
+              ∙ sym (with_place-other w.occupied (w.at x) false (record { core = c; index = j }) (λ f. n (ap (λ (p : Place). p.index) f ∙ at_i)))
+        ];
+        closed = sym m.closed ∙ closed;
+        exclusive = sym m.exclusive ∙ exclusive;
+      };
+    }
 
 -- what a release takes away from the word of its core
 abbrev pub less_by : Carried → ℕ → ℕ
@@ -67,10 +69,6 @@ less_by g word = (if g.alone then word - 2 ^ 63 else word) - (2 ^ g.place.index 
 
 module _ {T : Type 0} (tag_in : T → ℕ) (bits : ℕ) (w : World) (d : ℕ → Phase) (b : Board T) (s : Shows tag_in bits w d b)
     (h weight : ℕ) (k : Known) (mine : get_elem? b.views h ≡ opt.some (held weight k)) where
-
-  my-share : (x : ℕ) (g : Carried) → IsContext w x → carried_at x k.carried ≡ g ∷ [] → share_of w d h x ≡ g ∷ []
-  my-share x g x_in got = sym (s.carried h x x_in) ∙ ap (λ (r : Known). carried_at x r.carried) (known-there b.views h (held weight k) mine) ∙ got
-
   less-here : (q : Bool) (x : ℕ) (st : State) → IsContext w x → w.alone (core_of w x) ≡ q → (w.state x ≡ Free → ⊥)
       → ShowsWord (occupying_world w x st false (with_at w.alone (core_of w x) false)) (core_of w x) ((if q then b.occ (core_of w x) - 2 ^ 63 else b.occ (core_of w x)) - (2 ^ (w.at x).index + 2 ^ 56))
   less-here true x st x_in al n =
@@ -99,7 +97,7 @@ module _ {T : Type 0} (tag_in : T → ℕ) (bits : ℕ) (w : World) (d : ℕ →
         views = set b.views h (held weight (without_context k g));
       })
   release x g x_in got same free named home =
-      let is = claimed-carried (w.state x) h (carried_of w d x) g (λ q t. refl) (my-share x g x_in got) free in
+      let is = claimed-carried (w.state x) h (carried_of w d x) g (λ q t. refl) (my-share tag_in bits w d b s h weight k mine x g x_in got) free in
       let claimed : w.state x ≡ Claimed h = is.0 in
       let place : g.place ≡ w.at x = ap (λ (r : Carried). r.place) is.1 in
       let alone : g.alone ≡ w.alone (core_of w x) = ap (λ (r : Carried). r.alone) is.1 in
@@ -117,36 +115,40 @@ module _ {T : Type 0} (tag_in : T → ℕ) (bits : ℕ) (w : World) (d : ℕ →
       let now : v.state x ≡ Free = with_at-same w.state x Free in
       let here_word : a.occ c ≡ (if w.alone c then b.occ c - 2 ^ 63 else b.occ c) - (2 ^ (w.at x).index + 2 ^ 56) =
       ap a.occ core ∙ with_at-same b.occ g.place.core (less_by g (b.occ g.place.core))
-      ∙ (λ i. (if alone i then b.occ (place i).core - 2 ^ 63 else b.occ (place i).core) - (2 ^ (place i).index + 2 ^ 56)) in
-      (may, occupying tag_in bits w x Free false (with_at w.alone c false) d d b a h weight k k' s x_in
-        (record {
-          mine = mine; views = refl;
-          occ = λ j _ m. with_at-other b.occ g.place.core _ j (λ f. m (f ∙ sym core));
-          mark = λ y _. refl;
-          home = λ y _. refl;
-          name = λ p _. refl;
-          phase = λ y m. refl;
-          carried = λ y m. without-else g.context y k.carried (λ f. m (f ∙ same));
-          given = refl; ended = refl;
-          alone = λ j _ m. with_at-other w.alone c false j m;
-          beside = λ y y_in m ny. elim (cases_eq (core_of w y) c) [
-            | inl f ↦ ap (with_at w.alone c false) f ∙ with_at-same w.alone c false
-                ∙ sym (ap w.alone f ∙ false_from_ne_true (w.alone c) (λ al. m (alone-apart w s.owned x y x_in y_in n ny f al)))
-            | inr f ↦ with_at-other w.alone c false (core_of w y) f
-          ];
-        })
-        (keeps_owned_once w (event.Release h x) s.owned may)
-        (subst (ShowsWord v c) (sym here_word) (less-here (w.alone c) x Free x_in refl n))
-        (record {
-          within = old.within;
-          coherent = subst (λ (t : State). Coherent t (w.at x) (d x)) (sym now) (at_home, has_name, shown);
-          mark = old.mark ∙ ap (mark_word bits) ((λ i. record { mark = mark_of (claimed i); alone = is_live_state (claimed i) && w.alone c; place = (d x).shown; generation = w.generation x })
-            ∙ sym (λ i. record { mark = mark_of (now i); alone = is_live_state (now i) && with_at w.alone c false c; place = (d x).shown; generation = w.generation x }));
-          named = old.named;
-          value = λ f. subst (λ (t : State). HasValue tag_in t (b.home x)) (sym now) (subst (λ (t : State). HasValue tag_in t (b.home x)) claimed (old.value f));
-        })
-        (ap (λ (y : ℕ). carried_at y (without g.context k.carried)) (sym same) ∙ without-at g.context k.carried ∙ sym (ap (λ (t : State). carried_if t h (carried_of v d x)) now))
-        (λ j m. ap (λ (t : State). carried_if t j (carried_of w d x)) claimed ∙ not-claimed h j (carried_of w d x) m ∙ sym (ap (λ (t : State). carried_if t j (carried_of v d x)) now)))
+      ∙ (λ i. (if alone i then b.occ (place i).core - 2 ^ 63 else b.occ (place i).core) - (2 ^ (place i).index + 2 ^ 56)) in (
+        may,
+        occupying tag_in bits w x Free false (with_at w.alone c false) d d b a h weight k k' s x_in
+            (record {
+              mine = mine;
+              views = refl;
+              occ = λ j _ m. with_at-other b.occ g.place.core _ j (λ f. m (f ∙ sym core));
+              mark = λ y _. refl;
+              home = λ y _. refl;
+              name = λ p _. refl;
+              phase = λ y m. refl;
+              carried = λ y m. without-else g.context y k.carried (λ f. m (f ∙ same));
+              given = refl;
+              ended = refl;
+              alone = λ j _ m. with_at-other w.alone c false j m;
+              beside = λ y y_in m ny. elim (cases_eq (core_of w y) c) [
+                | inl f ↦ ap (with_at w.alone c false) f ∙ with_at-same w.alone c false
+                    ∙ sym (ap w.alone f ∙ false_from_ne_true (w.alone c) (λ al. m (alone-apart w s.owned x y x_in y_in n ny f al)))
+                | inr f ↦ with_at-other w.alone c false (core_of w y) f
+              ];
+            })
+            (keeps_owned_once w (event.Release h x) s.owned may)
+            (subst (ShowsWord v c) (sym here_word) (less-here (w.alone c) x Free x_in refl n))
+            (record {
+              within = old.within;
+              coherent = subst (λ (t : State). Coherent t (w.at x) (d x)) (sym now) (at_home, has_name, shown);
+              mark = old.mark ∙ ap (mark_word bits) ((λ i. record { mark = mark_of (claimed i); alone = is_live_state (claimed i) && w.alone c; place = (d x).shown; generation = w.generation x })
+                  ∙ sym (λ i. record { mark = mark_of (now i); alone = is_live_state (now i) && with_at w.alone c false c; place = (d x).shown; generation = w.generation x }));
+              named = old.named;
+              value = λ f. subst (λ (t : State). HasValue tag_in t (b.home x)) (sym now) (subst (λ (t : State). HasValue tag_in t (b.home x)) claimed (old.value f));
+            })
+            (ap (λ (y : ℕ). carried_at y (without g.context k.carried)) (sym same) ∙ without-at g.context k.carried ∙ sym (ap (λ (t : State). carried_if t h (carried_of v d x)) now))
+            (λ j m. ap (λ (t : State). carried_if t j (carried_of w d x)) claimed ∙ not-claimed h j (carried_of w d x) m ∙ sym (ap (λ (t : State). carried_if t j (carried_of v d x)) now)),
+      )
 
 module _ {T : Type 0} (tag_in : T → ℕ) (bits : ℕ) (w : World) (d : ℕ → Phase) (b : Board T) (s : Shows tag_in bits w d b)
     (h weight : ℕ) (k : Known) (mine : get_elem? b.views h ≡ opt.some (held weight k)) where
@@ -162,9 +164,11 @@ module _ {T : Type 0} (tag_in : T → ℕ) (bits : ℕ) (w : World) (d : ℕ →
         views = set b.views h (held weight (without_context k c));
       })
   released c c_in has free named home =
-      let r = release tag_in bits w d b s h weight k mine c.context c c_in has refl free named home in
-      (r.0, subst (λ (m : ℕ). Shows tag_in bits (after w (event.Release h c.context)) d (record b { occ = with_at b.occ c.place.core m; views = set b.views h (held weight (without_context k c)) }))
-        (by-sum c.alone (b.occ c.place.core) c.place.index) r.1)
+      let r = release tag_in bits w d b s h weight k mine c.context c c_in has refl free named home in (
+        r.0,
+        subst (λ (m : ℕ). Shows tag_in bits (after w (event.Release h c.context)) d (record b { occ = with_at b.occ c.place.core m; views = set b.views h (held weight (without_context k c)) }))
+            (by-sum c.alone (b.occ c.place.core) c.place.index) r.1,
+      )
 
 -- what a release takes away is in the word
 pub holds-index : (w i : ℕ) → IsOccupancyWord w → get_or (occupancy_of w).occupied i false ≡ true → 2 ^ i + 2 ^ 56 ≤ w

@@ -1,5 +1,5 @@
 -- What the table asks of the steps that put a thread back or wake it.
-use Rattle.std.proofs.Common.{Some, ◌≡◌, ◌≢◌, ℕ, ◌+◌, ◌-◌, ◌*◌, ◌<◌, ◌≤◌, ◌^◌, true, false, List, [], ◌∷◌, length-set, refl, sym, ap, ◌∙◌, subst, arith, inl, inr, set, get_or, Option, eqb}
+use Rattle.std.proofs.Common.{Some, ◌≡◌, ℕ, ◌<◌, true, false, List, ◌∷◌, length-set, refl, sym, ap, ◌∙◌, subst, arith, inl, inr, set, get_or, Option, eqb}
 use mathlib.Core.Option.{some, none}
 use mathlib.Core.Option as opt
 use lib.ListN.{get_elem?}
@@ -49,12 +49,15 @@ module _ {T : Type 0} (tag_in : T → ℕ) (bits : ℕ) (shape : Shape) where
       let k' : Known = without_context k c in
       let d : ℕ → Phase = with_at hs.phase x (record (hs.phase x) { away = false }) in
       let home : ℕ → opt.Option (opt.Option (Option T)) = with_at b.home x (opt.some (opt.some (Some v))) in
-      let e : Event = event.Rest id x put.Ready in
-      (held weight (noted kind.RestReady x (b.mark x) new k'), gives, tt,
+      let e : Event = event.Rest id x put.Ready in (
+        held weight (noted kind.RestReady x (b.mark x) new k'),
+        gives,
+        tt,
         mark-made tag_in bits shape s hs id weight k mine kind.RestReady x new ((x, Some v) ∷ l) gives e d k' home c_in refl r.0 (inr refl)
-          (length-set s.homes x (opt.some (Some v))) (λ y _. home-set s.homes x (opt.some (Some v)) (omega (arith, c_in, hs.fits.homes)) y)
-          (subst (λ (q : ℕ). Shows tag_in bits (after hs.world e) d (record b { mark = with_at b.mark x q; home = home; views = set s.views id (held weight k') })) (sym new_is) r.1),
-        λ f f_at f_has. let one : c ≡ f = same-carried k c f has f_has (sym f_at) in (b.mark x, λ j. (held weight (noted kind.RestReady x (b.mark x) new (without_context k (one j))), l)))
+            (length-set s.homes x (opt.some (Some v))) (λ y _. home-set s.homes x (opt.some (Some v)) (omega (arith, c_in, hs.fits.homes)) y)
+            (subst (λ (q : ℕ). Shows tag_in bits (after hs.world e) d (record b { mark = with_at b.mark x q; home = home; views = set s.views id (held weight k') })) (sym new_is) r.1),
+        λ f f_at f_has. let one : c ≡ f = same-carried k c f has f_has (sym f_at) in (b.mark x, λ j. (held weight (noted kind.RestReady x (b.mark x) new (without_context k (one j))), l)),
+      )
 
   pub rest-ready-allowed : (slots id : ℕ) (me : Mine T) (c : Carried) (v : T) (x new : ℕ) → slots ≡ contexts_in shape → IsLive me → x ≡ c.context → x < slots → Carries me.0.known c → c.held ≡ true
       → me.1 ≡ (c.context, Some v) ∷ rest me.1 → tag_in v ≡ c.tag → new ≡ mark_word bits (marked_as mark.Ready c)
@@ -62,7 +65,7 @@ module _ {T : Type 0} (tag_in : T → ℕ) (bits : ℕ) (shape : Shape) where
   rest-ready-allowed slots id me c v x new laid live there x_in has holds slot tagged new_is =
       for-seat (λ m j e. Allows (Holds tag_in bits shape) m id e j (λ _. new) (λ _. RestsReady (step m j new 0 none) e new)) slots x n c.context me laid there live
       (subst (λ (z : List (ℕ × Option T)). Allows (Holds tag_in bits shape) n id (held me.0.weight me.0.known, z) c.context (λ _. new) (λ _. RestsReady (step n c.context new 0 none) (held me.0.weight me.0.known, z) new)) (sym slot)
-        (rests-ready id me.0.weight me.0.known (rest me.1) c v new (subst (λ (q : ℕ). q < n) there (subst (λ (m : ℕ). x < m) laid x_in)) has holds tagged new_is))
+      (rests-ready id me.0.weight me.0.known (rest me.1) c v new (subst (λ (q : ℕ). q < n) there (subst (λ (m : ℕ). x < m) laid x_in)) has holds tagged new_is))
 
   -- ---- a thread is put back as blocked
 
@@ -78,19 +81,27 @@ module _ {T : Type 0} (tag_in : T → ℕ) (bits : ℕ) (shape : Shape) where
       let home : ℕ → opt.Option (opt.Option (Option T)) = with_at b.home x (opt.some (opt.some (Some v))) in
       let e : Event = event.Rest id x put.Blocked in
       let F : ℕ → Type 0 = λ (q : ℕ). (u : Token Known) × (a : Act (Option T)) × Valid s.homes out a × Holds tag_in bits shape (stepped s x q id out u a)
-          × RestsBlocked (step n x old new none) me (get_or s.words x 0) (u, carried_after out a) in
+      × RestsBlocked (step n x old new none) me (get_or s.words x 0) (u, carried_after out a) in
       exchanged (get_or s.words x 0) old new F
-        (λ hit.
-          let r = rest_blocked tag_in bits hs.world hs.phase b hs.shows id weight k mine x c v (marked_of bits old) (is-context tag_in bits shape s hs x c_in) has refl holds tagged (ap (marked_of bits) hit) is_held in
-          let k' : Known = without_context k c in
-          (held weight (noted kind.RestBlocked x (b.mark x) new k'), gives, tt,
-            mark-made tag_in bits shape s hs id weight k mine kind.RestBlocked x new out gives e d k' home c_in refl r.0 (inr refl)
-              (length-set s.homes x (opt.some (Some v))) (λ y _. home-set s.homes x (opt.some (Some v)) (omega (arith, c_in, hs.fits.homes)) y)
-              (subst (λ (q : ℕ). Shows tag_in bits (after hs.world e) d (record b { mark = with_at b.mark x q; home = home; views = set s.views id (held weight k') })) (sym new_is) r.1),
-            λ f f_at f_has. let one : c ≡ f = same-carried k c f has f_has (sym f_at) in
-            ((λ _. λ j. (held weight (noted kind.RestBlocked x (b.mark x) new (without_context k (one j))), l)), (λ miss. absurd (miss hit)))))
-        (λ miss. (held weight (noted kind.RestBlocked x (get_or s.words x 0) (get_or s.words x 0) k), keeps, tt, sees tag_in bits shape s hs id weight k mine kind.RestBlocked x out (inl (tt, refl, refl)),
-          λ f f_at f_has. ((λ hit. absurd (miss hit)), (λ _. refl))))
+      (λ hit.
+      let r = rest_blocked tag_in bits hs.world hs.phase b hs.shows id weight k mine x c v (marked_of bits old) (is-context tag_in bits shape s hs x c_in) has refl holds tagged (ap (marked_of bits) hit) is_held in
+      let k' : Known = without_context k c in (
+        held weight (noted kind.RestBlocked x (b.mark x) new k'),
+        gives,
+        tt,
+        mark-made tag_in bits shape s hs id weight k mine kind.RestBlocked x new out gives e d k' home c_in refl r.0 (inr refl)
+            (length-set s.homes x (opt.some (Some v))) (λ y _. home-set s.homes x (opt.some (Some v)) (omega (arith, c_in, hs.fits.homes)) y)
+            (subst (λ (q : ℕ). Shows tag_in bits (after hs.world e) d (record b { mark = with_at b.mark x q; home = home; views = set s.views id (held weight k') })) (sym new_is) r.1),
+        λ f f_at f_has. let one : c ≡ f = same-carried k c f has f_has (sym f_at) in
+            ((λ _. λ j. (held weight (noted kind.RestBlocked x (b.mark x) new (without_context k (one j))), l)), (λ miss. absurd (miss hit))),
+      ))
+      (λ miss. (
+        held weight (noted kind.RestBlocked x (get_or s.words x 0) (get_or s.words x 0) k),
+        keeps,
+        tt,
+        sees tag_in bits shape s hs id weight k mine kind.RestBlocked x out (inl (tt, refl, refl)),
+        λ f f_at f_has. ((λ hit. absurd (miss hit)), (λ _. refl)),
+      ))
 
   pub rest-blocked-allowed : (slots id : ℕ) (me : Mine T) (c : Carried) (v : T) (x old new : ℕ) → slots ≡ contexts_in shape → IsLive me → x ≡ c.context → x < slots → Carries me.0.known c → c.held ≡ true
       → me.1 ≡ (c.context, Some v) ∷ rest me.1 → tag_in v ≡ c.tag → (marked_of bits old).mark ≡ mark.Held → new ≡ mark_word bits (marked_as mark.Blocked c)
@@ -98,30 +109,38 @@ module _ {T : Type 0} (tag_in : T → ℕ) (bits : ℕ) (shape : Shape) where
   rest-blocked-allowed slots id me c v x old new laid live there x_in has holds slot tagged is_held new_is =
       for-seat (λ m j e. Allows (Holds tag_in bits shape) m id e j (λ q. either (eqb q old) new q) (RestsBlocked (step m j old new none) e)) slots x n c.context me laid there live
       (subst (λ (z : List (ℕ × Option T)). Allows (Holds tag_in bits shape) n id (held me.0.weight me.0.known, z) c.context (λ q. either (eqb q old) new q) (RestsBlocked (step n c.context old new none) (held me.0.weight me.0.known, z))) (sym slot)
-        (rests-blocked id me.0.weight me.0.known (rest me.1) c v old new (subst (λ (q : ℕ). q < n) there (subst (λ (m : ℕ). x < m) laid x_in)) has holds tagged is_held new_is))
+      (rests-blocked id me.0.weight me.0.known (rest me.1) c v old new (subst (λ (q : ℕ). q < n) there (subst (λ (m : ℕ). x < m) laid x_in)) has holds tagged is_held new_is))
 
   -- ---- a wake
 
   wakes : (id weight : ℕ) (k : Known) (l : List (ℕ × Option T)) (x old new : ℕ) (how : Kind) → x < n → IsExchange how
       → ((s : Table T) (hs : Holds tag_in bits shape s) → get_elem? s.views id ≡ some (held weight k) → get_or s.words x 0 ≡ old
-          → EventOf bits hs.world id how x (get_or s.words x 0) new (event.Wake (record { context = x; generation = (marked_of bits (get_or s.words x 0)).generation }))
-          × Allowed hs.world (event.Wake (record { context = x; generation = (marked_of bits (get_or s.words x 0)).generation }))
-          × Shows tag_in bits (after hs.world (event.Wake (record { context = x; generation = (marked_of bits (get_or s.words x 0)).generation }))) hs.phase
-              (record (board_of n s) { mark = with_at (board_of n s).mark x new; views = set s.views id (held weight k) }))
+      → EventOf bits hs.world id how x (get_or s.words x 0) new (event.Wake (record { context = x; generation = (marked_of bits (get_or s.words x 0)).generation }))
+      × Allowed hs.world (event.Wake (record { context = x; generation = (marked_of bits (get_or s.words x 0)).generation }))
+      × Shows tag_in bits (after hs.world (event.Wake (record { context = x; generation = (marked_of bits (get_or s.words x 0)).generation }))) hs.phase
+      (record (board_of n s) { mark = with_at (board_of n s).mark x new; views = set s.views id (held weight k) }))
       → Allows (Holds tag_in bits shape) n id (held weight k, l) x (λ q. either (eqb q old) new q) (Wakes how (step n x old new none) (held weight k, l))
   wakes id weight k l x old new how x_in tried law s hs long mine small =
       let b : Board T = board_of n s in
       let e : Event = event.Wake (record { context = x; generation = (marked_of bits (get_or s.words x 0)).generation }) in
       let F : ℕ → Type 0 = λ (q : ℕ). (u : Token Known) × (a : Act (Option T)) × Valid s.homes l a × Holds tag_in bits shape (stepped s x q id l u a)
-          × Wakes how (step n x old new none) (held weight k, l) (get_or s.words x 0) (u, carried_after l a) in
+      × Wakes how (step n x old new none) (held weight k, l) (get_or s.words x 0) (u, carried_after l a) in
       exchanged (get_or s.words x 0) old new F
-        (λ hit.
-          let r = law s hs mine hit in
-          (held weight (noted how x (b.mark x) new k), keeps, tt,
-            mark-made tag_in bits shape s hs id weight k mine how x new l keeps e hs.phase k b.home x_in refl r.1 (inr r.0) refl (λ y _. refl) r.2,
-            ((λ _. refl), (λ miss. absurd (miss hit)))))
-        (λ miss. (held weight (noted how x (get_or s.words x 0) (get_or s.words x 0) k), keeps, tt, sees tag_in bits shape s hs id weight k mine how x l (inl (tried, refl, refl)),
-          ((λ hit. absurd (miss hit)), (λ _. refl))))
+      (λ hit.
+      let r = law s hs mine hit in (
+        held weight (noted how x (b.mark x) new k),
+        keeps,
+        tt,
+        mark-made tag_in bits shape s hs id weight k mine how x new l keeps e hs.phase k b.home x_in refl r.1 (inr r.0) refl (λ y _. refl) r.2,
+        ((λ _. refl), (λ miss. absurd (miss hit))),
+      ))
+      (λ miss. (
+        held weight (noted how x (get_or s.words x 0) (get_or s.words x 0) k),
+        keeps,
+        tt,
+        sees tag_in bits shape s hs id weight k mine how x l (inl (tried, refl, refl)),
+        ((λ hit. absurd (miss hit)), (λ _. refl)),
+      ))
 
   -- BLOCKED to READY
   pub wake-allowed : (slots id : ℕ) (me : Mine T) (x old new : ℕ) (m : Marked) → slots ≡ contexts_in shape → IsLive me → x < slots → marked_of bits old ≡ m → m.mark ≡ mark.Blocked → new ≡ mark_word bits (record m { mark = mark.Ready })
@@ -130,12 +149,15 @@ module _ {T : Type 0} (tag_in : T → ℕ) (bits : ℕ) (shape : Shape) where
       let x_is : x < n = subst (λ (a : ℕ). x < a) laid x_in in
       for-seat (λ a j e. Allows (Holds tag_in bits shape) a id e j (λ q. either (eqb q old) new q) (Wakes kind.Wake (step a j old new none) e)) slots x n x me laid refl live
       (wakes id me.0.weight me.0.known me.1 x old new kind.Wake x_is tt (λ s hs mine hit.
-        let u : Marked = marked_of bits (get_or s.words x 0) in
-        let at : u ≡ m = ap (marked_of bits) hit ∙ read in
-        let r = wake_blocked tag_in bits hs.world hs.phase (board_of n s) hs.shows id me.0.weight me.0.known mine x u (is-context tag_in bits shape s hs x x_is) refl (ap (λ (q : Marked). q.mark) at ∙ is_blocked) in
-        let becomes : mark_word bits (record u { mark = mark.Ready }) ≡ new = ap (λ (q : Marked). mark_word bits (record q { mark = mark.Ready })) at ∙ sym new_is in
-        (refl, r.0, subst (λ (q : ℕ). Shows tag_in bits (after hs.world (event.Wake (record { context = x; generation = u.generation }))) hs.phase
-          (record (board_of n s) { mark = with_at (board_of n s).mark x q; views = set s.views id (held me.0.weight me.0.known) })) becomes r.1)))
+      let u : Marked = marked_of bits (get_or s.words x 0) in
+      let at : u ≡ m = ap (marked_of bits) hit ∙ read in
+      let r = wake_blocked tag_in bits hs.world hs.phase (board_of n s) hs.shows id me.0.weight me.0.known mine x u (is-context tag_in bits shape s hs x x_is) refl (ap (λ (q : Marked). q.mark) at ∙ is_blocked) in
+      let becomes : mark_word bits (record u { mark = mark.Ready }) ≡ new = ap (λ (q : Marked). mark_word bits (record q { mark = mark.Ready })) at ∙ sym new_is in (
+        refl,
+        r.0,
+        subst (λ (q : ℕ). Shows tag_in bits (after hs.world (event.Wake (record { context = x; generation = u.generation }))) hs.phase
+            (record (board_of n s) { mark = with_at (board_of n s).mark x q; views = set s.views id (held me.0.weight me.0.known) })) becomes r.1,
+      )))
 
   -- HELD to WOKEN
   pub mark-woken-allowed : (slots id : ℕ) (me : Mine T) (x old new : ℕ) (m : Marked) → slots ≡ contexts_in shape → IsLive me → x < slots → marked_of bits old ≡ m → m.mark ≡ mark.Held → new ≡ mark_word bits (record m { mark = mark.Woken })
@@ -144,9 +166,12 @@ module _ {T : Type 0} (tag_in : T → ℕ) (bits : ℕ) (shape : Shape) where
       let x_is : x < n = subst (λ (a : ℕ). x < a) laid x_in in
       for-seat (λ a j e. Allows (Holds tag_in bits shape) a id e j (λ q. either (eqb q old) new q) (Wakes kind.MarkWoken (step a j old new none) e)) slots x n x me laid refl live
       (wakes id me.0.weight me.0.known me.1 x old new kind.MarkWoken x_is tt (λ s hs mine hit.
-        let u : Marked = marked_of bits (get_or s.words x 0) in
-        let at : u ≡ m = ap (marked_of bits) hit ∙ read in
-        let r = wake_held tag_in bits hs.world hs.phase (board_of n s) hs.shows id me.0.weight me.0.known mine x u (is-context tag_in bits shape s hs x x_is) refl (ap (λ (q : Marked). q.mark) at ∙ is_held) in
-        let becomes : mark_word bits (record u { mark = mark.Woken }) ≡ new = ap (λ (q : Marked). mark_word bits (record q { mark = mark.Woken })) at ∙ sym new_is in
-        (refl, r.0, subst (λ (q : ℕ). Shows tag_in bits (after hs.world (event.Wake (record { context = x; generation = u.generation }))) hs.phase
-          (record (board_of n s) { mark = with_at (board_of n s).mark x q; views = set s.views id (held me.0.weight me.0.known) })) becomes r.1)))
+      let u : Marked = marked_of bits (get_or s.words x 0) in
+      let at : u ≡ m = ap (marked_of bits) hit ∙ read in
+      let r = wake_held tag_in bits hs.world hs.phase (board_of n s) hs.shows id me.0.weight me.0.known mine x u (is-context tag_in bits shape s hs x x_is) refl (ap (λ (q : Marked). q.mark) at ∙ is_held) in
+      let becomes : mark_word bits (record u { mark = mark.Woken }) ≡ new = ap (λ (q : Marked). mark_word bits (record q { mark = mark.Woken })) at ∙ sym new_is in (
+        refl,
+        r.0,
+        subst (λ (q : ℕ). Shows tag_in bits (after hs.world (event.Wake (record { context = x; generation = u.generation }))) hs.phase
+            (record (board_of n s) { mark = with_at (board_of n s).mark x q; views = set s.views id (held me.0.weight me.0.known) })) becomes r.1,
+      )))

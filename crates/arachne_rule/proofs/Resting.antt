@@ -1,5 +1,5 @@
--- S8 and S9: a thread is put back.
-use Rattle.std.proofs.Common.{◌≡◌, ◌≢◌, ℕ, ◌+◌, ◌-◌, ◌*◌, ◌<◌, ◌≤◌, ◌^◌, Bool, true, false, ◌&&◌, ◌∷◌, refl, sym, ap, ◌∙◌, subst, set, ◌⊎◌, []}
+-- A thread is put back.
+use Rattle.std.proofs.Common.{◌≡◌, ℕ, Bool, true, false, ◌&&◌, ◌∷◌, refl, sym, ap, ◌∙◌, subst, set, []}
 use mathlib.Core.Option as opt
 use lib.ListN.{get_elem?}
 use Rattle.std.specs.declared.option.Option.TheVariants.{Some}
@@ -20,8 +20,9 @@ use Rattle.arachne_weights.specs.Tokens.{held}
 use Rattle.arachne_rule.specs.declared.view.Carried.{Carried}
 use Rattle.arachne_rule.specs.declared.view.Known.{Known}
 use Rattle.arachne_rule.specs.Views.{carried_at, without, without_context}
-use Rattle.arachne_rule.specs.Rule.{Coherent, carried_if, carried_of, share_of, HasValue, Board, Phase, Shows}
-use Rattle.arachne_rule.proofs.Carrying.{without-at, without-else, known-there}
+use Rattle.arachne_rule.specs.Rule.{Coherent, carried_if, carried_of, HasValue, Board, Phase, Shows}
+use Rattle.arachne_rule.proofs.Shares.{my-share}
+use Rattle.arachne_rule.proofs.Carrying.{without-at, without-else}
 use Rattle.arachne_rule.proofs.Views.{given-same, ended-same}
 use Rattle.arachne_rule.proofs.Marking.{Small, small, marking, held-carried, not-held}
 use Rattle.arachne_rule.proofs.Seen.{seen}
@@ -33,11 +34,7 @@ not-woken h false t e = refl
 
 module _ {T : Type 0} (tag_in : T → ℕ) (bits : ℕ) (w : World) (d : ℕ → Phase) (b : Board T) (s : Shows tag_in bits w d b)
     (h weight : ℕ) (k : Known) (mine : get_elem? b.views h ≡ opt.some (held weight k)) where
-
-  my-share : (x : ℕ) (g : Carried) → IsContext w x → carried_at x k.carried ≡ g ∷ [] → share_of w d h x ≡ g ∷ []
-  my-share x g x_in got = sym (s.carried h x x_in) ∙ ap (λ (r : Known). carried_at x r.carried) (known-there b.views h (held weight k) mine) ∙ got
-
-  -- the context of a carried goes to a state at rest, with its value at home
+  -- a held context goes to a state at rest, with its value at home
   rests : (x : ℕ) (g : Carried) (v : T) (r : Rest) (st : State) (mk : Mark) (al : Bool) → IsContext w x → carried_at x k.carried ≡ g ∷ [] → g.context ≡ x → (woken : Bool)
       → w.state x ≡ Held h woken g.tag → g ≡ carried_of w d x true g.tag
       → put_back r (Held h woken g.tag) ≡ st → mark_of st ≡ mk → is_live_state st ≡ true
@@ -68,34 +65,37 @@ module _ {T : Type 0} (tag_in : T → ℕ) (bits : ℕ) (w : World) (d : ℕ →
       let a : Board T = record b { mark = with_at b.mark x (mark_word bits n); home = with_at b.home x (opt.some (opt.some (Some v))); views = set b.views h (held weight k') } in
       let al' : (is_live_state (q.state x) && w.alone (core_of w x)) ≡ g.alone = ap (λ (t : State). is_live_state t && w.alone (core_of w x)) now ∙ ap (λ (t : Bool). t && w.alone (core_of w x)) live ∙ sym alone in
       let at_mark : mark_of (q.state x) ≡ mk = ap mark_of now ∙ marks in
-      let at_place : (e x).shown ≡ g.place = ap (λ (u : Phase). u.shown) phase ∙ shown ∙ sym place in
-      (may, marking tag_in bits w c d e b a x h weight k k' s x_in
-        (record {
-          mine = mine; views = refl;
-          occ = λ j _. refl;
-          mark = λ y _ m. with_at-other b.mark x (mark_word bits n) y m;
-          home = λ y _ m. with_at-other b.home x (opt.some (opt.some (Some v))) y m;
-          name = λ p _ m. refl;
-          phase = λ y m. with_at-other d x ar y m;
-          carried = λ y m. without-else g.context y k.carried (λ f. m (f ∙ same));
-          state = λ y m. with_at-other w.state x (put_back r (w.state x)) y m;
-          generation = λ y m. refl;
-        })
-        (keeps_owned_once w (event.Rest h x r) s.owned may)
-        (record {
-          within = subst (λ (u : Phase). IsPlace w u.shown) (sym phase) old.within;
-          coherent = subst (λ (t : State). Coherent t (w.at x) (e x)) (sym now) (coherent (w.at x) (e x) (ap (λ (u : Phase). u.away) phase, ap (λ (u : Phase). u.shown) phase ∙ shown));
-          mark = with_at-same b.mark x (mark_word bits n) ∙ sym (ap (mark_word bits) (λ i. record { mark = at_mark i; alone = al' i; place = at_place i; generation = sym gen i }));
-          named = λ f. old.named (ap (λ (u : Phase). u.named) (sym phase) ∙ f);
-          value = λ _. subst (λ (t : State). HasValue tag_in t (a.home x)) (sym now) (value (a.home x) (with_at-same b.home x (opt.some (opt.some (Some v)))));
-        })
-        (s.names (w.at x) (s.owned.placed x x_in))
-        (ap (λ (y : ℕ). carried_at y (without g.context k.carried)) (sym same) ∙ without-at g.context k.carried ∙ sym (ap (λ (t : State). carried_if t h (carried_of (small w c) e x)) now ∙ nobody h (carried_of (small w c) e x)))
-        (λ j m. ap (λ (t : State). carried_if t j (carried_of w d x)) was ∙ not-held h woken g.tag j (carried_of w d x) m ∙ sym (ap (λ (t : State). carried_if t j (carried_of (small w c) e x)) now ∙ nobody j (carried_of (small w c) e x)))
-        (λ t. s.given t ∙ given-same b.views h weight k k' mine refl t)
-        (λ t. s.ended t ∙ ended-same b.views h weight k k' mine refl t))
+      let at_place : (e x).shown ≡ g.place = ap (λ (u : Phase). u.shown) phase ∙ shown ∙ sym place in (
+        may,
+        marking tag_in bits w c d e b a x h weight k k' s x_in
+            (record {
+              mine = mine;
+              views = refl;
+              occ = λ j _. refl;
+              mark = λ y _ m. with_at-other b.mark x (mark_word bits n) y m;
+              home = λ y _ m. with_at-other b.home x (opt.some (opt.some (Some v))) y m;
+              name = λ p _ m. refl;
+              phase = λ y m. with_at-other d x ar y m;
+              carried = λ y m. without-else g.context y k.carried (λ f. m (f ∙ same));
+              state = λ y m. with_at-other w.state x (put_back r (w.state x)) y m;
+              generation = λ y m. refl;
+            })
+            (keeps_owned_once w (event.Rest h x r) s.owned may)
+            (record {
+              within = subst (λ (u : Phase). IsPlace w u.shown) (sym phase) old.within;
+              coherent = subst (λ (t : State). Coherent t (w.at x) (e x)) (sym now) (coherent (w.at x) (e x) (ap (λ (u : Phase). u.away) phase, ap (λ (u : Phase). u.shown) phase ∙ shown));
+              mark = with_at-same b.mark x (mark_word bits n) ∙ sym (ap (mark_word bits) (λ i. record { mark = at_mark i; alone = al' i; place = at_place i; generation = sym gen i }));
+              named = λ f. old.named (ap (λ (u : Phase). u.named) (sym phase) ∙ f);
+              value = λ _. subst (λ (t : State). HasValue tag_in t (a.home x)) (sym now) (value (a.home x) (with_at-same b.home x (opt.some (opt.some (Some v)))));
+            })
+            (s.names (w.at x) (s.owned.placed x x_in))
+            (ap (λ (y : ℕ). carried_at y (without g.context k.carried)) (sym same) ∙ without-at g.context k.carried ∙ sym (ap (λ (t : State). carried_if t h (carried_of (small w c) e x)) now ∙ nobody h (carried_of (small w c) e x)))
+            (λ j m. ap (λ (t : State). carried_if t j (carried_of w d x)) was ∙ not-held h woken g.tag j (carried_of w d x) m ∙ sym (ap (λ (t : State). carried_if t j (carried_of (small w c) e x)) now ∙ nobody j (carried_of (small w c) e x)))
+            (λ t. s.given t ∙ given-same b.views h weight k k' mine refl t)
+            (λ t. s.ended t ∙ ended-same b.views h weight k k' mine refl t),
+      )
 
-  -- S8: ready
+  -- as ready
   pub rest_ready : (x : ℕ) (g : Carried) (v : T) → IsContext w x → carried_at x k.carried ≡ g ∷ [] → g.context ≡ x → g.held ≡ true → tag_in v ≡ g.tag
       → Allowed w (event.Rest h x rest.Ready)
       × Shows tag_in bits (after w (event.Rest h x rest.Ready)) (with_at d x (record (d x) { away = false })) (record b {
@@ -104,12 +104,12 @@ module _ {T : Type 0} (tag_in : T → ℕ) (bits : ℕ) (w : World) (d : ℕ →
         views = set b.views h (held weight (without_context k g));
       })
   rest_ready x g v x_in got same holds tagged =
-      let is = held-carried (w.state x) h (carried_of w d x) g (λ q t. refl) (my-share x g x_in got) holds in
+      let is = held-carried (w.state x) h (carried_of w d x) g (λ q t. refl) (my-share tag_in bits w d b s h weight k mine x g x_in got) holds in
       let tag : is.1 ≡ g.tag = sym (ap (λ (u : Carried). u.tag) is.3) in
       rests x g v rest.Ready (Ready g.tag) mark.Ready g.alone x_in got same is.0 (is.2 ∙ ap (Held h is.0) tag) (is.3 ∙ ap (carried_of w d x true) tag) refl refl refl
       (λ j f. refl) (λ p a c. c) (λ z e. (v, e, tagged))
 
-  -- S9: blocked, where the mark word says HELD
+  -- as blocked, where the mark word says HELD
   pub rest_blocked : (x : ℕ) (g : Carried) (v : T) (m : Marked) → IsContext w x → carried_at x k.carried ≡ g ∷ [] → g.context ≡ x → g.held ≡ true → tag_in v ≡ g.tag
       → marked_of bits (b.mark x) ≡ m → m.mark ≡ mark.Held
       → Allowed w (event.Rest h x rest.Blocked)
@@ -119,7 +119,7 @@ module _ {T : Type 0} (tag_in : T → ℕ) (bits : ℕ) (w : World) (d : ℕ →
         views = set b.views h (held weight (without_context k g));
       })
   rest_blocked x g v m x_in got same holds tagged read is_held =
-      let is = held-carried (w.state x) h (carried_of w d x) g (λ q t. refl) (my-share x g x_in got) holds in
+      let is = held-carried (w.state x) h (carried_of w d x) g (λ q t. refl) (my-share tag_in bits w d b s h weight k mine x g x_in got) holds in
       let tag : is.1 ≡ g.tag = sym (ap (λ (u : Carried). u.tag) is.3) in
       let marked_held : mark_of (w.state x) ≡ mark.Held = ap (λ (u : Marked). u.mark) (sym (seen tag_in bits w d b s x x_in) ∙ read) ∙ is_held in
       let sleepy : is.0 ≡ false = not-woken h is.0 is.1 (ap mark_of (sym is.2) ∙ marked_held) in

@@ -1,5 +1,5 @@
 -- What the table asks of a split and a join of seats.
-use Rattle.std.proofs.Common.{◌≡◌, ◌≢◌, ℕ, zero, suc, ◌+◌, ◌<◌, ◌≤◌, ◌⊎◌, true, false, eqb, List, [], ◌∷◌, ◌++◌, length, length-set, length-append, refl, sym, ap, ◌∙◌, subst, arith, inl, inr, set}
+use Rattle.std.proofs.Common.{◌≡◌, ℕ, zero, suc, ◌+◌, ◌≤◌, ◌⊎◌, eqb, List, [], ◌∷◌, ◌++◌, length, length-set, length-append, refl, sym, ap, ◌∙◌, subst, arith, inl, inr, set}
 use Rattle.std.proofs.lemmas.Bool.{true≢false, cond-false, ne_eqb}
 use mathlib.Core.Option.{some, some-injective, some-ne-none}
 use lib.ListN.{get_elem?}
@@ -41,11 +41,17 @@ module _ {T : Type 0} (tag_in : T → ℕ) (bits : ℕ) (shape : Shape) where
       let t = hs.tells in
       let long : length (set s.views id left ++ right ∷ []) ≡ length s.views + 1 = length-append (set s.views id left) (right ∷ []) ∙ ap (λ (m : ℕ). m + 1) (length-set s.views id left) in
       record {
-        world = hs.world; phase = hs.phase; first = hs.first; history = hs.history;
+        world = hs.world;
+        phase = hs.phase;
+        first = hs.first;
+        history = hs.history;
         fits = record { cores = hs.fits.cores; slots = hs.fits.slots; last = hs.fits.last; words = hs.fits.words; homes = hs.fits.homes };
         shows = split tag_in bits hs.world hs.phase (board_of (contexts_in shape) s) hs.shows id weight k mine;
         tells = record {
-          first_words = t.first_words; lawful = t.lawful; world = t.world; words = t.words;
+          first_words = t.first_words;
+          lawful = t.lawful;
+          world = t.world;
+          words = t.words;
           seats = more-seats (length s.views) (length (set s.views id left ++ right ∷ [])) hs.history (omega (arith, long)) t.seats;
           records = λ h q r got. elim (snoc-at (set s.views id left) right (held q r) h got) [
             | inl e ↦ elim (at_set s.views id h left (held q r) e) [
@@ -69,11 +75,17 @@ module _ {T : Type 0} (tag_in : T → ℕ) (bits : ℕ) (shape : Shape) where
       let theirs : get_elem? s.views other ≡ some (held added o) = sym (set_else s.views id other both apart) ∙ from in
       let long : length (set (set s.views id both) other nothing) ≡ length s.views = length-set (set s.views id both) other nothing ∙ length-set s.views id both in
       record {
-        world = hs.world; phase = hs.phase; first = hs.first; history = hs.history;
+        world = hs.world;
+        phase = hs.phase;
+        first = hs.first;
+        history = hs.history;
         fits = record { cores = hs.fits.cores; slots = hs.fits.slots; last = hs.fits.last; words = hs.fits.words; homes = hs.fits.homes };
         shows = join tag_in bits hs.world hs.phase (board_of (contexts_in shape) s) hs.shows id weight k mine other added o apart theirs none_out;
         tells = record {
-          first_words = t.first_words; lawful = t.lawful; world = t.world; words = t.words;
+          first_words = t.first_words;
+          lawful = t.lawful;
+          world = t.world;
+          words = t.words;
           seats = subst (λ (m : ℕ). AreOfSeats m hs.history) (sym long) t.seats;
           records = λ h q r got. elim (at_set (set s.views id both) other h nothing (held q r) got) [
             | inl e ↦ absurd (true≢false (sym (ap (λ (z : Token Known). z.live) e.1)))
@@ -90,4 +102,4 @@ module _ {T : Type 0} (tag_in : T → ℕ) (bits : ℕ) (shape : Shape) where
   join-allowed id v other u mine theirs none_out =
       subst (λ (a : Token Known). Joins (Holds tag_in bits shape) id a other u (joined_seat v u) (spent blank)) (sym mine)
       (subst (λ (a : Token Known). Joins (Holds tag_in bits shape) id (held v.weight v.known) other a (joined_seat v u) (spent blank)) (sym theirs)
-        (gathers id v.weight v.known other u.weight u.known none_out))
+      (gathers id v.weight v.known other u.weight u.known none_out))

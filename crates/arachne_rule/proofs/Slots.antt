@@ -1,5 +1,5 @@
--- S3: the empty slot of a context that is claimed or held comes to its carrier, and its place word is learned.
-use Rattle.std.proofs.Common.{◌≡◌, ◌≢◌, ℕ, ◌+◌, ◌-◌, ◌*◌, ◌<◌, ◌≤◌, ◌^◌, Bool, true, false, eqb, Option, ◌&&◌, ◌∷◌, refl, sym, ap, ◌∙◌, subst, set, ◌⊎◌, []}
+-- The empty slot of a context that is claimed or held comes to its carrier, and its place word is learned.
+use Rattle.std.proofs.Common.{◌≡◌, ℕ, Bool, true, false, eqb, Option, ◌∷◌, refl, sym, ap, ◌∙◌, subst, set, []}
 use Rattle.std.proofs.lemmas.Bool.{eqb-true, ne_eqb, true≢false, cond-true, cond-false}
 use mathlib.Core.Option as opt
 use lib.ListN.{get_elem?}
@@ -7,9 +7,6 @@ use Rattle.std.specs.declared.option.Option.TheVariants.{None}
 use Rattle.arachne_core.specs.declared.place.Place.{Place}
 use Rattle.arachne_core.specs.declared.state.State.{State}
 use Rattle.arachne_core.specs.declared.state.State.TheVariants.{Free, Claimed, Ready, Blocked, Held, Spent}
-use Rattle.arachne_core.specs.declared.state.Rest.TheVariants as rest
-use Rattle.arachne_core.specs.declared.event.Event.TheVariants as event
-use Rattle.arachne_core.specs.declared.mark.Mark.TheVariants as mark
 use Rattle.arachne_core.specs.Marked.{mark_word}
 use Rattle.arachne_core.specs.World.{World, IsContext, IsPlace, with_at}
 use Rattle.arachne_core.specs.ContextTable.{marked}
@@ -40,7 +37,7 @@ carried-says (Ready t) h f field g v e all = absurd (no-carried g (sym e))
 carried-says (Blocked t) h f field g v e all = absurd (no-carried g (sym e))
 carried-says Spent h f field g v e all = absurd (no-carried g (sym e))
 
-carried-alone : (s : State) (h j : ℕ) (f f' : Bool → ℕ → Carried) (g : Carried) → carried_if s h f ≡ g ∷ [] → (j ≡ h → ⊥) → carried_if s j f' ≡ []
+pub carried-alone : (s : State) (h j : ℕ) (f f' : Bool → ℕ → Carried) (g : Carried) → carried_if s h f ≡ g ∷ [] → (j ≡ h → ⊥) → carried_if s j f' ≡ []
 carried-alone (Claimed k) h j f f' g e n = let r = carried-of-held (eqb k h) (f false 0) g e in cond-false (eqb k j) (f' false 0 ∷ []) [] (ne_eqb k j (λ u. n (sym u ∙ eqb-true k h r.0)))
 carried-alone (Held k w t) h j f f' g e n = let r = carried-of-held (eqb k h) (f true t) g e in cond-false (eqb k j) (f' true t ∷ []) [] (ne_eqb k j (λ u. n (sym u ∙ eqb-true k h r.0)))
 carried-alone Free h j f f' g e n = refl
@@ -66,7 +63,6 @@ carried-coherent Spent p a h f g q e c = absurd (no-carried g (sym e))
 
 module _ {T : Type 0} (tag_in : T → ℕ) (bits : ℕ) (w : World) (d : ℕ → Phase) (b : Board T) (s : Shows tag_in bits w d b)
     (h weight : ℕ) (k : Known) (mine : get_elem? b.views h ≡ opt.some (held weight k)) where
-
   -- the slot is empty, and the place word names the context where my view says so
   pub learn : (x : ℕ) (g : Carried) → IsContext w x → carried_at x k.carried ≡ g ∷ [] → g.context ≡ x → g.away ≡ false
       → (b.home x ≡ opt.some (opt.some None)) × (g.named ≡ true → b.name g.place ≡ x)
@@ -86,36 +82,48 @@ module _ {T : Type 0} (tag_in : T → ℕ) (bits : ℕ) (w : World) (d : ℕ →
       let now : e x ≡ r = with_at-same d x r in
       let g' : Carried = record g { away = true } in
       let a : Board T = record b { home = with_at b.home x (opt.some opt.none); views = set b.views h (held weight (with_context k g')) } in
-      let c : Small = record { state = w.state; generation = w.generation; given = w.given; ended = w.ended } in
-      (carried-empty tag_in (w.state x) h f g (b.home x) has (old.value is_away), (λ m. ap b.name place ∙ old.named (sym is_named ∙ m)),
-      marking tag_in bits w c d e b a x h weight k (with_context k g') s x_in
-        (record {
-          mine = mine; views = refl;
-          occ = λ j _. refl;
-          mark = λ z _ m. refl;
-          home = λ z _ m. with_at-other b.home x (opt.some opt.none) z m;
-          name = λ p _ m. refl;
-          phase = λ z m. with_at-other d x r z m;
-          carried = λ z m. with-else g' x z k.carried same m;
-          state = λ z m. refl; generation = λ z m. refl;
-        })
-        s.owned
-        (record {
-          within = subst (λ (u : Phase). IsPlace w u.shown) (sym now) old.within;
-          coherent = subst (λ (u : Phase). Coherent (w.state x) (w.at x) u) (sym now) (carried-coherent (w.state x) (w.at x) (d x) h f g true has old.coherent);
-          mark = old.mark ∙ ap (λ (u : Phase). mark_word bits (record (marked w x) { place = u.shown })) (sym now);
-          named = λ m. old.named (ap (λ (u : Phase). u.named) (sym now) ∙ m);
-          value = λ m. absurd (true≢false (ap (λ (u : Phase). u.away) (sym now) ∙ m));
-        })
-        (s.names (w.at x) (s.owned.placed x x_in))
-        (with-at g' x k.carried same ∙ sym (carried-again (w.state x) h f (carried_of w e x) g g' has (λ q t is. λ i. record {
-          context = (is i).context; place = (is i).place; shown = (ap (λ (u : Carried). u.shown) is ∙ sym (ap (λ (u : Phase). u.shown) now)) i; generation = (is i).generation; held = (is i).held; tag = (is i).tag; alone = (is i).alone;
-          named = (ap (λ (u : Carried). u.named) is ∙ sym (ap (λ (u : Phase). u.named) now)) i; away = sym (ap (λ (u : Phase). u.away) now) i })))
-        (λ j m. carried-alone (w.state x) h j f f g has m ∙ sym (carried-alone (w.state x) h j f (carried_of w e x) g has m))
-        (λ t. s.given t ∙ given-same b.views h weight k (with_context k g') mine refl t)
-        (λ t. s.ended t ∙ ended-same b.views h weight k (with_context k g') mine refl t))
+      let c : Small = record { state = w.state; generation = w.generation; given = w.given; ended = w.ended } in (
+        carried-empty tag_in (w.state x) h f g (b.home x) has (old.value is_away),
+        (λ m. ap b.name place ∙ old.named (sym is_named ∙ m)),
+        marking tag_in bits w c d e b a x h weight k (with_context k g') s x_in
+            (record {
+              mine = mine;
+              views = refl;
+              occ = λ j _. refl;
+              mark = λ z _ m. refl;
+              home = λ z _ m. with_at-other b.home x (opt.some opt.none) z m;
+              name = λ p _ m. refl;
+              phase = λ z m. with_at-other d x r z m;
+              carried = λ z m. with-else g' x z k.carried same m;
+              state = λ z m. refl;
+              generation = λ z m. refl;
+            })
+            s.owned
+            (record {
+              within = subst (λ (u : Phase). IsPlace w u.shown) (sym now) old.within;
+              coherent = subst (λ (u : Phase). Coherent (w.state x) (w.at x) u) (sym now) (carried-coherent (w.state x) (w.at x) (d x) h f g true has old.coherent);
+              mark = old.mark ∙ ap (λ (u : Phase). mark_word bits (record (marked w x) { place = u.shown })) (sym now);
+              named = λ m. old.named (ap (λ (u : Phase). u.named) (sym now) ∙ m);
+              value = λ m. absurd (true≢false (ap (λ (u : Phase). u.away) (sym now) ∙ m));
+            })
+            (s.names (w.at x) (s.owned.placed x x_in))
+            (with-at g' x k.carried same ∙ sym (carried-again (w.state x) h f (carried_of w e x) g g' has (λ q t is. λ i. record {
+              context = (is i).context;
+              place = (is i).place;
+              shown = (ap (λ (u : Carried). u.shown) is ∙ sym (ap (λ (u : Phase). u.shown) now)) i;
+              generation = (is i).generation;
+              held = (is i).held;
+              tag = (is i).tag;
+              alone = (is i).alone;
+              named = (ap (λ (u : Carried). u.named) is ∙ sym (ap (λ (u : Phase). u.named) now)) i;
+              away = sym (ap (λ (u : Phase). u.away) now) i;
+            })))
+            (λ j m. carried-alone (w.state x) h j f f g has m ∙ sym (carried-alone (w.state x) h j f (carried_of w e x) g has m))
+            (λ t. s.given t ∙ given-same b.views h weight k (with_context k g') mine refl t)
+            (λ t. s.ended t ∙ ended-same b.views h weight k (with_context k g') mine refl t),
+      )
 
-  -- two carried of one seat at one place are of one context: what a release needs to say which of the seat's claims it gave up
+  -- what a seat carries at one place is one context
   pub one-claim : (x y : ℕ) (g f : Carried) → IsContext w x → IsContext w y → carried_at x k.carried ≡ g ∷ [] → carried_at y k.carried ≡ f ∷ [] → g.place ≡ f.place → x ≡ y
   one-claim x y g f x_in y_in got also same =
       let at : (z : ℕ) (u : Carried) → IsContext w z → carried_at z k.carried ≡ u ∷ [] → u.place ≡ w.at z = λ z u z_in has.

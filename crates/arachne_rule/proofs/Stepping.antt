@@ -1,5 +1,5 @@
 -- What one step makes of a table for which the rule holds: from the World after the step, and its words, to the rule.
-use Rattle.std.proofs.Common.{◌≡◌, ◌≢◌, ℕ, zero, suc, ◌+◌, ◌*◌, ◌<◌, ◌≤◌, List, [], ◌∷◌, length, length-set, refl, sym, ap, ◌∙◌, subst, set, get_or, Option}
+use Rattle.std.proofs.Common.{◌≡◌, ℕ, zero, suc, ◌<◌, ◌≤◌, List, [], ◌∷◌, length, length-set, refl, sym, ap, ◌∙◌, subst, set, get_or, Option}
 use Rattle.std.proofs.lemmas.List.{set-get_or}
 use mathlib.Core.Option as opt
 use mathlib.Core.Option.{some}
@@ -65,7 +65,7 @@ module _ {T : Type 0} (tag_in : T → ℕ) (bits : ℕ) (shape : Shape) (s : Tab
         fits = record { cores = z.0 ∙ hs.fits.cores; slots = z.1 ∙ hs.fits.slots; last = z.2 ∙ hs.fits.last; words = length-set s.words i new ∙ hs.fits.words; homes = homes ∙ hs.fits.homes };
         shows = shows;
         tells = tells-more bits shape w hs.first hs.history s hs.tells id weight k mine kind i new e k' (stepped s i new id l (held weight (noted kind i (get_or s.words i 0) new k')) act)
-          kept allowed makes refl refl;
+            kept allowed makes refl refl;
       }
 
   -- nothing changes but that the seat has seen the word
@@ -76,7 +76,7 @@ module _ {T : Type 0} (tag_in : T → ℕ) (bits : ℕ) (shape : Shape) (s : Tab
       let k' : Known = noted kind i found found k in
       makes-step kind i found l keeps event.Still hs.phase k refl tt makes refl
       (subst (λ (ws : List ℕ). Shows tag_in bits w hs.phase (board_of n (record { words = ws; homes = s.homes; views = set s.views id (held weight k') }))) (sym (set-get_or s.words i 0))
-        (noted_board tag_in bits w hs.phase b hs.shows id weight k mine k' refl refl refl))
+      (noted_board tag_in bits w hs.phase b hs.shows id weight k mine k' refl refl refl))
 
   -- an occupancy word changes
   pub core-made : (kind : Kind) (c new : ℕ) (l : List (ℕ × Option T)) (e : Event) (d : ℕ → Phase) (k' : Known) → c < shape.cores → k'.records ≡ k.records
@@ -88,9 +88,9 @@ module _ {T : Type 0} (tag_in : T → ℕ) (bits : ℕ) (shape : Shape) (s : Tab
       let z = same_size w e in
       makes-step kind (occ_index n c) new l keeps e d k' kept allowed makes refl
       (same_board tag_in bits shape (after w e) d (record b { occ = with_at b.occ c new; views = set s.views id (held weight k'') }) (board_of n (stepped s (occ_index n c) new id l (held weight k'') keeps))
-        (z.0 ∙ hs.fits.cores) (z.1 ∙ hs.fits.slots)
-        (writes (after w e) d (record b { occ = with_at b.occ c new }) k' k'' refl refl refl shows)
-        (core-steps shape s c new id l (held weight k'') hs.fits.words c_in (subst (λ (m : ℕ). m ≤ 56) hs.fits.slots hs.shows.fits.1)))
+      (z.0 ∙ hs.fits.cores) (z.1 ∙ hs.fits.slots)
+      (writes (after w e) d (record b { occ = with_at b.occ c new }) k' k'' refl refl refl shows)
+      (core-steps shape s c new id l (held weight k'') hs.fits.words c_in (subst (λ (m : ℕ). m ≤ 56) hs.fits.slots hs.shows.fits.1)))
 
   -- a mark word and slots change
   pub mark-made : (kind : Kind) (x new : ℕ) (l : List (ℕ × Option T)) (act : Act (Option T)) (e : Event) (d : ℕ → Phase) (k' : Known) (home : ℕ → opt.Option (opt.Option (Option T)))
@@ -104,9 +104,9 @@ module _ {T : Type 0} (tag_in : T → ℕ) (bits : ℕ) (shape : Shape) (s : Tab
       let z = same_size w e in
       makes-step kind x new l act e d k' kept allowed makes long
       (same_board tag_in bits shape (after w e) d (record b { mark = with_at b.mark x new; home = home; views = set s.views id (held weight k'') }) (board_of n (stepped s x new id l (held weight k'') act))
-        (z.0 ∙ hs.fits.cores) (z.1 ∙ hs.fits.slots)
-        (writes (after w e) d (record b { mark = with_at b.mark x new; home = home }) k' k'' refl refl refl shows)
-        (mark-steps shape s x new id l (held weight k'') act home hs.fits.words x_in homes))
+      (z.0 ∙ hs.fits.cores) (z.1 ∙ hs.fits.slots)
+      (writes (after w e) d (record b { mark = with_at b.mark x new; home = home }) k' k'' refl refl refl shows)
+      (mark-steps shape s x new id l (held weight k'') act home hs.fits.words x_in homes))
 
   -- a place word and slots change
   pub name-made : (kind : Kind) (p : Place) (new : ℕ) (l : List (ℕ × Option T)) (act : Act (Option T)) (e : Event) (d : ℕ → Phase) (k' : Known) (home : ℕ → opt.Option (opt.Option (Option T)))
@@ -120,9 +120,9 @@ module _ {T : Type 0} (tag_in : T → ℕ) (bits : ℕ) (shape : Shape) (s : Tab
       let z = same_size w e in
       makes-step kind (name_index n p) new l act e d k' kept allowed makes long
       (same_board tag_in bits shape (after w e) d (record b { name = with_name b.name p new; home = home; views = set s.views id (held weight k'') }) (board_of n (stepped s (name_index n p) new id l (held weight k'') act))
-        (z.0 ∙ hs.fits.cores) (z.1 ∙ hs.fits.slots)
-        (writes (after w e) d (record b { name = with_name b.name p new; home = home }) k' k'' refl refl refl shows)
-        (name-steps shape s p new id l (held weight k'') act home hs.fits.words p_in (subst (λ (m : ℕ). m ≤ 56) hs.fits.slots hs.shows.fits.1) homes))
+      (z.0 ∙ hs.fits.cores) (z.1 ∙ hs.fits.slots)
+      (writes (after w e) d (record b { name = with_name b.name p new; home = home }) k' k'' refl refl refl shows)
+      (name-steps shape s p new id l (held weight k'') act home hs.fits.words p_in (subst (λ (m : ℕ). m ≤ 56) hs.fits.slots hs.shows.fits.1) homes))
 
 -- where a proposition is told of a seat as it stands, and the number of slots and the word are the table's own
 pub for-seat : {T : Type 0} (P : ℕ → ℕ → Mine T → Type 0) (slots i m j : ℕ) (me : Mine T) → slots ≡ m → i ≡ j → IsLive me → P m j (held me.0.weight me.0.known, me.1) → P slots i me

@@ -1,5 +1,5 @@
--- S5: a take.
-use Rattle.std.proofs.Common.{◌≡◌, ◌≢◌, ℕ, ◌+◌, ◌-◌, ◌*◌, ◌<◌, ◌≤◌, ◌^◌, Bool, true, false, ◌&&◌, ◌∷◌, refl, sym, ap, ◌∙◌, subst, set, ◌⊎◌, []}
+-- A take.
+use Rattle.std.proofs.Common.{◌≡◌, ℕ, Bool, true, false, ◌&&◌, ◌∷◌, refl, sym, ap, ◌∙◌, subst, set, []}
 use Rattle.std.proofs.lemmas.Bool.{true≢false}
 use mathlib.Core.Option as opt
 use lib.ListN.{get_elem?}
@@ -7,7 +7,6 @@ use Rattle.std.specs.declared.option.Option.TheVariants.{Some}
 use Rattle.arachne_core.specs.declared.place.Place.{Place}
 use Rattle.arachne_core.specs.declared.state.State.{State}
 use Rattle.arachne_core.specs.declared.state.State.TheVariants.{Ready, Held}
-use Rattle.arachne_core.specs.declared.state.Rest.TheVariants as rest
 use Rattle.arachne_core.specs.declared.event.Event.TheVariants as event
 use Rattle.arachne_core.specs.declared.mark.Mark.TheVariants as mark
 use Rattle.arachne_core.specs.Marked.{Marked, mark_word, marked_of}
@@ -31,7 +30,6 @@ ready-carried s t e h f = ap (λ (r : State). carried_if r h f) e
 
 module _ {T : Type 0} (tag_in : T → ℕ) (bits : ℕ) (w : World) (d : ℕ → Phase) (b : Board T) (s : Shows tag_in bits w d b)
     (h weight : ℕ) (k : Known) (mine : get_elem? b.views h ≡ opt.some (held weight k)) where
-
   abbrev pub after_take : ℕ → Marked → ℕ → Board T
   after_take x m tag = record b {
     mark = with_at b.mark x (mark_word bits (record m { mark = mark.Held }));
@@ -61,31 +59,45 @@ module _ {T : Type 0} (tag_in : T → ℕ) (bits : ℕ) (w : World) (d : ℕ →
       let phase : e x ≡ taken_phase m.place = with_at-same d x (taken_phase m.place) in
       let a : Board T = after_take x m (tag_in v) in
       let g : Carried = taken_context x m (tag_in v) in
-      let g_is : g ≡ carried_of (small w c) e x true (tag_in v) = λ i. record { context = x; place = place i; shown = sym (ap (λ (u : Phase). u.shown) phase) i; generation = (x_is i).generation; held = true; tag = tag_in v;
-        alone = alone i; named = sym (ap (λ (u : Phase). u.named) phase) i; away = sym (ap (λ (u : Phase). u.away) phase) i } in
-      let al : (is_live_state (c.state x) && w.alone (core_of w x)) ≡ m.alone = ap (λ (t : State). is_live_state t && w.alone (core_of w x)) now ∙ sym alone in
-      (v, value.1, may, marking tag_in bits w c d e b a x h weight k (with_context k g) s x_in
-        (record {
-          mine = mine; views = refl;
-          occ = λ j _. refl;
-          mark = λ y _ n. with_at-other b.mark x (mark_word bits (record m { mark = mark.Held })) y n;
-          home = λ y _ n. with_at-other b.home x (opt.some opt.none) y n;
-          name = λ p _ n. refl;
-          phase = λ y n. with_at-other d x (taken_phase m.place) y n;
-          carried = λ y n. with-else g x y k.carried refl n;
-          state = λ y n. with_at-other w.state x (taken h (w.state x)) y n;
-          generation = λ y n. refl;
-        })
-        (keeps_owned_once w (event.Take h x) s.owned may)
-        (record {
-          within = subst (λ (p : Place). IsPlace w p) (sym (ap (λ (r : Phase). r.shown) phase ∙ place)) (s.owned.placed x x_in);
-          coherent = subst (λ (t : State). Coherent t (w.at x) (e x)) (sym now) (ap (λ (r : Phase). r.shown) phase ∙ place);
-          mark = with_at-same b.mark x (mark_word bits (record m { mark = mark.Held })) ∙ sym (ap (mark_word bits) (λ i. record { mark = mark_of (now i); alone = al i; place = (phase i).shown; generation = (sym x_is i).generation }));
-          named = λ f. absurd (true≢false (sym f ∙ ap (λ (u : Phase). u.named) phase));
-          value = λ f. absurd (true≢false (ap (λ (u : Phase). u.away) (sym phase) ∙ f));
-        })
-        (s.names (w.at x) (s.owned.placed x x_in))
-        (with-at g x k.carried refl ∙ ap (λ (r : Carried). r ∷ []) g_is ∙ sym (ap (λ (t : State). carried_if t h (carried_of (small w c) e x)) now ∙ mine-held h false (tag_in v) (carried_of (small w c) e x)))
-        (λ j n. ready-carried (w.state x) tag ready j (carried_of w d x) ∙ sym (ap (λ (t : State). carried_if t j (carried_of (small w c) e x)) now ∙ not-held h false (tag_in v) j (carried_of (small w c) e x) n))
-        (λ t. s.given t ∙ given-same b.views h weight k (with_context k g) mine refl t)
-        (λ t. s.ended t ∙ ended-same b.views h weight k (with_context k g) mine refl t))
+      let g_is : g ≡ carried_of (small w c) e x true (tag_in v) = λ i. record {
+        context = x;
+        place = place i;
+        shown = sym (ap (λ (u : Phase). u.shown) phase) i;
+        generation = (x_is i).generation;
+        held = true;
+        tag = tag_in v;
+        alone = alone i;
+        named = sym (ap (λ (u : Phase). u.named) phase) i;
+        away = sym (ap (λ (u : Phase). u.away) phase) i;
+      } in
+      let al : (is_live_state (c.state x) && w.alone (core_of w x)) ≡ m.alone = ap (λ (t : State). is_live_state t && w.alone (core_of w x)) now ∙ sym alone in (
+        v,
+        value.1,
+        may,
+        marking tag_in bits w c d e b a x h weight k (with_context k g) s x_in
+            (record {
+              mine = mine;
+              views = refl;
+              occ = λ j _. refl;
+              mark = λ y _ n. with_at-other b.mark x (mark_word bits (record m { mark = mark.Held })) y n;
+              home = λ y _ n. with_at-other b.home x (opt.some opt.none) y n;
+              name = λ p _ n. refl;
+              phase = λ y n. with_at-other d x (taken_phase m.place) y n;
+              carried = λ y n. with-else g x y k.carried refl n;
+              state = λ y n. with_at-other w.state x (taken h (w.state x)) y n;
+              generation = λ y n. refl;
+            })
+            (keeps_owned_once w (event.Take h x) s.owned may)
+            (record {
+              within = subst (λ (p : Place). IsPlace w p) (sym (ap (λ (r : Phase). r.shown) phase ∙ place)) (s.owned.placed x x_in);
+              coherent = subst (λ (t : State). Coherent t (w.at x) (e x)) (sym now) (ap (λ (r : Phase). r.shown) phase ∙ place);
+              mark = with_at-same b.mark x (mark_word bits (record m { mark = mark.Held })) ∙ sym (ap (mark_word bits) (λ i. record { mark = mark_of (now i); alone = al i; place = (phase i).shown; generation = (sym x_is i).generation }));
+              named = λ f. absurd (true≢false (sym f ∙ ap (λ (u : Phase). u.named) phase));
+              value = λ f. absurd (true≢false (ap (λ (u : Phase). u.away) (sym phase) ∙ f));
+            })
+            (s.names (w.at x) (s.owned.placed x x_in))
+            (with-at g x k.carried refl ∙ ap (λ (r : Carried). r ∷ []) g_is ∙ sym (ap (λ (t : State). carried_if t h (carried_of (small w c) e x)) now ∙ mine-held h false (tag_in v) (carried_of (small w c) e x)))
+            (λ j n. ready-carried (w.state x) tag ready j (carried_of w d x) ∙ sym (ap (λ (t : State). carried_if t j (carried_of (small w c) e x)) now ∙ not-held h false (tag_in v) j (carried_of (small w c) e x) n))
+            (λ t. s.given t ∙ given-same b.views h weight k (with_context k g) mine refl t)
+            (λ t. s.ended t ∙ ended-same b.views h weight k (with_context k g) mine refl t),
+      )

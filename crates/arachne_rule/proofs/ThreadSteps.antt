@@ -1,5 +1,5 @@
 -- What the table asks of the steps by which threads come and go: a post, a take, the name that is kept after it, and the end of a thread.
-use Rattle.std.proofs.Common.{Some, None, ◌≡◌, ◌≢◌, ℕ, ◌+◌, ◌-◌, ◌*◌, ◌<◌, ◌≤◌, ◌^◌, true, false, List, [], ◌∷◌, length-set, refl, sym, ap, ◌∙◌, subst, arith, inl, inr, set, get_or, Option, eqb}
+use Rattle.std.proofs.Common.{Some, None, ◌≡◌, ℕ, ◌*◌, ◌<◌, true, false, List, [], ◌∷◌, length-set, refl, sym, ap, ◌∙◌, subst, arith, inl, inr, set, get_or, Option, eqb}
 use Rattle.std.proofs.lemmas.Bool.{cases_eq}
 use mathlib.Core.Option.{some, none}
 use mathlib.Core.Option as opt
@@ -70,15 +70,18 @@ module _ {T : Type 0} (tag_in : T → ℕ) (bits : ℕ) (shape : Shape) where
       let k' : Known = posted k c (tag_in v) in
       let out : List (ℕ × Option T) = (x, Some v) ∷ l in
       let home : ℕ → opt.Option (opt.Option (Option T)) = with_at b.home x (opt.some (opt.some (Some v))) in
-      let d : ℕ → Phase = with_at hs.phase x (settled c.place) in
-      (held weight (noted kind.Post x (b.mark x) new k'), gives, tt,
+      let d : ℕ → Phase = with_at hs.phase x (settled c.place) in (
+        held weight (noted kind.Post x (b.mark x) new k'),
+        gives,
+        tt,
         mark-made tag_in bits shape s hs id weight k mine kind.Post x new out gives (event.Post id x (tag_in v)) d k' home c_in refl r.0 (inr (tag_in v, refl))
-          (length-set s.homes x (opt.some (Some v))) (λ y _. home-set s.homes x (opt.some (Some v)) (omega (arith, c_in, hs.fits.homes)) y)
-          (subst (λ (q : ℕ). Shows tag_in bits (after hs.world (event.Post id x (tag_in v))) d (record b { mark = with_at b.mark x q; home = home; views = set s.views id (held weight k') })) (sym new_is) r.1),
+            (length-set s.homes x (opt.some (Some v))) (λ y _. home-set s.homes x (opt.some (Some v)) (omega (arith, c_in, hs.fits.homes)) y)
+            (subst (λ (q : ℕ). Shows tag_in bits (after hs.world (event.Post id x (tag_in v))) d (record b { mark = with_at b.mark x q; home = home; views = set s.views id (held weight k') })) (sym new_is) r.1),
         λ f u f_at f_has slot.
-          let one : c ≡ f = same-carried k c f has f_has (sym f_at) in
-          let value : v ≡ u = same-value x f.context v u l l slot in
-          (b.mark x, λ j. (held weight (noted kind.Post x (b.mark x) new (posted k (one j) (tag_in (value j)))), l)))
+            let one : c ≡ f = same-carried k c f has f_has (sym f_at) in
+            let value : v ≡ u = same-value x f.context v u l l slot in
+            (b.mark x, λ j. (held weight (noted kind.Post x (b.mark x) new (posted k (one j) (tag_in (value j)))), l)),
+      )
 
   pub post-allowed : (slots id : ℕ) (me : Mine T) (c : Carried) (v : T) (x new : ℕ) → slots ≡ contexts_in shape → IsLive me → x ≡ c.context → x < slots → Carries me.0.known c → c.held ≡ false → c.named ≡ true
       → me.1 ≡ (c.context, Some v) ∷ rest me.1 → new ≡ mark_word bits (marked_as mark.Ready c)
@@ -86,7 +89,7 @@ module _ {T : Type 0} (tag_in : T → ℕ) (bits : ℕ) (shape : Shape) where
   post-allowed slots id me c v x new laid live there x_in has free named slot new_is =
       for-seat (λ m j e. Allows (Holds tag_in bits shape) m id e j (λ _. new) (λ _. Posts tag_in (step m j new 0 none) e new)) slots x n c.context me laid there live
       (subst (λ (z : List (ℕ × Option T)). Allows (Holds tag_in bits shape) n id (held me.0.weight me.0.known, z) c.context (λ _. new) (λ _. Posts tag_in (step n c.context new 0 none) (held me.0.weight me.0.known, z) new)) (sym slot)
-        (posts id me.0.weight me.0.known (rest me.1) c v new (subst (λ (q : ℕ). q < n) there (subst (λ (m : ℕ). x < m) laid x_in)) has free named new_is))
+      (posts id me.0.weight me.0.known (rest me.1) c v new (subst (λ (q : ℕ). q < n) there (subst (λ (m : ℕ). x < m) laid x_in)) has free named new_is))
 
   -- ---- a take
 
@@ -97,21 +100,29 @@ module _ {T : Type 0} (tag_in : T → ℕ) (bits : ℕ) (shape : Shape) where
       let b : Board T = board_of n s in
       let m : Marked = marked_of bits old in
       let F : ℕ → Type 0 = λ (q : ℕ). (u : Token Known) × (a : Act (Option T)) × Valid s.homes l a × Holds tag_in bits shape (stepped s x q id l u a)
-          × Takes tag_in bits (step n x old new none) (held weight k, l) (get_or s.words x 0) (u, carried_after l a) in
+      × Takes tag_in bits (step n x old new none) (held weight k, l) (get_or s.words x 0) (u, carried_after l a) in
       exchanged (get_or s.words x 0) old new F
-        (λ hit.
-          let r = take tag_in bits w hs.phase b hs.shows id weight k mine x m (is-context s hs x x_in) (ap (marked_of bits) hit) is_ready in
-          let v : T = r.0 in
-          let k' : Known = with_context k (taken_context x m (tag_in v)) in
-          let d : ℕ → Phase = with_at hs.phase x (taken_phase m.place) in
-          let home : ℕ → opt.Option (opt.Option (Option T)) = with_at b.home x (opt.some opt.none) in
-          (held weight (noted kind.Take x (b.mark x) new k'), takes x (Some v), r.1,
-            mark-made tag_in bits shape s hs id weight k mine kind.Take x new l (takes x (Some v)) (event.Take id x) d k' home x_in refl r.2 (inr refl)
-              (length-set s.homes x opt.none) (λ y _. home-set s.homes x opt.none (omega (arith, x_in, hs.fits.homes)) y)
-              (subst (λ (q : ℕ). Shows tag_in bits (after w (event.Take id x)) d (record b { mark = with_at b.mark x q; home = home; views = set s.views id (held weight k') })) (sym new_is) r.3),
-            ((λ _. (v, not-mine tag_in bits w hs.phase b hs.shows id weight k mine x (is-context s hs x x_in) (ready-nobody (w.state x) (r.2).ready id), refl)), (λ miss. absurd (miss hit)))))
-        (λ miss. (held weight (noted kind.Take x (get_or s.words x 0) (get_or s.words x 0) k), keeps, tt, sees tag_in bits shape s hs id weight k mine kind.Take x l (inl (tt, refl, refl)),
-          ((λ hit. absurd (miss hit)), (λ _. refl))))
+      (λ hit.
+      let r = take tag_in bits w hs.phase b hs.shows id weight k mine x m (is-context s hs x x_in) (ap (marked_of bits) hit) is_ready in
+      let v : T = r.0 in
+      let k' : Known = with_context k (taken_context x m (tag_in v)) in
+      let d : ℕ → Phase = with_at hs.phase x (taken_phase m.place) in
+      let home : ℕ → opt.Option (opt.Option (Option T)) = with_at b.home x (opt.some opt.none) in (
+        held weight (noted kind.Take x (b.mark x) new k'),
+        takes x (Some v),
+        r.1,
+        mark-made tag_in bits shape s hs id weight k mine kind.Take x new l (takes x (Some v)) (event.Take id x) d k' home x_in refl r.2 (inr refl)
+            (length-set s.homes x opt.none) (λ y _. home-set s.homes x opt.none (omega (arith, x_in, hs.fits.homes)) y)
+            (subst (λ (q : ℕ). Shows tag_in bits (after w (event.Take id x)) d (record b { mark = with_at b.mark x q; home = home; views = set s.views id (held weight k') })) (sym new_is) r.3),
+        ((λ _. (v, not-mine tag_in bits w hs.phase b hs.shows id weight k mine x (is-context s hs x x_in) (ready-nobody (w.state x) (r.2).ready id), refl)), (λ miss. absurd (miss hit))),
+      ))
+      (λ miss. (
+        held weight (noted kind.Take x (get_or s.words x 0) (get_or s.words x 0) k),
+        keeps,
+        tt,
+        sees tag_in bits shape s hs id weight k mine kind.Take x l (inl (tt, refl, refl)),
+        ((λ hit. absurd (miss hit)), (λ _. refl)),
+      ))
 
   pub take-allowed : (slots id : ℕ) (me : Mine T) (x old new : ℕ) (m : Marked) → slots ≡ contexts_in shape → IsLive me → x < slots → marked_of bits old ≡ m → m.mark ≡ mark.Ready → new ≡ mark_word bits (record m { mark = mark.Held })
       → Allows (Holds tag_in bits shape) slots id me x (λ q. either (eqb q old) new q) (Takes tag_in bits (step slots x old new none) me)
@@ -123,7 +134,7 @@ module _ {T : Type 0} (tag_in : T → ℕ) (bits : ℕ) (shape : Shape) where
 
   keeps-name : (id weight : ℕ) (k : Known) (l : List (ℕ × Option T)) (c : Carried) → c.context < n → Carries k c → c.held ≡ true
       → Allows (Holds tag_in bits shape) n id (held weight k, (c.context, None) ∷ l) (name_index n c.place) (λ _. c.context)
-          (λ _. KeepsName (step n (name_index n c.place) c.context 0 none) (held weight k, (c.context, None) ∷ l) c.context)
+      (λ _. KeepsName (step n (name_index n c.place) c.context 0 none) (held weight k, (c.context, None) ∷ l) c.context)
   keeps-name id weight k l c c_in has holds s hs long mine small =
       let x : ℕ = c.context in
       let i : ℕ = name_index n c.place in
@@ -134,13 +145,16 @@ module _ {T : Type 0} (tag_in : T → ℕ) (bits : ℕ) (shape : Shape) where
       let k' : Known = with_context k (record c { named = true; away = false }) in
       let d : ℕ → Phase = with_at hs.phase x (record (hs.phase x) { named = true; away = false }) in
       let home : ℕ → opt.Option (opt.Option (Option T)) = with_at b.home x (opt.some (opt.some None)) in
-      let p_in : IsIn shape c.place = (omega (arith, p_is.0, hs.fits.cores), omega (arith, p_is.1, hs.fits.slots)) in
-      (held weight (noted kind.KeepName i (b.name c.place) x k'), gives, tt,
+      let p_in : IsIn shape c.place = (omega (arith, p_is.0, hs.fits.cores), omega (arith, p_is.1, hs.fits.slots)) in (
+        held weight (noted kind.KeepName i (b.name c.place) x k'),
+        gives,
+        tt,
         name-made tag_in bits shape s hs id weight k mine kind.KeepName c.place x ((x, None) ∷ l) gives event.Still d k' home p_in refl tt (inr refl)
-          (length-set s.homes x (opt.some None)) (λ y _. home-set s.homes x (opt.some None) (omega (arith, c_in, hs.fits.homes)) y) r,
+            (length-set s.homes x (opt.some None)) (λ y _. home-set s.homes x (opt.some None) (omega (arith, c_in, hs.fits.homes)) y) r,
         λ f f_at f_has.
-          let one : c ≡ f = same-carried k c f has f_has (sym f_at) in
-          (b.name c.place, λ j. (held weight (noted kind.KeepName i (b.name c.place) x (with_context k (record (one j) { named = true; away = false }))), l)))
+            let one : c ≡ f = same-carried k c f has f_has (sym f_at) in
+            (b.name c.place, λ j. (held weight (noted kind.KeepName i (b.name c.place) x (with_context k (record (one j) { named = true; away = false }))), l)),
+      )
 
   pub keep-name-allowed : (slots id : ℕ) (me : Mine T) (c : Carried) (x i : ℕ) → slots ≡ contexts_in shape → IsLive me → x ≡ c.context → x < slots → i ≡ name_index slots c.place → Carries me.0.known c → c.held ≡ true
       → me.1 ≡ (c.context, None) ∷ rest me.1
@@ -148,9 +162,9 @@ module _ {T : Type 0} (tag_in : T → ℕ) (bits : ℕ) (shape : Shape) where
   keep-name-allowed slots id me c x i laid live same x_in there has holds slot =
       subst (λ (y : ℕ). Allows (Holds tag_in bits shape) slots id me i (λ _. y) (λ _. KeepsName (step slots i y 0 none) me y)) (sym same)
       (for-seat (λ m j e. Allows (Holds tag_in bits shape) m id e j (λ _. c.context) (λ _. KeepsName (step m j c.context 0 none) e c.context)) slots i n (name_index n c.place) me laid (there ∙ ap (λ (m : ℕ). name_index m c.place) laid) live
-        (subst (λ (z : List (ℕ × Option T)). Allows (Holds tag_in bits shape) n id (held me.0.weight me.0.known, z) (name_index n c.place) (λ _. c.context)
-            (λ _. KeepsName (step n (name_index n c.place) c.context 0 none) (held me.0.weight me.0.known, z) c.context)) (sym slot)
-          (keeps-name id me.0.weight me.0.known (rest me.1) c (subst (λ (q : ℕ). q < n) same (subst (λ (m : ℕ). x < m) laid x_in)) has holds)))
+      (subst (λ (z : List (ℕ × Option T)). Allows (Holds tag_in bits shape) n id (held me.0.weight me.0.known, z) (name_index n c.place) (λ _. c.context)
+      (λ _. KeepsName (step n (name_index n c.place) c.context 0 none) (held me.0.weight me.0.known, z) c.context)) (sym slot)
+      (keeps-name id me.0.weight me.0.known (rest me.1) c (subst (λ (q : ℕ). q < n) same (subst (λ (m : ℕ). x < m) laid x_in)) has holds)))
 
   -- ---- the end of a thread
 
@@ -165,12 +179,15 @@ module _ {T : Type 0} (tag_in : T → ℕ) (bits : ℕ) (shape : Shape) where
       let k' : Known = retired k c in
       let d : ℕ → Phase = with_at hs.phase x (settled c.place) in
       let homes : ℕ → opt.Option (opt.Option (Option T)) = with_at b.home x (opt.some (opt.some None)) in
-      let empty = home-empty tag_in bits hs.world hs.phase b hs.shows id weight k mine c x_is has home in
-      (held weight (noted kind.Retire x (b.mark x) new k'), keeps, tt,
+      let empty = home-empty tag_in bits hs.world hs.phase b hs.shows id weight k mine c x_is has home in (
+        held weight (noted kind.Retire x (b.mark x) new k'),
+        keeps,
+        tt,
         mark-made tag_in bits shape s hs id weight k mine kind.Retire x new l keeps (event.Retire id x) d k' homes c_in refl r.0 (inr refl) refl
-          (λ y _. same-at b.home x (opt.some (opt.some None)) empty y)
-          (subst (λ (q : ℕ). Shows tag_in bits (after hs.world (event.Retire id x)) d (record b { mark = with_at b.mark x q; home = homes; views = set s.views id (held weight k') })) (sym new_is) r.1),
-        λ f f_at f_has. let one : c ≡ f = same-carried k c f has f_has (sym f_at) in λ j. (held weight (noted kind.Retire x (b.mark x) new (retired k (one j))), l))
+            (λ y _. same-at b.home x (opt.some (opt.some None)) empty y)
+            (subst (λ (q : ℕ). Shows tag_in bits (after hs.world (event.Retire id x)) d (record b { mark = with_at b.mark x q; home = homes; views = set s.views id (held weight k') })) (sym new_is) r.1),
+        λ f f_at f_has. let one : c ≡ f = same-carried k c f has f_has (sym f_at) in λ j. (held weight (noted kind.Retire x (b.mark x) new (retired k (one j))), l),
+      )
 
   pub retire-allowed : (slots id : ℕ) (me : Mine T) (c : Carried) (x new : ℕ) → slots ≡ contexts_in shape → IsLive me → x ≡ c.context → x < slots → Carries me.0.known c → c.held ≡ true → c.named ≡ true → c.away ≡ false
       → c.generation < shape.last → new ≡ mark_word bits (marked_free (claimed_again c))
@@ -190,12 +207,15 @@ module _ {T : Type 0} (tag_in : T → ℕ) (bits : ℕ) (shape : Shape) where
       let k' : Known = spent_known k c in
       let d : ℕ → Phase = with_at hs.phase x (record (hs.phase x) { away = false }) in
       let homes : ℕ → opt.Option (opt.Option (Option T)) = with_at b.home x (opt.some (opt.some None)) in
-      let empty = home-empty tag_in bits hs.world hs.phase b hs.shows id weight k mine c x_is has home in
-      (held weight (noted kind.Retire x (b.mark x) new k'), keeps, tt,
+      let empty = home-empty tag_in bits hs.world hs.phase b hs.shows id weight k mine c x_is has home in (
+        held weight (noted kind.Retire x (b.mark x) new k'),
+        keeps,
+        tt,
         mark-made tag_in bits shape s hs id weight k mine kind.Retire x new l keeps (event.Retire id x) d k' homes c_in refl r.0 (inr refl) refl
-          (λ y _. same-at b.home x (opt.some (opt.some None)) empty y)
-          (subst (λ (q : ℕ). Shows tag_in bits (after hs.world (event.Retire id x)) d (record b { mark = with_at b.mark x q; home = homes; views = set s.views id (held weight k') })) (sym new_is) r.1),
-        λ f f_at f_has. let one : c ≡ f = same-carried k c f has f_has (sym f_at) in λ j. (held weight (noted kind.Retire x (b.mark x) new (spent_known k (one j))), l))
+            (λ y _. same-at b.home x (opt.some (opt.some None)) empty y)
+            (subst (λ (q : ℕ). Shows tag_in bits (after hs.world (event.Retire id x)) d (record b { mark = with_at b.mark x q; home = homes; views = set s.views id (held weight k') })) (sym new_is) r.1),
+        λ f f_at f_has. let one : c ≡ f = same-carried k c f has f_has (sym f_at) in λ j. (held weight (noted kind.Retire x (b.mark x) new (spent_known k (one j))), l),
+      )
 
   pub spend-allowed : (slots id : ℕ) (me : Mine T) (c : Carried) (x new : ℕ) → slots ≡ contexts_in shape → IsLive me → x ≡ c.context → x < slots → Carries me.0.known c → c.held ≡ true → c.away ≡ false
       → c.generation ≡ shape.last → new ≡ mark_word bits (marked_spent c)

@@ -1,11 +1,10 @@
--- S10 and S11: a wake, by any seat.
-use Rattle.std.proofs.Common.{◌≡◌, ◌≢◌, ℕ, ◌+◌, ◌-◌, ◌*◌, ◌<◌, ◌≤◌, ◌^◌, Bool, true, false, ◌&&◌, ◌∷◌, refl, sym, ap, ◌∙◌, subst, set, ◌⊎◌}
+-- A wake, by any seat.
+use Rattle.std.proofs.Common.{◌≡◌, ℕ, Bool, true, false, ◌&&◌, refl, sym, ap, ◌∙◌, subst, set}
 use mathlib.Core.Option as opt
 use lib.ListN.{get_elem?}
 use Rattle.arachne_core.specs.declared.place.Place.{Place}
 use Rattle.arachne_core.specs.declared.state.State.{State}
 use Rattle.arachne_core.specs.declared.state.State.TheVariants.{Free, Claimed, Ready, Blocked, Held, Spent}
-use Rattle.arachne_core.specs.declared.state.Rest.TheVariants as rest
 use Rattle.arachne_core.specs.declared.event.Event.TheVariants as event
 use Rattle.arachne_core.specs.declared.mark.Mark.{Mark}
 use Rattle.arachne_core.specs.declared.mark.Mark.TheVariants as mark
@@ -46,7 +45,6 @@ held-mark Spent e = absurd cc
 
 module _ {T : Type 0} (tag_in : T → ℕ) (bits : ℕ) (w : World) (d : ℕ → Phase) (b : Board T) (s : Shows tag_in bits w d b)
     (h weight : ℕ) (k : Known) (mine : get_elem? b.views h ≡ opt.some (held weight k)) where
-
   wakes : (x : ℕ) (old_state new_state : State) (m : Marked) (mk : Mark) → IsContext w x → m ≡ record (marked w x) { place = (d x).shown } → w.state x ≡ old_state
       → CanBeWoken old_state → woken old_state ≡ new_state → mark_of new_state ≡ mk → is_live_state new_state ≡ is_live_state old_state
       → ((j : ℕ) (f : Bool → ℕ → Carried) → carried_if old_state j f ≡ carried_if new_state j f)
@@ -71,34 +69,37 @@ module _ {T : Type 0} (tag_in : T → ℕ) (bits : ℕ) (w : World) (d : ℕ →
       ∙ sym (ap (λ (t : State). is_live_state t && w.alone (core_of w x)) was) ∙ sym (ap (λ (u : Marked). u.alone) x_is) in
       let at_mark : mark_of (q.state x) ≡ mk = ap mark_of now ∙ marks in
       let shared : (j : ℕ) → share_of w d j x ≡ share_of q d j x = λ j.
-      ap (λ (t : State). carried_if t j (carried_of w d x)) was ∙ shares j (carried_of w d x) ∙ sym (ap (λ (t : State). carried_if t j (carried_of w d x)) now) in
-      (may, marking tag_in bits w c d d b a x h weight k k s x_in
-        (record {
-          mine = mine; views = refl;
-          occ = λ j _. refl;
-          mark = λ y _ o. with_at-other b.mark x (mark_word bits n) y o;
-          home = λ y _ o. refl;
-          name = λ p _ o. refl;
-          phase = λ y o. refl;
-          carried = λ y o. refl;
-          state = λ y o. with_at-other w.state x (woken (w.state x)) y o;
-          generation = λ y o. refl;
-        })
-        (keeps_owned_once w (event.Wake id) s.owned may)
-        (record {
-          within = old.within;
-          coherent = subst (λ (t : State). Coherent t (w.at x) (d x)) (sym now) (coherent (w.at x) (d x) (subst (λ (t : State). Coherent t (w.at x) (d x)) was old.coherent));
-          mark = with_at-same b.mark x (mark_word bits n) ∙ sym (ap (mark_word bits) (λ i. record { mark = at_mark i; alone = al i; place = (sym x_is i).place; generation = (sym x_is i).generation }));
-          named = old.named;
-          value = λ e. subst (λ (t : State). HasValue tag_in t (b.home x)) (sym now) (value (b.home x) (subst (λ (t : State). HasValue tag_in t (b.home x)) was (old.value e)));
-        })
-        (s.names (w.at x) (s.owned.placed x x_in))
-        (sym (ap (λ (r : Known). carried_at x r.carried) (known-there b.views h (held weight k) mine)) ∙ s.carried h x x_in ∙ shared h)
-        (λ j _. shared j)
-        (λ t. s.given t ∙ given-same b.views h weight k k mine refl t)
-        (λ t. s.ended t ∙ ended-same b.views h weight k k mine refl t))
+      ap (λ (t : State). carried_if t j (carried_of w d x)) was ∙ shares j (carried_of w d x) ∙ sym (ap (λ (t : State). carried_if t j (carried_of w d x)) now) in (
+        may,
+        marking tag_in bits w c d d b a x h weight k k s x_in
+            (record {
+              mine = mine;
+              views = refl;
+              occ = λ j _. refl;
+              mark = λ y _ o. with_at-other b.mark x (mark_word bits n) y o;
+              home = λ y _ o. refl;
+              name = λ p _ o. refl;
+              phase = λ y o. refl;
+              carried = λ y o. refl;
+              state = λ y o. with_at-other w.state x (woken (w.state x)) y o;
+              generation = λ y o. refl;
+            })
+            (keeps_owned_once w (event.Wake id) s.owned may)
+            (record {
+              within = old.within;
+              coherent = subst (λ (t : State). Coherent t (w.at x) (d x)) (sym now) (coherent (w.at x) (d x) (subst (λ (t : State). Coherent t (w.at x) (d x)) was old.coherent));
+              mark = with_at-same b.mark x (mark_word bits n) ∙ sym (ap (mark_word bits) (λ i. record { mark = at_mark i; alone = al i; place = (sym x_is i).place; generation = (sym x_is i).generation }));
+              named = old.named;
+              value = λ e. subst (λ (t : State). HasValue tag_in t (b.home x)) (sym now) (value (b.home x) (subst (λ (t : State). HasValue tag_in t (b.home x)) was (old.value e)));
+            })
+            (s.names (w.at x) (s.owned.placed x x_in))
+            (sym (ap (λ (r : Known). carried_at x r.carried) (known-there b.views h (held weight k) mine)) ∙ s.carried h x x_in ∙ shared h)
+            (λ j _. shared j)
+            (λ t. s.given t ∙ given-same b.views h weight k k mine refl t)
+            (λ t. s.ended t ∙ ended-same b.views h weight k k mine refl t),
+      )
 
-  -- S10: BLOCKED to READY
+  -- BLOCKED to READY
   pub wake_blocked : (x : ℕ) (m : Marked) → IsContext w x → marked_of bits (b.mark x) ≡ m → m.mark ≡ mark.Blocked
       → Allowed w (event.Wake (record { context = x; generation = m.generation }))
       × Shows tag_in bits (after w (event.Wake (record { context = x; generation = m.generation }))) d (record b {
@@ -110,7 +111,7 @@ module _ {T : Type 0} (tag_in : T → ℕ) (bits : ℕ) (w : World) (d : ℕ →
       let r = blocked-mark (w.state x) (sym (ap (λ (u : Marked). u.mark) x_is) ∙ is_blocked) in
       wakes x (Blocked r.0) (Ready r.0) m mark.Ready x_in x_is r.1 tt refl refl refl (λ j f. refl) (λ p a c. c) (λ z c. c)
 
-  -- S11: HELD to WOKEN
+  -- HELD to WOKEN
   pub wake_held : (x : ℕ) (m : Marked) → IsContext w x → marked_of bits (b.mark x) ≡ m → m.mark ≡ mark.Held
       → Allowed w (event.Wake (record { context = x; generation = m.generation }))
       × Shows tag_in bits (after w (event.Wake (record { context = x; generation = m.generation }))) d (record b {

@@ -1,5 +1,5 @@
 -- What each kind of step makes of what its seat knows, of the phases, and of the words.
-use Rattle.std.specs.Prelude.{◌≡◌, ℕ, ◌+◌, ◌-◌, ◌^◌, true, false, if◌then◌else◌, List, [], ◌∷◌}
+use Rattle.std.specs.Prelude.{ℕ, ◌+◌, ◌^◌, true, false, if◌then◌else◌, ◌∷◌}
 use Rattle.arachne_core.specs.declared.place.Place.{Place}
 use Rattle.arachne_core.specs.declared.mark.Mark.{Mark}
 use Rattle.arachne_core.specs.declared.mark.Mark.TheVariants as mark
@@ -24,13 +24,30 @@ claimed_context x p generation = record { context = x; place = p; shown = p; gen
 -- after a claim of a whole core
 abbrev pub alone_context : ℕ → ℕ → ℕ → Carried
 alone_context x core generation = record {
-  context = x; place = record { core = core; index = 0 }; shown = record { core = core; index = 0 }; generation = generation;
-  held = false; tag = 0; alone = true; named = true; away = false }
+  context = x;
+  place = record { core = core; index = 0 };
+  shown = record { core = core; index = 0 };
+  generation = generation;
+  held = false;
+  tag = 0;
+  alone = true;
+  named = true;
+  away = false;
+}
 
 -- after a take of the thread of a mark word that was seen: the slot is out, and the place word may name another context
 abbrev pub taken_context : ℕ → Marked → ℕ → Carried
 taken_context x m tag = record {
-  context = x; place = m.place; shown = m.place; generation = m.generation; held = true; tag = tag; alone = m.alone; named = false; away = true }
+  context = x;
+  place = m.place;
+  shown = m.place;
+  generation = m.generation;
+  held = true;
+  tag = tag;
+  alone = m.alone;
+  named = false;
+  away = true;
+}
 
 -- after a thread ended there: claimed again, for the next generation
 abbrev pub claimed_again : Carried → Carried

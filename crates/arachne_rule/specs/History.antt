@@ -6,13 +6,13 @@ use Rattle.arachne_core.specs.declared.event.Event.{Event}
 use Rattle.arachne_core.specs.declared.event.Event.TheVariants as event
 use Rattle.arachne_core.specs.Place.{first_place}
 use Rattle.arachne_core.specs.Marked.{marked_of}
-use Rattle.arachne_core.specs.World.{World, IsContext, core_of, Allowed, after}
+use Rattle.arachne_core.specs.World.{World, core_of, Allowed, after}
 use Rattle.arachne_rule.specs.declared.view.Kind.{Kind}
 use Rattle.arachne_rule.specs.declared.view.Kind.TheVariants as kind
 use Rattle.arachne_rule.specs.declared.view.Record.{Record}
 use Rattle.arachne_rule.specs.declared.view.Shape.{Shape}
 use Rattle.arachne_rule.specs.Changes.{index_sum}
-use Rattle.arachne_rule.specs.Layout.{occ_index, name_index}
+use Rattle.arachne_rule.specs.Layout.{occ_index}
 
 -- a step, the seat that made it, and its event
 pub record Entry : Type 0 where
@@ -67,9 +67,17 @@ Makes bits w e = (IsExchange e.step.kind × (e.step.after ≡ e.step.before) × 
 -- the World at first: each context is free at the place of its number, and each core open
 abbrev pub opening_world : Shape → World
 opening_world shape = record {
-  cores = shape.cores; slots = shape.slots; last = shape.last;
-  at = first_place shape.slots; occupied = λ p. false; generation = λ x. shape.first; state = λ x. Free;
-  closed = λ c. false; alone = λ c. false; given = λ t. 0; ended = λ t. 0;
+  cores = shape.cores;
+  slots = shape.slots;
+  last = shape.last;
+  at = first_place shape.slots;
+  occupied = λ p. false;
+  generation = λ x. shape.first;
+  state = λ x. Free;
+  closed = λ c. false;
+  alone = λ c. false;
+  given = λ t. 0;
+  ended = λ t. 0;
 }
 
 abbrev pub world_after : World → List Entry → World
@@ -99,6 +107,16 @@ pub record IsNext (bits : ℕ) (w : World) (words : List ℕ) (e : Entry) : Type
 abbrev pub IsHistory : ℕ → World → List ℕ → List Entry → Type 0
 IsHistory bits w words [] = Unit {0}
 IsHistory bits w words (e ∷ es) = IsHistory bits w words es × IsNext bits (world_after w es) (words_after words es) e
+
+-- seat h has made the step, and it is in the history at its place, behind what came before it
+pub record IsStepOf (bits : ℕ) (w : World) (words : List ℕ) (history : List Entry) (h : ℕ) (step : Record) : Type 0 where
+  pub newer : List Entry
+  pub older : List Entry
+  pub entry : Entry
+  pub whole : history ≡ newer ++ entry ∷ older
+  pub by_seat : entry.seat ≡ h
+  pub is : entry.step ≡ step
+  pub next : IsNext bits (world_after w older) (words_after words older) entry
 
 -- each step was made by one of the first n seats
 abbrev pub AreOfSeats : ℕ → List Entry → Type 0

@@ -6,4 +6,3 @@ pub mod History
 pub mod Table
 pub mod Plays
 pub mod Ending
-pub mod Answers

@@ -1,5 +1,5 @@
 -- The rule: occupancy words, mark words, place words, values at home and views show a World that is owned once.
-use Rattle.std.specs.Prelude.{◌≡◌, ℕ, ◌-◌, ◌<◌, ◌≤◌, ◌^◌, Bool, true, false, if◌then◌else◌, ◌==◌, List, [], ◌∷◌, slice_set}
+use Rattle.std.specs.Prelude.{◌≡◌, ℕ, ◌-◌, ◌<◌, ◌≤◌, ◌^◌, Bool, true, false, if◌then◌else◌, ◌==◌, List, [], ◌∷◌, slice_set, slice_index_or}
 use mathlib.Core.Option as slot
 use lib.ListN.{get_elem?}
 use Rattle.std.specs.declared.option.Option.{Option}
@@ -8,7 +8,7 @@ use Rattle.arachne_core.specs.declared.place.Place.{Place}
 use Rattle.arachne_core.specs.declared.state.State.{State}
 use Rattle.arachne_core.specs.declared.state.State.TheVariants.{Free, Claimed, Ready, Blocked, Held, Spent}
 use Rattle.arachne_core.specs.Occupancy.{occupancy_of, IsOccupancyWord}
-use Rattle.arachne_core.specs.Marked.{Marked, mark_word}
+use Rattle.arachne_core.specs.Marked.{mark_word}
 use Rattle.arachne_core.specs.World.{World, Thread, IsContext, IsPlace, core_of}
 use Rattle.arachne_core.specs.OwnedOnce.{OwnedOnce}
 use Rattle.arachne_core.specs.ContextTable.{ShowsCore, marked}
@@ -81,6 +81,20 @@ carried_of w d x held tag = record {
 
 abbrev pub share_of : World → (ℕ → Phase) → ℕ → ℕ → List Carried
 share_of w d h x = carried_if (w.state x) h (carried_of w d x)
+
+-- ---- what an occupancy word says
+
+abbrev pub is_closed : ℕ → Bool
+is_closed word = (occupancy_of word).closed
+
+abbrev pub is_exclusive : ℕ → Bool
+is_exclusive word = (occupancy_of word).exclusive
+
+abbrev pub is_occupied : ℕ → ℕ → Bool
+is_occupied word i = slice_index_or (occupancy_of word).occupied i false
+
+abbrev pub HasNoOccupied : ℕ → ℕ → Type 0
+HasNoOccupied slots word = (i : ℕ) → i < slots → is_occupied word i ≡ false
 
 -- ---- the rule
 

@@ -1,15 +1,12 @@
 -- What seats know: the contexts that they carry, the threads that they have posted and ended, and the steps that they have made.
-use Rattle.std.specs.Prelude.{◌≡◌, ℕ, Bool, true, false, if◌then◌else◌, ◌==◌, List, [], ◌∷◌, ◌++◌, slice_index_or, count_by}
+use Rattle.std.specs.Prelude.{ℕ, if◌then◌else◌, ◌==◌, List, [], ◌∷◌, ◌++◌, slice_index_or, count_by}
 use Rattle.std.specs.List.{sum_by}
-use Rattle.arachne_core.specs.declared.place.Place.{Place}
-use Rattle.arachne_core.specs.declared.thread_id.ThreadId.{ThreadId}
 use Rattle.arachne_core.specs.World.{Thread, same_thread}
 use Rattle.arachne_weights.specs.declared.token.Token.{Token}
 use Rattle.arachne_weights.specs.Weight.{first_part, second_part, joined}
 use Rattle.arachne_weights.specs.Tokens.{held, spent}
 use Rattle.arachne_rule.specs.declared.view.Carried.{Carried}
 use Rattle.arachne_rule.specs.declared.view.Kind.{Kind}
-use Rattle.arachne_rule.specs.declared.view.Record.{Record}
 use Rattle.arachne_rule.specs.declared.view.Known.{Known}
 
 abbrev pub blank : Known

@@ -2,21 +2,32 @@
 //!
 //! A law speaks of a board that shows a World, and of the seat that makes the step. It says that the step's event is allowed there, and
 //! that the board with the one word changed shows the World after that event. So between any two steps the World is owned once.
-ghost use Rattle.std.specs.Prelude.{◌≡◌, ◌≢◌, ℕ, ◌+◌, ◌-◌, ◌*◌, ◌^◌, ◌<◌, ◌⊎◌, Some, None, true, false, if◌then◌else◌, bit_and, bit_or, Option};
+ghost use Rattle.std.specs.Prelude.{◌≡◌, ◌≢◌, ℕ, ◌+◌, ◌-◌, ◌*◌, ◌^◌, ◌<◌, ◌⊎◌, Some, None, true, bit_and, bit_or, Option, List, [], ◌∷◌, ◌++◌, length, replicate, slice_set, false};
 ghost use mathlib.Core.Option as slot;
+ghost use lib.ListN.{get_elem?};
+ghost use Rattle.atomic_table.specs.Table.{opening};
 ghost use Rattle.arachne_core.specs.declared.place.Place.{Place};
 ghost use Rattle.arachne_core.specs.declared.event.Event.TheVariants as event;
 ghost use Rattle.arachne_core.specs.declared.mark.Mark.TheVariants as mark;
 ghost use Rattle.arachne_core.specs.declared.state.Rest.TheVariants as rest;
 ghost use Rattle.arachne_core.specs.Marked.{mark_word, marked_of};
-ghost use Rattle.arachne_core.specs.World.{World, IsContext, IsPlace, Allowed, after, with_at};
+ghost use Rattle.arachne_core.specs.World.{World, Thread, IsContext, IsPlace, Allowed, after, with_at};
+ghost use Rattle.arachne_core.specs.OwnedOnce.{OwnedOnce};
+ghost use Rattle.arachne_core.specs.Run.{IsRun, IsDrained, after_all};
+ghost use Rattle.arachne_weights.specs.Weight.{whole};
+ghost use Rattle.arachne_weights.specs.Tokens.{held, spent};
 ghost use Rattle.arachne_rule.specs.declared.view.Carried.{Carried};
 ghost use Rattle.arachne_rule.specs.declared.view.Known.{Known};
-ghost use Rattle.arachne_rule.specs.Views.{with_context, without_context};
-ghost use Rattle.arachne_rule.specs.Rule.{Phase, Board, Knows, views_with, settled, Shows};
+ghost use Rattle.arachne_rule.specs.declared.view.Record.{Record};
+ghost use Rattle.arachne_rule.specs.declared.view.Shape.{Shape};
+ghost use Rattle.arachne_rule.specs.Views.{blank, with_context, without_context, first_seat, second_seat, joined_seat};
+ghost use Rattle.arachne_rule.specs.Rule.{Phase, Board, Knows, views_with, settled, is_closed, is_exclusive, is_occupied, HasNoOccupied, Shows};
 ghost use Rattle.arachne_rule.specs.Changes.{with_name, claimed_context, alone_context, taken_context, claimed_again, left_context, posted, retired, spent_known, marked_as, marked_free, marked_spent, index_sum, release_sum, taken_phase, moved_phase};
-ghost use Rattle.arachne_rule.specs.Plays.{Carries, IsRestMark};
-ghost use Rattle.arachne_rule.specs.Answers.{is_closed, is_exclusive, is_occupied};
+ghost use Rattle.arachne_rule.specs.Plays.{Carries, IsRestMark, HasEnded, IsGone};
+ghost use Rattle.arachne_rule.specs.Layout.{IsShape, AreFirstWords, contexts_in};
+ghost use Rattle.arachne_rule.specs.History.{opening_world, words_after, events_of, records_of, IsStepOf};
+ghost use Rattle.arachne_rule.specs.Table.{Table, Holds};
+ghost use Rattle.arachne_rule.specs.Ending.{IsSettled, left_from};
 
 // ---- loads
 
@@ -33,7 +44,7 @@ pub fn learning_is_still<T>()
         → (c : Carried) → IsContext w c.context → Carries k c → c.named ≡ true → c.away ≡ false
         → (b.name c.place ≡ c.context) × (b.home c.context ≡ slot.some (slot.some None)) × Allowed w event.Still
         × Shows tag_in bits (after w event.Still) (with_at d c.context (record (d c.context) { away = true }))
-            (record b { home = with_at b.home c.context (slot.some slot.none); views = views_with b h weight (with_context k (record c { away = true })) }) }
+        (record b { home = with_at b.home c.context (slot.some slot.none); views = views_with b h weight (with_context k (record c { away = true })) }) }
 {}
 
 // ---- claims
@@ -44,7 +55,7 @@ pub fn a_claim_is_claim<T>()
         → (p : Place) → IsPlace w p → is_occupied (b.occ p.core) p.index ≡ false → is_closed (b.occ p.core) ≡ false → is_exclusive (b.occ p.core) ≡ false
         → (x : ℕ) × (w.at x ≡ p) × Allowed w (event.Claim h x)
         × Shows tag_in bits (after w (event.Claim h x)) d
-            (record b { occ = with_at b.occ p.core (b.occ p.core + index_sum p.index); views = views_with b h weight (with_context k (claimed_context x p (w.generation x))) }) }
+        (record b { occ = with_at b.occ p.core (b.occ p.core + index_sum p.index); views = views_with b h weight (with_context k (claimed_context x p (w.generation x))) }) }
 {}
 
 /// A won exchange of a core's word from 0 is Alone of the context at index 0.
@@ -53,7 +64,7 @@ pub fn a_claim_of_a_core_is_alone<T>()
         → (core : ℕ) → core < w.cores → 0 < w.slots → b.occ core ≡ 0
         → (x : ℕ) × (w.at x ≡ record { core = core; index = 0 }) × Allowed w (event.Alone h x)
         × Shows tag_in bits (after w (event.Alone h x)) d
-            (record b { occ = with_at b.occ core (2 ^ 63 + index_sum 0); views = views_with b h weight (with_context k (alone_context x core (w.generation x))) }) }
+        (record b { occ = with_at b.occ core (2 ^ 63 + index_sum 0); views = views_with b h weight (with_context k (alone_context x core (w.generation x))) }) }
 {}
 
 /// Taking away from a core's word what a claim of the seat had added is Release.
@@ -62,7 +73,7 @@ pub fn a_release_is_release<T>()
         → (c : Carried) → IsContext w c.context → Carries k c → c.held ≡ false → c.named ≡ true → c.away ≡ false
         → Allowed w (event.Release h c.context)
         × Shows tag_in bits (after w (event.Release h c.context)) d
-            (record b { occ = with_at b.occ c.place.core (b.occ c.place.core - release_sum c); views = views_with b h weight (without_context k c) }) }
+        (record b { occ = with_at b.occ c.place.core (b.occ c.place.core - release_sum c); views = views_with b h weight (without_context k c) }) }
 {}
 
 // ---- threads come and go
@@ -229,4 +240,77 @@ pub fn naming_the_source_is_still<T>()
           name = with_name b.name c.place c.context;
           views = views_with b h weight (with_context k (record c { named = true }));
         }) }
+{}
+
+// ---- seats
+
+/// A split of a seat changes nothing in the World.
+pub fn a_split_is_still<T>()
+    ensures { (tag_in : T → ℕ) (bits : ℕ) (w : World) (d : ℕ → Phase) (b : Board T) → Shows tag_in bits w d b → (h weight : ℕ) (k : Known) → Knows b h weight k
+        → Allowed w event.Still
+        × Shows tag_in bits (after w event.Still) d (record b { views = slice_set b.views h (first_seat (held weight k)) ++ second_seat (held weight k) ∷ [] }) }
+{}
+
+/// A join of a seat that carries nothing into another changes nothing in the World.
+pub fn a_join_is_still<T>()
+    ensures { (tag_in : T → ℕ) (bits : ℕ) (w : World) (d : ℕ → Phase) (b : Board T) → Shows tag_in bits w d b → (h weight : ℕ) (k : Known) → Knows b h weight k
+        → (other added : ℕ) (o : Known) → other ≢ h → Knows b other added o → o.carried ≡ []
+        → Allowed w event.Still
+        × Shows tag_in bits (after w event.Still) d (record b { views = slice_set (slice_set b.views h (joined_seat (held weight k) (held added o))) other (spent blank) }) }
+{}
+
+// ---- the rule of a whole table
+
+/// The rule holds of a table as it is made.
+pub fn the_rule_holds_at_first<T>()
+    ensures { (tag_in : T → ℕ) (bits : ℕ) (shape : Shape) (words : List ℕ) → IsShape bits shape → AreFirstWords bits shape words
+        → Holds tag_in bits shape (opening words (replicate (contexts_in shape) None) (held whole blank)) }
+{}
+
+/// Where the rule holds, the World that is shown is owned once, and is what a run of its events has made of the World at first; and the words
+/// are what the steps of the history have made of the first words.
+pub fn a_table_shows_a_run<T>()
+    ensures { (tag_in : T → ℕ) (bits : ℕ) (shape : Shape) (s : Table T) → (rule : Holds tag_in bits shape s)
+        → OwnedOnce rule.world
+        × IsRun (opening_world shape) (events_of rule.history) × (after_all (opening_world shape) (events_of rule.history) ≡ rule.world)
+        × (s.words ≡ words_after rule.first rule.history) }
+{}
+
+/// What a seat in use has noted are exactly its own steps. Each of them is in the history at its place: it found what stood in its word, and
+/// was an event that was allowed.
+pub fn a_record_is_a_step<T>()
+    ensures all { (tag_in : T → ℕ) (bits : ℕ) (shape : Shape) (s : Table T) → (rule : Holds tag_in bits shape s)
+        → (h weight : ℕ) (k : Known) → get_elem? s.views h ≡ slot.some (held weight k) → k.records ≡ records_of h rule.history }
+    ensures each { (tag_in : T → ℕ) (bits : ℕ) (shape : Shape) (s : Table T) → (rule : Holds tag_in bits shape s)
+        → (h weight : ℕ) (k : Known) → get_elem? s.views h ≡ slot.some (held weight k)
+        → (at : ℕ) (r : Record) → get_elem? k.records at ≡ slot.some r
+        → IsStepOf bits (opening_world shape) rule.first rule.history h r }
+{}
+
+/// Two seats that carry one context, or contexts at one place, are one seat: no context and no place belongs to two.
+pub fn a_context_has_one_carrier<T>()
+    ensures context { (tag_in : T → ℕ) (bits : ℕ) (w : World) (d : ℕ → Phase) (b : Board T) → Shows tag_in bits w d b → (h weight : ℕ) (k : Known) → Knows b h weight k
+        → (j added : ℕ) (o : Known) → Knows b j added o → (c f : Carried) → IsContext w c.context → Carries k c → Carries o f → c.context ≡ f.context → h ≡ j }
+    ensures place { (tag_in : T → ℕ) (bits : ℕ) (w : World) (d : ℕ → Phase) (b : Board T) → Shows tag_in bits w d b → (h weight : ℕ) (k : Known) → Knows b h weight k
+        → (j added : ℕ) (o : Known) → Knows b j added o → (c f : Carried) → IsContext w c.context → IsContext w f.context → Carries k c → Carries o f → c.place ≡ f.place
+        → (c.context ≡ f.context) × (h ≡ j) }
+{}
+
+/// A thread that a seat has ended isn't in its context any more, whoever has had the context since, and can't be woken.
+pub fn an_ended_thread_is_gone<T>()
+    ensures { (tag_in : T → ℕ) (bits : ℕ) (w : World) (d : ℕ → Phase) (b : Board T) → Shows tag_in bits w d b → (h weight : ℕ) (k : Known) → Knows b h weight k
+        → (t : Thread) → HasEnded k t → IsContext w t.0.context × IsGone bits t.0 (b.mark t.0.context) × (Allowed w (event.Wake t.0) → ⊥) }
+{}
+
+/// A word that shows a closed core with no index occupied is that of a drained core.
+pub fn a_drained_word_shows_a_drained_core<T>()
+    ensures { (tag_in : T → ℕ) (bits : ℕ) (w : World) (d : ℕ → Phase) (b : Board T) → Shows tag_in bits w d b → (core : ℕ) → core < w.cores
+        → is_closed (b.occ core) ≡ true → HasNoOccupied w.slots (b.occ core) → IsDrained w core }
+{}
+
+/// When a whole seat carries nothing, what was posted has ended or lies in a slot, each once.
+pub fn what_was_posted_has_ended_or_is_left<T>()
+    ensures { (tag_in : T → ℕ) (bits : ℕ) (shape : Shape) (s : Table T) → Holds tag_in bits shape s → (h : ℕ) (k : Known) → get_elem? s.views h ≡ slot.some (held whole k) → k.carried ≡ []
+        → (slots : List (Option T)) → length s.homes ≡ length slots → ((x : ℕ) (o : Option T) → get_elem? s.homes x ≡ slot.some (slot.some o) → get_elem? slots x ≡ slot.some o)
+        → IsSettled tag_in k (left_from bits 0 s.words slots) }
 {}

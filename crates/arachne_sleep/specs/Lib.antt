@@ -6,3 +6,4 @@ pub mod WaitQueue
 pub mod Inside
 pub mod Seats
 pub mod SleepLock
+pub mod SleepLocks

@@ -2,6 +2,7 @@
 //!
 //! [`LockState`] is the state of one: who owns it, who waits for it in which order, and the history of all that was
 //! asked, granted and freed. [`SleepLock`] is one that kernel threads share, each through a [`LockSeat`].
+//! [`SleepLocks`] are several, with [`LockSeats`].
 #![tactic(auto)]
 
 mod answer;
@@ -10,6 +11,7 @@ pub mod laws;
 mod lock_seat;
 mod lock_state;
 mod sleep_lock;
+mod sleep_locks;
 mod wait_queue;
 mod who;
 
@@ -18,4 +20,5 @@ pub use event::LockEvent;
 pub use lock_seat::LockSeat;
 pub use lock_state::LockState;
 pub use sleep_lock::SleepLock;
+pub use sleep_locks::{LockSeats, SleepLocks};
 pub use who::Who;

@@ -55,3 +55,15 @@ impl Model for LockSeat {
 
     ghost invariant = { λ s. IsSeated s.weight s.seat.me };
 }
+
+impl LockSeat {
+    ghost use Rattle.std.specs.Prelude.{◌↔◌, IsTrue};
+    ghost use Rattle.arachne_sleep.specs.SleepLock.{IsWhole};
+
+    /// Whether all other seats of its lock were joined into it.
+    pub fn is_whole(&self) -> bool
+        ensures { IsTrue result ↔ IsWhole self.now }
+    {
+        self.weight.is_whole()
+    }
+}

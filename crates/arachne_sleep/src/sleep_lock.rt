@@ -113,19 +113,23 @@ impl SleepLock {
         ensures first { result.0 ≡ record seat { weight = first_part seat.weight } }
         ensures second { result.1 ≡ record seat { weight = second_part seat.weight } }
     {
-        let LockSeat { mut seat, weight } = seat;
-        let (first, second) = weight.split();
-        let other = self.table.shared.split_seat::<Deal>(&mut seat);
-        (
-            LockSeat {
-                seat,
-                weight: first,
-            },
-            LockSeat {
-                seat: other,
-                weight: second,
-            },
-        )
+        let mut seat = seat;
+        let other = self.split_off(&mut seat);
+        (seat, other)
+    }
+
+    pub(crate) fn split_off(&self, seat: &mut LockSeat) -> LockSeat
+        requires { IsSeatOf self.now seat.old }
+        ensures first { seat.new ≡ record seat.old { weight = first_part seat.old.weight } }
+        ensures second { result ≡ record seat.old { weight = second_part seat.old.weight } }
+    {
+        let (first, second) = seat.weight.split();
+        let other = self.table.shared.split_seat::<Deal>(&mut seat.seat);
+        seat.weight = first;
+        LockSeat {
+            seat: other,
+            weight: second,
+        }
     }
 
     /// Adds up weights, to at most the whole.
@@ -134,23 +138,29 @@ impl SleepLock {
         requires other { IsSeatOf self.now other }
         ensures { result ≡ record seat { weight = joined seat.weight other.weight } }
     {
-        let LockSeat { mut seat, weight } = seat;
+        let mut seat = seat;
+        self.join_into(&mut seat, other);
+        seat
+    }
+
+    pub(crate) fn join_into(&self, seat: &mut LockSeat, other: LockSeat)
+        requires seat { IsSeatOf self.now seat.old }
+        requires other { IsSeatOf self.now other }
+        ensures { seat.new ≡ record seat.old { weight = joined seat.old.weight other.weight } }
+    {
         let LockSeat {
             seat: spent,
             weight: added,
         } = other;
-        self.table.shared.join_seat::<Deal>(&mut seat, spent);
-        LockSeat {
-            seat,
-            weight: weight.join(added),
-        }
+        self.table.shared.join_seat::<Deal>(&mut seat.seat, spent);
+        seat.weight = seat.weight.join(added);
     }
 
     /// Whether all other seats of the seat's lock were joined into it.
     pub fn is_whole(&self, seat: &LockSeat) -> bool
         ensures { IsTrue result ↔ IsWhole seat.now }
     {
-        seat.weight.is_whole()
+        seat.is_whole()
     }
 
     /// All that was asked, granted and freed, oldest first. It takes no memory.

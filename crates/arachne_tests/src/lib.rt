@@ -1,8 +1,6 @@
-//! Tests of the crates below, by public calls alone, a module for each crate. What they test is proved without them.
+//! Tests of the crates below the commands, by public calls alone, a module for each crate. What they test is proved without them.
 #![tactic(auto)]
 
-#[cfg(test)]
-mod commands;
 #[cfg(test)]
 mod join;
 #[cfg(test)]

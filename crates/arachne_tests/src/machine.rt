@@ -1,10 +1,11 @@
-ghost use Rattle.std.specs.Prelude.{◌≡◌, ◌≤◌, None, Some, IfOk, OnOk};
+ghost use Rattle.std.specs.Prelude.{◌≡◌, ◌≤◌, [], false, None, Some, IfOk, OnOk, IsTrue};
+ghost use Rattle.arachne_lang.specs.Program.{source_of};
 ghost use Rattle.arachne_machine.specs.declared.pause.Pending.TheVariants as pause;
-ghost use Rattle.arachne_machine.specs.Suspended.{Suspended};
-ghost use Rattle.arachne_machine.specs.Advance.{Advanced};
+ghost use Rattle.arachne_machine.specs.Nested.{Nested, IsChildOf, SameWhole, pending_in, whole};
+ghost use Rattle.arachne_machine.specs.Advance.{Moves};
 
 use arachne_lang::{Class, Program, TextFault, parse};
-use arachne_machine::{NotJoined, Outcome, Pause, Pending, Thread, run_alone};
+use arachne_machine::{NotJoined, Outcome, OutcomeParts, Pause, Pending, Thread, run_alone};
 use std::alloc::{AllocError, Global};
 use std::process::Abort;
 use std::test::Fail;
@@ -117,11 +118,11 @@ fn sums_and_holds(rt: HostRuntime) -> Result<(), Fail> {
 
 /// The child that the thread forks next. It is given away.
 fn next_child<'p>(thread: &mut Thread<'p>) -> Result<Thread<'p>, Fail>
-    requires { thread.old.pending ≡ None }
-    ensures running { IfOk result (λ child. child.pending ≡ None) }
-    ensures program { IfOk result (λ child. child.program ≡ thread.old.program) }
-    ensures goes_on { OnOk result (thread.new.pending ≡ None) }
-    ensures same_program { thread.new.program ≡ thread.old.program }
+    requires { pending_in thread.old ≡ None }
+    ensures running { IfOk result (λ child. pending_in child ≡ None) }
+    ensures program { IfOk result (λ child. source_of (whole child).program ≡ source_of (whole thread.old).program) }
+    ensures goes_on { OnOk result (pending_in thread.new ≡ None) }
+    ensures same_program { source_of (whole thread.new).program ≡ source_of (whole thread.old).program }
 {
     match thread.advance(100)? {
         Pause::Forks(Class::Exclusive, child) => {
@@ -134,8 +135,8 @@ fn next_child<'p>(thread: &mut Thread<'p>) -> Result<Thread<'p>, Fail>
 
 /// The outcome of a thread that ends with no further fork or join.
 fn ended<'p>(mut thread: Thread<'p>) -> Result<Outcome<'p>, Fail>
-    requires { thread.pending ≡ None }
-    ensures { IfOk result (λ outcome. outcome.program ≡ thread.entry.program) }
+    requires { pending_in thread ≡ None }
+    ensures { IfOk result (λ outcome. source_of outcome.program ≡ source_of (whole thread.entry).program) }
 {
     match thread.advance(100)? {
         Pause::Ended => Ok(thread.finish()),
@@ -145,9 +146,9 @@ fn ended<'p>(mut thread: Thread<'p>) -> Result<Outcome<'p>, Fail>
 
 /// Goes on to the next join.
 fn to_join<'p>(thread: &mut Thread<'p>) -> Result<(), Fail>
-    requires { thread.old.pending ≡ None }
-    ensures awaits { OnOk result (thread.new.pending ≡ Some pause.Joins) }
-    ensures same_program { thread.new.program ≡ thread.old.program }
+    requires { pending_in thread.old ≡ None }
+    ensures awaits { OnOk result (pending_in thread.new ≡ Some pause.Joins) }
+    ensures same_program { source_of (whole thread.new).program ≡ source_of (whole thread.old).program }
 {
     match thread.advance(100)? {
         Pause::Joins => Ok(()),
@@ -157,7 +158,7 @@ fn to_join<'p>(thread: &mut Thread<'p>) -> Result<(), Fail>
 
 /// The outcome of the root of a program with one fork.
 fn root_outcome<'p>(alloc: Global, program: &'p Program) -> Result<Outcome<'p>, Fail>
-    ensures { IfOk result (λ outcome. outcome.program ≡ program.now) }
+    ensures { IfOk result (λ outcome. source_of outcome.program ≡ source_of program.now) }
 {
     let mut thread = Thread::start(alloc, program, 1)?;
     let child = next_child(&mut thread)?;
@@ -175,11 +176,11 @@ fn refuses<'p>(
     foreign: Outcome<'p>,
     child: Outcome<'p>,
 ) -> Result<(), Fail>
-    requires awaits { thread.old.pending ≡ Some pause.Joins }
-    requires foreign { foreign.program ≡ thread.old.program }
-    requires child { child.program ≡ thread.old.program }
-    ensures goes_on { OnOk result (thread.new.pending ≡ None) }
-    ensures same_program { OnOk result (thread.new.program ≡ thread.old.program) }
+    requires awaits { pending_in thread.old ≡ Some pause.Joins }
+    requires foreign { source_of foreign.program ≡ source_of (whole thread.old).program }
+    requires child { source_of child.program ≡ source_of (whole thread.old).program }
+    ensures goes_on { OnOk result (pending_in thread.new ≡ None) }
+    ensures same_program { OnOk result (source_of (whole thread.new).program ≡ source_of (whole thread.old).program) }
 {
     let Err(refused) = thread.joined(foreign) else {
         return Err("the root's outcome was joined as its child's")?;
@@ -217,8 +218,8 @@ fn foreign_outcome_comes_back(rt: HostRuntime) -> Result<(), Fail> {
 
 /// Advances to a pause, and makes a call that was refused memory once more.
 fn advanced<'p>(thread: &mut Thread<'p>) -> Result<Pause<'p>, AllocError>
-    requires { thread.old.pending ≡ None }
-    ensures { IfOk result (λ pause. (mid : Suspended) × (mid.program ≡ thread.old.program) × Advanced 100 mid pause thread.new) }
+    requires { pending_in thread.old ≡ None }
+    ensures { IfOk result (λ pause. (mid : Nested) × SameWhole thread.old mid × Moves 100 mid pause thread.new) }
 {
     match thread.advance(100) {
         Ok(pause) => Ok(pause),
@@ -270,9 +271,9 @@ fn refused_calls_go_on(rt: HostRuntime) -> Result<(), Fail> {
 
 /// Advances by so many steps, which end at no pause of the thread's own.
 fn cut(thread: &mut Thread, budget: u32) -> Result<(), Fail>
-    requires running { thread.old.pending ≡ None }
+    requires running { pending_in thread.old ≡ None }
     requires some { 1 ≤ budget }
-    ensures { OnOk result (thread.new.pending ≡ None) }
+    ensures { OnOk result (pending_in thread.new ≡ None) }
 {
     match thread.advance(budget)? {
         Pause::Budget => Ok(()),
@@ -282,9 +283,9 @@ fn cut(thread: &mut Thread, budget: u32) -> Result<(), Fail>
 
 /// Advances to the thread's end.
 fn end(thread: &mut Thread, budget: u32) -> Result<(), Fail>
-    requires running { thread.old.pending ≡ None }
+    requires running { pending_in thread.old ≡ None }
     requires some { 1 ≤ budget }
-    ensures { OnOk result (thread.new.pending ≡ Some pause.Ended) }
+    ensures { OnOk result (pending_in thread.new ≡ Some pause.Ended) }
 {
     match thread.advance(budget)? {
         Pause::Ended => Ok(()),
@@ -328,8 +329,8 @@ fn budgets_up_to_the_greatest(rt: HostRuntime) -> Result<(), Fail> {
 
 /// Goes on through the pauses of a hold with a tally in it, and answers them.
 fn held_and_tallied(rt: &impl Abort, thread: &mut Thread) -> Result<(), Fail>
-    requires { thread.old.pending ≡ None }
-    ensures goes_on { OnOk result (thread.new.pending ≡ None) }
+    requires { pending_in thread.old ≡ None }
+    ensures goes_on { OnOk result (pending_in thread.new ≡ None) }
 {
     let Pause::Asks(lock) = thread.advance(100)? else {
         return Err("asks for no lock")?;
@@ -393,5 +394,180 @@ fn refused_memory_changes_no_answer(rt: HostRuntime) -> Result<(), Fail> {
     for budget in [1, 7, 100, 10_000, u32::MAX] {
         assert!(rt; is_right_or_refused(rt.alloc(), budget));
     }
+    Ok(())
+}
+
+/// The next tag, and the sum of the tags that asked for a lock.
+#[derive(Drop)]
+struct Tags {
+    next: u64,
+    asked: u64,
+}
+
+/// Puts a child in its parent's place with the next tag. A call that is refused memory is made once more.
+fn place<'p>(thread: &mut Thread<'p>, mut child: Thread<'p>, tags: &mut Tags) -> Result<(), Fail>
+    requires forks { pending_in thread.old ≡ Some pause.Forks }
+    requires alone { child.parents ≡ [] }
+    requires child { IsChildOf thread.old child }
+    ensures { OnOk result (pending_in thread.new ≡ None) }
+{
+    child.set_tag(tags.next);
+    tags.next = tags.next.wrapping_add(1);
+    let Err(child) = thread.in_place(child) else {
+        return Ok(());
+    };
+    if thread.in_place(child).is_err() {
+        return Err("memory was refused twice")?;
+    }
+    Ok(())
+}
+
+/// Goes on to the next pause and answers it, with each child in place. It tells whether the thread has ended.
+fn turn_in_place(thread: &mut Thread, budget: u32, tags: &mut Tags) -> Result<bool, Fail>
+    requires running { pending_in thread.old ≡ None }
+    requires some { 1 ≤ budget }
+    ensures goes_on { IfOk result (λ ended. ended ≡ false → pending_in thread.new ≡ None) }
+    ensures ended { IfOk result (λ ended. IsTrue ended → pending_in thread.new ≡ Some pause.Ended) }
+{
+    let pause = match thread.advance(budget) {
+        Ok(pause) => pause,
+        Err(_) => thread.advance(budget)?,
+    };
+    match pause {
+        Pause::Budget => {}
+        Pause::Forks(_, child) => place(thread, child, tags)?,
+        Pause::Asks(_) => {
+            tags.asked = tags.asked.wrapping_add(thread.running_tag());
+            thread.granted();
+        }
+        Pause::Frees(_) => thread.freed(),
+        Pause::Tallies(_, _) => thread.tallied(),
+        Pause::Joins => return Err("awaits a child that is in place")?,
+        Pause::Ended => return Ok(true),
+    }
+    Ok(false)
+}
+
+/// What a program's threads bring that all run in the root's place, whose tag is 9, and the sum of the tags that
+/// asked for a lock.
+fn all_in_place(alloc: Global, program: &Program, budget: u32) -> Result<(OutcomeParts, u64), Fail>
+    requires { 1 ≤ budget }
+{
+    let mut thread = match Thread::start(alloc, program, 9) {
+        Ok(thread) => thread,
+        Err(_) => Thread::start(alloc, program, 9)?,
+    };
+    let mut tags = Tags { next: 10, asked: 0 };
+    for _ in 0..10000 {
+        if turn_in_place(&mut thread, budget, &mut tags)? {
+            return Ok((parts(thread.finish())?, tags.asked));
+        }
+    }
+    Err("no end")?
+}
+
+/// An outcome taken apart. A call that is refused memory is made once more.
+fn parts(outcome: Outcome) -> Result<OutcomeParts, Fail> {
+    match outcome.into_parts() {
+        Ok(parts) => Ok(parts),
+        Err(outcome) => match outcome.into_parts() {
+            Ok(parts) => Ok(parts),
+            Err(_) => Err("memory was refused twice")?,
+        },
+    }
+}
+
+/// Of each line the name's length, the name, the tag, and 1 where it ran in place.
+fn marks(alloc: Global, parts: &OutcomeParts) -> Result<Vec<u64>, AllocError> {
+    let mut marks = Vec::new(alloc);
+    for line in parts.lines.as_slice() {
+        let forks = line.name.forks();
+        marks.push(forks.len() as u64)?;
+        marks.extend_from_slice(forks)?;
+        marks.push(line.tag)?;
+        marks.push(u64::from(line.in_place))?;
+    }
+    Ok(marks)
+}
+
+#[test]
+fn children_run_in_place(rt: HostRuntime) -> Result<(), Fail> {
+    let alloc = rt.alloc();
+    for (expression, value, lines) in [
+        ("(num 7)", 7, [0, 9, 0].as_slice()),
+        (ONE_FORK, 5, [0, 9, 0, 1, 0, 10, 1].as_slice()),
+        (
+            "(fork x (fork x (num 1) (num 10) (var 0)) (fork x (num 100) (num 5) (var 0)) (add (var 0) (var 1)))",
+            101,
+            [0, 9, 0, 1, 1, 11, 1, 1, 0, 10, 1, 2, 0, 0, 12, 1].as_slice(),
+        ),
+        (
+            "(sweep add 2 (num 0) (num 8) (var 0))",
+            28,
+            [0, 9, 0, 1, 1, 11, 1, 1, 0, 10, 1, 2, 0, 0, 12, 1].as_slice(),
+        ),
+    ] {
+        let program = program(alloc, 0, expression)?;
+        for budget in [1, 2, 3, 7, 1000] {
+            let (parts, _) = all_in_place(alloc, &program, budget)?;
+            assert_eq!(rt; parts.value, value);
+            assert_eq!(rt; marks(alloc, &parts)?.as_slice(), lines);
+        }
+    }
+    Ok(())
+}
+
+/// The threads with the tags 9 to 16 hold the lock once each, and are told as the ones that ask for it.
+#[test]
+fn locks_and_ledgers_in_place(rt: HostRuntime) -> Result<(), Fail> {
+    let alloc = rt.alloc();
+    let program = program(alloc, 1, COUNTING)?;
+    for budget in [1, 7, 100] {
+        let (parts, asked) = all_in_place(alloc, &program, budget)?;
+        assert_eq!(rt; (parts.value, asked), (8, 100));
+        assert_eq!(rt; parts.sums.as_slice(), [40].as_slice());
+        for line in parts.lines.as_slice() {
+            assert_eq!(rt; line.holds.as_slice(), [1].as_slice());
+        }
+    }
+    Ok(())
+}
+
+/// Sixty threads, each forked by the one before it.
+#[test]
+fn a_chain_in_place(rt: HostRuntime) -> Result<(), Fail> {
+    let alloc = rt.alloc();
+    let mut expression = String::new(alloc);
+    for _ in 0..60 {
+        expression.push_str("(fork n ")?;
+    }
+    expression.push_str("(num 1)")?;
+    for _ in 0..60 {
+        expression.push_str(" (num 1) (add (var 0) (var 1)))")?;
+    }
+    let program = program(alloc, 0, &expression)?;
+    let (parts, _) = all_in_place(alloc, &program, 3)?;
+    assert_eq!(rt; parts.value, 61);
+    let mut tag = 9;
+    for line in parts.lines.as_slice() {
+        assert_eq!(rt; (line.tag, line.in_place), (tag, tag > 9));
+        tag += 1;
+    }
+    assert_eq!(rt; tag, 70);
+    Ok(())
+}
+
+/// Run with each allocation refused in turn (`rt try --test --fail-alloc N`) this gives the same outcome.
+#[test]
+fn refused_calls_in_place_go_on(rt: HostRuntime) -> Result<(), Fail> {
+    let alloc = rt.alloc();
+    let program = match parse(alloc, FORKED_COUNTING) {
+        Ok(program) => program,
+        Err(_) => parse(alloc, FORKED_COUNTING)?,
+    };
+    let (parts, asked) = all_in_place(alloc, &program, 5)?;
+    assert_eq!(rt; (parts.value, asked), (11, 108));
+    assert_eq!(rt; parts.sums.as_slice(), [40].as_slice());
+    assert_eq!(rt; parts.lines.as_slice().len(), 9);
     Ok(())
 }

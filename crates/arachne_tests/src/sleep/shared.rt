@@ -4,7 +4,9 @@ ghost use Rattle.std.specs.Thread.{IsSync};
 ghost use Rattle.arachne_sleep.specs.SleepLock.{IsSeatOf, IsWhole};
 
 use super::thread as user;
-use arachne_sleep::{AskFault, Asked, Freed, LockEvent, LockSeat, NotHolder, Pass, SleepLock, Tried, Who};
+use arachne_sleep::{
+    AskFault, Asked, Freed, LockEvent, LockSeat, NotHolder, Pass, SleepLock, Tried, Who,
+};
 use std::alloc::{AllocError, Global};
 use std::process::Abort;
 use std::snapshot::Snapshot;

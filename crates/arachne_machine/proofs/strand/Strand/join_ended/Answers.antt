@@ -41,7 +41,9 @@ returns-clause-ok c =
     let unchanged : IsUnchanged t mid = subst (λ m. IsUnchanged t m) (sym c.deref_mut-2.ensures.value) c.make_room.ensures.same in
     let of_name : IsOfItsName outcome = subst IsOfItsName c.outcome.view_is c.outcome.invariant in
     let source : source_of outcome.program ≡ source_of t.program.now =
-    ap source_of c.finish-outcome.ensures.program ∙ c.requires.program ∙ ap (λ v. source_of v.program) (sym c.self.view_is) ∙ ap (λ v. source_of v.program.now) (sym c.deref_mut.ensures.value) in
-    (outcome, c.finish-outcome.ensures.lines,
-     subst (λ v. Joined v outcome (suspended new)) (ap suspended c.deref_mut.ensures.value ∙ c.self.view_is)
-     (joined_seen t new outcome sound of_name source (joins_after t mid new outcome unchanged c.join_with_room.ensures)))
+    ap source_of c.finish-outcome.ensures.program ∙ c.requires.program ∙ ap (λ v. source_of v.program) (sym c.self.view_is) ∙ ap (λ v. source_of v.program.now) (sym c.deref_mut.ensures.value) in (
+      outcome,
+      c.finish-outcome.ensures.lines,
+      subst (λ v. Joined v outcome (suspended new)) (ap suspended c.deref_mut.ensures.value ∙ c.self.view_is)
+          (joined_seen t new outcome sound of_name source (joins_after t mid new outcome unchanged c.join_with_room.ensures)),
+    )

@@ -15,5 +15,5 @@ returns-clause-ok c =
     let is : IsAlone c.args.self.now = c.if-not-is_alone.ensures.0 refl in
     subst (λ v. Moves c.args.budget v c.pause_at.result new) c.self.view_is
     (subst (λ p. Moves c.args.budget (record { running = a; parents = ps; placed = qs }) p new) (sym c.pause_at.ensures)
-     (alone_at c.args.budget a b _ ps qs (ap (λ v. v.parents) c.self.view_is ∙ is.0) (ap (λ v. v.placed) c.self.view_is ∙ is.1)
-      (alone_moves c.args.budget a b c.in_ok-halt.halt c.in_ok-halt.ensures.ok c.in_ok-halt.ensures.pending)))
+    (alone_at c.args.budget a b _ ps qs (ap (λ v. v.parents) c.self.view_is ∙ is.0) (ap (λ v. v.placed) c.self.view_is ∙ is.1)
+    (alone_moves c.args.budget a b c.in_ok-halt.halt c.in_ok-halt.ensures.ok c.in_ok-halt.ensures.pending)))

@@ -33,7 +33,7 @@ returns-in_err-halt-clause-err_work c =
     let some : 0 < c.loop-left.left = search rules in
     on_err c.from_residual-in_err-halt.result _
     (refused_work c.args.self.now c.loop-left.self c.rejoin.new.self a b ps qs c.args.budget c.loop-left.left c.loop-left.invariant.work c.rejoin.ensures.work c.self.view_is
-     c.in_err-halt.ensures.err_work some c.loop-left.invariant.some)
+    c.in_err-halt.ensures.err_work some c.loop-left.invariant.some)
 
 pub invariant_of-self-in-loop-left : goal.invariant_of-self-in-loop-left
 invariant_of-self-in-loop-left c =
@@ -54,9 +54,9 @@ returns-then-not-goes_on-clause-ok c =
     let paused : pending_in new ≢ None = subst (λ v. pending_in v ≢ None) stays pauses.1 in
     subst (λ v. Moves c.args.budget c.args.self.now c.pause_at.result v) (sym stays)
     (subst (λ p. Moves c.args.budget c.args.self.now p new) (sym c.pause_at.ensures)
-     (moved_on c.args.self.now c.loop-left.self c.rejoin.new.self a b ps qs c.args.budget c.loop-left.left c.advance.new.left halt
-      c.loop-left.invariant.same c.rejoin.ensures.same c.loop-left.invariant.work c.loop-left.invariant.some c.rejoin.ensures.work c.self.view_is
-      c.in_ok-halt.ensures.ok c.in_ok-halt.ensures.spent c.in_ok-halt.ensures.exact is paused))
+    (moved_on c.args.self.now c.loop-left.self c.rejoin.new.self a b ps qs c.args.budget c.loop-left.left c.advance.new.left halt
+    c.loop-left.invariant.same c.rejoin.ensures.same c.loop-left.invariant.work c.loop-left.invariant.some c.rejoin.ensures.work c.self.view_is
+    c.self.invariant.0.awaiting c.in_ok-halt.ensures.ok c.in_ok-halt.ensures.spent c.in_ok-halt.ensures.exact is paused))
 
 pub returns-then-not-goes_on-clause-within : goal.returns-then-not-goes_on-clause-within
 returns-then-not-goes_on-clause-within c = λ checked.

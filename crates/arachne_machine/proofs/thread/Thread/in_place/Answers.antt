@@ -1,9 +1,9 @@
 use Rattle.std.proofs.Common.{rules, ◌≡◌, ◌∷◌, None, Some, true, List, reverse, refl, sym, ap, ◌∙◌, subst}
 use Rattle.arachne_lang.specs.Program.{source_of}
 use Rattle.arachne_machine.specs.Suspended.{Suspended}
-use Rattle.arachne_machine.specs.Nested.{IsNested, in_place_of}
+use Rattle.arachne_machine.specs.Nested.{Nested, IsNested, SameWhole, in_place_of, whole}
 use Rattle.arachne_machine.proofs.Waiting.{pushed}
-use Rattle.arachne_machine.proofs.Nesting.{nested_placed}
+use Rattle.arachne_machine.proofs.Nesting.{nested_placed, next_is, outer_source, whole_is, whole_same}
 use Rattle.arachne_machine.proofs.thread.Thread.in_place.Goals as goal
 
 pub invariant_of-self-2 : goal.invariant_of-self-2
@@ -18,12 +18,29 @@ invariant_of-self-2 c =
     let one : reverse c.push_reserved.new.self.items ≡ child ∷ reverse c.try_reserve-else-is_err.new.self.items =
     pushed c.try_reserve-else-is_err.new.self.items c.push_reserved.new.self.items child c.push_reserved.ensures.items in
     let given : child ≡ in_place_of c.args.child.running = c.run_in_place.ensures ∙ ap in_place_of c.into_running-child.ensures in
-    let seen = ap (λ v. source_of v.running.program) (sym c.self.view_is) in
-    let source : source_of child.program ≡ source_of a.program = ap (λ v. source_of v.program) given ∙ c.requires.child.same_source ∙ seen in
-    let fresh : child.pending ≡ None = ap (λ v. v.pending) given ∙ c.requires.child.not_paused in
+    let was = whole_is c.args.child c.requires.child.alone.0 in
+    let seen = ap (λ v. source_of (whole v).program) (sym c.self.view_is) ∙ outer_source a (reverse ps) c.self.invariant.0.awaiting in
+    let source : source_of child.program ≡ source_of a.program =
+    ap (λ v. source_of v.program) given ∙ sym (ap (λ v. source_of v.program) was) ∙ c.requires.child.same_source ∙ seen in
+    let fresh : child.pending ≡ None =
+    ap (λ v. v.pending) given ∙ next_is c.args.child.running.pending c.args.child.parents c.requires.child.alone.0 c.requires.child.not_paused in
     let here : child.label.in_place ≡ true = ap (λ v. v.label.in_place) given in
     let nested : IsNested (record { running = b; parents = reverse ps; placed = child ∷ reverse qs }) =
-    nested_placed a b child (reverse ps) (reverse qs) c.forked.ensures.same source fresh here c.self.invariant.0 in
-    (subst (λ l. IsNested (record { running = b; parents = reverse l; placed = reverse c.push_reserved.new.self.items })) (sym parents)
-     (subst (λ l. IsNested (record { running = b; parents = reverse ps; placed = l })) (sym (one ∙ ap (λ l. child ∷ reverse l) kept)) nested),
-     search rules)
+    nested_placed a b child (reverse ps) (reverse qs) c.forked.ensures.same source fresh here c.self.invariant.0 in (
+      subst (λ l. IsNested (record { running = b; parents = reverse l; placed = reverse c.push_reserved.new.self.items })) (sym parents)
+          (subst (λ l. IsNested (record { running = b; parents = reverse ps; placed = l })) (sym (one ∙ ap (λ l. child ∷ reverse l) kept)) nested),
+      search rules,
+    )
+
+pub returns-clause-whole : goal.returns-clause-whole
+returns-clause-whole c =
+    let a = c.self.inside.running in
+    let b : Suspended = c.forked.new.self in
+    let ps : List Suspended = c.self.inside.parents.items in
+    let qs : List Suspended = reverse c.self.inside.placed.items in
+    let placed : List Suspended = reverse c.push_reserved.new.self.items in
+    let parents : c.try_reserve.new.self.items ≡ ps = c.try_reserve.ensures.items in
+    let same = c.forked.ensures.same in
+    subst (λ v. SameWhole v (record { running = b; parents = reverse c.try_reserve.new.self.items; placed = placed })) c.self.view_is
+    (subst (λ l. SameWhole (record { running = a; parents = reverse ps; placed = qs }) (record { running = b; parents = reverse l; placed = placed })) (sym parents)
+    (whole_same a b (reverse ps) qs placed same.program same.name same.label))

@@ -1,7 +1,7 @@
-use Rattle.std.proofs.Common.{◌≡◌, reverse, sym, ap, ◌∙◌}
+use Rattle.std.proofs.Common.{◌≡◌, reverse, sym, ap, ◌∙◌, subst}
 use Rattle.arachne_lang.specs.Program.{source_of}
-use Rattle.arachne_machine.specs.Nested.{whole}
-use Rattle.arachne_machine.proofs.Nesting.{outer_source, nested_answered}
+use Rattle.arachne_machine.specs.Nested.{SameWhole, whole}
+use Rattle.arachne_machine.proofs.Nesting.{outer_source, nested_answered, whole_answered}
 use Rattle.arachne_machine.proofs.thread.Thread.joined.Goals as goal
 
 pub joined-requires-clause-program : goal.joined-requires-clause-program
@@ -10,6 +10,15 @@ joined-requires-clause-program c =
     ∙ outer_source c.self.inside.running (reverse c.self.inside.parents.items) c.self.invariant.0.awaiting
 
 pub invariant_of-self : goal.invariant_of-self
-invariant_of-self c =
-    (nested_answered c.joined.result c.self.inside.running c.joined.new.self c.args.outcome (reverse c.self.inside.parents.items) (reverse c.self.inside.placed.items)
-     c.joined.ensures.ok c.joined.ensures.err c.self.invariant.0, c.self.invariant.1)
+invariant_of-self c = (
+  nested_answered c.joined.result c.self.inside.running c.joined.new.self c.args.outcome (reverse c.self.inside.parents.items) (reverse c.self.inside.placed.items)
+      c.joined.ensures.ok c.joined.ensures.err c.self.invariant.0,
+  c.self.invariant.1,
+)
+
+pub returns-clause-whole : goal.returns-clause-whole
+returns-clause-whole c =
+    let ps = reverse c.self.inside.parents.items in
+    let qs = reverse c.self.inside.placed.items in
+    subst (λ v. SameWhole v (record { running = c.joined.new.self; parents = ps; placed = qs })) c.self.view_is
+    (whole_answered c.joined.result c.self.inside.running c.joined.new.self c.args.outcome ps qs c.joined.ensures.ok c.joined.ensures.err)

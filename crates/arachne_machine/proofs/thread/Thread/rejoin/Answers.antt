@@ -15,9 +15,10 @@ invariant_of-self-in_default-join_ended c =
     let stack : reverse c.self.inside.parents.items ≡ parent ∷ rest = pushed c.pop.new.self.items c.self.inside.parents.items parent c.in-Some.ensures.items in
     let joined = c.in_default-join_ended.ensures.ok.2 in
     let nested : IsNested (record { running = child; parents = parent ∷ rest; placed = placed }) =
-    subst (λ l. IsNested (record { running = child; parents = l; placed = placed })) stack c.self.invariant.0 in
-    (nested_joined child parent new rest placed (joined.program ∙ ap (λ v. v.program) c.replace-child.ensures.after) (joined.name ∙ ap (λ v. v.name) c.replace-child.ensures.after) (joined.label ∙ ap (λ v. v.label) c.replace-child.ensures.after) nested,
-     omega (arith, c.in-Some.ensures.cases, c.pop.ensures.capacity, c.self.invariant.1))
+    subst (λ l. IsNested (record { running = child; parents = l; placed = placed })) stack c.self.invariant.0 in (
+      nested_joined child parent new rest placed (joined.program ∙ ap (λ v. v.program) c.replace-child.ensures.after) (joined.name ∙ ap (λ v. v.name) c.replace-child.ensures.after) (joined.label ∙ ap (λ v. v.label) c.replace-child.ensures.after) nested,
+      omega (arith, c.in-Some.ensures.cases, c.pop.ensures.capacity, c.self.invariant.1),
+    )
 
 pub returns-clause-same : goal.returns-clause-same
 returns-clause-same c =
@@ -31,4 +32,4 @@ returns-clause-same c =
     let after = c.replace-child.ensures.after in
     subst (λ v. SameWhole v (record { running = new; parents = rest; placed = placed })) c.self.view_is
     (subst (λ l. SameWhole (record { running = child; parents = l; placed = placed }) (record { running = new; parents = rest; placed = placed })) (sym stack)
-     (rejoined_same child parent new rest placed (joined.program ∙ ap (λ v. v.program) after) (joined.name ∙ ap (λ v. v.name) after) (joined.label ∙ ap (λ v. v.label) after)))
+    (rejoined_same child parent new rest placed (joined.program ∙ ap (λ v. v.program) after) (joined.name ∙ ap (λ v. v.name) after) (joined.label ∙ ap (λ v. v.label) after)))

@@ -1,5 +1,14 @@
-use Rattle.arachne_machine.proofs.Nesting.{nested_thread}
+use Rattle.std.proofs.Common.{reverse, subst}
+use Rattle.arachne_machine.specs.Nested.{SameWhole}
+use Rattle.arachne_machine.proofs.Nesting.{nested_thread, whole_thread}
 use Rattle.arachne_machine.proofs.thread.Thread.tallied.Goals as goal
 
 pub invariant_of-self : goal.invariant_of-self
 invariant_of-self c = (nested_thread _ _ _ _ c.tallied.ensures.same c.self.invariant.0, c.self.invariant.1)
+
+pub returns-clause-whole : goal.returns-clause-whole
+returns-clause-whole c =
+    let ps = reverse c.self.inside.parents.items in
+    let qs = reverse c.self.inside.placed.items in
+    subst (λ v. SameWhole v (record { running = c.tallied.new.self; parents = ps; placed = qs })) c.self.view_is
+    (whole_thread c.self.inside.running c.tallied.new.self ps qs c.tallied.ensures.same)

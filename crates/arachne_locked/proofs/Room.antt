@@ -1,0 +1,215 @@
+-- Each event leaves room for the posts and retires that may come.
+use Rattle.std.proofs.Common.{◌≡◌, ℕ, ◌+◌, ◌*◌, ◌<◌, ◌≤◌, Bool, true, false, refl, sym, ap, ◌∙◌, subst, arith, Result, Ok, Err, Option, Some, None}
+use Rattle.std.specs.Prelude.{OnOk, OnErr, IfSome, IfNone}
+use Rattle.arachne_core.specs.Occupancy.{bit}
+use Rattle.arachne_core.specs.declared.state.State.{State}
+use Rattle.arachne_core.specs.declared.state.State.TheVariants.{Free, Claimed, Ready, Blocked, Held, Spent}
+use Rattle.arachne_core.specs.declared.state.Rest.{Rest}
+use Rattle.arachne_core.specs.declared.state.Rest.TheVariants as rest
+use Rattle.arachne_core.specs.declared.event.Event.{Event}
+use Rattle.arachne_core.specs.declared.event.Event.TheVariants as event
+use Rattle.arachne_core.specs.declared.event.NotApplied.{NotApplied}
+use Rattle.arachne_core.specs.declared.event.NotApplied.TheVariants as refusal
+use Rattle.arachne_core.specs.World.{World, IsContext, IsReady, IsHeldBy, CanBeWoken, HoldsIn, HasClaimed, Allowed, after, with_at, taken, put_back, woken}
+use Rattle.arachne_core.specs.ContextTable.{ContextTable, Answers, world_of}
+use Rattle.arachne_core.proofs.Changes.{with_at-same, with_at-other}
+use Rattle.arachne_locked.specs.AtHome.{TableView}
+use Rattle.arachne_locked.specs.Calls.{IsClaim}
+use Rattle.arachne_locked.specs.Room.{contexts_in, may_post, may_end, HasRoom}
+use Rattle.arachne_locked.proofs.Counts.{count_most, count_positive, contexts_set, contexts_kept}
+
+-- room for every context
+pub full_room : (k : ContextTable) → (world_of k).cores * (world_of k).slots ≤ k.posts → (world_of k).cores * (world_of k).slots ≤ k.retires → HasRoom k
+full_room k posts retires = record {
+  posts = (let h = count_most ((world_of k).cores * (world_of k).slots) (λ x. may_post ((world_of k).state x)) in omega (arith, h, posts));
+  retires = (let h = count_most ((world_of k).cores * (world_of k).slots) (λ x. may_end ((world_of k).state x)) in omega (arith, h, retires));
+}
+
+-- more room
+pub grown_room : (old new : ContextTable) → HasRoom old → world_of new ≡ world_of old → old.posts ≤ new.posts → old.retires ≤ new.retires → HasRoom new
+grown_room old new room same posts retires = record {
+  posts = (let h = ap (contexts_in may_post) same in let r = room.posts in omega (arith, h, r, posts));
+  retires = (let h = ap (contexts_in may_end) same in let r = room.retires in omega (arith, h, r, retires));
+}
+
+-- no state has changed, and no room was used
+pub kept_room : (old new : ContextTable) → HasRoom old → (world_of new).cores ≡ (world_of old).cores → ((y : ℕ) → (world_of new).state y ≡ (world_of old).state y)
+    → old.posts ≤ new.posts → old.retires ≤ new.retires → HasRoom new
+kept_room old new room cores states posts retires = record {
+  posts = (let h = contexts_kept may_post (world_of old) (world_of new) cores refl states in let r = room.posts in omega (arith, h, r, posts));
+  retires = (let h = contexts_kept may_end (world_of old) (world_of new) cores refl states in let r = room.retires in omega (arith, h, r, retires));
+}
+
+-- one state has changed, and less room is owed by as much as was used
+pub set_room : (old new : ContextTable) (x posts retires : ℕ) → HasRoom old → (world_of new).cores ≡ (world_of old).cores
+    → ((y : ℕ) → (y ≡ x → ⊥) → (world_of new).state y ≡ (world_of old).state y) → IsContext (world_of old) x
+    → old.posts ≤ new.posts + posts → old.retires ≤ new.retires + retires
+    → bit (may_post ((world_of new).state x)) + posts ≤ bit (may_post ((world_of old).state x))
+    → bit (may_end ((world_of new).state x)) + retires ≤ bit (may_end ((world_of old).state x)) → HasRoom new
+set_room old new x posts retires room cores others within p r post end = record {
+  posts = (let h = contexts_set may_post (world_of old) (world_of new) x cores refl others within in let o = room.posts in omega (arith, h, o, p, post));
+  retires = (let h = contexts_set may_end (world_of old) (world_of new) x cores refl others within in let o = room.retires in omega (arith, h, o, r, end));
+}
+
+-- ---- what a state owes before and after
+
+-- from one state to another, with so many posts and retires used
+abbrev pub Pays : State → ℕ → ℕ → State → Type 0
+Pays s posts retires t = (bit (may_post t) + posts ≤ bit (may_post s)) × (bit (may_end t) + retires ≤ bit (may_end s))
+
+taken_pays : (h : ℕ) (s : State) → IsReady s → Pays s 0 0 (taken h s)
+taken_pays h (Ready t) r = (omega arith, omega arith)
+taken_pays h Free r = absurd r
+taken_pays h (Claimed k) r = absurd r
+taken_pays h (Blocked t) r = absurd r
+taken_pays h (Held k w t) r = absurd r
+taken_pays h Spent r = absurd r
+
+rest_pays : (h : ℕ) (r : Rest) (s : State) → IsHeldBy h s → Pays s 0 0 (put_back r s)
+rest_pays h rest.Blocked (Held k false t) i = (omega arith, omega arith)
+rest_pays h rest.Blocked (Held k true t) i = (omega arith, omega arith)
+rest_pays h rest.Ready (Held k w t) i = (omega arith, omega arith)
+rest_pays h r Free i = absurd i
+rest_pays h r (Claimed k) i = absurd i
+rest_pays h r (Ready t) i = absurd i
+rest_pays h r (Blocked t) i = absurd i
+rest_pays h r Spent i = absurd i
+
+woken_pays : (s : State) → CanBeWoken s → Pays s 0 0 (woken s)
+woken_pays (Blocked t) c = (omega arith, omega arith)
+woken_pays (Held h false t) c = (omega arith, omega arith)
+woken_pays (Held h true t) c = absurd c
+woken_pays Free c = absurd c
+woken_pays (Claimed h) c = absurd c
+woken_pays (Ready t) c = absurd c
+woken_pays Spent c = absurd c
+
+-- a thread that has ended leaves a context with no thread
+pub end_pays : (h : ℕ) (s t : State) → IsHeldBy h s → may_end t ≡ false → may_post t ≡ false → Pays s 0 1 t
+end_pays h (Held k w t) u i e p = (let a = ap bit p in omega (arith, a), let b = ap bit e in omega (arith, b))
+end_pays h Free u i e p = absurd i
+end_pays h (Claimed k) u i e p = absurd i
+end_pays h (Ready t) u i e p = absurd i
+end_pays h (Blocked t) u i e p = absurd i
+end_pays h Spent u i e p = absurd i
+
+-- ---- the events
+
+-- the event is none of a claim and of a retire, which come with others in one call
+abbrev pub IsSingle : Event → Type 0
+IsSingle (event.Claim h x) = ⊥
+IsSingle (event.Alone h x) = ⊥
+IsSingle (event.Retire h x) = ⊥
+IsSingle e = Unit {0}
+
+module _ (old new : ContextTable) (room : HasRoom old) where
+  abbrev w : World
+  w = world_of old
+
+  abbrev u : World
+  u = world_of new
+
+  -- the context x goes to the state t
+  set_to : (e : Event) (x posts retires : ℕ) (t : State) → u ≡ after w e → (after w e).cores ≡ w.cores → ((y : ℕ) → (after w e).state y ≡ with_at w.state x t y) → IsContext w x
+      → old.posts ≤ new.posts + posts → old.retires ≤ new.retires + retires → Pays (w.state x) posts retires t → HasRoom new
+  set_to e x posts retires t made cores states within p r pays =
+      let there : u.state x ≡ t = ap (λ (z : World). z.state x) made ∙ states x ∙ with_at-same w.state x t in
+      set_room old new x posts retires room (ap (λ (z : World). z.cores) made ∙ cores)
+      (λ y h. ap (λ (z : World). z.state y) made ∙ states y ∙ with_at-other w.state x t y h) within p r
+      (subst (λ s. bit (may_post s) + posts ≤ bit (may_post (w.state x))) (sym there) pays.0)
+      (subst (λ s. bit (may_end s) + retires ≤ bit (may_end (w.state x))) (sym there) pays.1)
+
+  keeps : (e : Event) → u ≡ after w e → (after w e).cores ≡ w.cores → ((y : ℕ) → (after w e).state y ≡ w.state y)
+      → old.posts ≤ new.posts + 0 → old.retires ≤ new.retires + 0 → HasRoom new
+  keeps e made cores states p r =
+      kept_room old new room (ap (λ (z : World). z.cores) made ∙ cores) (λ y. ap (λ (z : World). z.state y) made ∙ states y) (omega (arith, p)) (omega (arith, r))
+
+  pub event_room : (e : Event) → IsSingle e → Answers e old new (Ok tt) → HasRoom new
+  event_room (event.Post h x tag) l a = set_to (event.Post h x tag) x 1 0 (Ready tag) a.1 refl (λ y. refl) a.0.context a.2 a.3
+      (subst (λ s. Pays s 1 0 (Ready tag)) (sym a.0.claimed) (omega arith, omega arith))
+  event_room (event.Take h x) l a = set_to (event.Take h x) x 0 0 (taken h (w.state x)) a.1 refl (λ y. refl) a.0.context a.2 a.3 (taken_pays h (w.state x) a.0.ready)
+  event_room (event.Rest h x r) l a = set_to (event.Rest h x r) x 0 0 (put_back r (w.state x)) a.1 refl (λ y. refl) a.0.context a.2 a.3 (rest_pays h r (w.state x) a.0.held)
+  event_room (event.Wake id) l a = set_to (event.Wake id) id.context 0 0 (woken (w.state id.context)) a.1 refl (λ y. refl) a.0.context a.2 a.3 (woken_pays (w.state id.context) a.0.waits)
+  event_room (event.Release h x) l a = set_to (event.Release h x) x 0 0 Free a.1 refl (λ y. refl) a.0.context a.2 a.3
+      (subst (λ s. Pays s 0 0 Free) (sym a.0.claimed) (omega arith, omega arith))
+  event_room (event.CloseCore c) l a = keeps (event.CloseCore c) a.1 refl (λ y. refl) a.2 a.3
+  event_room (event.OpenCore c) l a = keeps (event.OpenCore c) a.1 refl (λ y. refl) a.2 a.3
+  event_room (event.Move h x y) l a = keeps (event.Move h x y) a.1 refl (λ y. refl) a.2 a.3
+  event_room event.Still l a = keeps event.Still a.1 refl (λ y. refl) a.2 a.3
+  event_room (event.Claim h x) l a = absurd l
+  event_room (event.Alone h x) l a = absurd l
+  event_room (event.Retire h x) l a = absurd l
+
+-- ---- answers
+
+module _ {T : Type 0} (old new : TableView T) (room : HasRoom old.table) where
+  same_room : new ≡ old → HasRoom new.table
+  same_room same = subst (λ (v : TableView T). HasRoom v.table) (sym same) room
+
+  pub answered_room : (e : Event) (r : Result (Unit {0}) NotApplied) → IsSingle e → Answers e old.table new.table r → OnErr r (new ≡ old) → HasRoom new.table
+  answered_room e (Ok tt) l a same = event_room old.table new.table room e l a
+  answered_room e (Err refused) l a same = same_room same
+
+  pub posted_room : (h x tag : ℕ) (r : Result (Unit {0}) (NotApplied × T)) → OnOk r (Answers (event.Post h x tag) old.table new.table (Ok tt)) → OnErr r (new ≡ old) → HasRoom new.table
+  posted_room h x tag (Ok tt) a same = event_room old.table new.table room (event.Post h x tag) tt a
+  posted_room h x tag (Err refused) a same = same_room same
+
+  pub taken_room : (h x : ℕ) (r : Option T) → IfSome r (λ v. Answers (event.Take h x) old.table new.table (Ok tt)) → IfNone r (new ≡ old) → HasRoom new.table
+  taken_room h x (Some v) a same = event_room old.table new.table room (event.Take h x) tt a
+  taken_room h x None a same = same_room same
+
+-- a claim, with room for every context
+pub claimed_room : (old new : ContextTable) (e : Event) → IsClaim e → Answers e old new (Ok tt)
+    → (world_of old).cores * (world_of old).slots ≤ old.posts → (world_of old).cores * (world_of old).slots ≤ old.retires → HasRoom new
+claimed_room old new (event.Claim h x) l a posts retires =
+    let cores = ap (λ (z : World). z.cores * z.slots) a.1 in let p = a.2 in let r = a.3 in full_room new (omega (arith, cores, posts, p)) (omega (arith, cores, retires, r))
+claimed_room old new (event.Alone h x) l a posts retires =
+    let cores = ap (λ (z : World). z.cores * z.slots) a.1 in let p = a.2 in let r = a.3 in full_room new (omega (arith, cores, posts, p)) (omega (arith, cores, retires, r))
+claimed_room old new (event.Post h x tag) l a posts retires = absurd l
+claimed_room old new (event.Take h x) l a posts retires = absurd l
+claimed_room old new (event.Rest h x r) l a posts retires = absurd l
+claimed_room old new (event.Wake id) l a posts retires = absurd l
+claimed_room old new (event.Retire h x) l a posts retires = absurd l
+claimed_room old new (event.Release h x) l a posts retires = absurd l
+claimed_room old new (event.CloseCore c) l a posts retires = absurd l
+claimed_room old new (event.OpenCore c) l a posts retires = absurd l
+claimed_room old new (event.Move h x y) l a posts retires = absurd l
+claimed_room old new event.Still l a posts retires = absurd l
+
+-- a claim is never refused for want of memory, since it needs none
+pub claim_made : (e : Event) (old new : ContextTable) (r : NotApplied) → IsClaim e → Answers e old new (Err r) → Allowed (world_of old) e → ⊥
+claim_made e old new refusal.NotAllowed l a h = a.0 h
+claim_made (event.Claim h x) old new refusal.Memory l a k = a.1
+claim_made (event.Alone h x) old new refusal.Memory l a k = a.1
+claim_made (event.Post h x tag) old new refusal.Memory l a k = absurd l
+claim_made (event.Take h x) old new refusal.Memory l a k = absurd l
+claim_made (event.Rest h x r) old new refusal.Memory l a k = absurd l
+claim_made (event.Wake id) old new refusal.Memory l a k = absurd l
+claim_made (event.Retire h x) old new refusal.Memory l a k = absurd l
+claim_made (event.Release h x) old new refusal.Memory l a k = absurd l
+claim_made (event.CloseCore c) old new refusal.Memory l a k = absurd l
+claim_made (event.OpenCore c) old new refusal.Memory l a k = absurd l
+claim_made (event.Move h x y) old new refusal.Memory l a k = absurd l
+claim_made event.Still old new refusal.Memory l a k = absurd l
+
+-- ---- no want of memory
+
+pub post_has_room : (k : ContextTable) (h x tag : ℕ) → HasRoom k → HasClaimed (world_of k) h x → k.posts ≡ 0 → ⊥
+post_has_room k h x tag room a none =
+    let n = (world_of k).cores * (world_of k).slots in
+    let one = count_positive n x (λ y. may_post ((world_of k).state y)) a.context (ap may_post a.claimed) in
+    let r = room.posts in absurd (omega (arith, one, r, none))
+
+held_may_end : (h : ℕ) (s : State) → IsHeldBy h s → may_end s ≡ true
+held_may_end h (Held k w t) i = refl
+held_may_end h Free i = absurd i
+held_may_end h (Claimed k) i = absurd i
+held_may_end h (Ready t) i = absurd i
+held_may_end h (Blocked t) i = absurd i
+held_may_end h Spent i = absurd i
+
+pub retire_has_room : (k : ContextTable) (h x : ℕ) → HasRoom k → HoldsIn (world_of k) h x → k.retires ≡ 0 → ⊥
+retire_has_room k h x room a none =
+    let n = (world_of k).cores * (world_of k).slots in
+    let one = count_positive n x (λ y. may_end ((world_of k).state y)) a.context (held_may_end h ((world_of k).state x) a.held) in
+    let r = room.retires in absurd (omega (arith, one, r, none))

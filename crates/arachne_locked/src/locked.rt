@@ -1,0 +1,272 @@
+//! A context table behind a lock.
+ghost use Rattle.std.specs.Prelude.{◌≡◌, ◌<◌, ◌*◌, ◌≢◌, ℕ, IfOk, IfErr};
+ghost use Rattle.arachne_core.specs.Occupancy.{IsOccupancyWord};
+ghost use Rattle.arachne_contexts.specs.Words.{HasNoFree};
+
+use crate::state::{TableState, no_core};
+use crate::tokens::{LockedClaim, LockedHold};
+use arachne_contexts::{Claimed, Contexts, Held, Moved, Rested, Seats, Tagged, Taken, Woken};
+use arachne_core::{OccWord, Place, Rest, ThreadId};
+use arachne_weights::Weight;
+use std::alloc::{AllocError, Global};
+use std::sync::{Mutex, Wait};
+
+/// A context table behind a lock.
+#[derive(Drop)]
+pub struct LockedContexts<T: Tagged> {
+    state: Mutex<TableState<T>>,
+    cores: u8,
+}
+
+/// Who steps at a locked table. The state behind the lock knows it by its carrier.
+#[derive(Debug, Drop)]
+pub struct LockedSeat {
+    carrier: u32,
+    weight: Weight,
+    /// How many claims and threads it hasn't spent.
+    out: u32,
+}
+
+impl LockedSeat {
+    fn gain(&mut self)
+        ensures { self.new.weight ≡ self.old.weight }
+    {
+        self.out = self.out.saturating_add(1);
+    }
+
+    fn spend(&mut self)
+        ensures { self.new.weight ≡ self.old.weight }
+    {
+        self.out = self.out.saturating_sub(1);
+    }
+}
+
+/// The word of a core, or that of a full one where the table doesn't have it.
+fn word_of(occ: Option<OccWord>) -> u64
+    ensures { IsOccupancyWord result }
+{
+    match occ {
+        Some(occ) => occ.word(),
+        None => no_core().word(),
+    }
+}
+
+impl<T: Tagged + Drop> Seats for LockedContexts<T> {
+    type Seat = LockedSeat;
+
+    ghost sits = { λ table seat. Unit {0} };
+
+    ghost weight = { λ seat. seat.weight };
+
+    ghost core_count = { λ table. table.cores };
+
+    fn new(
+        alloc: Global,
+        cores: u8,
+        first_generation: u64,
+    ) -> Result<(LockedContexts<T>, LockedSeat), AllocError> {
+        let state = TableState::new(alloc, cores, first_generation)?;
+        let table = LockedContexts {
+            state: Mutex::new(state),
+            cores,
+        };
+        let seat = LockedSeat {
+            carrier: 0,
+            weight: Weight::whole(),
+            out: 0,
+        };
+        Ok((table, seat))
+    }
+
+    fn split<R: Wait>(&self, rt: &R, seat: LockedSeat) -> (LockedSeat, LockedSeat) {
+        let carrier = self.state.lock(rt).new_carrier();
+        let (first, second) = seat.weight.split();
+        let own = LockedSeat {
+            weight: first,
+            ..seat
+        };
+        let other = LockedSeat {
+            carrier,
+            weight: second,
+            out: 0,
+        };
+        (own, other)
+    }
+
+    fn join_seats<R: Wait>(&self, rt: &R, seat: LockedSeat, other: LockedSeat) -> LockedSeat {
+        let _ = rt;
+        LockedSeat {
+            weight: seat.weight.join(other.weight),
+            ..seat
+        }
+    }
+
+    fn is_whole(&self, seat: &LockedSeat) -> bool {
+        seat.weight.is_whole()
+    }
+
+    fn out(&self, seat: &LockedSeat) -> u32 {
+        seat.out
+    }
+}
+
+impl<T: Tagged + Drop> Contexts<T> for LockedContexts<T> {
+    type Claim = LockedClaim;
+
+    type Hold = LockedHold;
+
+    fn look<R: Wait>(&self, rt: &R, seat: &mut LockedSeat, core: u8) -> u64 {
+        let _ = seat;
+        word_of(self.state.lock(rt).look(core))
+    }
+
+    fn look_mark<R: Wait>(&self, rt: &R, seat: &mut LockedSeat, context: u32) -> u64 {
+        let _ = seat;
+        match self.state.lock(rt).look_mark(context) {
+            Some(mark) => mark.word(),
+            None => 0,
+        }
+    }
+
+    fn claim<R: Wait>(
+        &self,
+        rt: &R,
+        seat: &mut LockedSeat,
+        core: u8,
+    ) -> Result<Claimed<LockedClaim>, AllocError> {
+        let claimed = self.state.lock(rt).claim(seat.carrier, core)?;
+        if let Claimed::Place(_) = &claimed {
+            seat.gain();
+        }
+        Ok(claimed)
+    }
+
+    fn claim_alone<R: Wait>(
+        &self,
+        rt: &R,
+        seat: &mut LockedSeat,
+        core: u8,
+    ) -> Result<Claimed<LockedClaim>, AllocError> {
+        let claimed = self.state.lock(rt).claim_alone(seat.carrier, core)?;
+        if let Claimed::Place(_) = &claimed {
+            seat.gain();
+        }
+        Ok(claimed)
+    }
+
+    fn give_back<R: Wait>(
+        &self,
+        rt: &R,
+        seat: &mut LockedSeat,
+        claim: LockedClaim,
+    ) -> Result<(), LockedClaim> {
+        self.state.lock(rt).give_back(seat.carrier, claim)?;
+        seat.spend();
+        Ok(())
+    }
+
+    fn post<R: Wait>(
+        &self,
+        rt: &R,
+        seat: &mut LockedSeat,
+        claim: LockedClaim,
+        value: T,
+    ) -> Result<ThreadId, (LockedClaim, T)> {
+        let id = self.state.lock(rt).post(seat.carrier, claim, value)?;
+        seat.spend();
+        Ok(id)
+    }
+
+    fn take<R: Wait>(
+        &self,
+        rt: &R,
+        seat: &mut LockedSeat,
+        core: u8,
+        index: u8,
+    ) -> Taken<T, LockedHold> {
+        let taken = self
+            .state
+            .lock(rt)
+            .take(seat.carrier, Place { core, index });
+        if let Taken::Run(_) = &taken {
+            seat.gain();
+        }
+        taken
+    }
+
+    fn put_back<R: Wait>(
+        &self,
+        rt: &R,
+        seat: &mut LockedSeat,
+        held: Held<T, LockedHold>,
+        rest: Rest,
+    ) -> Result<Rested, Held<T, LockedHold>>
+        ensures seat { Unit {0} }
+        ensures weight { seat.new.weight ≡ seat.old.weight }
+        ensures handed_back { IfErr result (λ back. back ≡ held) }
+    {
+        let rested = self.state.lock(rt).put_back(seat.carrier, held, rest)?;
+        seat.spend();
+        Ok(rested)
+    }
+
+    fn finish<R: Wait>(
+        &self,
+        rt: &R,
+        seat: &mut LockedSeat,
+        held: Held<T, LockedHold>,
+    ) -> Result<T, Held<T, LockedHold>>
+        ensures seat { Unit {0} }
+        ensures weight { seat.new.weight ≡ seat.old.weight }
+        ensures value { IfOk result (λ value. value ≡ held.value) }
+        ensures handed_back { IfErr result (λ back. back ≡ held) }
+    {
+        let value = self.state.lock(rt).finish(seat.carrier, held)?;
+        seat.spend();
+        Ok(value)
+    }
+
+    fn wake<R: Wait>(&self, rt: &R, seat: &mut LockedSeat, id: ThreadId) -> Woken {
+        let _ = seat;
+        self.state.lock(rt).wake(id)
+    }
+
+    fn close_core<R: Wait>(&self, rt: &R, seat: &mut LockedSeat, core: u8) -> u64 {
+        let _ = seat;
+        word_of(self.state.lock(rt).close_core(core))
+    }
+
+    fn open_core<R: Wait>(&self, rt: &R, seat: &mut LockedSeat, core: u8) -> u64 {
+        let _ = seat;
+        word_of(self.state.lock(rt).open_core(core))
+    }
+
+    fn is_drained<R: Wait>(&self, rt: &R, seat: &mut LockedSeat, core: u8) -> bool {
+        let _ = seat;
+        self.state.lock(rt).is_drained(core)
+    }
+
+    fn move_one<R: Wait>(&self, rt: &R, seat: &mut LockedSeat, place: Place, to: u8) -> Moved {
+        self.state.lock(rt).move_one(seat.carrier, place, to)
+    }
+
+    fn close<R: Wait>(
+        self,
+        rt: &R,
+        alloc: Global,
+        seat: LockedSeat,
+    ) -> Result<Vec<(ThreadId, T)>, (LockedContexts<T>, LockedSeat)> {
+        let _ = rt;
+        let LockedContexts { state, cores } = self;
+        match state.into_inner().close(alloc) {
+            Ok(rest) => Ok(rest),
+            Err(state) => {
+                let table = LockedContexts {
+                    state: Mutex::new(state),
+                    cores,
+                };
+                Err((table, seat))
+            }
+        }
+    }
+}

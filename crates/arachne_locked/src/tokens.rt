@@ -1,0 +1,42 @@
+//! What a seat has of a locked table until it spends it.
+
+use arachne_contexts::{Identified, Placed};
+use arachne_core::{Place, ThreadId};
+
+/// A place that a seat has claimed.
+#[derive(Debug, Drop)]
+pub struct LockedClaim {
+    pub(crate) context: u32,
+    pub(crate) place: Place,
+}
+
+/// What a thread that a seat holds is known by.
+#[derive(Debug, Drop)]
+pub struct LockedHold {
+    pub(crate) id: ThreadId,
+    pub(crate) place: Place,
+}
+
+impl Placed for LockedClaim {
+    ghost place_of = { λ claim. claim.place };
+
+    fn place(&self) -> Place {
+        self.place
+    }
+}
+
+impl Placed for LockedHold {
+    ghost place_of = { λ hold. hold.place };
+
+    fn place(&self) -> Place {
+        self.place
+    }
+}
+
+impl Identified for LockedHold {
+    ghost id_of = { λ hold. hold.id };
+
+    fn id(&self) -> ThreadId {
+        self.id
+    }
+}

@@ -1,0 +1,6 @@
+pub mod Threads
+pub mod Cells
+pub mod Slices
+pub mod Reports
+pub mod Setups
+pub mod Tokens

@@ -1,0 +1,9 @@
+-- What a report says.
+use Rattle.std.specs.Prelude.{map}
+use Rattle.arachne_lang.specs.declared.meaning.Meaning.{Meaning}
+use Rattle.arachne_machine.specs.Outcome.{named_holds}
+use Rattle.arachne_run.specs.declared.report.Report.{Report}
+
+-- the value and totals, and the names and holds of the threads
+abbrev pub meaning_in : Report → Meaning
+meaning_in report = record { value = report.value; totals = report.totals; threads = map named_holds report.threads }

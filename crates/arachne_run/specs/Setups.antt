@@ -1,0 +1,16 @@
+-- Which setups of a run are refused.
+use Rattle.std.specs.Prelude.{ℕ, ◌==◌, Bool, ◌&&◌, nat_le, if◌then◌else◌, Option, None, Some}
+use Rattle.arachne_core.specs.declared.layout.TheConstants.{CORES}
+use Rattle.arachne_run.specs.declared.fault.RunFault.{RunFault}
+use Rattle.arachne_run.specs.declared.fault.RunFault.TheVariants.{Cores, Quantum, Choosers}
+
+-- the number stands between these two
+abbrev pub is_within : ℕ → ℕ → ℕ → Bool
+is_within least most n = nat_le least n && nat_le n most
+
+-- what is wrong with so many cores, this quantum and so many choosers: the first of these that is
+abbrev pub refusal_of : ℕ → ℕ → ℕ → Option RunFault
+refusal_of cores quantum choosers =
+    if is_within 1 CORES cores then
+      (if is_within 1 10000 quantum then (if choosers == cores then None else Some Choosers) else Some Quantum)
+    else Some Cores

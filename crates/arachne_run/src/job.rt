@@ -1,0 +1,221 @@
+//! What a context holds in a run: a thread of the program.
+ghost use Rattle.std.specs.Prelude.{◌≡◌, ◌≤◌, true, [], All, IfOk, IfSome, None, Some};
+ghost use Rattle.std.specs.Arc.{arc_value};
+ghost use Rattle.arachne_lang.specs.Program.{source_of};
+ghost use Rattle.arachne_lang.specs.Checked.{IsChecked};
+ghost use Rattle.arachne_run.specs.Threads.{IsForking, IsGoing, IsAwaiting, pause_of, program_of, tag_of};
+ghost use Rattle.arachne_run.specs.Cells.{IsOf, IsFor};
+ghost use Rattle.arachne_run.specs.Slices.{IsLeft};
+
+use crate::fault::RunFault;
+use crate::slice::{JobOf, RunJob, Slice};
+use crate::wanted::{Cell, Wanted};
+use arachne_contexts::Tagged;
+use arachne_core::ThreadId;
+use arachne_join::{JoinCell, SendingEnd};
+use arachne_lang::Program;
+use arachne_machine::{NotJoined, Outcome, Pause, Pending, Thread};
+use std::alloc::{AllocError, Global};
+use std::marker::Model;
+use std::snapshot::Snapshot;
+use std::sync::Arc;
+
+/// A thread of the program, with the end that leaves its outcome in its cell, the cells of the children that it has
+/// forked and not joined, the newest last, and the id under which its parent runs.
+///
+/// Contracts see the thread.
+#[derive(Drop)]
+pub struct Job<'p> {
+    thread: Thread<'p>,
+    end: SendingEnd<Outcome<'p>, Wanted>,
+    cell: Arc<Cell<'p>>,
+    awaited: Vec<Arc<Cell<'p>>>,
+    parent: Option<ThreadId>,
+}
+
+impl<'p> Model for Job<'p> {
+    ghost use Rattle.std.specs.Prelude.{◌≡◌, All};
+    ghost use Rattle.std.specs.Arc.{arc_value};
+    ghost use Rattle.arachne_lang.specs.Program.{source_of};
+    ghost use Rattle.arachne_lang.specs.Checked.{IsChecked};
+    ghost use Rattle.arachne_run.specs.Threads.{Thread, program_of};
+    ghost use Rattle.arachne_run.specs.Cells.{IsOf, IsFor};
+
+    ghost Value = { Thread };
+
+    ghost use Rattle.std.specs.Coded.{codes};
+    ghost use Rattle.arachne_lang.specs.contracts.program.Expr as expr;
+
+    ghost coded = { Prim.hlevel (codes, expr.the_row.coded) };
+
+    ghost view = { λ j. j.thread };
+
+    ghost invariant = { λ j. (j.end ≡ (arc_value j.cell).table) × IsFor j.thread (arc_value j.cell) × All (λ cell. IsOf (program_of j.thread) (arc_value cell)) j.awaited.items };
+}
+
+impl<'p> Tagged for Job<'p> {
+    ghost tag_of = { tag_of };
+
+    fn tag(&self) -> u64 {
+        self.thread.tag()
+    }
+}
+
+impl<'p> RunJob for Job<'p> {
+    type Child = Thread<'p>;
+
+    ghost pause_of = { pause_of };
+
+    ghost forks = { IsForking };
+
+    fn slice(&mut self, budget: u32) -> Result<Slice<Thread<'p>>, RunFault> {
+        match self.thread.pending() {
+            None => {}
+            Some(Pending::Joins) => {
+                if !self.join()? {
+                    return Ok(Slice::Blocks);
+                }
+            }
+            _ => return Err(RunFault::Foreign),
+        }
+        let slice = self.advance(budget)?;
+        Ok(slice)
+    }
+
+    fn fork_off(
+        &mut self,
+        alloc: Global,
+        me: ThreadId,
+        child: Thread<'p>,
+        _tag: u64,
+    ) -> Result<Job<'p>, RunFault> {
+        let (job, cell) = Job::of(alloc, child, Some(me))?;
+        self.expect(cell)?;
+        self.thread.forked();
+        Ok(job)
+    }
+
+    fn tallied(&mut self) {
+        self.thread.tallied();
+    }
+
+    fn leave(self) -> Option<ThreadId> {
+        let Job {
+            thread,
+            end,
+            cell,
+            awaited: _,
+            parent,
+        } = self;
+        end.leave(&cell, thread.finish());
+        parent
+    }
+}
+
+impl<'p> JobOf<'p> for Job<'p> {
+    fn begin(alloc: Global, program: &'p Program) -> Result<(Job<'p>, Arc<Cell<'p>>), AllocError> {
+        let thread = Thread::start(alloc, program, 0)?;
+        let made = Job::of(alloc, thread, None)?;
+        Ok(made)
+    }
+}
+
+impl<'p> Job<'p> {
+    /// The job of this thread, and the cell that its outcome comes to.
+    fn of(
+        alloc: Global,
+        thread: Thread<'p>,
+        parent: Option<ThreadId>,
+    ) -> Result<(Job<'p>, Arc<Cell<'p>>), AllocError>
+        ensures thread { IfOk result (λ made. made.0 ≡ thread.entry) }
+        ensures cell { IfOk result (λ made. IsFor thread.entry (arc_value made.1)) }
+    {
+        let wanted = Wanted {
+            program: Snapshot::of(thread.program()),
+            name: Snapshot::of(thread.name()),
+        };
+        let (cell, end) = JoinCell::new(alloc, &wanted)?;
+        let cell = Arc::new(alloc, cell)?;
+        let outlet = Arc::try_clone(&cell)?;
+        let job = Job {
+            thread,
+            end,
+            cell,
+            awaited: Vec::new(alloc),
+            parent,
+        };
+        Ok((job, outlet))
+    }
+
+    /// Goes on for at most so many steps.
+    fn advance(&mut self, budget: u32) -> Result<Slice<Thread<'p>>, RunFault>
+        requires some { 1 ≤ budget }
+        requires going { IsGoing self.old }
+        ensures tag { tag_of self.new ≡ tag_of self.old }
+        ensures left { IfOk result (λ slice. IsLeft IsForking pause_of slice self.new) }
+    {
+        match self.thread.advance(budget)? {
+            Pause::Budget => Ok(Slice::Goes),
+            Pause::Forks(class, child) => Ok(Slice::Forks(class, child)),
+            Pause::Joins => {
+                if self.join()? {
+                    Ok(Slice::Goes)
+                } else {
+                    Ok(Slice::Blocks)
+                }
+            }
+            Pause::Asks(_) => {
+                self.thread.granted();
+                Ok(Slice::Goes)
+            }
+            Pause::Frees(_) => {
+                self.thread.freed();
+                Ok(Slice::Goes)
+            }
+            Pause::Tallies(ledger, amount) => Ok(Slice::Tallies(ledger, amount)),
+            Pause::Ended => Ok(Slice::Ends),
+        }
+    }
+
+    /// Expects the outcome of a child in its cell.
+    fn expect(&mut self, cell: Arc<Cell<'p>>) -> Result<(), RunFault>
+        requires { IsOf (program_of self.old) (arc_value cell) }
+        ensures { self.new ≡ self.old }
+    {
+        match self.awaited.push(cell) {
+            Ok(()) => Ok(()),
+            Err(_) => Err(RunFault::Memory),
+        }
+    }
+
+    /// Joins the child that it awaits, if that has ended.
+    fn join(&mut self) -> Result<bool, RunFault>
+        requires { IsAwaiting self.old }
+        ensures tag { tag_of self.new ≡ tag_of self.old }
+        ensures joined { IfOk result (λ joined. joined ≡ true → IsGoing self.new) }
+    {
+        let Some(outcome) = self.fetch()? else {
+            return Ok(false);
+        };
+        match self.thread.joined(outcome) {
+            Ok(()) => Ok(true),
+            Err(NotJoined::Memory(_)) => Err(RunFault::Memory),
+            Err(NotJoined::Foreign(_)) => Err(RunFault::Foreign),
+        }
+    }
+
+    /// The outcome of the child that it awaits, if that has ended.
+    fn fetch(&mut self) -> Result<Option<Outcome<'p>>, RunFault>
+        ensures same { self.new ≡ self.old }
+        ensures program { IfOk result (λ found. IfSome found (λ outcome. outcome.program ≡ program_of self.old)) }
+    {
+        let Some(cell) = self.awaited.last() else {
+            return Err(RunFault::Foreign);
+        };
+        let Ok((outcome, _)) = cell.fetch() else {
+            return Ok(None);
+        };
+        self.awaited.pop();
+        Ok(Some(outcome))
+    }
+}

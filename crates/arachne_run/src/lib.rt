@@ -1,0 +1,27 @@
+//! The parallel run: a task program's threads on one kernel thread for each core, over any context table.
+#![tactic(auto)]
+
+mod crew;
+mod fault;
+mod gate;
+mod idle;
+mod job;
+mod machine;
+mod placing;
+mod report;
+mod running;
+mod setup;
+mod shared;
+mod slice;
+mod tokens;
+mod wanted;
+mod worker;
+
+pub use fault::RunFault;
+pub use gate::{Gate, OpenGate};
+pub use job::Job;
+pub use report::Report;
+pub use running::run;
+pub use setup::Setup;
+pub use slice::{JobOf, RunJob, Slice};
+pub use wanted::{Cell, Wanted};

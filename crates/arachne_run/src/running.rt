@@ -1,0 +1,68 @@
+//! A run of a program.
+ghost use Rattle.std.specs.Prelude.{◌≡◌, ◌≤◌, [], IfOk, Some, Err, vec_len};
+ghost use Rattle.arachne_lang.specs.Program.{source_of};
+ghost use Rattle.arachne_lang.specs.Meaning.{meaning_of};
+ghost use Rattle.arachne_lang.specs.Checked.{IsChecked};
+ghost use Rattle.arachne_run.specs.Reports.{meaning_in};
+ghost use Rattle.arachne_run.specs.Setups.{refusal_of};
+ghost use Rattle.arachne_run.specs.declared.fault.RunFault.{RunFault};
+
+use crate::crew::work_all;
+use crate::fault::RunFault;
+use crate::gate::Gate;
+use crate::machine::Machine;
+use crate::report::Report;
+use crate::setup::Setup;
+use crate::slice::JobOf;
+use arachne_contexts::Contexts;
+use arachne_lang::Program;
+use rand_core::Rng;
+use std::alloc::Global;
+use std::sync::Wait;
+use std::thread::Threads;
+
+/// Runs a program on one kernel thread for each core, over a table of the type `C`. Each core draws from its own chooser.
+///
+/// The program is unchanged. After an error nothing of the run is left.
+pub fn run<
+    'p,
+    H: Threads + Wait + Sync,
+    T: JobOf<'p> + Send,
+    C: Contexts<T> + Sync + Drop,
+    R: Rng + Drop + Send,
+    G: Gate + Sync,
+>(
+    rt: &H,
+    alloc: Global,
+    program: &'p Program,
+    setup: Setup,
+    choosers: Vec<R>,
+    gate: &G,
+) -> Result<Report, RunFault>
+    requires { IsChecked (source_of program.now) }
+    ensures meaning { IfOk result (λ report. meaning_in report ≡ meaning_of (source_of program.now)) }
+    ensures refused { (fault : RunFault) → refusal_of setup.cores setup.quantum (vec_len choosers) ≡ Some fault → result ≡ Err fault }
+{
+    setup.check(choosers.len())?;
+    if program.locks != 0 || !setup.orders.is_empty() {
+        return Err(RunFault::NotYet);
+    }
+    let mut choosers = choosers;
+    choosers.reverse();
+    let (root, outlet) = T::begin(alloc, program)?;
+    let (machine, tokens) = Machine::<C>::new(
+        alloc,
+        setup.cores as u8,
+        setup.quantum as u32,
+        program.ledgers,
+    )?;
+    let tokens = work_all::<H, T, C, R, G>(
+        rt, alloc, &machine, gate, root, choosers, tokens,
+    );
+    let totals = machine.close::<H, T>(rt, alloc, tokens)?;
+    let Ok((outcome, _)) = outlet.fetch() else {
+        return Err(RunFault::Foreign);
+    };
+    let report = Report::of(outcome, totals)?;
+    Ok(report)
+}

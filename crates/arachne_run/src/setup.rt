@@ -1,0 +1,45 @@
+//! How a run is set up.
+ghost use Rattle.std.specs.Prelude.{◌≡◌, None, Some, Err, IsOk, vec_len};
+ghost use Rattle.arachne_policy.specs.Orders.{AreInOrder};
+ghost use Rattle.arachne_run.specs.declared.fault.RunFault.{RunFault};
+ghost use Rattle.arachne_run.specs.Setups.{refusal_of};
+
+use crate::fault::RunFault;
+use arachne_core::CORES;
+use arachne_policy::{CoreOrder, check_orders};
+
+const MAX_QUANTUM: u64 = 10_000;
+
+/// The machine that a run goes on, and what happens to its cores.
+#[derive(Debug, Drop)]
+pub struct Setup {
+    /// How many cores there are, 1 to 16.
+    pub cores: u64,
+    /// The most steps of a slice, 1 to 10,000.
+    pub quantum: u64,
+    /// When cores are taken back and granted again.
+    pub orders: Vec<CoreOrder>,
+}
+
+impl Setup {
+    /// Whether a run with so many choosers can be set up so. The first fault is answered.
+    pub(crate) fn check(&self, choosers: usize) -> Result<(), RunFault>
+        ensures refused { (fault : RunFault) → refusal_of self.now.cores self.now.quantum choosers ≡ Some fault → result ≡ Err fault }
+        ensures accepted { IsOk result → refusal_of self.now.cores self.now.quantum choosers ≡ None }
+        ensures orders { IsOk result → AreInOrder self.now.cores self.now.orders.items }
+    {
+        if self.cores < 1 || self.cores > u64::from(CORES) {
+            return Err(RunFault::Cores);
+        }
+        if self.quantum < 1 || self.quantum > MAX_QUANTUM {
+            return Err(RunFault::Quantum);
+        }
+        if choosers as u64 != self.cores {
+            return Err(RunFault::Choosers);
+        }
+        match check_orders(self.orders.as_slice(), self.cores) {
+            Ok(()) => Ok(()),
+            Err(fault) => Err(RunFault::Orders(fault)),
+        }
+    }
+}

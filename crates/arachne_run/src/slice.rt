@@ -1,0 +1,80 @@
+//! What a worker does with a job: it runs a slice, and answers what the slice asks for.
+ghost use Rattle.std.specs.Prelude.{◌≡◌, ◌≤◌, [], IfOk};
+ghost use Rattle.std.specs.Arc.{arc_value};
+ghost use Rattle.arachne_lang.specs.Program.{source_of};
+ghost use Rattle.arachne_lang.specs.Checked.{IsChecked};
+ghost use Rattle.std.specs.Prelude.{ℕ, Option, None, Some};
+ghost use Rattle.arachne_machine.specs.Suspended.{IsTally};
+ghost use Rattle.arachne_machine.specs.declared.pause.Pending.{Pending};
+ghost use Rattle.arachne_machine.specs.declared.pause.Pending.TheVariants as pause;
+ghost use Rattle.arachne_run.specs.Slices.{IsLeft};
+
+use crate::fault::RunFault;
+use crate::wanted::Cell;
+use arachne_contexts::Tagged;
+use arachne_core::ThreadId;
+use arachne_lang::{Class, Program};
+use std::alloc::{AllocError, Global};
+use std::sync::Arc;
+
+/// What a slice ended with.
+#[derive(Drop)]
+pub enum Slice<Child> {
+    /// The job goes on.
+    Goes,
+    /// It forks this child, and goes on once it is answered.
+    Forks(Class, Child),
+    /// It awaits a child that has not ended.
+    Blocks,
+    /// It adds to this ledger this amount, and goes on once it is answered.
+    Tallies(u64, u64),
+    /// It has ended.
+    Ends,
+}
+
+/// What a context holds in a run, as its workers see it.
+pub trait RunJob: Tagged + Drop {
+    /// A thread that was forked and has no place yet.
+    type Child: Drop + Send;
+
+    /// The pause that is not answered.
+    ghost pause_of: { Self → Option Pending };
+
+    /// The job forks this child, and is not answered.
+    ghost forks: { Self → Self.Child → Type 0 };
+
+    /// Goes on for at most so many steps.
+    fn slice(&mut self, budget: u32) -> Result<Slice<Self::Child>, RunFault>
+        requires { 1 ≤ budget }
+        ensures tag { Self.tag_of self.new ≡ Self.tag_of self.old }
+        ensures left { IfOk result (λ slice. IsLeft forks pause_of slice self.new) };
+
+    /// The child becomes a job of its own, whose parent runs under this id.
+    fn fork_off(
+        &mut self,
+        alloc: Global,
+        me: ThreadId,
+        child: Self::Child,
+        tag: u64,
+    ) -> Result<Self, RunFault>
+        requires { forks self.old child }
+        ensures { Self.tag_of self.new ≡ Self.tag_of self.old };
+
+    /// The amount was added to the ledger.
+    fn tallied(&mut self)
+        requires { IsTally (pause_of self.old) }
+        ensures { Self.tag_of self.new ≡ Self.tag_of self.old };
+
+    /// Leaves the outcome in the job's cell. Its parent is to be woken; the root has none.
+    fn leave(self) -> Option<ThreadId>
+        requires { pause_of self ≡ Some pause.Ended };
+}
+
+/// The jobs of a program's threads.
+pub trait JobOf<'p>: RunJob {
+    /// The root's job, and the cell that its outcome comes to.
+    fn begin(alloc: Global, program: &'p Program) -> Result<(Self, Arc<Cell<'p>>), AllocError>
+        requires { IsChecked (source_of program.now) }
+        ensures program { IfOk result (λ made. (arc_value made.1).key.program.value ≡ program.now) }
+        ensures name { IfOk result (λ made. (arc_value made.1).key.name.value ≡ []) };
+}

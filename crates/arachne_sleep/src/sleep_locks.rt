@@ -1,0 +1,203 @@
+//! All sleep locks of a run.
+ghost use Rattle.std.specs.Prelude.{◌≡◌, ◌<◌, ◌↔◌, All, IsTrue, IsOk, IfOk, IfErr, IfSome, length};
+ghost use Rattle.arachne_sleep.specs.History.{IsSound};
+ghost use Rattle.arachne_sleep.specs.OneHolder.{HasOneHolderAtATime};
+ghost use Rattle.arachne_sleep.specs.SleepLock.{IsWhole, IfAnswered, IsAskedOfSome, IsFreedBySome, IsPassOfSome};
+ghost use Rattle.arachne_sleep.specs.SleepLocks.{AreSeatsOf};
+
+use crate::answer::{AskFault, Asked, Freed, NotHolder, Pass, Tried};
+use crate::event::LockEvent;
+use crate::lock_seat::LockSeat;
+use crate::sleep_lock::SleepLock;
+use crate::who::Who;
+use std::alloc::{AllocError, Global};
+use std::marker::Model;
+use std::sync::Wait;
+
+/// Some number of locks, numbered from 0, that kernel threads share.
+#[derive(Drop)]
+pub struct SleepLocks {
+    locks: Vec<SleepLock>,
+}
+
+impl Model for SleepLocks {
+    ghost use Rattle.std.specs.Prelude.{List};
+    ghost use Rattle.arachne_sleep.specs.SleepLock.{SleepLockView};
+    ghost use Rattle.arachne_sleep.specs.SleepLocks.{AreNumbered};
+
+    ghost Value = { List SleepLockView };
+
+    ghost view = { λ l. l.locks.items };
+
+    ghost invariant = { λ l. AreNumbered l.locks.items };
+}
+
+/// A seat of each of some locks, in their order.
+#[derive(Drop)]
+pub struct LockSeats {
+    seats: Vec<LockSeat>,
+}
+
+impl Model for LockSeats {
+    ghost use Rattle.std.specs.Prelude.{List};
+    ghost use Rattle.arachne_sleep.specs.SleepLock.{SeatView};
+
+    ghost Value = { List SeatView };
+
+    ghost view = { λ s. s.seats.items };
+}
+
+impl SleepLocks {
+    /// So many locks, of which there may be none, and the whole seat of each.
+    pub fn new(alloc: Global, count: u8) -> Result<(SleepLocks, LockSeats), AllocError>
+        ensures count { IfOk result (λ made. length made.0 ≡ count) }
+        ensures own { IfOk result (λ made. AreSeatsOf made.0 made.1) }
+        ensures whole { IfOk result (λ made. All IsWhole made.1) }
+    {
+        let mut locks = Vec::with_capacity(alloc, usize::from(count))?;
+        let mut seats = Vec::with_capacity(alloc, usize::from(count))?;
+        for number in 0..count {
+            let (lock, seat) = SleepLock::new(alloc, number)?;
+            locks.push(lock)?;
+            seats.push(seat)?;
+        }
+        Ok((SleepLocks { locks }, LockSeats { seats }))
+    }
+
+    /// How many locks there are.
+    pub fn count(&self) -> usize
+        ensures { result ≡ length self.now }
+    {
+        self.locks.len()
+    }
+
+    /// As [`SleepLock::ask`].
+    pub fn ask<R: Wait>(
+        &self,
+        rt: &R,
+        seats: &mut LockSeats,
+        lock: u8,
+        who: Who,
+    ) -> Tried<Result<Asked, AskFault>>
+        requires own { AreSeatsOf self.now seats.old }
+        requires lock { lock < length self.now }
+        ensures seats { seats.new ≡ seats.old }
+        ensures asked { IfAnswered result (λ answer. IfOk answer (IsAskedOfSome lock who)) }
+    {
+        let k = usize::from(lock);
+        self.locks[k].ask(rt, &mut seats.seats[k], who)
+    }
+
+    /// As [`SleepLock::free`].
+    pub fn free<R: Wait>(
+        &self,
+        rt: &R,
+        seats: &mut LockSeats,
+        lock: u8,
+        who: Who,
+    ) -> Tried<Result<Freed, NotHolder>>
+        requires own { AreSeatsOf self.now seats.old }
+        requires lock { lock < length self.now }
+        ensures seats { seats.new ≡ seats.old }
+        ensures freed { IfAnswered result (λ answer. IfOk answer (IsFreedBySome who)) }
+    {
+        let k = usize::from(lock);
+        self.locks[k].free(rt, &mut seats.seats[k], who)
+    }
+
+    /// As [`SleepLock::check`].
+    pub fn check<R: Wait>(
+        &self,
+        rt: &R,
+        seats: &mut LockSeats,
+        lock: u8,
+        who: Who,
+    ) -> Tried<Option<Pass>>
+        requires own { AreSeatsOf self.now seats.old }
+        requires lock { lock < length self.now }
+        ensures seats { seats.new ≡ seats.old }
+        ensures pass { IfAnswered result (λ answer. IfSome answer (IsPassOfSome lock who)) }
+    {
+        let k = usize::from(lock);
+        self.locks[k].check(rt, &mut seats.seats[k], who)
+    }
+
+    /// Splits each seat. Where there is no memory for the others' list the seats come back.
+    pub fn split(
+        &self,
+        alloc: Global,
+        seats: LockSeats,
+    ) -> Result<(LockSeats, LockSeats), LockSeats>
+        requires { AreSeatsOf self.now seats }
+        ensures first { IfOk result (λ parts. AreSeatsOf self.now parts.0) }
+        ensures second { IfOk result (λ parts. AreSeatsOf self.now parts.1) }
+        ensures err { IfErr result (λ back. back ≡ seats) }
+    {
+        let Ok(mut others) = Vec::with_capacity(alloc, self.locks.len()) else {
+            return Err(seats);
+        };
+        let LockSeats { seats: mut own } = seats;
+        for k in 0..self.locks.len() {
+            others.push_reserved(self.locks[k].split_off(&mut own[k]));
+        }
+        Ok((LockSeats { seats: own }, LockSeats { seats: others }))
+    }
+
+    /// Joins each seat with the other one of its lock.
+    pub fn join_seats(&self, seats: LockSeats, others: LockSeats) -> LockSeats
+        requires seats { AreSeatsOf self.now seats }
+        requires others { AreSeatsOf self.now others }
+        ensures { AreSeatsOf self.now result }
+    {
+        let LockSeats { seats: mut own } = seats;
+        let LockSeats { seats: mut others } = others;
+        for _ in 0..self.locks.len() {
+            let Some(other) = others.pop() else {
+                break;
+            };
+            let k = others.len();
+            self.locks[k].join_into(&mut own[k], other);
+        }
+        LockSeats { seats: own }
+    }
+
+    /// Whether each seat is whole.
+    pub fn are_whole(&self, seats: &LockSeats) -> bool
+        ensures { IsTrue result ↔ All IsWhole seats.now }
+    {
+        seats.seats.iter().all(|seat| seat.is_whole())
+    }
+
+    /// The history of each lock, in the order of the locks. Where there is no memory for their list the locks and the
+    /// seats come back.
+    pub fn close(
+        self,
+        alloc: Global,
+        seats: LockSeats,
+    ) -> Result<Vec<Vec<LockEvent>>, (SleepLocks, LockSeats)>
+        requires own { AreSeatsOf self seats }
+        requires whole { All IsWhole seats }
+        ensures count { IfOk result (λ histories. length histories.items ≡ length self) }
+        ensures sound { IfOk result (λ histories. All (λ history. IsSound history.items) histories.items) }
+        ensures one_holder { IfOk result (λ histories. All (λ history. HasOneHolderAtATime history.items) histories.items) }
+        ensures err { IfErr result (λ back. (back.0 ≡ self) × (back.1 ≡ seats)) }
+    {
+        let count = self.locks.len();
+        let Ok(mut histories) = Vec::with_capacity(alloc, count) else {
+            return Err((self, seats));
+        };
+        let SleepLocks { mut locks } = self;
+        let LockSeats { mut seats } = seats;
+        for _ in 0..count {
+            let (Some(lock), Some(seat)) = (locks.pop(), seats.pop()) else {
+                unreachable!()
+            };
+            match lock.close(seat) {
+                Ok(history) => histories.push_reserved(history),
+                Err(_) => unreachable!(),
+            }
+        }
+        histories.reverse();
+        Ok(histories)
+    }
+}

@@ -1,0 +1,13 @@
+//! Context tables: the trait that all forms meet, and the forms.
+//!
+//! This crate has nothing of its own. It names in one place what stands in the crates below it: the trait
+//! `Contexts` with its seats and answers (`arachne_contexts`), and the form behind a lock (`arachne_locked`).
+#![tactic(auto)]
+
+#[cfg(test)]
+mod tests;
+
+pub use arachne_contexts::{
+    Claimed, Contexts, Held, Identified, Moved, Placed, Rested, Seats, Tagged, Taken, Woken,
+};
+pub use arachne_locked::{LockedClaim, LockedContexts, LockedHold, LockedSeat};
