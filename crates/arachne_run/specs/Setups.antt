@@ -12,5 +12,5 @@ is_within least most n = nat_le least n && nat_le n most
 abbrev pub refusal_of : ℕ → ℕ → ℕ → Option RunFault
 refusal_of cores quantum choosers =
     if is_within 1 CORES cores then
-      (if is_within 1 10000 quantum then (if choosers == cores then None else Some Choosers) else Some Quantum)
+    (if is_within 1 10000 quantum then (if choosers == cores then None else Some Choosers) else Some Quantum)
     else Some Cores

@@ -1,25 +1,25 @@
--- What a run sees of a thread.
+-- What a run sees of a thread, with those that run in its place.
 use Rattle.std.specs.Prelude.{◌≡◌, ℕ, List, Option, None, Some}
 use Rattle.arachne_lang.specs.declared.program.Program.{Program}
 use Rattle.arachne_machine.specs.declared.pause.Pending.{Pending}
 use Rattle.arachne_machine.specs.declared.pause.Pending.TheVariants as pause
-use Rattle.arachne_machine.specs.Suspended.{Suspended}
+use Rattle.arachne_machine.specs.Nested.{Nested, whole, pending_in, IsChildOf}
 
 abbrev pub Thread : Type 0
-Thread = Suspended
+Thread = Nested
 
 abbrev pub program_of : Thread → Program
-program_of thread = thread.program
+program_of thread = (whole thread).program
 
 abbrev pub name_of : Thread → List ℕ
-name_of thread = thread.name
+name_of thread = (whole thread).name
 
 abbrev pub tag_of : Thread → ℕ
-tag_of thread = thread.tag
+tag_of thread = (whole thread).label.tag
 
 -- the pause that is not answered
 abbrev pub pause_of : Thread → Option Pending
-pause_of thread = thread.pending
+pause_of thread = pending_in thread
 
 -- it goes on by steps
 abbrev pub IsGoing : Thread → Type 0
@@ -28,6 +28,6 @@ IsGoing thread = pause_of thread ≡ None
 abbrev pub IsAwaiting : Thread → Type 0
 IsAwaiting thread = pause_of thread ≡ Some pause.Joins
 
--- it forks a thread of its own program, which goes on by steps
+-- it forks this thread
 abbrev pub IsForking : Thread → Thread → Type 0
-IsForking thread child = (pause_of thread ≡ Some pause.Forks) × (program_of child ≡ program_of thread) × IsGoing child
+IsForking thread child = (pause_of thread ≡ Some pause.Forks) × IsChildOf thread child

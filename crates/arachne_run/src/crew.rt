@@ -1,7 +1,7 @@
 //! The kernel threads of a run, one for each core.
-ghost use Rattle.std.specs.Prelude.{◌≡◌, ◌<◌, ◌≤◌};
+ghost use Rattle.std.specs.Prelude.{◌≡◌, ◌<◌, ◌≤◌, IfSome};
 ghost use Rattle.std.specs.Thread.{IsSync};
-ghost use Rattle.arachne_run.specs.Tokens.{AreOf, IsSetUp};
+ghost use Rattle.arachne_run.specs.Tokens.{AreIdle, IsSetUp};
 
 use crate::fault::RunFault;
 use crate::gate::Gate;
@@ -24,8 +24,8 @@ struct Returns<C> {
     machine: Snapshot<Machine<C>>,
 }
 
-impl<C: Seats> Promise<Tokens<C::Seat>> for Returns<C> {
-    ghost kept_by = { λ promise tokens. AreOf C.sits promise.machine.value tokens };
+impl<C: Seats> Promise<Option<Tokens<C::Seat>>> for Returns<C> {
+    ghost kept_by = { λ promise tokens. IfSome tokens (AreIdle C.sits C.idle promise.machine.value) };
 }
 
 /// Has all cores work until they are stopped, each with its chooser. The last chooser is that of core 0.
@@ -43,17 +43,17 @@ pub(crate) fn work_all<
     root: T,
     choosers: Vec<R>,
     tokens: Tokens<C::Seat>,
-) -> Tokens<C::Seat>
-    requires tokens { AreOf C.sits machine.now tokens }
+) -> Option<Tokens<C::Seat>>
+    requires tokens { AreIdle C.sits C.idle machine.now tokens }
     requires set_up { IsSetUp C.core_count machine.now }
-    ensures { AreOf C.sits machine.now result }
+    ensures { IfSome result (AreIdle C.sits C.idle machine.now) }
 {
     thread::scope(
         thread::scope_env(),
         rt,
-        |scope| -> Tokens<C::Seat>
-            requires { IsSync H.row × AreOf C.sits machine.now tokens × IsSetUp C.core_count machine.now }
-            ensures { AreOf C.sits machine.entry.now result }
+        |scope| -> Option<Tokens<C::Seat>>
+            requires { IsSync H.row × AreIdle C.sits C.idle machine.now tokens × IsSetUp C.core_count machine.now }
+            ensures { IfSome result (AreIdle C.sits C.idle machine.entry.now) }
         {
             let mut tokens = tokens;
             let mut choosers = choosers;
@@ -61,7 +61,7 @@ pub(crate) fn work_all<
             let of: PhantomData<(T, R)> = PhantomData;
             let Some(own) = choosers.pop() else {
                 machine.shared.fail(rt, RunFault::Choosers);
-                return tokens;
+                return None;
             };
             for core in 1..machine.cores {
                 let Some(chooser) = choosers.pop() else {
@@ -79,9 +79,9 @@ pub(crate) fn work_all<
                 };
                 let started = scope.spawn_with(
                     returns,
-                    move || -> Tokens<C::Seat>
-                        requires { AreOf C.sits machine.now theirs × IsSetUp C.core_count machine.now × (core < machine.now.cores) }
-                        ensures { AreOf C.sits machine.entry.now result }
+                    move || -> Option<Tokens<C::Seat>>
+                        requires { AreIdle C.sits C.idle machine.now theirs × IsSetUp C.core_count machine.now × (core < machine.now.cores) }
+                        ensures { IfSome result (AreIdle C.sits C.idle machine.entry.now) }
                     {
                         work_on::<H, T, C, R, G>(
                             rt, alloc, machine, gate, core, chooser, theirs, of,
@@ -93,19 +93,35 @@ pub(crate) fn work_all<
                     Err(_) => machine.shared.fail(rt, RunFault::KernelThread),
                 }
             }
-            tokens = work_from_root::<H, T, C, R, G>(
+            let mut all = work_from_root::<H, T, C, R, G>(
                 rt, alloc, machine, gate, root, own, tokens,
             );
             for other in others {
-                let theirs = other.join(rt);
-                tokens = tokens.join::<H, C>(rt, machine, theirs);
+                all = joined::<H, C>(rt, machine, all, other.join(rt));
             }
-            tokens
+            all
         },
     )
 }
 
-/// Gives the root its place, and works on core 0 until all stop.
+/// The tokens of two workers together, if both gave theirs back.
+fn joined<H: Wait, C: Seats>(
+    rt: &H,
+    machine: &Machine<C>,
+    own: Option<Tokens<C::Seat>>,
+    others: Option<Tokens<C::Seat>>,
+) -> Option<Tokens<C::Seat>>
+    requires own { IfSome own (AreIdle C.sits C.idle machine.now) }
+    requires others { IfSome others (AreIdle C.sits C.idle machine.now) }
+    ensures { IfSome result (AreIdle C.sits C.idle machine.now) }
+{
+    let own = own?;
+    let others = others?;
+    Some(own.join::<H, C>(rt, machine, others))
+}
+
+/// Gives the root its place, and works on core 0 until all stop. The tokens, unless something is out with them after
+/// a fault.
 fn work_from_root<H: Wait, T: RunJob, C: Contexts<T>, R: Rng + Drop, G: Gate>(
     rt: &H,
     alloc: Global,
@@ -114,10 +130,10 @@ fn work_from_root<H: Wait, T: RunJob, C: Contexts<T>, R: Rng + Drop, G: Gate>(
     root: T,
     chooser: R,
     tokens: Tokens<C::Seat>,
-) -> Tokens<C::Seat>
-    requires tokens { AreOf C.sits machine.now tokens }
+) -> Option<Tokens<C::Seat>>
+    requires tokens { AreIdle C.sits C.idle machine.now tokens }
     requires set_up { IsSetUp C.core_count machine.now }
-    ensures { AreOf C.sits machine.now result }
+    ensures { IfSome result (AreIdle C.sits C.idle machine.now) }
 {
     let mut kit = Kit {
         tokens,
@@ -132,12 +148,14 @@ fn work_from_root<H: Wait, T: RunJob, C: Contexts<T>, R: Rng + Drop, G: Gate>(
         core: 0,
         of: PhantomData,
     };
-    worker.place_root(&mut kit, root);
-    worker.work(&mut kit);
-    kit.tokens
+    if let Err(fault) = worker.begin(&mut kit, root) {
+        machine.shared.fail(rt, fault);
+        return None;
+    }
+    Some(kit.tokens)
 }
 
-/// Works on one core until all stop.
+/// Works on one core until all stop. The tokens, unless something is out with them after a fault.
 fn work_on<H: Wait, T: RunJob, C: Contexts<T>, R: Rng + Drop, G: Gate>(
     rt: &H,
     alloc: Global,
@@ -147,11 +165,11 @@ fn work_on<H: Wait, T: RunJob, C: Contexts<T>, R: Rng + Drop, G: Gate>(
     chooser: R,
     tokens: Tokens<C::Seat>,
     of: PhantomData<(T, R)>,
-) -> Tokens<C::Seat>
-    requires tokens { AreOf C.sits machine.now tokens }
+) -> Option<Tokens<C::Seat>>
+    requires tokens { AreIdle C.sits C.idle machine.now tokens }
     requires set_up { IsSetUp C.core_count machine.now }
     requires core { core < machine.now.cores }
-    ensures { AreOf C.sits machine.now result }
+    ensures { IfSome result (AreIdle C.sits C.idle machine.now) }
 {
     let mut kit = Kit {
         tokens,
@@ -166,6 +184,9 @@ fn work_on<H: Wait, T: RunJob, C: Contexts<T>, R: Rng + Drop, G: Gate>(
         core,
         of,
     };
-    worker.work(&mut kit);
-    kit.tokens
+    if let Err(fault) = worker.work(&mut kit) {
+        machine.shared.fail(rt, fault);
+        return None;
+    }
+    Some(kit.tokens)
 }

@@ -87,12 +87,23 @@ impl<'p> RunJob for Job<'p> {
         alloc: Global,
         me: ThreadId,
         child: Thread<'p>,
-        _tag: u64,
+        tag: u64,
     ) -> Result<Job<'p>, RunFault> {
+        let mut child = child;
+        child.set_tag(tag);
         let (job, cell) = Job::of(alloc, child, Some(me))?;
         self.expect(cell)?;
         self.thread.forked();
         Ok(job)
+    }
+
+    fn fork_in_place(&mut self, child: Thread<'p>, tag: u64) -> Result<(), RunFault> {
+        let mut child = child;
+        child.set_tag(tag);
+        match self.thread.in_place(child) {
+            Ok(()) => Ok(()),
+            Err(_) => Err(RunFault::Memory),
+        }
     }
 
     fn tallied(&mut self) {
@@ -207,7 +218,7 @@ impl<'p> Job<'p> {
     /// The outcome of the child that it awaits, if that has ended.
     fn fetch(&mut self) -> Result<Option<Outcome<'p>>, RunFault>
         ensures same { self.new ≡ self.old }
-        ensures program { IfOk result (λ found. IfSome found (λ outcome. outcome.program ≡ program_of self.old)) }
+        ensures program { IfOk result (λ found. IfSome found (λ outcome. source_of outcome.program ≡ source_of (program_of self.old))) }
     {
         let Some(cell) = self.awaited.last() else {
             return Err(RunFault::Foreign);

@@ -10,6 +10,7 @@ mod machine;
 mod placing;
 mod report;
 mod running;
+mod seated;
 mod setup;
 mod shared;
 mod slice;

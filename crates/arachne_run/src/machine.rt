@@ -1,6 +1,6 @@
 //! What the workers of a run share.
-ghost use Rattle.std.specs.Prelude.{◌≡◌, ◌≤◌, IfOk};
-ghost use Rattle.arachne_run.specs.Tokens.{AreOf};
+ghost use Rattle.std.specs.Prelude.{◌≡◌, ◌≤◌, IfOk, IfSome};
+ghost use Rattle.arachne_run.specs.Tokens.{AreIdle};
 
 use crate::fault::RunFault;
 use crate::shared::Shared;
@@ -30,7 +30,7 @@ impl<C: Seats + Drop> Machine<C> {
     ) -> Result<(Machine<C>, Tokens<C::Seat>), AllocError>
         requires some { 1 ≤ cores }
         requires most { cores ≤ 16 }
-        ensures tokens { IfOk result (λ made. AreOf C.sits made.0 made.1) }
+        ensures tokens { IfOk result (λ made. AreIdle C.sits C.idle made.0 made.1) }
         ensures cores { IfOk result (λ made. (made.0.cores ≡ cores) × (C.core_count made.0.table ≡ cores)) }
         ensures quantum { IfOk result (λ made. made.0.quantum ≡ quantum) }
     {
@@ -51,12 +51,12 @@ impl<C: Seats + Drop> Machine<C> {
         self,
         rt: &H,
         alloc: Global,
-        tokens: Tokens<C::Seat>,
+        tokens: Option<Tokens<C::Seat>>,
     ) -> Result<Vec<u64>, RunFault>
     where
         T: Tagged + Drop,
         C: Contexts<T>,
-        requires { AreOf C.sits self tokens }
+        requires { IfSome tokens (AreIdle C.sits C.idle self) }
     {
         let Machine {
             table,
@@ -68,7 +68,9 @@ impl<C: Seats + Drop> Machine<C> {
         if let Some(fault) = shared.into_first_fault() {
             return Err(fault);
         }
-        let Tokens { seat, share } = tokens;
+        let Some(Tokens { seat, share }) = tokens else {
+            return Err(RunFault::Token);
+        };
         if !table.is_whole(&seat) || !share.is_whole() {
             return Err(RunFault::Token);
         }

@@ -56,9 +56,7 @@ pub fn run<
         setup.quantum as u32,
         program.ledgers,
     )?;
-    let tokens = work_all::<H, T, C, R, G>(
-        rt, alloc, &machine, gate, root, choosers, tokens,
-    );
+    let tokens = work_all::<H, T, C, R, G>(rt, alloc, &machine, gate, root, choosers, tokens);
     let totals = machine.close::<H, T>(rt, alloc, tokens)?;
     let Ok((outcome, _)) = outlet.fetch() else {
         return Err(RunFault::Foreign);

@@ -60,6 +60,11 @@ pub trait RunJob: Tagged + Drop {
         requires { forks self.old child }
         ensures { Self.tag_of self.new ≡ Self.tag_of self.old };
 
+    /// The child will run in this job's place, once it is awaited.
+    fn fork_in_place(&mut self, child: Self::Child, tag: u64) -> Result<(), RunFault>
+        requires { forks self.old child }
+        ensures { Self.tag_of self.new ≡ Self.tag_of self.old };
+
     /// The amount was added to the ledger.
     fn tallied(&mut self)
         requires { IsTally (pause_of self.old) }

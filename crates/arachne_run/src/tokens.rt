@@ -1,6 +1,6 @@
 //! What a worker steps with, and gives back in the end.
 ghost use Rattle.std.specs.Prelude.{◌≡◌, ◌≤◌};
-ghost use Rattle.arachne_run.specs.Tokens.{AreOf};
+ghost use Rattle.arachne_run.specs.Tokens.{AreIdle};
 
 use crate::machine::Machine;
 use arachne_contexts::Seats;
@@ -21,9 +21,9 @@ impl<S> Tokens<S> {
         rt: &H,
         machine: &Machine<C>,
     ) -> (Tokens<S>, Tokens<S>)
-        requires { AreOf C.sits machine.now self }
-        ensures own { AreOf C.sits machine.now result.0 }
-        ensures others { AreOf C.sits machine.now result.1 }
+        requires { AreIdle C.sits C.idle machine.now self }
+        ensures own { AreIdle C.sits C.idle machine.now result.0 }
+        ensures others { AreIdle C.sits C.idle machine.now result.1 }
     {
         let Tokens { seat, share } = self;
         let (seat, other_seat) = machine.table.split(rt, seat);
@@ -44,9 +44,9 @@ impl<S> Tokens<S> {
         machine: &Machine<C>,
         other: Tokens<S>,
     ) -> Tokens<S>
-        requires own { AreOf C.sits machine.now self }
-        requires others { AreOf C.sits machine.now other }
-        ensures { AreOf C.sits machine.now result }
+        requires own { AreIdle C.sits C.idle machine.now self }
+        requires others { AreIdle C.sits C.idle machine.now other }
+        ensures { AreIdle C.sits C.idle machine.now result }
     {
         Tokens {
             seat: machine.table.join_seats(rt, self.seat, other.seat),

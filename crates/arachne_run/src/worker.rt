@@ -1,8 +1,9 @@
 //! The loop of one core's kernel thread.
-ghost use Rattle.std.specs.Prelude.{◌≡◌, ◌<◌, ◌≤◌, Some};
+ghost use Rattle.std.specs.Prelude.{◌≡◌, ◌<◌, ◌≤◌, [], ◌∷◌, Some, OnOk, IfOk};
 ghost use Rattle.arachne_machine.specs.Suspended.{IsTally};
 ghost use Rattle.arachne_machine.specs.declared.pause.Pending.TheVariants as pause;
-ghost use Rattle.arachne_run.specs.Tokens.{AreOf};
+ghost use Rattle.arachne_run.specs.Slices.{IsLeft};
+ghost use Rattle.arachne_run.specs.Tokens.{AreIdle, AreWith, thread_in};
 
 use crate::fault::RunFault;
 use crate::gate::Gate;
@@ -10,8 +11,8 @@ use crate::idle::Idle;
 use crate::machine::Machine;
 use crate::slice::{RunJob, Slice};
 use crate::tokens::Tokens;
-use arachne_contexts::{Contexts, Held, Seats, Taken, Woken};
-use arachne_core::{Rest, SLOTS, ThreadId};
+use arachne_contexts::{Contexts, Held, Seats};
+use arachne_core::{Rest, SLOTS};
 use rand_core::Rng;
 use std::alloc::Global;
 use std::marker::PhantomData;
@@ -40,31 +41,40 @@ pub(crate) struct Worker<'a, H, T, C: Seats, R, G> {
 }
 
 impl<'a, H: Wait, T: RunJob, C: Contexts<T>, R: Rng, G: Gate> Worker<'a, H, T, C, R, G> {
-    /// Runs threads until all workers stop.
-    pub(crate) fn work(&self, kit: &mut Kit<C::Seat, R>)
-        requires { AreOf C.sits self.now.machine.now kit.old.tokens }
-        ensures { AreOf C.sits self.now.machine.now kit.new.tokens }
+    /// Gives the root its place on this core, and runs threads until all workers stop.
+    pub(crate) fn begin(&self, kit: &mut Kit<C::Seat, R>, root: T) -> Result<(), RunFault>
+        requires { AreIdle C.sits C.idle self.now.machine.now kit.old.tokens }
+        ensures { OnOk result (AreIdle C.sits C.idle self.now.machine.now kit.new.tokens) }
+    {
+        self.post_root(kit, root)?;
+        self.work(kit)
+    }
+
+    /// Runs threads until all workers stop. After an error something may be out with the seat.
+    pub(crate) fn work(&self, kit: &mut Kit<C::Seat, R>) -> Result<(), RunFault>
+        requires { AreIdle C.sits C.idle self.now.machine.now kit.old.tokens }
+        ensures { OnOk result (AreIdle C.sits C.idle self.now.machine.now kit.new.tokens) }
     {
         let mut idle = Idle::new();
         for _ in self.rt.forever() {
             if self.machine.shared.is_stopped() {
-                break;
+                return Ok(());
             }
-            if self.scan(kit) {
+            if self.scan(kit)? {
                 idle.reset();
             } else {
                 idle.wait(self.rt, &self.machine.shared);
             }
         }
+        unreachable!()
     }
 
     /// Runs each thread of the core that is ready, for one slice. Whether there was one.
-    fn scan(&self, kit: &mut Kit<C::Seat, R>) -> bool
-        requires { AreOf C.sits self.now.machine.now kit.old.tokens }
-        ensures { AreOf C.sits self.now.machine.now kit.new.tokens }
+    fn scan(&self, kit: &mut Kit<C::Seat, R>) -> Result<bool, RunFault>
+        requires { AreIdle C.sits C.idle self.now.machine.now kit.old.tokens }
+        ensures { OnOk result (AreIdle C.sits C.idle self.now.machine.now kit.new.tokens) }
     {
-        let table = &self.machine.table;
-        let mut occupied = table.look(self.rt, &mut kit.tokens.seat, self.core);
+        let mut occupied = self.look(kit);
         let mut found = false;
         for _ in 0..SLOTS {
             let index = occupied.trailing_zeros() as u8;
@@ -72,97 +82,79 @@ impl<'a, H: Wait, T: RunJob, C: Contexts<T>, R: Rng, G: Gate> Worker<'a, H, T, C
                 break;
             }
             occupied ^= 1 << u32::from(index);
-            let taken = table.take(self.rt, &mut kit.tokens.seat, self.core, index);
-            if let Taken::Run(held) = taken {
+            if let Some(held) = self.take(kit, index) {
                 found = true;
-                self.turn(kit, held);
+                self.turn(kit, held)?;
             }
         }
-        found
+        Ok(found)
     }
 
     /// One slice of a thread, and what it asks for.
-    fn turn(&self, kit: &mut Kit<C::Seat, R>, held: Held<T, C::Hold>)
-        requires { AreOf C.sits self.now.machine.now kit.old.tokens }
-        ensures { AreOf C.sits self.now.machine.now kit.new.tokens }
+    fn turn(&self, kit: &mut Kit<C::Seat, R>, held: Held<T, C::Hold>) -> Result<(), RunFault>
+        requires { AreWith C.sits C.has self.now.machine.now (thread_in T.tag_of held ∷ []) kit.old.tokens }
+        ensures { OnOk result (AreIdle C.sits C.idle self.now.machine.now kit.new.tokens) }
+    {
+        let mut held = held;
+        match self.slice(kit, &mut held)? {
+            Slice::Goes => self.put_back(kit, held, Rest::Ready),
+            Slice::Forks(_, child) => self.fork(kit, held, child),
+            Slice::Blocks => self.put_back(kit, held, Rest::Blocked),
+            Slice::Tallies(ledger, amount) => {
+                self.tally(kit, &mut held, ledger, amount)?;
+                self.put_back(kit, held, Rest::Ready)
+            }
+            Slice::Ends => self.finish(kit, held),
+        }
+    }
+
+    /// One slice of a thread.
+    fn slice(
+        &self,
+        kit: &mut Kit<C::Seat, R>,
+        held: &mut Held<T, C::Hold>,
+    ) -> Result<Slice<T::Child>, RunFault>
+        requires { AreWith C.sits C.has self.now.machine.now (thread_in T.tag_of held.old ∷ []) kit.old.tokens }
+        ensures tokens { AreWith C.sits C.has self.now.machine.now (thread_in T.tag_of held.new ∷ []) kit.new.tokens }
+        ensures left { IfOk result (λ slice. IsLeft T.forks T.pause_of slice held.new.value) }
     {
         self.gate.slice(self.core, kit.slices);
         kit.slices = kit.slices.saturating_add(1);
-        let mut held = held;
-        match held.value.slice(self.machine.quantum) {
-            Ok(Slice::Goes) => self.put_back(kit, held, Rest::Ready),
-            Ok(Slice::Forks(_, child)) => self.fork(kit, held, child),
-            Ok(Slice::Blocks) => self.put_back(kit, held, Rest::Blocked),
-            Ok(Slice::Tallies(ledger, amount)) => self.tally(kit, held, ledger, amount),
-            Ok(Slice::Ends) => self.finish(kit, held),
-            Err(fault) => self.fail(fault),
-        }
+        held.value.slice(self.machine.quantum)
     }
 
     /// Adds to a ledger for a thread.
-    fn tally(&self, kit: &mut Kit<C::Seat, R>, held: Held<T, C::Hold>, ledger: u64, amount: u64)
-        requires tokens { AreOf C.sits self.now.machine.now kit.old.tokens }
-        requires tallies { IsTally (T.pause_of held.value) }
-        ensures { AreOf C.sits self.now.machine.now kit.new.tokens }
+    fn tally(
+        &self,
+        kit: &mut Kit<C::Seat, R>,
+        held: &mut Held<T, C::Hold>,
+        ledger: u64,
+        amount: u64,
+    ) -> Result<(), RunFault>
+        requires tokens { AreWith C.sits C.has self.now.machine.now (thread_in T.tag_of held.old ∷ []) kit.old.tokens }
+        requires tallies { IsTally (T.pause_of held.old.value) }
+        ensures { AreWith C.sits C.has self.now.machine.now (thread_in T.tag_of held.new ∷ []) kit.new.tokens }
     {
         let ledgers = &self.machine.ledgers;
         if ledger >= ledgers.count() as u64 {
-            return self.fail(RunFault::Foreign);
+            return Err(RunFault::Foreign);
         }
         ledgers.add(&mut kit.tokens.share, ledger as usize, amount);
-        let mut held = held;
         held.value.tallied();
-        self.put_back(kit, held, Rest::Ready);
+        Ok(())
     }
 
     /// Ends a thread, and wakes its parent. With the root all workers stop.
-    fn finish(&self, kit: &mut Kit<C::Seat, R>, held: Held<T, C::Hold>)
-        requires tokens { AreOf C.sits self.now.machine.now kit.old.tokens }
+    fn finish(&self, kit: &mut Kit<C::Seat, R>, held: Held<T, C::Hold>) -> Result<(), RunFault>
+        requires tokens { AreWith C.sits C.has self.now.machine.now (thread_in T.tag_of held ∷ []) kit.old.tokens }
         requires over { T.pause_of held.value ≡ Some pause.Ended }
-        ensures { AreOf C.sits self.now.machine.now kit.new.tokens }
+        ensures { OnOk result (AreIdle C.sits C.idle self.now.machine.now kit.new.tokens) }
     {
-        let table = &self.machine.table;
-        let Ok(job) = table.finish(self.rt, &mut kit.tokens.seat, held) else {
-            return self.fail(RunFault::Token);
-        };
+        let job = self.end(kit, held)?;
         match job.leave() {
             Some(parent) => self.wake(kit, parent),
             None => self.machine.shared.stop(),
         }
-    }
-
-    /// Wakes the thread of this id, if it has not ended.
-    pub(crate) fn wake(&self, kit: &mut Kit<C::Seat, R>, id: ThreadId)
-        requires { AreOf C.sits self.now.machine.now kit.old.tokens }
-        ensures { AreOf C.sits self.now.machine.now kit.new.tokens }
-    {
-        for _ in self.rt.forever() {
-            let woken = self
-                .machine
-                .table
-                .wake(self.rt, &mut kit.tokens.seat, id);
-            if !matches!(woken, Woken::Lost(_)) {
-                break;
-            }
-        }
-    }
-
-    /// Puts a thread back to its place.
-    pub(crate) fn put_back(&self, kit: &mut Kit<C::Seat, R>, held: Held<T, C::Hold>, rest: Rest)
-        requires { AreOf C.sits self.now.machine.now kit.old.tokens }
-        ensures { AreOf C.sits self.now.machine.now kit.new.tokens }
-    {
-        let rested = self
-            .machine
-            .table
-            .put_back(self.rt, &mut kit.tokens.seat, held, rest);
-        if rested.is_err() {
-            self.fail(RunFault::Token);
-        }
-    }
-
-    /// Stops the run for a fault.
-    pub(crate) fn fail(&self, fault: RunFault) {
-        self.machine.shared.fail(self.rt, fault);
+        Ok(())
     }
 }

@@ -8,14 +8,14 @@ loop-core-preserved g c =
     let was = c.loop-core.invariant.1 in (
       c.split-rest.ensures.own,
       elim c.match-started.branch [
-        in-Err w ↦ search rules
-      | in-Ok w ↦
-          let kept : w.in-Ok.other.promise.machine.value ≡ c.captures.machine.now = search rules in
-          let all = All-push (λ h. h.promise.machine.value ≡ c.captures.machine.now) _ w.in-Ok.other was kept in
-          let a = w.others-is in
-          let b = w.push_reserved.ensures.items in
-          let d = c.try_reserve.ensures.items in
-          rw (a, b, d) all
+        | in-Err w ↦ search rules
+        | in-Ok w ↦
+            let kept : w.in-Ok.other.promise.machine.value ≡ c.captures.machine.now = search rules in
+            let all = All-push (λ h. h.promise.machine.value ≡ c.captures.machine.now) _ w.in-Ok.other was kept in
+            let a = w.others-is in
+            let b = w.push_reserved.ensures.items in
+            let d = c.try_reserve.ensures.items in
+            rw (a, b, d) all
       ],
     )
 
@@ -23,4 +23,4 @@ pub loop-other-preserved : goal.loop-other-preserved
 loop-other-preserved g c =
     let was = c.loop-other.invariant in
     let step = c.in-Some-other.ensures.steps in
-    (c.join-tokens.ensures, λ k d below. let h = was.1 (k + 1) d in grind rules)
+    (c.joined-all.ensures, λ k d below. let h = was.1 (k + 1) d in grind rules)

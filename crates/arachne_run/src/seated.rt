@@ -1,0 +1,142 @@
+//! The calls of the table that a worker makes, with what is out with its seat.
+ghost use Rattle.std.specs.Prelude.{◌≡◌, ◌<◌, [], ◌∷◌, OnOk, IfOk, MatchOption};
+ghost use Rattle.arachne_contexts.specs.Out.{Claim as a_claim};
+ghost use Rattle.arachne_run.specs.Tokens.{AreIdle, AreWith, thread_in};
+
+use crate::fault::RunFault;
+use crate::gate::Gate;
+use crate::slice::RunJob;
+use crate::worker::{Kit, Worker};
+use arachne_contexts::{Claimed, Contexts, Held, Taken, Woken};
+use arachne_core::{Rest, SLOTS, ThreadId};
+use rand_core::Rng;
+use std::sync::Wait;
+
+impl<'a, H: Wait, T: RunJob, C: Contexts<T>, R: Rng, G: Gate> Worker<'a, H, T, C, R, G> {
+    /// The occupancy word of the core.
+    pub(crate) fn look(&self, kit: &mut Kit<C::Seat, R>) -> u64
+        requires { AreIdle C.sits C.idle self.now.machine.now kit.old.tokens }
+        ensures { AreIdle C.sits C.idle self.now.machine.now kit.new.tokens }
+    {
+        let table = &self.machine.table;
+        table.look(self.rt, &mut kit.tokens.seat, self.core)
+    }
+
+    /// The thread at an index of the core, if it is ready.
+    pub(crate) fn take(&self, kit: &mut Kit<C::Seat, R>, index: u8) -> Option<Held<T, C::Hold>>
+        requires tokens { AreIdle C.sits C.idle self.now.machine.now kit.old.tokens }
+        requires index { index < SLOTS }
+        ensures { MatchOption result (AreIdle C.sits C.idle self.now.machine.now kit.new.tokens) (λ held. AreWith C.sits C.has self.now.machine.now (thread_in T.tag_of held ∷ []) kit.new.tokens) }
+    {
+        let table = &self.machine.table;
+        match table.take(self.rt, &mut kit.tokens.seat, self.core, index) {
+            Taken::Run(held) => Some(held),
+            Taken::NotReady(_) => None,
+            Taken::Lost(_) => None,
+        }
+    }
+
+    /// Puts a thread back to its place.
+    pub(crate) fn put_back(
+        &self,
+        kit: &mut Kit<C::Seat, R>,
+        held: Held<T, C::Hold>,
+        rest: Rest,
+    ) -> Result<(), RunFault>
+        requires { AreWith C.sits C.has self.now.machine.now (thread_in T.tag_of held ∷ []) kit.old.tokens }
+        ensures { OnOk result (AreIdle C.sits C.idle self.now.machine.now kit.new.tokens) }
+    {
+        let table = &self.machine.table;
+        match table.put_back(self.rt, &mut kit.tokens.seat, held, rest) {
+            Ok(_) => Ok(()),
+            Err(_) => Err(RunFault::Token),
+        }
+    }
+
+    /// Ends a thread.
+    pub(crate) fn end(
+        &self,
+        kit: &mut Kit<C::Seat, R>,
+        held: Held<T, C::Hold>,
+    ) -> Result<T, RunFault>
+        requires { AreWith C.sits C.has self.now.machine.now (thread_in T.tag_of held ∷ []) kit.old.tokens }
+        ensures tokens { OnOk result (AreIdle C.sits C.idle self.now.machine.now kit.new.tokens) }
+        ensures job { IfOk result (λ job. job ≡ held.value) }
+    {
+        let table = &self.machine.table;
+        match table.finish(self.rt, &mut kit.tokens.seat, held) {
+            Ok(job) => Ok(job),
+            Err(_) => Err(RunFault::Token),
+        }
+    }
+
+    /// Wakes the thread of this id, if it has not ended.
+    pub(crate) fn wake(&self, kit: &mut Kit<C::Seat, R>, id: ThreadId)
+        requires { AreIdle C.sits C.idle self.now.machine.now kit.old.tokens }
+        ensures { AreIdle C.sits C.idle self.now.machine.now kit.new.tokens }
+    {
+        for _ in self.rt.forever() {
+            let table = &self.machine.table;
+            let woken = table.wake(self.rt, &mut kit.tokens.seat, id);
+            if !matches!(woken, Woken::Lost(_)) {
+                break;
+            }
+        }
+    }
+
+    /// A place on a core, for a thread that the one that is held forks.
+    pub(crate) fn claim_on(
+        &self,
+        kit: &mut Kit<C::Seat, R>,
+        held: &Held<T, C::Hold>,
+        core: u8,
+    ) -> Result<Option<C::Claim>, RunFault>
+        requires tokens { AreWith C.sits C.has self.now.machine.now (thread_in T.tag_of held.now ∷ []) kit.old.tokens }
+        requires core { core < self.now.machine.now.cores }
+        ensures { IfOk result (λ place. MatchOption place (AreWith C.sits C.has self.now.machine.now (thread_in T.tag_of held.now ∷ []) kit.new.tokens) (λ claim. AreWith C.sits C.has self.now.machine.now (a_claim claim ∷ thread_in T.tag_of held.now ∷ []) kit.new.tokens)) }
+    {
+        let _ = held;
+        let table = &self.machine.table;
+        match table.claim(self.rt, &mut kit.tokens.seat, core) {
+            Ok(Claimed::Place(claim)) => Ok(Some(claim)),
+            Ok(Claimed::Full(_)) => Ok(None),
+            Ok(Claimed::Closed(_)) => Ok(None),
+            Ok(Claimed::Lost(_)) => Ok(None),
+            Err(_) => Err(RunFault::Memory),
+        }
+    }
+
+    /// Posts a thread that the one that is held has forked.
+    pub(crate) fn post(
+        &self,
+        kit: &mut Kit<C::Seat, R>,
+        held: &Held<T, C::Hold>,
+        claim: C::Claim,
+        job: T,
+    ) -> Result<(), RunFault>
+        requires { AreWith C.sits C.has self.now.machine.now (a_claim claim ∷ thread_in T.tag_of held.now ∷ []) kit.old.tokens }
+        ensures { OnOk result (AreWith C.sits C.has self.now.machine.now (thread_in T.tag_of held.now ∷ []) kit.new.tokens) }
+    {
+        let _ = held;
+        let table = &self.machine.table;
+        match table.post(self.rt, &mut kit.tokens.seat, claim, job) {
+            Ok(_) => Ok(()),
+            Err(_) => Err(RunFault::Token),
+        }
+    }
+
+    /// Posts the root on this core.
+    pub(crate) fn post_root(&self, kit: &mut Kit<C::Seat, R>, root: T) -> Result<(), RunFault>
+        requires { AreIdle C.sits C.idle self.now.machine.now kit.old.tokens }
+        ensures { OnOk result (AreIdle C.sits C.idle self.now.machine.now kit.new.tokens) }
+    {
+        let table = &self.machine.table;
+        let Ok(Claimed::Place(claim)) = table.claim(self.rt, &mut kit.tokens.seat, self.core) else {
+            return Err(RunFault::Memory);
+        };
+        match table.post(self.rt, &mut kit.tokens.seat, claim, root) {
+            Ok(_) => Ok(()),
+            Err(_) => Err(RunFault::Token),
+        }
+    }
+}
