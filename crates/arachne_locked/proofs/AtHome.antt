@@ -1,5 +1,5 @@
 -- Each event keeps the values at home.
-use Rattle.std.proofs.Common.{◌≡◌, ℕ, ◌<◌, ◌*◌, ◌⊎◌, inl, inr, Bool, true, false, List, length, get_or, set, Option, None, Some, refl, sym, ap, ◌∙◌, subst, replicate}
+use Rattle.std.proofs.Common.{◌≡◌, ℕ, ◌<◌, ◌*◌, inl, inr, Bool, true, false, List, length, get_or, set, Option, None, Some, refl, sym, ap, ◌∙◌, subst, replicate}
 use Rattle.std.proofs.lemmas.Bool.{cases_eq}
 use Rattle.std.proofs.lemmas.List.{length-set, get_or-set_same, get_or-set_other, length-replicate, get_or-replicate}
 use Rattle.std.specs.Prelude.{nat_lt, if◌then◌else◌, OnErr, Result, Ok, Err}

@@ -1,7 +1,6 @@
 -- What is at home is what was posted and has not ended.
-use Rattle.std.proofs.Common.{◌≡◌, ℕ, zero, suc, ◌+◌, ◌*◌, ◌<◌, ◌≤◌, ◌⊎◌, inl, inr, Bool, true, false, cond, eqb, ltb, ◌&&◌, List, [], ◌∷◌, ◌++◌, map, Option, None, Some, refl, sym, ap, ◌∙◌, subst, arith, add-one}
-use Rattle.std.specs.List.{sum_by}
-use Rattle.std.proofs.lemmas.Bool.{cases_eq, cases_lt, cases_Bool, eqb-true, eq-eqb, and_parts, and_from, and_right, lt-ltb, ltb-true, true≢false, false_from_ne_true, cond-true, cond-false}
+use Rattle.std.proofs.Common.{◌≡◌, ℕ, zero, suc, ◌+◌, ◌*◌, ◌<◌, ◌≤◌, inl, inr, Bool, true, false, cond, eqb, List, [], ◌∷◌, ◌++◌, map, Option, None, Some, refl, sym, ap, ◌∙◌, subst, arith, add-one}
+use Rattle.std.proofs.lemmas.Bool.{cases_eq, cases_lt, eqb-true, eq-eqb, and_parts, and_from, and_right, lt-ltb, ltb-true, false_from_ne_true, cond-false}
 use Rattle.std.proofs.lemmas.List.{append-nil, map-append}
 use Rattle.std.proofs.lemmas.List.Sums.{sum_by-append}
 use Rattle.arachne_core.specs.declared.thread_id.ThreadId.{ThreadId}
@@ -10,7 +9,7 @@ use Rattle.arachne_core.specs.declared.state.State.TheVariants.{Free, Claimed, R
 use Rattle.arachne_core.specs.ContextTable.{times}
 use Rattle.arachne_core.specs.World.{World, Thread, IsContext, id_of, same_thread}
 use Rattle.arachne_core.specs.OwnedOnce.{OwnedOnce, is_live, has_thread}
-use Rattle.arachne_core.proofs.Changes.{same_thread-true, same_id, same_thread-refl}
+use Rattle.arachne_core.proofs.Changes.{same_thread-true}
 use Rattle.arachne_contexts.specs.Answers.{IsByContext}
 use Rattle.arachne_locked.specs.AtHome.{value_at, IsHome, IsKeptAt}
 use Rattle.arachne_locked.specs.Calls.{IsHeld}

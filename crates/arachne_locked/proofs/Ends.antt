@@ -1,8 +1,7 @@
 -- The end of a thread: Retire, and then Release unless the context is spent.
-use Rattle.std.proofs.Common.{◌≡◌, ℕ, ◌+◌, ◌<◌, ◌≤◌, Bool, true, false, ◌⊎◌, inl, inr, [], ◌∷◌, refl, sym, ap, ◌∙◌, subst, Result, Ok, Err, arith}
+use Rattle.std.proofs.Common.{◌≡◌, ℕ, Bool, true, false, inl, inr, [], ◌∷◌, sym, ap, ◌∙◌, subst, Ok, Err, arith}
 use Rattle.std.proofs.lemmas.Bool.{cases_Bool}
 use Rattle.std.specs.Prelude.{nat_lt, if◌then◌else◌}
-use Rattle.arachne_core.specs.Occupancy.{bit}
 use Rattle.arachne_core.specs.declared.state.State.{State}
 use Rattle.arachne_core.specs.declared.state.State.TheVariants.{Free, Claimed, Ready, Blocked, Held, Spent}
 use Rattle.arachne_core.specs.declared.event.Event.TheVariants as event

@@ -1,10 +1,9 @@
 -- A move: the target is claimed, the two contexts swap places, and the place that was left is freed.
-use Rattle.std.proofs.Common.{◌≡◌, ℕ, ◌+◌, ◌≤◌, ◌⊎◌, inl, inr, [], ◌∷◌, refl, sym, ap, ◌∙◌, subst, Result, Ok, arith}
+use Rattle.std.proofs.Common.{◌≡◌, ℕ, inl, inr, [], ◌∷◌, sym, ap, ◌∙◌, subst, Ok, arith}
 use Rattle.std.proofs.lemmas.Bool.{cases_eq}
-use Rattle.arachne_core.specs.declared.state.State.{State}
-use Rattle.arachne_core.specs.declared.state.State.TheVariants.{Free, Claimed, Ready, Blocked, Held, Spent}
+use Rattle.arachne_core.specs.declared.state.State.TheVariants.{Free, Claimed}
 use Rattle.arachne_core.specs.declared.event.Event.TheVariants as event
-use Rattle.arachne_core.specs.World.{World, IsAtRest, Allowed, HasClaimed, after}
+use Rattle.arachne_core.specs.World.{World, IsAtRest, Allowed, after}
 use Rattle.arachne_core.specs.ContextTable.{ContextTable, Answers, world_of}
 use Rattle.arachne_core.proofs.Changes.{with_at-same, with_at-other}
 use Rattle.arachne_locked.specs.Room.{HasRoom}

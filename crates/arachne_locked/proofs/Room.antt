@@ -1,5 +1,5 @@
 -- Each event leaves room for the posts and retires that may come.
-use Rattle.std.proofs.Common.{◌≡◌, ℕ, ◌+◌, ◌*◌, ◌<◌, ◌≤◌, Bool, true, false, refl, sym, ap, ◌∙◌, subst, arith, Result, Ok, Err, Option, Some, None}
+use Rattle.std.proofs.Common.{◌≡◌, ℕ, ◌+◌, ◌*◌, ◌≤◌, true, false, refl, sym, ap, ◌∙◌, subst, arith, Result, Ok, Err, Option, Some, None}
 use Rattle.std.specs.Prelude.{OnOk, OnErr, IfSome, IfNone}
 use Rattle.arachne_core.specs.Occupancy.{bit}
 use Rattle.arachne_core.specs.declared.state.State.{State}

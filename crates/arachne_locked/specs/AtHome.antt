@@ -1,5 +1,5 @@
 -- The World of a table, and the values of the threads that are at rest.
-use Rattle.std.specs.Prelude.{◌≡◌, ℕ, ◌*◌, ◌<◌, List, length, slice_index_or, Option, None, Some}
+use Rattle.std.specs.Prelude.{◌≡◌, ℕ, ◌*◌, List, length, slice_index_or, Option, None, Some}
 use Rattle.arachne_core.specs.declared.state.State.{State}
 use Rattle.arachne_core.specs.declared.state.State.TheVariants as state
 use Rattle.arachne_core.specs.declared.event.Event.{Event}

@@ -56,6 +56,8 @@ impl<T: Tagged + Drop> Seats for LockedContexts<T> {
 
     ghost sits = { λ table seat. Unit {0} };
 
+    ghost idle = { λ table seat. Unit {0} };
+
     ghost weight = { λ seat. seat.weight };
 
     ghost core_count = { λ table. table.cores };
@@ -114,6 +116,8 @@ impl<T: Tagged + Drop> Contexts<T> for LockedContexts<T> {
     type Claim = LockedClaim;
 
     type Hold = LockedHold;
+
+    ghost has = { λ table seat outs. Unit {0} };
 
     fn look<R: Wait>(&self, rt: &R, seat: &mut LockedSeat, core: u8) -> u64 {
         let _ = seat;
@@ -269,4 +273,10 @@ impl<T: Tagged + Drop> Contexts<T> for LockedContexts<T> {
             }
         }
     }
+
+    ghost nothing_out = { λ table seat idle. tt };
+
+    ghost is_idle = { λ table seat none. tt };
+
+    ghost swapped = { λ table seat first second outs has. tt };
 }

@@ -1,5 +1,5 @@
 -- Splits and joins of seats keep their rule.
-use Rattle.std.proofs.Common.{◌≡◌, ℕ, sym, ◌∙◌, subst}
+use Rattle.std.proofs.Common.{ℕ, sym, ◌∙◌, subst}
 use Rattle.atomic_table.specs.Table.{Me, Splits, Joins}
 use Rattle.atomic_table.proofs.Lists.{set_else}
 use Rattle.arachne_weights.specs.Tokens.{splits, joins}

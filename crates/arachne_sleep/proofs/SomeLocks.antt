@@ -2,7 +2,6 @@
 use Rattle.std.proofs.Common.{◌≡◌, ℕ, Result, Ok, Err, Some, refl, sym, ap, ◌∙◌, subst}
 use Rattle.std.specs.Prelude.{◌↔◌, IsOk, IfOk}
 use Rattle.arachne_sleep.specs.declared.who.Who.{Who}
-use Rattle.arachne_sleep.specs.declared.answer.Asked.{Asked}
 use Rattle.arachne_sleep.specs.declared.answer.Asked.TheVariants.{Granted, Queued}
 use Rattle.arachne_sleep.specs.declared.answer.Freed.{Freed}
 use Rattle.arachne_sleep.specs.declared.answer.NotHolder.{NotHolder}

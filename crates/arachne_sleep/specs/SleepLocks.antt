@@ -1,5 +1,5 @@
 -- Several locks, and a seat of each.
-use Rattle.std.specs.Prelude.{◌≡◌, ℕ, ◌<◌, List, length, map, slice_get}
+use Rattle.std.specs.Prelude.{◌≡◌, ℕ, List, map, slice_get}
 use Rattle.std.specs.declared.option.Option.TheVariants.{Some}
 use Rattle.arachne_sleep.specs.SleepLock.{SleepLockView, SeatView}
 

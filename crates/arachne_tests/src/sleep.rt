@@ -1,3 +1,4 @@
+mod several;
 mod shared;
 
 use arachne_core::ThreadId;

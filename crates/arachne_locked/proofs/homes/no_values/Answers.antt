@@ -1,4 +1,4 @@
-use Rattle.std.proofs.Common.{◌≡◌, None, [], ◌∷◌, ◌++◌, replicate, sym, ap, ◌∙◌}
+use Rattle.std.proofs.Common.{None, [], ◌∷◌, ◌++◌, sym, ap, ◌∙◌}
 use Rattle.std.proofs.lemmas.Grind.{replicate_next}
 use Rattle.arachne_locked.proofs.homes.no_values.Goals as goal
 

@@ -1,4 +1,4 @@
-use Rattle.std.proofs.Common.{◌≡◌, ℕ, true, false, get_or, replicate, List, Bool, sym, ap, ◌∙◌, refl}
+use Rattle.std.proofs.Common.{◌≡◌, true, false, get_or, replicate, ap, ◌∙◌, refl}
 use Rattle.std.proofs.lemmas.List.{get_or-replicate}
 use Rattle.arachne_core.specs.Occupancy.{Occupancy, flags}
 use Rattle.arachne_locked.proofs.state.no_core.Goals as goal

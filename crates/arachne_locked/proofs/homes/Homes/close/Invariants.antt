@@ -1,4 +1,4 @@
-use Rattle.std.proofs.Common.{◌≡◌, ◌≤◌, ◌+◌, ℕ, length, vec_len}
+use Rattle.std.proofs.Common.{◌≡◌, ◌≤◌, ℕ, length, vec_len}
 use Rattle.std.specs.Vec.{vec_capacity}
 use Rattle.arachne_core.specs.ContextTable.{world_of}
 use Rattle.arachne_locked.specs.AtHome.{value_at}

@@ -1,4 +1,4 @@
-use Rattle.std.proofs.Common.{◌≡◌, sym, subst}
+use Rattle.std.proofs.Common.{sym, subst}
 use Rattle.arachne_core.specs.ContextTable.{world_of}
 use Rattle.arachne_locked.specs.AtHome.{TableView, HoldsThread}
 use Rattle.arachne_locked.proofs.AtHome.{rest_home}

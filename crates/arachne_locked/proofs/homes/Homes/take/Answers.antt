@@ -1,4 +1,4 @@
-use Rattle.std.proofs.Common.{◌≡◌, sym, subst, set}
+use Rattle.std.proofs.Common.{sym, subst, set}
 use Rattle.arachne_core.specs.ContextTable.{world_of}
 use Rattle.arachne_locked.specs.AtHome.{IsHome}
 use Rattle.arachne_locked.proofs.AtHome.{take_home}

@@ -1,8 +1,7 @@
-use Rattle.std.proofs.Common.{◌≡◌, ◌*◌, ◌≤◌, ◌∷◌, [], ℕ, sym, ap, ◌∙◌, subst, arith}
+use Rattle.std.proofs.Common.{◌≡◌, ◌*◌, ap, ◌∙◌, arith}
 use Rattle.arachne_core.specs.ContextTable.{ContextTable, world_of}
-use Rattle.arachne_core.specs.World.{World, Allowed, after}
+use Rattle.arachne_core.specs.World.{World, after}
 use Rattle.arachne_locked.specs.AtHome.{TableView}
-use Rattle.arachne_locked.specs.Calls.{Takes}
 use Rattle.arachne_locked.proofs.Room.{claimed_room}
 use Rattle.arachne_locked.proofs.state.TableState.claim_context.Goals as goal
 

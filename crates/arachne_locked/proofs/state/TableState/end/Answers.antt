@@ -1,8 +1,7 @@
-use Rattle.std.proofs.Common.{◌≡◌, sym, ap, ◌∙◌, subst, rules}
+use Rattle.std.proofs.Common.{sym, ap, ◌∙◌, subst, rules}
 use Rattle.std.proofs.lemmas.Bool.{true≢false}
-use Rattle.arachne_core.specs.declared.state.State.TheVariants.{Spent}
 use Rattle.arachne_core.specs.ContextTable.{ContextTable, world_of}
-use Rattle.arachne_core.specs.World.{World, HoldsIn}
+use Rattle.arachne_core.specs.World.{HoldsIn}
 use Rattle.arachne_locked.specs.AtHome.{TableView}
 use Rattle.arachne_locked.specs.Calls.{Takes, ends}
 use Rattle.arachne_locked.proofs.Ends.{retire_made, release_made, spent_ends, spent_room, may_release, release_ends, release_room}

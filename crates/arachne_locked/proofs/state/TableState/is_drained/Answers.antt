@@ -1,4 +1,4 @@
-use Rattle.std.proofs.Common.{◌≡◌, ◌<◌, sym, ◌∙◌}
+use Rattle.std.proofs.Common.{sym, ◌∙◌}
 use Rattle.arachne_locked.proofs.Words.{each_free}
 use Rattle.arachne_locked.proofs.state.TableState.is_drained.Goals as goal
 

@@ -1,4 +1,4 @@
-use Rattle.std.proofs.Common.{◌≡◌, ◌*◌, ◌≤◌, ℕ, sym, ap, ◌∙◌, subst, arith}
+use Rattle.std.proofs.Common.{◌*◌, sym, ap, subst, arith}
 use Rattle.arachne_core.specs.ContextTable.{ContextTable, world_of}
 use Rattle.arachne_core.specs.World.{World}
 use Rattle.arachne_core.specs.Run.{IsOpening}

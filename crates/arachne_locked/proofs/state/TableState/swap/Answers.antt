@@ -1,6 +1,6 @@
-use Rattle.std.proofs.Common.{◌≡◌, ◌∷◌, [], sym, subst}
+use Rattle.std.proofs.Common.{◌∷◌, [], sym, subst}
 use Rattle.arachne_core.specs.declared.event.Event.TheVariants as event
-use Rattle.arachne_core.specs.ContextTable.{ContextTable, world_of}
+use Rattle.arachne_core.specs.ContextTable.{world_of}
 use Rattle.arachne_locked.specs.AtHome.{TableView}
 use Rattle.arachne_locked.specs.Calls.{Takes, CanMove}
 use Rattle.arachne_locked.proofs.Moves.{allows_move, allows_release, move_takes, move_room}

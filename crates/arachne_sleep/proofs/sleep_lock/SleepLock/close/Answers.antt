@@ -1,4 +1,4 @@
-use Rattle.std.proofs.Common.{sym, ap, subst}
+use Rattle.std.proofs.Common.{sym, subst}
 use Rattle.arachne_sleep.specs.History.{IsLawful}
 use Rattle.arachne_sleep.proofs.OneHolderLaw.{one_holder}
 use Rattle.arachne_sleep.proofs.sleep_lock.SleepLock.close.Goals as goal

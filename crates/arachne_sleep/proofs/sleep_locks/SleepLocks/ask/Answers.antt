@@ -1,6 +1,6 @@
-use Rattle.std.proofs.Common.{ℕ, ◌<◌, sym, ap, ◌∙◌, subst, refl, length, arith, IfOk, IfSome}
+use Rattle.std.proofs.Common.{ℕ, ◌<◌, sym, ap, ◌∙◌, subst, refl, length, arith, IfOk}
 use Rattle.std.proofs.lemmas.Option.{slice_get_read}
-use Rattle.arachne_sleep.specs.SleepLock.{IfAnswered, IsAskedOfSome, IsPassOfSome}
+use Rattle.arachne_sleep.specs.SleepLock.{IfAnswered, IsAskedOfSome}
 use Rattle.arachne_sleep.proofs.Seating.{seated, own-at}
 use Rattle.arachne_sleep.proofs.sleep_locks.SleepLocks.ask.Goals as goal
 

@@ -1,4 +1,4 @@
-use Rattle.std.proofs.Common.{◌≡◌, ℕ, All, Some, rules, sym, ap, ◌∙◌, subst, length}
+use Rattle.std.proofs.Common.{All, Some, rules, sym, ◌∙◌, subst}
 use Rattle.std.proofs.lemmas.List.Elements.{All-push, All-pop}
 use Rattle.arachne_sleep.specs.History.{IsSound}
 use Rattle.arachne_sleep.specs.OneHolder.{HasOneHolderAtATime}

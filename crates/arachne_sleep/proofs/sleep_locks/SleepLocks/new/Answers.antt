@@ -1,7 +1,7 @@
-use Rattle.std.proofs.Common.{ℕ, ◌+◌, All, sym, ap, ◌∙◌, subst, length}
+use Rattle.std.proofs.Common.{◌+◌, All, sym, ap, ◌∙◌, subst, length}
 use Rattle.std.proofs.lemmas.List.{length_push}
 use Rattle.std.proofs.lemmas.List.Elements.{All-push}
-use Rattle.arachne_sleep.specs.SleepLock.{IsWhole, SleepLockView, SeatView}
+use Rattle.arachne_sleep.specs.SleepLock.{IsWhole, SeatView}
 use Rattle.arachne_sleep.specs.SleepLocks.{AreNumbered}
 use Rattle.arachne_sleep.proofs.Seating.{seated, both-more, numbered-more}
 use Rattle.arachne_sleep.proofs.sleep_locks.SleepLocks.new.Goals as goal

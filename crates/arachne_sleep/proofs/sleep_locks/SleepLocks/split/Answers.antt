@@ -1,5 +1,5 @@
 use Rattle.std.proofs.Common.{◌≡◌, ◌<◌, rules, get_or, map, refl, sym, ap, ◌∙◌, subst, length, arith}
-use Rattle.arachne_sleep.specs.SleepLock.{SeatView, SleepLockView}
+use Rattle.arachne_sleep.specs.SleepLock.{SeatView}
 use Rattle.arachne_sleep.proofs.Seating.{seated, own-at, still-own, one-more}
 use Rattle.arachne_sleep.proofs.sleep_locks.SleepLocks.split.Goals as goal
 
