@@ -1,8 +1,8 @@
-//! The program `arachne`: it evaluates and checks programs of the task language, and judges samples of a load.
+//! The program `arachne`: it runs, evaluates and checks programs of the task language, and judges samples of a load.
 #![tactic(auto)]
 
 use arachne_commands::{Status, run};
 
 fn main(rt: HostRuntime) -> Status {
-    run(&rt)
+    run(&rt, &mut rt.stderr())
 }

@@ -1,14 +1,14 @@
 -- The number of an option, from what the parser of command lines found.
-use Rattle.std.proofs.Common.{◌≡◌, ℕ, ◌^◌, ◌<◌, List, [], ◌∷◌, Bool, true, false, Option, Some, None, refl, ap, ◌∙◌, arith}
-use Rattle.std.specs.Prelude.{◌==◌, ◌&&◌, not, nat_lt, length, option_and_then, if◌then◌else◌}
+use Rattle.std.proofs.Common.{◌≡◌, ℕ, ◌^◌, ◌<◌, List, [], ◌∷◌, Bool, true, false, Option, Some, None, refl, sym, ap, ◌∙◌, arith}
+use Rattle.std.specs.Prelude.{◌==◌, ◌&&◌, not, nat_lt, length, codes, option_and_then, option_map, unwrap_or, if◌then◌else◌}
 use Rattle.std.specs.List.{list_all}
 use Rattle.std.specs.Char.{is_digit, digit_value}
 use Rattle.std.specs.Str.Parse.{AllDigits, IsNumeral, digits_value, without_leading_plus}
 use Rattle.std.proofs.lemmas.Bool.{and_parts, lt-ltb, ltb-true, ne_eqb}
-use Rattle.clap.specs.Words.{first_value, rows_of}
+use Rattle.clap.specs.Words.{first_value, matched_of, raw_values, rows_of}
 use Rattle.clap.specs.declared.parser.matches.Found.{Found}
-use Rattle.clap.proofs.WalkLemmas.{first_value-rows}
-use Rattle.arachne_commands.specs.CommandLine.{number_of, number_under}
+use Rattle.clap.proofs.WalkLemmas.{first_value-rows, raw_values-rows}
+use Rattle.arachne_commands.specs.CommandLine.{number_of, number_under, order_words}
 
 digits_pass : (digits : List ℕ) → AllDigits 10 digits → list_all (λ c. is_digit c 10) digits ≡ true
 digits_pass [] h = refl
@@ -61,3 +61,11 @@ number_refused found option text e none = number_is_none text none ∙ by_text f
 
 pub number_absent : (found : Found) (option : List ℕ) → None ≡ first_value found option → None ≡ number_under option (rows_of found)
 number_absent found option e = ap (λ (o : Option (List ℕ)). option_and_then number_of o) (e ∙ first_value-rows found option)
+
+-- ---- the order words
+
+pub some_words : (found : Found) (words : List (List ℕ)) → Some words ≡ option_map raw_values (matched_of found (codes "order")) → words ≡ order_words (rows_of found)
+some_words found words e = ap (λ (o : Option (List (List ℕ))). unwrap_or o []) (e ∙ raw_values-rows found (codes "order"))
+
+pub no_words : (found : Found) → None ≡ option_map raw_values (matched_of found (codes "order")) → [] ≡ order_words (rows_of found)
+no_words found e = ap (λ (o : Option (List (List ℕ))). unwrap_or o []) (e ∙ raw_values-rows found (codes "order"))

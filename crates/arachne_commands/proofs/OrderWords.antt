@@ -9,8 +9,9 @@ use Rattle.arachne_lang.proofs.Languages.{first}
 use Rattle.arachne_lang.proofs.Numerals.{NoDigit}
 use Rattle.arachne_policy.specs.declared.orders.CoreOrder.{CoreOrder}
 use Rattle.arachne_policy.specs.declared.orders.OrderKind.{OrderKind}
-use Rattle.arachne_commands.specs.Orders.{FitsWords, kind_word, order_word}
-use Rattle.arachne_commands.proofs.Figures.{word_taken, figures_read, figures_again}
+use Rattle.arachne_policy.specs.declared.orders.OrderKind.TheVariants.{Grant, Release}
+use Rattle.arachne_commands.specs.Orders.{FitsWords, kind_word, order_word, grant_or, kind_at, release_at, with_after, with_core, with_kind, order_of}
+use Rattle.arachne_commands.proofs.Figures.{word_again, word_taken, figures_read, figures_again}
 
 abbrev pub Spells : List ℕ → CoreOrder → Type 0
 Spells bytes order = FitsWords order × (order_word order ≡ bytes)
@@ -146,3 +147,72 @@ is_order bytes rest left after core kind e is f order = (there, back)
         let last : core ≡ order.core = ap (λ (p : ℕ × List ℕ). p.0) four in
         let same : made after kind core ≡ made order.after order.kind order.core = rw (one.0, two.0, last) refl in
         ap (λ (o : CoreOrder). Some o) same
+
+-- ---- the order of a word, as a function
+
+abbrev Found : Type 0
+Found = Option (OrderKind × List ℕ)
+
+abbrev Twice : Found → Found → Type 0
+Twice one other = one ≡ other
+
+same_kind : (one other : OrderKind) (left rest bytes : List ℕ) → Twice (Some (one, left)) (Some (other, rest)) → bytes ≡ kind_word one ++ codes ":" ++ left
+    → bytes ≡ kind_word other ++ codes ":" ++ rest
+same_kind one other left rest bytes e stands =
+    let pair : (one, left) ≡ (other, rest) = cc in
+    let kind : one ≡ other = ap (λ (p : OrderKind × List ℕ). p.0) pair in
+    let others : left ≡ rest = ap (λ (p : OrderKind × List ℕ). p.1) pair in
+    rw (← kind, ← others) stands
+
+releases : (bytes : List ℕ) (taken : Result (List ℕ) Halt) → word_at (codes "release:") bytes ≡ taken → (kind : OrderKind) (rest : List ℕ)
+    → release_at taken ≡ Some (kind, rest) → bytes ≡ kind_word kind ++ codes ":" ++ rest
+releases bytes (Ok left) w kind rest e = same_kind Release kind left rest bytes e (word_taken (codes "release:") bytes left w)
+releases bytes (Err halt) w kind rest e = absurd (cc)
+
+grants : (bytes : List ℕ) (taken : Result (List ℕ) Halt) → word_at (codes "grant:") bytes ≡ taken → (kind : OrderKind) (rest : List ℕ)
+    → grant_or bytes taken ≡ Some (kind, rest) → bytes ≡ kind_word kind ++ codes ":" ++ rest
+grants bytes (Ok left) w kind rest e = same_kind Grant kind left rest bytes e (word_taken (codes "grant:") bytes left w)
+grants bytes (Err halt) w kind rest e = releases bytes (word_at (codes "release:") bytes) refl kind rest e
+
+stands : (kind : OrderKind) (rest : List ℕ) → kind_at (kind_word kind ++ codes ":" ++ rest) ≡ Some (kind, rest)
+stands Grant rest = refl
+stands Release rest = refl
+
+kind_is : (bytes : List ℕ) → IsKind (kind_at bytes) bytes
+kind_is bytes kind rest = (grants bytes (word_at (codes "grant:") bytes) refl kind rest, λ e. ap kind_at e ∙ stands kind rest)
+
+more_left : (found core byte : ℕ) (rest : List ℕ) → Same (Ok (found, byte ∷ rest)) (Ok (core, [])) → ⊥
+more_left found core byte rest e =
+    let parts : (found, byte ∷ rest) ≡ (core, []) = cc in
+    not_nil byte rest (ap (λ (p : ℕ × List ℕ). p.1) parts)
+
+-- the function says what the words of orders are
+pub order_of_spells : (word : List ℕ) (order : CoreOrder) → (order_of word ≡ Some order) ↔ Spells word order
+unfolding order_of
+order_of_spells word order = by_number (number_at (2 ^ 64) (codes ":") word) refl
+  where
+    by_core : (after : ℕ) (kind : OrderKind) (rest left : List ℕ) → number_at (2 ^ 64) (codes ":") word ≡ Ok (after, rest) → IsKind (Some (kind, left)) rest
+        → (found : Reading ℕ) → figures_at (2 ^ 64) left ≡ found → (with_core after kind found ≡ Some order) ↔ Spells word order
+    by_core after kind rest left e is (Err halt) f = no_core word rest left after kind (Err halt) e is f (λ core same. absurd (cc)) order
+    by_core after kind rest left e is (Ok (core, [])) f = is_order word rest left after core kind e is f order
+    by_core after kind rest left e is (Ok (core, byte ∷ over)) f =
+        no_core word rest left after kind (Ok (core, byte ∷ over)) e is f (λ other same. more_left core other byte over same) order
+
+    by_kind : (after : ℕ) (rest : List ℕ) → number_at (2 ^ 64) (codes ":") word ≡ Ok (after, rest) → (found : Option (OrderKind × List ℕ)) → kind_at rest ≡ found
+        → (with_kind after found ≡ Some order) ↔ Spells word order
+    by_kind after rest e None k = no_kind word rest after e (subst (λ (o : Option (OrderKind × List ℕ)). IsKind o rest) k (kind_is rest)) order
+    by_kind after rest e (Some (kind, left)) k =
+        by_core after kind rest left e (subst (λ (o : Option (OrderKind × List ℕ)). IsKind o rest) k (kind_is rest)) (figures_at (2 ^ 64) left) refl
+
+    by_number : (read : Reading ℕ) → number_at (2 ^ 64) (codes ":") word ≡ read → (with_after read ≡ Some order) ↔ Spells word order
+    by_number (Err halt) e = no_number word halt e order
+    by_number (Ok (after, rest)) e = by_kind after rest e (kind_at rest) refl
+
+-- what is the order of a word exactly where the word spells it is the function's
+pub order_is : (word : List ℕ) (found : Option CoreOrder) → ((order : CoreOrder) → (found ≡ Some order) ↔ Spells word order) → order_of word ≡ found
+order_is word found is = by_both found (order_of word) refl refl
+  where
+    by_both : (one other : Option CoreOrder) → found ≡ one → order_of word ≡ other → order_of word ≡ found
+    by_both (Some order) other f o = (order_of_spells word order).1 ((is order).0 f) ∙ sym f
+    by_both None None f o = o ∙ sym f
+    by_both None (Some order) f o = let found_too : found ≡ Some order = (is order).1 ((order_of_spells word order).0 o) in absurd (cc)

@@ -1,16 +1,22 @@
 -- What the words of the command line ask for, as the parser of command lines reads them.
-use Rattle.std.specs.Prelude.{ℕ, ◌-◌, ◌^◌, ◌==◌, ◌&&◌, not, nat_lt, nat_le, length, Bool, true, false, List, [], ◌∷◌, Option, Some, None, option_and_then, if◌then◌else◌, codes, ◌≤◌, ⊤}
+use Rattle.std.specs.Prelude.{ℕ, ◌-◌, ◌^◌, ◌==◌, ◌&&◌, not, nat_lt, nat_le, length, Bool, true, false, List, [], ◌∷◌, Option, Some, None, option_and_then, option_map, unwrap_or, if◌then◌else◌, codes, ◌≡◌, ◌⊎◌, ◌≤◌, IsSome, ⊤, Result, Ok, Err}
 use Rattle.std.specs.Option.{option_map_or}
+use Rattle.std.specs.Result.{result_ok, result_err}
 use Rattle.std.specs.List.{list_all}
 use Rattle.std.specs.Char.{is_digit}
 use Rattle.std.specs.Str.Parse.{digits_value, without_leading_plus}
 use Rattle.arachne_policy.specs.declared.limits.TheConstants.{MAX_CORES}
 use Rattle.clap.specs.declared.builder.value_parser.ValueParser.TheVariants.{Unsigned}
 use Rattle.std.specs.Str.{bytes_eq}
-use Rattle.clap.specs.Words.{App, Rule, Row, Text, new_app, new_rule, with_rule, with_subcommand, first_of, subcommand_of, takes}
-use Rattle.clap.specs.declared.builder.action.ArgAction.TheVariants.{SetTrue}
+use Rattle.clap.specs.Words.{App, Rule, Row, Text, new_app, new_rule, with_rule, with_subcommand, all_of, first_of, kind_of, subcommand_of, takes}
+use Rattle.clap.specs.declared.builder.action.ArgAction.TheVariants.{Append, SetTrue}
+use Rattle.clap.specs.declared.error.kind.ErrorKind.TheVariants.{OutOfMemory}
+use Rattle.arachne_policy.specs.declared.orders.CoreOrder.{CoreOrder}
 use Rattle.arachne_commands.specs.declared.command_line.Request.{Request}
-use Rattle.arachne_commands.specs.declared.command_line.Request.TheVariants.{Eval, Check, Policy}
+use Rattle.arachne_commands.specs.declared.command_line.Request.TheVariants.{Run, Eval, Check, Policy}
+use Rattle.arachne_commands.specs.declared.command_line.NotAsked.{NotAsked}
+use Rattle.arachne_commands.specs.declared.command_line.NotAsked.TheVariants.{NoOrder, Refused}
+use Rattle.arachne_commands.specs.Orders.{orders_of}
 
 -- the flag that asks for the names of threads
 abbrev pub names_flag : Rule
@@ -23,10 +29,25 @@ eval_command = with_rule (new_app (codes "eval")) names_flag
 unfoldable pub check_command : App
 check_command = new_app (codes "check")
 
+-- the order words of a run, any number of them
+abbrev pub orders_rule : Rule
+orders_rule = record (new_rule (codes "order")) { action = Some Append; value_names = 1 }
+
 -- an option with a number up to `most`, and the one that stands where it is not given
 abbrev pub number_option : Text → ℕ → Text → Rule
 number_option name most standard =
     record (new_rule name) { long = Some name; value_names = 1; defaults = standard ∷ []; parser = Some (Unsigned 0 most) }
+
+-- a run with the options for the machine alone, and with all
+unfoldable pub machine_command : App
+machine_command =
+    with_rule (with_rule (with_rule (new_app (codes "run"))
+    (number_option (codes "cores") (2 ^ 64 - 1) (codes "4")))
+    (number_option (codes "seed") (2 ^ 64 - 1) (codes "1")))
+    (number_option (codes "quantum") (2 ^ 64 - 1) (codes "100"))
+
+unfoldable pub run_command : App
+run_command = with_rule (with_rule machine_command names_flag) orders_rule
 
 unfoldable pub policy_command : App
 policy_command =
@@ -35,12 +56,13 @@ policy_command =
     (number_option (codes "hysteresis") (2 ^ 64 - 1) (codes "90")))
     (number_option (codes "max") MAX_CORES (codes "16"))
 
--- the program with the commands on task texts
+-- the program with the command to run a task text alone, and with all commands on task texts
+unfoldable pub run_alone : App
+run_alone =
+    with_subcommand (record (new_app (codes "arachne")) { top = record (new_app (codes "arachne")).top { subcommand_required = true } }) run_command.top
+
 unfoldable pub task_commands : App
-task_commands =
-    with_subcommand
-    (with_subcommand (record (new_app (codes "arachne")) { top = record (new_app (codes "arachne")).top { subcommand_required = true } }) eval_command.top)
-    check_command.top
+task_commands = with_subcommand (with_subcommand run_alone eval_command.top) check_command.top
 
 -- the program, which wants one of its commands
 unfoldable pub program : App
@@ -70,10 +92,28 @@ policy_asked rows =
     option_and_then (λ up. option_and_then (λ hysteresis. option_and_then (policy_by up hysteresis)
     (number_under (codes "max") rows)) (number_under (codes "hysteresis") rows)) (number_under (codes "up") rows)
 
+-- the words of a run that are to be orders
+abbrev pub order_words : List Row → List Text
+order_words rows = unwrap_or (all_of (codes "order") rows) []
+
+abbrev pub run_by : Bool → List CoreOrder → ℕ → ℕ → ℕ → Request
+run_by names orders cores seed quantum = Run (record { cores = cores; seed = seed; quantum = quantum; names = names; orders = orders })
+
+-- a run with these orders
+abbrev pub with_orders : List Row → List CoreOrder → Option Request
+with_orders rows orders =
+    option_and_then (λ cores. option_and_then (λ seed. option_map (run_by (is_set (codes "names") rows) orders cores seed)
+    (number_under (codes "quantum") rows)) (number_under (codes "seed") rows)) (number_under (codes "cores") rows)
+
+-- a run, where each of its order words is an order
+abbrev pub run_asked : List Row → Option Request
+run_asked rows = option_and_then (with_orders rows) (result_ok (orders_of (order_words rows)))
+
 -- what a subcommand and its entries ask for
 abbrev pub request_of : Text → List Row → Option Request
 request_of name rows =
-    if bytes_eq name (codes "eval") then Some (Eval (is_set (codes "names") rows))
+    if bytes_eq name (codes "run") then run_asked rows
+    else if bytes_eq name (codes "eval") then Some (Eval (is_set (codes "names") rows))
     else if bytes_eq name (codes "check") then Some Check
     else if bytes_eq name (codes "policy") then policy_asked rows
     else None
@@ -86,12 +126,46 @@ request_met = option_and_then (λ met. request_of met.0 met.1)
 unfoldable pub asked_by : List Text → Option Request
 asked_by words = request_met (subcommand_of program words)
 
+-- the index among a run's order words of the first that is no order
+abbrev pub no_order_under : Text → List Row → Option ℕ
+no_order_under name rows = if bytes_eq name (codes "run") then result_err (orders_of (order_words rows)) else None
+
+abbrev pub no_order_met : Option (Text × List Row) → Option ℕ
+no_order_met = option_and_then (λ met. no_order_under met.0 met.1)
+
+-- where the words ask for a run, the index among its order words of the first that is no order
+unfoldable pub no_order_in : List Text → Option ℕ
+no_order_in words = no_order_met (subcommand_of program words)
+
 -- the words are such as the program takes: a parse of them fails only for want of memory
 unfoldable pub is_taken : List Text → Bool
 is_taken words = takes program words
 
 -- samples are judged for no more than 64 cores
 abbrev pub IsAllowed : Request → Type 0
+IsAllowed (Run settings) = ⊤
 IsAllowed (Eval names) = ⊤
 IsAllowed Check = ⊤
 IsAllowed (Policy settings) = settings.max ≤ MAX_CORES
+
+-- memory was refused
+abbrev pub IsWantOfMemory : NotAsked → Type 0
+IsWantOfMemory (NoOrder index) = ⊥
+IsWantOfMemory (Refused error) = kind_of error ≡ OutOfMemory
+
+-- the first word that is no order has this index, or memory was refused
+abbrev pub IsNoOrderAt : Option ℕ → NotAsked → Type 0
+IsNoOrderAt found (NoOrder index) = found ≡ Some index
+IsNoOrderAt found (Refused error) = kind_of error ≡ OutOfMemory
+
+abbrev pub IsNoOrderAmong : List Text → NotAsked → Type 0
+IsNoOrderAmong words = IsNoOrderAt (result_err (orders_of words))
+
+abbrev pub IsNoOrderMet : Option (Text × List Row) → NotAsked → Type 0
+IsNoOrderMet met = IsNoOrderAt (no_order_met met)
+
+-- Why words are refused: one of them is to be an order, and is none; or the parser of command lines refuses them. If the program takes the words,
+-- and they ask for something or have a word that is no order, then it refuses them for want of memory alone.
+abbrev pub IsUnasked : List Text → NotAsked → Type 0
+IsUnasked words (NoOrder index) = no_order_in words ≡ Some index
+IsUnasked words (Refused error) = is_taken words ≡ true → IsSome (asked_by words) ⊎ IsSome (no_order_in words) → kind_of error ≡ OutOfMemory

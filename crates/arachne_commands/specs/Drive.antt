@@ -1,5 +1,5 @@
 -- What a run of the program does to what it reads and writes.
-use Rattle.std.specs.Prelude.{ℕ, ◌≡◌, ◌≢◌, ◌<◌, ◌≤◌, List, [], ◌∷◌, ◌++◌, codes, length, take, Option, Some, None, IfSome, IsSome, ⊤}
+use Rattle.std.specs.Prelude.{ℕ, Bool, ◌≡◌, ◌≢◌, ◌<◌, ◌≤◌, List, [], ◌∷◌, ◌++◌, codes, length, take, Option, Some, None, IfSome, IsSome, ⊤}
 use Rattle.std.specs.Io.KnownBytes.{Appends, Keeps}
 use Rattle.arachne_lang.specs.declared.text_fault.TextFault.{TextFault}
 use Rattle.arachne_lang.specs.declared.text_fault.TextFault.TheVariants as text
@@ -11,16 +11,24 @@ use Rattle.arachne_lang.specs.Checked.{IsChecked, verdict_of}
 use Rattle.arachne_lang.specs.Meaning.{meaning_of}
 use Rattle.std.specs.Prelude.{Err}
 use Rattle.arachne_commands.specs.declared.command_line.Request.{Request}
-use Rattle.arachne_commands.specs.declared.command_line.Request.TheVariants.{Eval, Check, Policy}
+use Rattle.arachne_commands.specs.declared.command_line.Request.TheVariants.{Run, Eval, Check, Policy}
 use Rattle.arachne_policy.specs.declared.samples.Sample.{Sample}
 use Rattle.arachne_commands.specs.declared.judging.Settings.{Settings}
 use Rattle.arachne_commands.specs.CommandLine.{asked_by}
+use Rattle.arachne_commands.specs.declared.command_line.NotAsked.{NotAsked}
+use Rattle.arachne_commands.specs.declared.command_line.NotAsked.TheVariants.{NoOrder as NoOrderAt, Refused}
+use Rattle.arachne_commands.specs.Fault.{fault_line}
+use Rattle.clap.specs.Words.{kind_of}
+use Rattle.clap.specs.declared.error.kind.ErrorKind.TheVariants.{OutOfMemory}
+use Rattle.arachne_commands.specs.declared.command_line.RunSettings.{RunSettings}
+use Rattle.arachne_run.specs.declared.fault.RunFault.{RunFault}
+use Rattle.arachne_commands.specs.Running.{IsRefusal}
 use Rattle.arachne_commands.specs.Samples.{AreInRange, samples_text}
 use Rattle.arachne_commands.specs.Samples as samples
 use Rattle.arachne_commands.specs.Judging.{AreGood, IsFirstBadLine, advice_lines}
 use Rattle.arachne_commands.specs.Output.{output_of}
 use Rattle.arachne_commands.specs.declared.fault.Fault.{Fault}
-use Rattle.arachne_commands.specs.declared.fault.Fault.TheVariants.{InText, InProgram, BadSample, Memory, TooLong, Read, Write}
+use Rattle.arachne_commands.specs.declared.fault.Fault.TheVariants.{InText, InProgram, BadSample, NoOrder, InRun, Memory, TooLong, Read, Write}
 
 -- the most bytes that an input may have
 abbrev pub input_limit : ℕ
@@ -40,30 +48,45 @@ pub record AreSamplesOf (input : List ℕ) (settings : Settings) (judged : List 
   pub spelled : samples_text judged ≡ input
   pub good : AreGood settings judged
 
--- what is to be written where this is asked and this is the input
+-- what is printed of the meaning of the input's program
+abbrev pub IsPrintedMeaning : Bool → List ℕ → List ℕ → Type 0
+IsPrintedMeaning names input output = (source : Source) × IsProgramOf input source × (output ≡ output_of names (meaning_of source))
+
+-- What is to be written where this is asked and this is the input. A run writes what an evaluation writes, whatever its settings.
 abbrev pub IsAnswer : Request → List ℕ → List ℕ → Type 0
-IsAnswer (Eval names) input output = (source : Source) × IsProgramOf input source × (output ≡ output_of names (meaning_of source))
+IsAnswer (Run settings) input output = IsPrintedMeaning settings.names input output
+IsAnswer (Eval names) input output = IsPrintedMeaning names input output
 IsAnswer Check input output = (source : Source) × IsProgramOf input source × (output ≡ codes "ok" ++ 10 ∷ [])
 IsAnswer (Policy settings) input output = (judged : List Sample) × AreSamplesOf input settings judged × (output ≡ advice_lines settings judged)
 
 -- the first fault of the input, which is the text of a program or of samples
 abbrev pub IsTextFault : Request → List ℕ → TextFault → Type 0
+IsTextFault (Run settings) input fault = IsFirstFault input fault
 IsTextFault (Eval names) input fault = IsFirstFault input fault
 IsTextFault Check input fault = IsFirstFault input fault
 IsTextFault (Policy settings) input fault = samples.IsFirstFault input fault
 
 -- the fault of the input's program
 abbrev pub IsProgramFault : Request → List ℕ → CheckFault → Type 0
+IsProgramFault (Run settings) input fault = (source : Source) × IsAccepted source × (text_of source ≡ input) × (verdict_of source ≡ Err fault)
 IsProgramFault (Eval names) input fault = (source : Source) × IsAccepted source × (text_of source ≡ input) × (verdict_of source ≡ Err fault)
 IsProgramFault Check input fault = (source : Source) × IsAccepted source × (text_of source ≡ input) × (verdict_of source ≡ Err fault)
 IsProgramFault (Policy settings) input fault = ⊥
 
 -- the line of the first bad one of the input's samples
 abbrev pub IsSampleFault : Request → List ℕ → ℕ → Type 0
+IsSampleFault (Run settings) input line = ⊥
 IsSampleFault (Eval names) input line = ⊥
 IsSampleFault Check input line = ⊥
 IsSampleFault (Policy settings) input line =
     (judged : List Sample) × AreInRange judged × (samples_text judged ≡ input) × IsFirstBadLine settings judged line
+
+-- why a run of the input's program has no report
+abbrev pub IsRunFault : Request → List ℕ → RunFault → Type 0
+IsRunFault (Run settings) input fault = (source : Source) × IsProgramOf input source × IsRefusal settings fault
+IsRunFault (Eval names) input fault = ⊥
+IsRunFault Check input fault = ⊥
+IsRunFault (Policy settings) input fault = ⊥
 
 -- Why a fault is reported where this is asked. Of memory and of streams that fail nothing can be said.
 abbrev pub IsCause : Request → List ℕ → Fault → Type 0
@@ -71,6 +94,8 @@ IsCause request input (InText text.Memory) = ⊤
 IsCause request input (InText fault) = (length input ≤ input_limit) × IsTextFault request input fault
 IsCause request input (InProgram fault) = (length input ≤ input_limit) × IsProgramFault request input fault
 IsCause request input (BadSample line) = (length input ≤ input_limit) × IsSampleFault request input line
+IsCause request input (NoOrder index) = ⊥
+IsCause request input (InRun fault) = IsRunFault request input fault
 IsCause request input TooLong = input_limit < length input
 IsCause request input Memory = ⊤
 IsCause request input Read = ⊤
@@ -104,3 +129,9 @@ IsAtFault words input before after fault =
     × ((fault ≢ Write) → Keeps before after)
     × (fault ≡ Write → IsCutShort words input before after)
     × ((fault ≢ Memory) → IsSome (asked_by words))
+
+-- Why words are refused with status 2, and what is on the faults stream then: a word that is no order, with its line; of the parser of command
+-- lines only that it did not want for memory.
+abbrev pub IsTold : NotAsked → Option (List ℕ) → Option (List ℕ) → Type 0
+IsTold (NoOrderAt index) before after = AppendsFront before after (fault_line (NoOrder index))
+IsTold (Refused error) before after = kind_of error ≢ OutOfMemory

@@ -4,8 +4,13 @@ use Rattle.arachne_lang.specs.declared.text_fault.TextFault.{TextFault}
 use Rattle.arachne_lang.specs.declared.text_fault.TextFault.TheVariants as text
 use Rattle.arachne_lang.specs.declared.check_fault.CheckFault.{CheckFault}
 use Rattle.arachne_lang.specs.declared.check_fault.CheckFault.TheVariants as check
+use Rattle.arachne_policy.specs.declared.orders.OrderFault.{OrderFault}
+use Rattle.arachne_policy.specs.declared.orders.OrderFaultKind.{OrderFaultKind}
+use Rattle.arachne_policy.specs.declared.orders.OrderFaultKind.TheVariants.{NoSuchCore, ReleasesCoreZero, AfterFalls}
+use Rattle.arachne_run.specs.declared.fault.RunFault.{RunFault}
+use Rattle.arachne_run.specs.declared.fault.RunFault.TheVariants as run
 use Rattle.arachne_commands.specs.declared.fault.Fault.{Fault}
-use Rattle.arachne_commands.specs.declared.fault.Fault.TheVariants.{InText, InProgram, BadSample, Memory, TooLong, Read, Write}
+use Rattle.arachne_commands.specs.declared.fault.Fault.TheVariants.{InText, InProgram, BadSample, NoOrder, InRun, Memory, TooLong, Read, Write}
 
 abbrev pub text_fault_words : TextFault → List ℕ
 text_fault_words text.Memory = codes "fault 30"
@@ -24,10 +29,30 @@ check_fault_words (check.WithinHold node) = codes "fault 9 node " ++ decimal nod
 check_fault_words check.OverLimit = codes "fault 10"
 check_fault_words (check.NoGrain node) = codes "fault 11 node " ++ decimal node
 
+abbrev pub order_fault_number : OrderFaultKind → List ℕ
+order_fault_number NoSuchCore = codes "22"
+order_fault_number ReleasesCoreZero = codes "23"
+order_fault_number AfterFalls = codes "25"
+
+abbrev pub run_fault_words : RunFault → List ℕ
+run_fault_words run.Cores = codes "fault 20"
+run_fault_words run.Quantum = codes "fault 21"
+run_fault_words run.Choosers = codes "fault 24"
+run_fault_words (run.Orders fault) = codes "fault " ++ order_fault_number fault.kind ++ codes " order " ++ decimal fault.index
+run_fault_words run.NotYet = codes "fault 39"
+run_fault_words run.Memory = codes "fault 30"
+run_fault_words run.Foreign = codes "fault 31"
+run_fault_words run.Threads = codes "fault 32"
+run_fault_words run.Ledgers = codes "fault 33"
+run_fault_words run.Token = codes "fault 34"
+run_fault_words run.KernelThread = codes "fault 35"
+
 abbrev pub fault_words : Fault → List ℕ
 fault_words (InText fault) = text_fault_words fault
 fault_words (InProgram fault) = check_fault_words fault
 fault_words (BadSample line) = codes "fault 12 line " ++ decimal line
+fault_words (NoOrder index) = codes "fault 26 order " ++ decimal index
+fault_words (InRun fault) = run_fault_words fault
 fault_words Memory = codes "fault 30"
 fault_words TooLong = codes "fault 36"
 fault_words Read = codes "fault 37"

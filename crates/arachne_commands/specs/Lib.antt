@@ -6,3 +6,4 @@ pub mod Samples
 pub mod Orders
 pub mod Reading
 pub mod Judging
+pub mod Running

@@ -1,10 +1,14 @@
-ghost use Rattle.std.specs.Prelude.{◌≡◌, IfOk, IfErr, IfSome, IsSome, map, Some, true, false};
-ghost use Rattle.arachne_commands.specs.CommandLine.{IsAllowed, asked_by, check_command, eval_command, is_taken, is_set, number_option, number_under, policy_asked, policy_command, program, request_met, task_commands};
+ghost use Rattle.std.specs.Prelude.{◌≡◌, IfOk, IfErr, IfSome, map, None, Ok, Some, true, false};
+ghost use Rattle.arachne_commands.specs.CommandLine.{IsAllowed, IsNoOrderAmong, IsNoOrderMet, IsUnasked, asked_by, check_command, eval_command, is_set, machine_command, names_flag, no_order_met, number_option, number_under, order_words, orders_rule, policy_asked, policy_command, program, request_met, run_alone, run_asked, run_command, task_commands, with_orders};
+ghost use Rattle.arachne_commands.specs.Orders.{orders_of};
+ghost use Rattle.std.specs.Result.{result_err};
 ghost use Rattle.clap.specs.declared.builder.command.Command.TheViews.{out-Command};
-ghost use Rattle.clap.specs.Words.{app_of, kind_of, rows_of, rule_of, found_of, subcommand_rows_of};
+ghost use Rattle.clap.specs.Words.{app_of, rows_of, rule_of, found_of, subcommand_rows_of};
 
 use crate::judging::Settings;
-use arachne_policy::MAX_CORES;
+use crate::orders::read_order;
+use arachne_lang::Sequence;
+use arachne_policy::{CoreOrder, MAX_CORES};
 use clap::builder::ValueParser;
 use clap::error::ErrorKind;
 use clap::{Arg, ArgAction, ArgMatches, Command, Error};
@@ -12,14 +16,50 @@ use std::alloc::{AllocError, Global};
 use std::convert::AsStr;
 
 /// What the words of the command line ask for.
-#[derive(Clone, Copy, Debug, PartialEq, Eq)]
+#[derive(Debug, Drop, PartialEq, Eq)]
 pub enum Request {
+    /// To run a program on several cores.
+    Run(RunSettings),
     /// To evaluate a program, and to print a line for each of its threads where their names are wanted.
     Eval { names: bool },
     /// To say whether a program may run.
     Check,
     /// To judge samples by these settings.
     Policy(Settings),
+}
+
+/// How a program is run.
+#[derive(Debug, Drop, PartialEq, Eq)]
+pub struct RunSettings {
+    /// How many cores there are. Any number: the run refuses what it cannot do.
+    pub cores: u64,
+    /// From which the choices of each core begin.
+    pub seed: u64,
+    /// The most steps of a slice. Any number, as of cores.
+    pub quantum: u64,
+    /// Whether a line for each thread is printed.
+    pub names: bool,
+    /// When cores are taken back and granted again.
+    pub orders: Sequence<CoreOrder>,
+}
+
+/// Why the words ask for nothing.
+#[derive(Debug, Drop)]
+pub enum NotAsked {
+    /// The first word that is to be an order and is none has this index among the order words.
+    NoOrder { index: usize },
+    /// The parser of command lines refused them, or memory was refused. The error has the text to show.
+    Refused(Error),
+}
+
+impl From<AllocError> for NotAsked {
+    ghost use Rattle.arachne_commands.specs.CommandLine.{IsWantOfMemory};
+
+    ghost from_gives = { λ _ fault. IsWantOfMemory fault };
+
+    fn from(error: AllocError) -> NotAsked {
+        NotAsked::Refused(Error::from(error))
+    }
 }
 
 /// The command line of the program.
@@ -39,12 +79,95 @@ fn task_commands<'a>(alloc: Global) -> Result<Command<'a>, AllocError>
     ensures { IfOk result (λ command. app_of command ≡ task_commands) }
 {
     let eval = eval_command(alloc)?;
-    let arachne = Command::new(alloc, "arachne")
-        .about("Evaluate programs of the task language, and judge samples of a load")
-        .subcommand_required(true)
+    let arachne = run_alone(alloc)?
         .subcommand(eval)?
         .subcommand(check_command(alloc))?;
     Ok(arachne)
+}
+
+/// The program with the subcommand that runs a program alone.
+#[tactic(auto, unfolding(crate::specs::CommandLine::run_alone))]
+fn run_alone<'a>(alloc: Global) -> Result<Command<'a>, AllocError>
+    ensures { IfOk result (λ command. app_of command ≡ run_alone) }
+{
+    let run = run_command(alloc)?;
+    let arachne = Command::new(alloc, "arachne")
+        .about("Run and evaluate programs of the task language, and judge samples of a load")
+        .subcommand_required(true)
+        .subcommand(run)?;
+    Ok(arachne)
+}
+
+/// The flag that asks for the names of threads.
+fn names_flag<'a>(alloc: Global) -> Arg<'a>
+    ensures rule { rule_of result ≡ names_flag }
+    ensures local { result.global ≡ false }
+{
+    Arg::new(alloc, "names")
+        .long("names")
+        .action(ArgAction::SetTrue)
+        .help("Print a line for each thread")
+}
+
+/// The order words, any number of them.
+fn order_words<'a>(alloc: Global) -> Arg<'a>
+    ensures rule { rule_of result ≡ orders_rule }
+    ensures local { result.global ≡ false }
+{
+    Arg::new(alloc, "order")
+        .value_name("ORDER")
+        .action(ArgAction::Append)
+        .help(
+            "AFTER:grant:CORE or AFTER:release:CORE: once so many slices have ended, a core is granted or taken back",
+        )
+}
+
+/// The subcommand that runs a program.
+#[tactic(auto, unfolding(crate::specs::CommandLine::run_command))]
+fn run_command<'a>(alloc: Global) -> Result<Command<'a>, AllocError>
+    ensures app { IfOk result (λ command. app_of command ≡ run_command) }
+    ensures local { IfOk result (λ command. (out-Command command).has_globals ≡ false) }
+{
+    let names = names_flag(alloc);
+    let orders = order_words(alloc);
+    let machine = machine_command(alloc)?;
+    let run = machine.arg(names)?.arg(orders)?;
+    Ok(run)
+}
+
+/// The same with the options for the machine alone.
+#[tactic(auto, unfolding(crate::specs::CommandLine::machine_command))]
+fn machine_command<'a>(alloc: Global) -> Result<Command<'a>, AllocError>
+    ensures app { IfOk result (λ command. app_of command ≡ machine_command) }
+    ensures local { IfOk result (λ command. (out-Command command).has_globals ≡ false) }
+{
+    let cores = number_option(
+        alloc,
+        "cores",
+        u64::MAX,
+        "4",
+        "How many cores there are, 1 to 16",
+    );
+    let seed = number_option(
+        alloc,
+        "seed",
+        u64::MAX,
+        "1",
+        "From which the choices of the cores begin",
+    );
+    let quantum = number_option(
+        alloc,
+        "quantum",
+        u64::MAX,
+        "100",
+        "The most steps that a thread goes on for at a time, 1 to 10000",
+    );
+    let run = Command::new(alloc, "run")
+        .about("Run the task text on the input, on a kernel thread for each core")
+        .arg(cores)?
+        .arg(seed)?
+        .arg(quantum)?;
+    Ok(run)
 }
 
 /// The subcommand that evaluates a program.
@@ -53,10 +176,7 @@ fn eval_command<'a>(alloc: Global) -> Result<Command<'a>, AllocError>
     ensures app { IfOk result (λ command. app_of command ≡ eval_command) }
     ensures local { IfOk result (λ command. (out-Command command).has_globals ≡ false) }
 {
-    let names = Arg::new(alloc, "names")
-        .long("names")
-        .action(ArgAction::SetTrue)
-        .help("Print a line for each thread");
+    let names = names_flag(alloc);
     let eval = Command::new(alloc, "eval")
         .about("Evaluate the task text on the input, on one thread")
         .arg(names)?;
@@ -169,34 +289,99 @@ fn policy_in(matches: &ArgMatches<'_>) -> Option<Request>
     }))
 }
 
-/// What the subcommand asks for, if it is one that the program has.
-fn request_in(matches: &ArgMatches<'_>) -> Option<Request>
-    ensures asked { result ≡ request_met (subcommand_rows_of matches.now) }
-    ensures allowed { IfSome result IsAllowed }
+/// The orders that the words spell.
+fn orders_in(alloc: Global, words: &[&str]) -> Result<Sequence<CoreOrder>, NotAsked>
+    ensures orders { IfOk result (λ orders. orders_of (map (λ word. word.now) words.now) ≡ Ok orders) }
+    ensures none { IfErr result (IsNoOrderAmong (map (λ word. word.now) words.now)) }
 {
-    let (name, entries) = matches.subcommand()?;
-    match name {
-        "eval" => Some(Request::Eval {
-            names: is_flag_set(entries, "names"),
-        }),
-        "check" => Some(Request::Check),
-        "policy" => policy_in(entries),
-        _ => None,
+    let mut orders = Vec::with_capacity(alloc, words.len())?;
+    for (index, word) in words.iter().enumerate() {
+        let Some(order) = read_order(word) else {
+            return Err(NotAsked::NoOrder { index });
+        };
+        let Ok(()) = orders.push(order) else {
+            return Err(NotAsked::from(AllocError));
+        };
+    }
+    Ok(Sequence::from(orders))
+}
+
+/// The orders that the order words spell.
+fn orders_met(alloc: Global, matches: &ArgMatches<'_>) -> Result<Sequence<CoreOrder>, NotAsked>
+    ensures orders { IfOk result (λ orders. orders_of (order_words (rows_of (found_of matches.now))) ≡ Ok orders) }
+    ensures none { IfErr result (IsNoOrderAmong (order_words (rows_of (found_of matches.now)))) }
+{
+    match matches.get_raw("order") {
+        Some(words) => orders_in(alloc, words),
+        None => Ok(Sequence::from(Vec::new(alloc))),
     }
 }
 
-/// What the words ask for, the first being the program's own name. The error has the text to show.
-#[tactic(auto, using(crate::proofs::CommandLines::asked_is_met, crate::proofs::CommandLines::taken_by_program))]
-pub fn read_words<'a, S: AsStr>(alloc: Global, words: &'a [S]) -> Result<Request, Error>
+/// What is asked of a run, where each of its order words is an order.
+fn run_in(alloc: Global, matches: &ArgMatches<'_>) -> Result<Option<Request>, NotAsked>
+    ensures asked { IfOk result (λ request. request ≡ run_asked (rows_of (found_of matches.now))) }
+    ensures allowed { IfOk result (λ request. IfSome request IsAllowed) }
+    ensures orders { IfOk result (λ request. result_err (orders_of (order_words (rows_of (found_of matches.now)))) ≡ None) }
+    ensures none { IfErr result (IsNoOrderAmong (order_words (rows_of (found_of matches.now)))) }
+{
+    let orders = orders_met(alloc, matches)?;
+    Ok(run_by(matches, orders))
+}
+
+/// What is asked of a run with these orders.
+fn run_by(matches: &ArgMatches<'_>, orders: Sequence<CoreOrder>) -> Option<Request>
+    ensures asked { result ≡ with_orders (rows_of (found_of matches.now)) orders }
+    ensures allowed { IfSome result IsAllowed }
+{
+    let cores = number_in(matches, "cores")?;
+    let seed = number_in(matches, "seed")?;
+    let quantum = number_in(matches, "quantum")?;
+    Some(Request::Run(RunSettings {
+        cores,
+        seed,
+        quantum,
+        names: is_flag_set(matches, "names"),
+        orders,
+    }))
+}
+
+/// What the subcommand asks for, if it is one that the program has.
+fn request_in(alloc: Global, matches: &ArgMatches<'_>) -> Result<Option<Request>, NotAsked>
+    ensures asked { IfOk result (λ request. request ≡ request_met (subcommand_rows_of matches.now)) }
+    ensures allowed { IfOk result (λ request. IfSome request IsAllowed) }
+    ensures orders { IfOk result (λ request. no_order_met (subcommand_rows_of matches.now) ≡ None) }
+    ensures none { IfErr result (IsNoOrderMet (subcommand_rows_of matches.now)) }
+{
+    let Some((name, entries)) = matches.subcommand() else {
+        return Ok(None);
+    };
+    match name {
+        "run" => run_in(alloc, entries),
+        "eval" => Ok(Some(Request::Eval {
+            names: is_flag_set(entries, "names"),
+        })),
+        "check" => Ok(Some(Request::Check)),
+        "policy" => Ok(policy_in(entries)),
+        _ => Ok(None),
+    }
+}
+
+/// What the words ask for, the first being the program's own name.
+pub fn read_words<'a, S: AsStr>(alloc: Global, words: &'a [S]) -> Result<Request, NotAsked>
     ensures asked { IfOk result (λ request. asked_by (map S.text words.entry.now) ≡ Some request) }
     ensures allowed { IfOk result IsAllowed }
-    ensures refused { IfErr result (λ error. is_taken (map S.text words.entry.now) ≡ true
-        → IsSome (asked_by (map S.text words.entry.now)) → kind_of error ≡ ErrorKind.OutOfMemory) }
+    ensures refused { IfErr result (IsUnasked (map S.text words.entry.now)) }
 {
     let mut command = command(alloc)?;
-    let matches = command.try_get_matches_from_mut(words)?;
-    match request_in(&matches) {
+    let matches = match command.try_get_matches_from_mut(words) {
+        Ok(matches) => matches,
+        Err(error) => return Err(NotAsked::Refused(error)),
+    };
+    match request_in(alloc, &matches)? {
         Some(request) => Ok(request),
-        None => Err(command.error(ErrorKind::InvalidSubcommand, "no such command")?),
+        None => Err(NotAsked::Refused(command.error(
+            ErrorKind::InvalidSubcommand,
+            "no such command",
+        )?)),
     }
 }

@@ -1,11 +1,13 @@
 ghost use Rattle.std.specs.Prelude.{◌≡◌};
-ghost use Rattle.arachne_commands.specs.declared.fault.Fault.TheVariants.{InText, InProgram, Memory};
+ghost use Rattle.arachne_commands.specs.declared.fault.Fault.TheVariants.{InRun, InText, InProgram, Memory};
 
 use arachne_lang::{CheckFault, TextFault};
+use arachne_policy::{OrderFault, OrderFaultKind};
+use arachne_run::RunFault;
 use std::alloc::AllocError;
 use std::fmt;
 
-/// Why the program ends with status 1.
+/// Why the program does not end well: with status 2 where a word is no order, else with status 1.
 #[derive(Clone, Copy, Debug, PartialEq, Eq)]
 pub enum Fault {
     /// The text was refused.
@@ -14,6 +16,10 @@ pub enum Fault {
     InProgram(CheckFault),
     /// The first sample that cannot be judged is on this line.
     BadSample { line: usize },
+    /// The first word of a run that is to be an order and is none has this index among the order words.
+    NoOrder { index: usize },
+    /// The run was refused, or has no report.
+    InRun(RunFault),
     /// Memory was refused.
     Memory,
     /// The input has more than 33,554,432 bytes.
@@ -37,6 +43,14 @@ impl From<CheckFault> for Fault {
 
     fn from(fault: CheckFault) -> Fault {
         Fault::InProgram(fault)
+    }
+}
+
+impl From<RunFault> for Fault {
+    ghost from_gives = { λ inner fault. fault ≡ InRun inner };
+
+    fn from(fault: RunFault) -> Fault {
+        Fault::InRun(fault)
     }
 }
 
@@ -70,6 +84,22 @@ impl fmt::Display for Fault {
             Fault::InProgram(CheckFault::OverLimit) => write!(f, "fault 10"),
             Fault::InProgram(CheckFault::NoGrain(node)) => write!(f, "fault 11 node {node}"),
             Fault::BadSample { line } => write!(f, "fault 12 line {line}"),
+            Fault::NoOrder { index } => write!(f, "fault 26 order {index}"),
+            Fault::InRun(RunFault::Cores) => write!(f, "fault 20"),
+            Fault::InRun(RunFault::Quantum) => write!(f, "fault 21"),
+            Fault::InRun(RunFault::Choosers) => write!(f, "fault 24"),
+            Fault::InRun(RunFault::Orders(OrderFault { index, kind })) => match kind {
+                OrderFaultKind::NoSuchCore => write!(f, "fault 22 order {index}"),
+                OrderFaultKind::ReleasesCoreZero => write!(f, "fault 23 order {index}"),
+                OrderFaultKind::AfterFalls => write!(f, "fault 25 order {index}"),
+            },
+            Fault::InRun(RunFault::NotYet) => write!(f, "fault 39"),
+            Fault::InRun(RunFault::Memory) => write!(f, "fault 30"),
+            Fault::InRun(RunFault::Foreign) => write!(f, "fault 31"),
+            Fault::InRun(RunFault::Threads) => write!(f, "fault 32"),
+            Fault::InRun(RunFault::Ledgers) => write!(f, "fault 33"),
+            Fault::InRun(RunFault::Token) => write!(f, "fault 34"),
+            Fault::InRun(RunFault::KernelThread) => write!(f, "fault 35"),
             Fault::Memory => write!(f, "fault 30"),
             Fault::TooLong => write!(f, "fault 36"),
             Fault::Read => write!(f, "fault 37"),

@@ -1,19 +1,64 @@
-ghost use Rattle.std.specs.Prelude.{◌≡◌, ◌++◌, OnOk, IfOk, string_bytes};
+ghost use Rattle.std.specs.Prelude.{◌≡◌, ◌++◌, OnOk, IfOk, map, string_bytes};
 ghost use Rattle.std.specs.List.{flat_map};
 ghost use Rattle.arachne_commands.specs.Output.{output_of, ledger_lines, thread_line, name_text};
 
-use arachne_lang::{Line, Meaning};
+use arachne_lang::{Line, Name};
+use arachne_machine::ThreadLine;
 use std::alloc::{AllocError, Global};
 use std::fmt::Write;
 
-/// What is printed of a meaning, with a line for each thread where the names are wanted.
-pub fn render(alloc: Global, meaning: &Meaning, names: bool) -> Result<String, AllocError>
-    ensures { IfOk result (λ text. string_bytes text ≡ output_of names meaning.now) }
+/// What is printed of a thread: its name, and how often it held each lock.
+pub trait PrintedThread {
+    ghost use Rattle.arachne_lang.specs.declared.meaning.Line.{Line as Shown};
+
+    ghost shown: { Self → Shown };
+
+    fn name(&self) -> &Name
+        ensures { result.now ≡ (shown self.now).name };
+
+    fn holds(&self) -> &[u64]
+        ensures { result.now ≡ (shown self.now).holds };
+}
+
+impl PrintedThread for Line {
+    ghost shown = { λ line. line };
+
+    fn name(&self) -> &Name {
+        &self.name
+    }
+
+    fn holds(&self) -> &[u64] {
+        self.holds.as_slice()
+    }
+}
+
+impl PrintedThread for ThreadLine {
+    ghost use Rattle.arachne_machine.specs.Outcome.{named_holds};
+
+    ghost shown = { named_holds };
+
+    fn name(&self) -> &Name {
+        &self.name
+    }
+
+    fn holds(&self) -> &[u64] {
+        self.holds.as_slice()
+    }
+}
+
+/// What is printed of a value, the totals of the ledgers and the threads, with a line for each thread where the names are wanted.
+pub fn render<T: PrintedThread>(
+    alloc: Global,
+    value: u64,
+    totals: &[u64],
+    threads: &[T],
+    names: bool,
+) -> Result<String, AllocError>
+    ensures { IfOk result (λ text. string_bytes text ≡ output_of names (record { value = value; totals = totals.now; threads = map T.shown threads.now })) }
 {
     let mut text = String::new(alloc);
-    writeln!(text, "value {}", meaning.value)?;
-    write_totals(&mut text, meaning.totals.as_slice())?;
-    let threads = meaning.threads.as_slice();
+    writeln!(text, "value {}", value)?;
+    write_totals(&mut text, totals)?;
     writeln!(text, "threads {}", threads.len())?;
     if names {
         write_threads(&mut text, threads)?;
@@ -33,8 +78,8 @@ fn write_totals(text: &mut String, totals: &[u64]) -> Result<(), AllocError>
 }
 
 /// Writes a line for each thread.
-fn write_threads(text: &mut String, threads: &[Line]) -> Result<(), AllocError>
-    ensures { OnOk result (string_bytes text.new ≡ string_bytes text.old ++ flat_map thread_line threads.now) }
+fn write_threads<T: PrintedThread>(text: &mut String, threads: &[T]) -> Result<(), AllocError>
+    ensures { OnOk result (string_bytes text.new ≡ string_bytes text.old ++ flat_map thread_line (map T.shown threads.now)) }
 {
     for thread in threads {
         write_thread(text, thread)?;
@@ -44,12 +89,12 @@ fn write_threads(text: &mut String, threads: &[Line]) -> Result<(), AllocError>
 
 /// Writes a thread's line.
 #[tactic(auto, using(crate::proofs::Lines::after_spaces_append))]
-fn write_thread(text: &mut String, thread: &Line) -> Result<(), AllocError>
-    ensures { OnOk result (string_bytes text.new ≡ string_bytes text.old ++ thread_line thread.now) }
+fn write_thread<T: PrintedThread>(text: &mut String, thread: &T) -> Result<(), AllocError>
+    ensures { OnOk result (string_bytes text.new ≡ string_bytes text.old ++ thread_line (T.shown thread.now)) }
 {
     text.push_str("thread ")?;
-    write_name(text, thread.name.forks())?;
-    for hold in thread.holds.as_slice() {
+    write_name(text, thread.name().forks())?;
+    for hold in thread.holds() {
         write!(text, " {hold}")?;
     }
     text.push_str("\n")?;

@@ -1,20 +1,21 @@
 //! The program as a process: its words, its streams and its end.
-ghost use Rattle.std.specs.Prelude.{◌≡◌, ◌≢◌, ◌≤◌, ◌+◌, List, ℕ, length, map, None, true};
+ghost use Rattle.std.specs.Prelude.{◌≡◌, ◌≢◌, ◌≤◌, ◌+◌, List, ℕ, length, map, None, Some, true};
 ghost use Rattle.std.specs.Io.KnownBytes.{Consumes, Keeps};
 ghost use Rattle.std.specs.IoError.{error_kind};
 ghost use Rattle.std.specs.Process.{exit_status};
-ghost use Rattle.arachne_commands.specs.CommandLine.{asked_by, is_taken};
+ghost use Rattle.arachne_commands.specs.CommandLine.{asked_by, is_taken, no_order_in};
 ghost use Rattle.arachne_commands.specs.Fault.{fault_line};
 ghost use Rattle.arachne_commands.specs.Drive.{AppendsFront, IsAnswered, IsAtFault, input_limit};
 ghost use Rattle.arachne_commands.specs.declared.fault.Fault.{Fault};
 
 use crate::program::{drive, refuse_words};
-use std::alloc::Global;
+use std::alloc::{Alloc, Global};
 use std::convert::AsStr;
-use std::env;
-use std::io::{self, Eprint, ErrorKind, Read, Write};
+use std::env::{self, Env};
+use std::io::{self, Eprint, ErrorKind, Input, Print, Read, Write};
 use std::process::{ExitCode, Termination};
-use std::rt::HostRuntime;
+use std::sync::Wait;
+use std::thread::Threads;
 
 /// What a run ends with. `main` can neither make one of its own nor let it go.
 pub struct Status {
@@ -30,42 +31,48 @@ impl Termination for Status {
     }
 }
 
-/// Runs the program on the words and the streams of its process.
-pub fn run(rt: &HostRuntime) -> Status {
-    let (input, output, faults) = (&mut rt.reader(), &mut io::writer(rt), &mut rt.stderr());
+/// Runs the program on the words, the input and the output of its process.
+pub fn run<R: Threads + Wait + Sync + Env + Alloc<A = Global> + Input + Print, E: Write>(
+    rt: &R,
+    faults: &mut E,
+) -> Status {
+    let (input, output) = (&mut rt.reader(), &mut io::writer(rt));
     match words(rt) {
-        Ok(words) => run_on(rt.alloc(), words.as_slice(), input, output, faults),
+        Ok(words) => run_on(rt, rt.alloc(), words.as_slice(), input, output, faults),
         Err(error) => run_without_words(&error, faults),
     }
 }
 
 /// The words of the command line of the process.
-fn words(rt: &HostRuntime) -> io::Result<Vec<String>> {
+fn words<R: Env + Alloc<A = Global>>(rt: &R) -> io::Result<Vec<String>> {
     let words = env::args(rt)?;
     Ok(words.collect(rt.alloc())?)
 }
 
 /// Runs the program on these words and streams, and ends with the status of `drive`, whose clauses these are.
-pub fn run_on<S: AsStr, R: Read, W: Write, E: Write>(
+pub fn run_on<R: Threads + Wait + Sync, S: AsStr, I: Read, W: Write, E: Write>(
+    rt: &R,
     alloc: Global,
     words: &[S],
-    input: &mut R,
+    input: &mut I,
     output: &mut W,
     faults: &mut E,
 ) -> Status
-    ensures done { result.code ≡ 0 → IsAnswered (map S.text words.entry.now) (R.remaining input.old) (W.contents output.old) (W.contents output.new) }
+    ensures done { result.code ≡ 0 → IsAnswered (map S.text words.entry.now) (I.remaining input.old) (W.contents output.old) (W.contents output.new) }
     ensures quiet { result.code ≡ 0 → Keeps (E.contents faults.old) (E.contents faults.new) }
     ensures fault { result.code ≡ 1 → (fault : Fault)
-        × IsAtFault (map S.text words.entry.now) (R.remaining input.old) (W.contents output.old) (W.contents output.new) fault
+        × IsAtFault (map S.text words.entry.now) (I.remaining input.old) (W.contents output.old) (W.contents output.new) fault
         × AppendsFront (E.contents faults.old) (E.contents faults.new) (fault_line fault) }
-    ensures reads { (bytes : List ℕ) × Consumes (R.remaining input.old) (R.remaining input.new) bytes × (length bytes ≤ input_limit + 1) }
-    ensures unread { result.code ≡ 2 → Keeps (R.remaining input.old) (R.remaining input.new) }
+    ensures reads { (bytes : List ℕ) × Consumes (I.remaining input.old) (I.remaining input.new) bytes × (length bytes ≤ input_limit + 1) }
+    ensures unread { result.code ≡ 2 → Keeps (I.remaining input.old) (I.remaining input.new) }
     ensures words { result.code ≡ 2 → is_taken (map S.text words.entry.now) ≡ true → asked_by (map S.text words.entry.now) ≡ None }
+    ensures no_order { result.code ≡ 2 → is_taken (map S.text words.entry.now) ≡ true → (index : ℕ) → no_order_in (map S.text words.entry.now) ≡ Some index
+        → AppendsFront (E.contents faults.old) (E.contents faults.new) (fault_line (Fault.NoOrder index)) }
     ensures refused { result.code ≡ 2 → Keeps (W.contents output.old) (W.contents output.new) }
     ensures status { result.code ≤ 2 }
 {
     Status {
-        code: drive(alloc, words, input, output, faults),
+        code: drive(rt, alloc, words, input, output, faults),
     }
 }
 

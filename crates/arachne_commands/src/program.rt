@@ -2,14 +2,16 @@ ghost use Rattle.std.specs.Prelude.{◌≡◌, ◌⊎◌, ◌≢◌, ◌≤◌, 
 ghost use Rattle.std.specs.Io.KnownBytes.{Appends, Consumes, Keeps};
 ghost use Rattle.std.specs.IoError.{error_kind};
 ghost use Rattle.arachne_lang.specs.Program.{source_of};
-ghost use Rattle.arachne_commands.specs.CommandLine.{IsAllowed, asked_by, is_taken};
+ghost use Rattle.arachne_commands.specs.CommandLine.{IsAllowed, asked_by, is_taken, no_order_in};
+ghost use Rattle.arachne_commands.specs.declared.command_line.RunSettings.{RunSettings as RunBy};
 ghost use Rattle.arachne_commands.specs.Fault.{fault_line};
-ghost use Rattle.arachne_commands.specs.Drive.{AppendsFront, IsAnswer, IsAnswered, IsAtFault, IsCause, IsProgramOf, input_limit};
+ghost use Rattle.arachne_commands.specs.Drive.{AppendsFront, IsAnswer, IsAnswered, IsAtFault, IsCause, IsProgramOf, IsTold, input_limit};
 
-use crate::command_line::{Request, read_words};
+use crate::command_line::{NotAsked, Request, RunSettings, read_words};
 use crate::fault::Fault;
 use crate::judging::judgement;
 use crate::output::render;
+use crate::running::run_program;
 use crate::stream::{read_input, write_bytes};
 use arachne_lang::{Program, check, eval, parse};
 use arrayvec::ArrayString;
@@ -18,8 +20,10 @@ use std::alloc::Global;
 use std::convert::AsStr;
 use std::fmt::Write as _;
 use std::io::{self, ErrorKind as StreamFault, Read, Write};
+use std::sync::Wait;
+use std::thread::Threads;
 
-/// The status where all went well, where there was a fault, and where the words were not understood.
+/// The status where all went well, where there was a fault, and where the words ask for nothing.
 pub const DONE: u8 = 0;
 
 pub const FAULT: u8 = 1;
@@ -30,18 +34,49 @@ pub const WORDS: u8 = 2;
 const LINE: usize = 64;
 
 /// What is to be written for an input.
-fn answer<R: Read>(alloc: Global, request: Request, input: &mut R) -> Result<String, Fault>
+fn answer<R: Threads + Wait + Sync, I: Read>(
+    rt: &R,
+    alloc: Global,
+    request: Request,
+    input: &mut I,
+) -> Result<String, Fault>
     requires { IsAllowed request }
-    ensures answers { IfOk result (λ text. IfSome (R.remaining input.old) (λ known. IsAnswer request known (string_bytes text))) }
-    ensures cause { IfErr result (λ fault. (fault ≢ Fault.Write) × IfSome (R.remaining input.old) (λ known. IsCause request known fault)) }
-    ensures reads { (bytes : List ℕ) × Consumes (R.remaining input.old) (R.remaining input.new) bytes × (length bytes ≤ input_limit + 1) }
+    ensures answers { IfOk result (λ text. IfSome (I.remaining input.old) (λ known. IsAnswer request known (string_bytes text))) }
+    ensures cause { IfErr result (λ fault. (fault ≢ Fault.Write) × IfSome (I.remaining input.old) (λ known. IsCause request known fault)) }
+    ensures reads { (bytes : List ℕ) × Consumes (I.remaining input.old) (I.remaining input.new) bytes × (length bytes ≤ input_limit + 1) }
 {
     let text = read_input(alloc, input)?;
     match request {
+        Request::Run(settings) => run_of(rt, alloc, text.as_slice(), settings),
         Request::Eval { names } => evaluation(alloc, text.as_slice(), names),
         Request::Check => verdict(alloc, text.as_slice()),
         Request::Policy(settings) => judgement(alloc, text.as_slice(), settings),
     }
+}
+
+/// What is to be written for a text that is run.
+fn run_of<R: Threads + Wait + Sync>(
+    rt: &R,
+    alloc: Global,
+    text: &[u8],
+    settings: RunSettings,
+) -> Result<String, Fault>
+    requires { length text.now ≤ input_limit }
+    ensures answers { IfOk result (λ output. IsAnswer (Request.Run settings) text.now (string_bytes output)) }
+    ensures cause { IfErr result (λ fault. (fault ≢ Fault.Write) × IsCause (Request.Run settings) text.now fault) }
+    ensures not_read { IfErr result (λ fault. fault ≢ Fault.Read) }
+{
+    let program = checked_program(alloc, text)?;
+    let names = settings.names;
+    let report = run_program(rt, alloc, &program, settings)?;
+    let output = render(
+        alloc,
+        report.value,
+        report.totals.as_slice(),
+        report.threads.as_slice(),
+        names,
+    )?;
+    Ok(output)
 }
 
 /// What is to be written for a text that is evaluated.
@@ -53,7 +88,13 @@ fn evaluation(alloc: Global, text: &[u8], names: bool) -> Result<String, Fault>
 {
     let program = checked_program(alloc, text)?;
     let meaning = eval(alloc, &program)?;
-    let output = render(alloc, &meaning, names)?;
+    let output = render(
+        alloc,
+        meaning.value,
+        meaning.totals.as_slice(),
+        meaning.threads.as_slice(),
+        names,
+    )?;
     Ok(output)
 }
 
@@ -76,6 +117,7 @@ fn checked_program(alloc: Global, text: &[u8]) -> Result<Program, Fault>
     ensures check { IfErr result (λ fault. (fault ≢ Fault.Write) × IsCause Request.Check text.now fault) }
     ensures not_read { IfErr result (λ fault. fault ≢ Fault.Read) }
     ensures eval { (names : Bool) → IfErr result (λ fault. IsCause (Request.Eval names) text.now fault) }
+    ensures run { (settings : RunBy) → IfErr result (λ fault. IsCause (Request.Run settings) text.now fault) }
 {
     let program = parse(alloc, text)?;
     check(&program)?;
@@ -120,41 +162,62 @@ pub fn refuse_words<W: Write>(faults: &mut W, error: &io::Error) -> u8
     WORDS
 }
 
+/// Says why the words ask for nothing, and answers the status: that of a fault where memory was refused.
+fn refuse_request<W: Write>(faults: &mut W, why: &NotAsked) -> u8
+    ensures some { 1 ≤ result }
+    ensures most { result ≤ 2 }
+    ensures memory { result ≡ 1 → AppendsFront (W.contents faults.old) (W.contents faults.new) (fault_line Fault.Memory) }
+    ensures told { result ≡ 2 → IsTold why.now (W.contents faults.old) (W.contents faults.new) }
+{
+    match why {
+        NotAsked::NoOrder { index } => {
+            refuse(faults, Fault::NoOrder { index: *index });
+            WORDS
+        }
+        NotAsked::Refused(error) if error.kind() == ErrorKind::OutOfMemory => {
+            refuse(faults, Fault::Memory)
+        }
+        NotAsked::Refused(error) => {
+            let _ = write!(faults, "{error}");
+            WORDS
+        }
+    }
+}
+
 /// Runs the program on the words of the command line, the first being its own name, and on these streams. The answer is the status:
-/// 0 where all went well; 1 where there was a fault, whose line goes to the faults stream; and 2 where the words were not understood,
-/// which `clap`'s text on the faults stream explains. Nothing is on the output before all is known.
-pub fn drive<S: AsStr, R: Read, W: Write, E: Write>(
+/// 0 where all went well; 1 where there was a fault, whose line goes to the faults stream; and 2 where a word of a run is no order, with the
+/// fault's line, or the words were not understood, which `clap`'s text on the faults stream explains. Nothing is on the output before all is
+/// known. A run may wait, and starts threads.
+pub fn drive<R: Threads + Wait + Sync, S: AsStr, I: Read, W: Write, E: Write>(
+    rt: &R,
     alloc: Global,
     words: &[S],
-    input: &mut R,
+    input: &mut I,
     output: &mut W,
     faults: &mut E,
 ) -> u8
     // What the words ask for is written, and nothing on the faults stream.
-    ensures done { result ≡ 0 → IsAnswered (map S.text words.entry.now) (R.remaining input.old) (W.contents output.old) (W.contents output.new) }
+    ensures done { result ≡ 0 → IsAnswered (map S.text words.entry.now) (I.remaining input.old) (W.contents output.old) (W.contents output.new) }
     ensures quiet { result ≡ 0 → Keeps (E.contents faults.old) (E.contents faults.new) }
     // A fault's line is on the faults stream, as far as that took it.
     ensures fault { result ≡ 1 → (fault : Fault)
-        × IsAtFault (map S.text words.entry.now) (R.remaining input.old) (W.contents output.old) (W.contents output.new) fault
+        × IsAtFault (map S.text words.entry.now) (I.remaining input.old) (W.contents output.old) (W.contents output.new) fault
         × AppendsFront (E.contents faults.old) (E.contents faults.new) (fault_line fault) }
-    ensures reads { (bytes : List ℕ) × Consumes (R.remaining input.old) (R.remaining input.new) bytes × (length bytes ≤ input_limit + 1) }
-    ensures unread { result ≡ 2 → Keeps (R.remaining input.old) (R.remaining input.new) }
+    ensures reads { (bytes : List ℕ) × Consumes (I.remaining input.old) (I.remaining input.new) bytes × (length bytes ≤ input_limit + 1) }
+    ensures unread { result ≡ 2 → Keeps (I.remaining input.old) (I.remaining input.new) }
     // Words that the program takes, and that ask for something, are not refused.
     ensures words { result ≡ 2 → is_taken (map S.text words.entry.now) ≡ true → asked_by (map S.text words.entry.now) ≡ None }
+    // Where the program takes the words of a run, and one that is to be an order is none, the first of these is told.
+    ensures no_order { result ≡ 2 → is_taken (map S.text words.entry.now) ≡ true → (index : ℕ) → no_order_in (map S.text words.entry.now) ≡ Some index
+        → AppendsFront (E.contents faults.old) (E.contents faults.new) (fault_line (Fault.NoOrder index)) }
     ensures refused { result ≡ 2 → Keeps (W.contents output.old) (W.contents output.new) }
     ensures status { result ≤ 2 }
 {
     let request = match read_words(alloc, words) {
         Ok(request) => request,
-        Err(error) if error.kind() == ErrorKind::OutOfMemory => {
-            return refuse(faults, Fault::Memory);
-        }
-        Err(error) => {
-            let _ = write!(faults, "{error}");
-            return WORDS;
-        }
+        Err(why) => return refuse_request(faults, &why),
     };
-    let text = match answer(alloc, request, input) {
+    let text = match answer(rt, alloc, request, input) {
         Ok(text) => text,
         Err(fault) => return refuse(faults, fault),
     };

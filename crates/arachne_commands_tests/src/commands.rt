@@ -3,11 +3,14 @@ use arachne_commands::{drive, refuse_words, run as run_process, run_on, run_with
 use std::alloc::Global;
 use std::io::{self, ErrorKind};
 use std::process::{Abort, ExitCode, Termination};
+use std::sync::Wait;
 use std::test::Fail;
+use std::thread::Threads;
 
 mod language;
 mod orders;
 mod policy;
+mod running;
 mod samples;
 mod streams;
 
@@ -19,10 +22,15 @@ struct Ended {
     faults: Vec<u8>,
 }
 
-fn run(alloc: Global, words: &[&str], mut input: &[u8]) -> Ended {
+fn run<R: Threads + Wait + Sync>(
+    rt: &R,
+    alloc: Global,
+    words: &[&str],
+    mut input: &[u8],
+) -> Ended {
     let mut output = Vec::new(alloc);
     let mut faults = Vec::new(alloc);
-    let status = drive(alloc, words, &mut input, &mut output, &mut faults);
+    let status = drive(rt, alloc, words, &mut input, &mut output, &mut faults);
     Ended {
         status,
         output,
@@ -38,7 +46,7 @@ fn text_of(alloc: Global, expr: &str) -> Result<String, Fail> {
 /// The words of a test's own process ask for nothing, so that the program has nothing to do but to refuse them.
 #[test]
 fn program_ends_with_the_status(rt: HostRuntime) {
-    assert_eq!(rt; run_process(&rt).report(&rt), ExitCode::from(2));
+    assert_eq!(rt; run_process(&rt, &mut rt.stderr()).report(&rt), ExitCode::from(2));
 }
 
 /// A text that may run, one that is refused, and words that are not understood.
@@ -57,6 +65,7 @@ fn runs_end_with_their_status(rt: HostRuntime) -> Result<(), Fail> {
         let mut output = Vec::new(alloc);
         let mut faults = Vec::new(alloc);
         let status = run_on(
+            &rt,
             alloc,
             &["arachne", command],
             &mut input,
@@ -91,11 +100,11 @@ fn values_are_printed(rt: HostRuntime) -> Result<(), Fail> {
         ),
     ] {
         let text = text_of(rt.alloc(), expr)?;
-        let short = run(rt.alloc(), &["arachne", "eval"], text.as_bytes());
+        let short = run(&rt, rt.alloc(), &["arachne", "eval"], text.as_bytes());
         assert_eq!(rt; short.status, 0, "{expr}");
         assert_eq!(rt; short.output.as_slice(), plain.as_bytes(), "{expr}");
         assert!(rt; short.faults.is_empty(), "{expr}");
-        let long = run(rt.alloc(), &["arachne", "eval", "--names"], text.as_bytes());
+        let long = run(&rt, rt.alloc(), &["arachne", "eval", "--names"], text.as_bytes());
         let whole = format!(in rt.alloc(); "{plain}{names}")?;
         assert_eq!(rt; long.output.as_slice(), whole.as_bytes(), "{expr}");
     }
@@ -103,9 +112,14 @@ fn values_are_printed(rt: HostRuntime) -> Result<(), Fail> {
 }
 
 /// The input has this fault, and nothing is printed on the output.
-fn assert_fault(rt: &impl Abort, alloc: Global, input: &[u8], line: &str) {
+fn assert_fault<R: Abort + Threads + Wait + Sync>(
+    rt: &R,
+    alloc: Global,
+    input: &[u8],
+    line: &str,
+) {
     for command in ["eval", "check"] {
-        let run = run(alloc, &["arachne", command], input);
+        let run = run(rt, alloc, &["arachne", command], input);
         assert_eq!(rt; run.status, 1, "{line}");
         assert!(rt; run.output.is_empty(), "{line}");
         assert_eq!(rt; run.faults.as_slice(), line.as_bytes(), "{line}");
@@ -116,7 +130,7 @@ fn assert_fault(rt: &impl Abort, alloc: Global, input: &[u8], line: &str) {
 fn programs_that_may_run_are_told(rt: HostRuntime) -> Result<(), Fail> {
     for expr in ["(num 7)", "(fork n (num 2) (num 3) (add (var 0) (var 1)))"] {
         let text = text_of(rt.alloc(), expr)?;
-        let run = run(rt.alloc(), &["arachne", "check"], text.as_bytes());
+        let run = run(&rt, rt.alloc(), &["arachne", "check"], text.as_bytes());
         assert_eq!(rt; run.status, 0, "{expr}");
         assert_eq!(rt; run.output.as_slice(), b"ok\n".as_slice(), "{expr}");
         assert!(rt; run.faults.is_empty(), "{expr}");
@@ -195,7 +209,7 @@ fn words_that_are_not_understood(rt: HostRuntime) {
         ["arachne", "eval", "more"].as_slice(),
         ["arachne", "check", "--names"].as_slice(),
     ] {
-        let run = run(rt.alloc(), words, b"");
+        let run = run(&rt, rt.alloc(), words, b"");
         assert_eq!(rt; run.status, 2, "{words:?}");
         assert!(rt; run.output.is_empty(), "{words:?}");
         assert!(rt; !run.faults.is_empty(), "{words:?}");

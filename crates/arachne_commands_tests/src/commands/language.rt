@@ -128,7 +128,7 @@ fn rows_are_evaluated(rt: HostRuntime) -> Result<(), Fail> {
     let alloc = rt.alloc();
     for row in &ROWS {
         let text = row.text(alloc)?;
-        let ended = run(alloc, &["arachne", "eval", "--names"], text.as_bytes());
+        let ended = run(&rt, alloc, &["arachne", "eval", "--names"], text.as_bytes());
         assert_eq!(rt; ended.status, 0, "{}", row.expr);
         assert_eq!(rt;
             ended.output.as_slice(),
@@ -148,7 +148,13 @@ fn rows_run_by_steps_as_they_are_evaluated(rt: HostRuntime) -> Result<(), Fail> 
         let program = program_of(alloc, text.as_bytes())?;
         for budget in [1, 7, 100] {
             let meaning = run_alone(alloc, &program, budget)?;
-            let output = render(alloc, &meaning, true)?;
+            let output = render(
+                alloc,
+                meaning.value,
+                meaning.totals.as_slice(),
+                meaning.threads.as_slice(),
+                true,
+            )?;
             assert_eq!(rt; output.as_str(), row.output, "{} {budget}", row.expr);
         }
     }
@@ -176,7 +182,7 @@ fn rows_may_run(rt: HostRuntime) -> Result<(), Fail> {
     let alloc = rt.alloc();
     for row in &ROWS {
         let text = row.text(alloc)?;
-        let ended = run(alloc, &["arachne", "check"], text.as_bytes());
+        let ended = run(&rt, alloc, &["arachne", "check"], text.as_bytes());
         assert_eq!(rt; ended.output.as_slice(), b"ok\n".as_slice(), "{}", row.expr);
     }
     Ok(())
@@ -187,13 +193,13 @@ fn rows_may_run(rt: HostRuntime) -> Result<(), Fail> {
 fn long_rows_are_evaluated(rt: HostRuntime) -> Result<(), Fail> {
     let alloc = rt.alloc();
     let sweep = "arachne 1\nledgers 0\nlocks 0\n(sweep add 1 (num 0) (num 901) (var 0))\n";
-    let ended = run(alloc, &["arachne", "eval"], sweep.as_bytes());
+    let ended = run(&rt, alloc, &["arachne", "eval"], sweep.as_bytes());
     assert_eq!(rt;
         ended.output.as_slice(),
         b"value 405450\nthreads 901\n".as_slice()
     );
     let sweep = "arachne 1\nledgers 0\nlocks 0\n(sweep add 1 (num 0) (num 100000) (var 0))\n";
-    let ended = run(alloc, &["arachne", "eval"], sweep.as_bytes());
+    let ended = run(&rt, alloc, &["arachne", "eval"], sweep.as_bytes());
     assert_eq!(rt;
         ended.output.as_slice(),
         b"value 4999950000\nthreads 100000\n".as_slice()
@@ -207,7 +213,7 @@ fn long_rows_are_evaluated(rt: HostRuntime) -> Result<(), Fail> {
         chain.push_str(" (num 1) (add (var 0) (var 1)))")?;
     }
     chain.push_str("\n")?;
-    let ended = run(alloc, &["arachne", "eval"], chain.as_bytes());
+    let ended = run(&rt, alloc, &["arachne", "eval"], chain.as_bytes());
     assert_eq!(rt;
         ended.output.as_slice(),
         b"value 61\nthreads 61\n".as_slice()
@@ -224,7 +230,7 @@ fn long_arrays_are_evaluated(rt: HostRuntime) -> Result<(), Fail> {
         text.push_str(" 1")?;
     }
     text.push_str(" 5\nledgers 0\nlocks 0\n(mul (len 0) (item 0 (num 39999)))\n")?;
-    let ended = run(alloc, &["arachne", "eval"], text.as_bytes());
+    let ended = run(&rt, alloc, &["arachne", "eval"], text.as_bytes());
     assert_eq!(rt;
         ended.output.as_slice(),
         b"value 200000\nthreads 1\n".as_slice()

@@ -3,11 +3,13 @@ use std::alloc::Global;
 use std::io;
 use std::io::Read;
 use std::process::Abort;
+use std::sync::Wait;
 use std::test::Fail;
+use std::thread::Threads;
 
 /// The output where all goes well, and else the line of the fault.
-fn assert_run(
-    rt: &impl Abort,
+fn assert_run<R: Abort + Threads + Wait + Sync>(
+    rt: &R,
     alloc: Global,
     words: &[&str],
     mut input: &[u8],
@@ -16,7 +18,7 @@ fn assert_run(
 ) {
     let mut output = Vec::new(alloc);
     let mut faults = Vec::new(alloc);
-    let ended = drive(alloc, words, &mut input, &mut output, &mut faults);
+    let ended = drive(rt, alloc, words, &mut input, &mut output, &mut faults);
     assert_eq!(rt; ended, status, "{words:?}");
     let (written, empty) = if status == 0 {
         (&output, &faults)
@@ -138,7 +140,7 @@ fn options_that_are_not_understood(rt: HostRuntime) {
         let mut input = b"1 1 1 1 1\n".as_slice();
         let mut output = Vec::new(alloc);
         let mut faults = Vec::new(alloc);
-        let status = drive(alloc, words, &mut input, &mut output, &mut faults);
+        let status = drive(&rt, alloc, words, &mut input, &mut output, &mut faults);
         assert_eq!(rt; status, 2, "{words:?}");
         assert!(rt; output.is_empty(), "{words:?}");
         assert!(rt; !faults.is_empty(), "{words:?}");
@@ -189,6 +191,7 @@ fn the_limit_of_the_input_comes_first(rt: HostRuntime) {
     let mut output = Vec::new(alloc);
     let mut faults = Vec::new(alloc);
     let status = drive(
+        &rt,
         alloc,
         &["arachne", "policy"],
         &mut input,

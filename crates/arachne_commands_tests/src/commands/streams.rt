@@ -5,7 +5,9 @@ use arachne_lang::{CheckFault, TextFault};
 use std::alloc::Global;
 use std::io::{self, ErrorKind, Read, Write};
 use std::process::Abort;
+use std::sync::Wait;
 use std::test::Fail;
+use std::thread::Threads;
 
 const WORDS: [&str; 2] = ["arachne", "eval"];
 
@@ -56,12 +58,12 @@ fn readers_that_fail_or_never_end(rt: HostRuntime) {
     let mut failing = Failing {
         bytes: b"arachne 1\n",
     };
-    let status = drive(alloc, &WORDS, &mut failing, &mut output, &mut faults);
+    let status = drive(&rt, alloc, &WORDS, &mut failing, &mut output, &mut faults);
     assert_eq!(rt; status, 1);
     assert_eq!(rt; faults.as_slice(), b"fault 37\n".as_slice());
     faults.clear();
     let mut endless = Endless { given: 0 };
-    let status = drive(alloc, &WORDS, &mut endless, &mut output, &mut faults);
+    let status = drive(&rt, alloc, &WORDS, &mut endless, &mut output, &mut faults);
     assert_eq!(rt; status, 1);
     assert_eq!(rt; faults.as_slice(), b"fault 36\n".as_slice());
     assert_eq!(rt; endless.given, INPUT_LIMIT as u64 + 1);
@@ -103,7 +105,7 @@ fn a_failed_read_is_not_tried_again(rt: HostRuntime) -> Result<(), Fail> {
             };
             let mut output = Vec::new(alloc);
             let mut faults = Vec::new(alloc);
-            let status = drive(alloc, &WORDS, &mut input, &mut output, &mut faults);
+            let status = drive(&rt, alloc, &WORDS, &mut input, &mut output, &mut faults);
             assert_eq!(rt; status, 1, "{at} {kind:?}");
             assert!(rt; output.is_empty(), "{at} {kind:?}");
             assert_eq!(rt;
@@ -161,7 +163,7 @@ fn writers_that_fail(rt: HostRuntime) -> Result<(), Fail> {
                 fails,
                 fails_to_flush,
             };
-            let status = drive(alloc, &WORDS, &mut input, &mut output, &mut faults);
+            let status = drive(&rt, alloc, &WORDS, &mut input, &mut output, &mut faults);
             assert_eq!(rt; output.kept.as_slice(), &whole[..room.min(whole.len())]);
             let is_whole = room >= whole.len() && !fails_to_flush;
             assert_eq!(rt; status, if is_whole { 0 } else { 1 }, "{room}");
@@ -209,8 +211,8 @@ impl Write for Recovering {
 }
 
 /// The answer to a text that may run is written here, which fails.
-fn assert_unwritten(
-    rt: &impl Abort,
+fn assert_unwritten<R: Abort + Threads + Wait + Sync>(
+    rt: &R,
     alloc: Global,
     mut output: Recovering,
     case: &str,
@@ -218,7 +220,7 @@ fn assert_unwritten(
     let text = text_of(alloc, "(num 7)")?;
     let mut input = text.as_bytes();
     let mut faults = Vec::new(alloc);
-    let status = drive(alloc, &WORDS, &mut input, &mut output, &mut faults);
+    let status = drive(rt, alloc, &WORDS, &mut input, &mut output, &mut faults);
     assert_eq!(rt; status, 1, "{case}");
     assert_eq!(rt; faults.as_slice(), b"fault 38\n".as_slice(), "{case}");
     Ok(())
@@ -292,7 +294,7 @@ fn the_output_is_flushed_once_all_is_written(rt: HostRuntime) -> Result<(), Fail
         flushed: 0,
         flushes: 0,
     };
-    let status = drive(alloc, &WORDS, &mut input, &mut output, &mut faults);
+    let status = drive(&rt, alloc, &WORDS, &mut input, &mut output, &mut faults);
     assert_eq!(rt; status, 0);
     assert_eq!(rt; output.kept, 0);
     assert_eq!(rt; output.flushed, ANSWER.len());
@@ -311,7 +313,7 @@ fn a_fault_line_that_fails_changes_nothing(rt: HostRuntime) {
         fails: true,
         fails_to_flush: true,
     };
-    let status = drive(alloc, &WORDS, &mut input, &mut output, &mut faults);
+    let status = drive(&rt, alloc, &WORDS, &mut input, &mut output, &mut faults);
     assert_eq!(rt; status, 1);
     assert!(rt; output.is_empty());
     assert_eq!(rt; faults.kept.as_slice(), b"fau".as_slice());
@@ -332,6 +334,10 @@ fn the_longest_fault_lines_are_written_whole(rt: HostRuntime) {
         (
             Fault::InText(TextFault::Nesting { at: usize::MAX }),
             "fault 4 at 18446744073709551615\n",
+        ),
+        (
+            Fault::NoOrder { index: usize::MAX },
+            "fault 26 order 18446744073709551615\n",
         ),
     ] {
         let mut faults = Vec::new(rt.alloc());

@@ -1,0 +1,36 @@
+-- Why a run is refused, by the choosers that it is given.
+use Rattle.std.proofs.Common.{◌≡◌, ◌≤◌, ℕ, Bool, true, false, Option, Some, Result, Ok, Err, refl, ap, ◌∙◌, inl, length}
+use Rattle.std.specs.Prelude.{◌&&◌, nat_le, IfErr}
+use Rattle.std.proofs.lemmas.Bool.{leb-true}
+use Rattle.std.proofs.lemmas.List.FromFn.{length-map-range_with_len}
+use Rattle.arachne_core.specs.declared.layout.TheConstants.{CORES}
+use Rattle.arachne_run.specs.declared.fault.RunFault.{RunFault}
+use Rattle.arachne_run.specs.declared.report.Report.{Report}
+use Rattle.arachne_run.specs.Setups.{is_within, refusal_of}
+use Rattle.arachne_commands.specs.declared.command_line.RunSettings.{RunSettings}
+use Rattle.arachne_commands.specs.Running.{IsRefusal, chooser_of, choosers_of}
+
+pub choosers_length : (seed cores : ℕ) → length (choosers_of seed cores) ≡ cores
+choosers_length seed cores = length-map-range_with_len (chooser_of seed) 0 cores
+
+and_false : (least : Bool) → (least && false) ≡ false
+and_false true = refl
+and_false false = refl
+
+-- too many cores are refused before the choosers are looked at
+same_refusal : (cores quantum served : ℕ) → (cores ≤ CORES → served ≡ cores) → refusal_of cores quantum served ≡ refusal_of cores quantum cores
+same_refusal cores quantum served same = by_most (nat_le cores CORES) refl
+  where
+    by_most : (most : Bool) → nat_le cores CORES ≡ most → refusal_of cores quantum served ≡ refusal_of cores quantum cores
+    by_most true m = ap (refusal_of cores quantum) (same (leb-true cores CORES m))
+    by_most false m =
+        let over : is_within 1 CORES cores ≡ false = rw (m) (and_false (nat_le 1 cores)) in
+        rw (over) refl
+
+pub refused_by_run : (settings : RunSettings) (served : ℕ) (result : Result Report RunFault)
+    → (settings.cores ≤ CORES → served ≡ settings.cores)
+    → ((fault : RunFault) → refusal_of settings.cores settings.quantum served ≡ Some fault → result ≡ Err fault) → IfErr result (IsRefusal settings)
+refused_by_run settings served (Ok report) serves refused = tt
+refused_by_run settings served (Err fault) serves refused = λ first is.
+    let same = refused first (same_refusal settings.cores settings.quantum served serves ∙ is) in
+    inl (cc)

@@ -1,0 +1,22 @@
+-- Why a run is refused, and from what the choices of its cores begin.
+use Rattle.std.specs.Prelude.{◌≡◌, ◌⊎◌, ◌+◌, ◌%◌, ◌^◌, ℕ, List, map, Some}
+use Rattle.std.specs.List.{range_with_len}
+use Rattle.rand_xoshiro.specs.SplitMix64.{splitmix_seed}
+use Rattle.rand_xoshiro.specs.Xoshiro256.{of_seed}
+use Rattle.arachne_run.specs.Setups.{refusal_of}
+use Rattle.arachne_run.specs.declared.fault.RunFault.{RunFault}
+use Rattle.arachne_run.specs.declared.fault.RunFault.TheVariants.{Memory}
+use Rattle.arachne_commands.specs.declared.command_line.RunSettings.{RunSettings}
+
+-- Settings that are refused are refused for the first fault that they have, or for want of memory. Of what a run meets on its way nothing is said.
+abbrev pub IsRefusal : RunSettings → RunFault → Type 0
+IsRefusal settings fault =
+    (first : RunFault) → refusal_of settings.cores settings.quantum settings.cores ≡ Some first → (fault ≡ first) ⊎ (fault ≡ Memory)
+
+-- the generator of a core's choices, which begins from the number `seed + core`
+abbrev pub chooser_of : ℕ → ℕ → List ℕ
+chooser_of seed core = of_seed (splitmix_seed 32 ((seed + core) % 2 ^ 64))
+
+-- those of the first cores
+abbrev pub choosers_of : ℕ → ℕ → List (List ℕ)
+choosers_of seed cores = map (chooser_of seed) (range_with_len 0 cores)

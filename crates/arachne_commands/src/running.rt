@@ -1,0 +1,70 @@
+//! Running a program on the cores that the command line asks for.
+ghost use Rattle.std.specs.Prelude.{◌≡◌, ◌≤◌, IfOk, IfErr};
+ghost use Rattle.arachne_core.specs.declared.layout.TheConstants.{CORES};
+ghost use Rattle.arachne_lang.specs.Program.{source_of};
+ghost use Rattle.arachne_lang.specs.Meaning.{meaning_of};
+ghost use Rattle.arachne_lang.specs.Checked.{IsChecked};
+ghost use Rattle.arachne_run.specs.Reports.{meaning_in};
+ghost use Rattle.arachne_commands.specs.Running.{IsRefusal, choosers_of};
+
+use crate::command_line::RunSettings;
+use arachne_core::CORES;
+use arachne_lang::Program;
+use arachne_locked::LockedContexts;
+use arachne_run::{Job, OpenGate, Report, RunFault, Setup, run};
+use rand_core::SeedableRng;
+use rand_xoshiro::Xoshiro256PlusPlus;
+use std::alloc::{AllocError, Global};
+use std::sync::Wait;
+use std::thread::Threads;
+
+/// Runs a program as the settings say, over a table behind a lock.
+pub fn run_program<'p, R: Threads + Wait + Sync>(
+    rt: &R,
+    alloc: Global,
+    program: &'p Program,
+    settings: RunSettings,
+) -> Result<Report, RunFault>
+    requires { IsChecked (source_of program.now) }
+    ensures meaning { IfOk result (λ report. meaning_in report ≡ meaning_of (source_of program.now)) }
+    ensures refused { IfErr result (IsRefusal settings) }
+{
+    let RunSettings {
+        cores,
+        seed,
+        quantum,
+        names: _,
+        orders,
+    } = settings;
+    let choosers = choosers(alloc, seed, served(cores))?;
+    let setup = Setup {
+        cores,
+        quantum,
+        orders: orders.into_vec(),
+    };
+    run::<R, Job<'p>, LockedContexts<Job<'p>>, Xoshiro256PlusPlus, OpenGate>(
+        rt, alloc, program, setup, choosers, &OpenGate,
+    )
+}
+
+/// How many cores get a chooser: each, and of too many none, since the run refuses them before it looks at its choosers.
+fn served(cores: u64) -> u64
+    ensures { cores ≤ CORES → result ≡ cores }
+{
+    if cores > u64::from(CORES) { 0 } else { cores }
+}
+
+/// The choosers of so many cores. That of core k begins from the number `seed + k`.
+fn choosers(
+    alloc: Global,
+    seed: u64,
+    cores: u64,
+) -> Result<Vec<Xoshiro256PlusPlus>, AllocError>
+    ensures { IfOk result (λ choosers. choosers.items ≡ choosers_of seed cores) }
+{
+    let mut choosers = Vec::with_capacity(alloc, cores as usize)?;
+    for core in 0..cores {
+        choosers.push(Xoshiro256PlusPlus::seed_from_u64(seed.wrapping_add(core)))?;
+    }
+    Ok(choosers)
+}

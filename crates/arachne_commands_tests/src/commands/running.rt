@@ -1,0 +1,337 @@
+//! Programs that are run: their output on machines of several sizes, and what is refused.
+use super::{Ended, run, text_of};
+use arachne_commands::drive;
+use std::alloc::Global;
+use std::io::{self, ErrorKind, Read};
+use std::process::Abort;
+use std::sync::Wait;
+use std::test::Fail;
+use std::thread::Threads;
+
+/// A program's text, and its output with the names of its threads.
+struct Row {
+    text: &'static str,
+    output: &'static str,
+}
+
+const ROWS: [Row; 8] = [
+    Row {
+        text: "arachne 1\nledgers 0\nlocks 0\n(num 7)\n",
+        output: "value 7\nthreads 1\nthread /\n",
+    },
+    Row {
+        text: "arachne 1\nledgers 0\nlocks 0\n(add (num 18446744073709551615) (num 1))\n",
+        output: "value 0\nthreads 1\nthread /\n",
+    },
+    Row {
+        text: "arachne 1\nledgers 0\nlocks 0\n(fork n (num 2) (num 3) (sub (var 0) (var 1)))\n",
+        output: "value 18446744073709551615\nthreads 2\nthread /\nthread /0\n",
+    },
+    Row {
+        text: "arachne 1\nledgers 0\nlocks 0\n(fork n (num 2) (num 3) (add (var 0) (var 1)))\n",
+        output: "value 5\nthreads 2\nthread /\nthread /0\n",
+    },
+    Row {
+        text: "arachne 1\nledgers 0\nlocks 0\n(fork x (num 2) (num 3) (add (var 0) (var 1)))\n",
+        output: "value 5\nthreads 2\nthread /\nthread /0\n",
+    },
+    Row {
+        text: "arachne 1\nledgers 0\nlocks 0\n(sweep add 2 (num 0) (num 8) (var 0))\n",
+        output: "value 28\nthreads 4\nthread /\nthread /1\nthread /0\nthread /0/0\n",
+    },
+    Row {
+        text: "arachne 1\nledgers 0\nlocks 0\n(sweep min 1 (num 5) (num 5) (var 0))\n",
+        output: "value 18446744073709551615\nthreads 1\nthread /\n",
+    },
+    Row {
+        text: "arachne 1\nledgers 1\nlocks 1\n(sweep add 1 (num 0) (num 8) (hold 0 (tally 0 (num 5) (num 1))))\n",
+        output: "value 8\nledger 0 40\nthreads 8\nthread / 1\nthread /2 1\nthread /1 1\nthread /1/0 1\nthread /0 1\nthread /0/1 1\nthread /0/0 1\nthread /0/0/0 1\n",
+    },
+];
+
+/// The text whose threads sum the numbers below 901, one each.
+const SUMS: &str = "(sweep add 1 (num 0) (num 901) (var 0))";
+
+const CORES: [&str; 4] = ["1", "2", "4", "16"];
+
+const QUANTA: [&str; 2] = ["1", "100"];
+
+/// The run ends well, with this output.
+fn assert_output<R: Abort + Threads + Wait + Sync>(
+    rt: &R,
+    alloc: Global,
+    words: &[&str],
+    text: &[u8],
+    output: &str,
+) {
+    let ended = run(rt, alloc, words, text);
+    assert_eq!(rt; ended.faults.as_slice(), b"".as_slice(), "{words:?}");
+    assert_eq!(rt; ended.status, 0, "{words:?}");
+    assert_eq!(rt; ended.output.as_slice(), output.as_bytes(), "{words:?}");
+}
+
+#[test]
+fn rows_are_run_on_every_machine(rt: HostRuntime) {
+    for cores in CORES {
+        for quantum in QUANTA {
+            for row in &ROWS {
+                assert_output(
+                    &rt,
+                    rt.alloc(),
+                    &[
+                        "arachne",
+                        "run",
+                        "--cores",
+                        cores,
+                        "--quantum",
+                        quantum,
+                        "--names",
+                    ],
+                    row.text.as_bytes(),
+                    row.output,
+                );
+            }
+        }
+    }
+}
+
+/// 60 forks within one another, and 901 threads of one sweep: more than a core has places.
+#[test]
+fn more_threads_than_places_are_run(rt: HostRuntime) -> Result<(), Fail> {
+    let alloc = rt.alloc();
+    let mut nested = String::from_str(alloc, "(num 1)")?;
+    for _ in 0..60u32 {
+        nested = format!(in alloc; "(fork n {nested} (num 1) (add (var 0) (var 1)))")?;
+    }
+    let nested = text_of(alloc, nested.as_str())?;
+    let sums = text_of(alloc, SUMS)?;
+    for cores in CORES {
+        for quantum in QUANTA {
+            let words = ["arachne", "run", "--cores", cores, "--quantum", quantum];
+            assert_output(
+                &rt,
+                alloc,
+                &words,
+                nested.as_bytes(),
+                "value 61\nthreads 61\n",
+            );
+            assert_output(
+                &rt,
+                alloc,
+                &words,
+                sums.as_bytes(),
+                "value 405450\nthreads 901\n",
+            );
+        }
+    }
+    Ok(())
+}
+
+#[test]
+fn every_seed_gives_the_output(rt: HostRuntime) {
+    for seed in ["0", "1", "7", "18446744073709551615"] {
+        for row in &ROWS {
+            assert_output(
+                &rt,
+                rt.alloc(),
+                &["arachne", "run", "--seed", seed, "--names"],
+                row.text.as_bytes(),
+                row.output,
+            );
+        }
+    }
+}
+
+/// Cores are taken back and granted again while a program runs.
+#[test]
+fn orders_change_no_output(rt: HostRuntime) {
+    for orders in [
+        ["0:release:1", "1:release:2", "2:grant:1"],
+        ["0:release:1", "0:release:2", "0:release:3"],
+        ["0:grant:1", "0:release:1", "0:release:1"],
+        [
+            "0:release:1",
+            "18446744073709551615:grant:1",
+            "18446744073709551615:release:3",
+        ],
+    ] {
+        for row in &ROWS {
+            let [first, second, third] = orders;
+            assert_output(
+                &rt,
+                rt.alloc(),
+                &[
+                    "arachne",
+                    "run",
+                    first,
+                    "--cores",
+                    "4",
+                    second,
+                    "--quantum",
+                    "1",
+                    "--names",
+                    third,
+                ],
+                row.text.as_bytes(),
+                row.output,
+            );
+        }
+    }
+}
+
+/// A thousand orders, which take each core but the first back and grant it again.
+#[test]
+fn a_thousand_orders_are_carried_out(rt: HostRuntime) -> Result<(), Fail> {
+    let alloc = rt.alloc();
+    let mut orders = Vec::new(alloc);
+    for after in 0..1000u64 {
+        let kind = if after % 2 == 0 { "release" } else { "grant" };
+        let core = 1 + (after / 2) % 3;
+        orders.push(format!(in alloc; "{after}:{kind}:{core}")?)?;
+    }
+    let mut words = Vec::new(alloc);
+    for word in ["arachne", "run", "--cores", "4", "--quantum", "1"] {
+        words.push(word)?;
+    }
+    for order in &orders {
+        words.push(order.as_str())?;
+    }
+    let text = text_of(alloc, SUMS)?;
+    assert_output(
+        &rt,
+        alloc,
+        words.as_slice(),
+        text.as_bytes(),
+        "value 405450\nthreads 901\n",
+    );
+    Ok(())
+}
+
+/// Nothing is on the output, and this is on the faults stream.
+fn assert_fault<R: Abort>(rt: &R, ended: &Ended, words: &[&str], status: u8, line: &str) {
+    assert_eq!(rt; ended.status, status, "{words:?}");
+    assert!(rt; ended.output.is_empty(), "{words:?}");
+    assert_eq!(rt; ended.faults.as_slice(), line.as_bytes(), "{words:?}");
+}
+
+/// What the run refuses, the first of two faults each time.
+#[test]
+fn settings_at_fault(rt: HostRuntime) -> Result<(), Fail> {
+    let text = text_of(rt.alloc(), "(num 7)")?;
+    for (settings, line) in [
+        (["--cores=0", "--quantum=0", "0:grant:4"], "fault 20\n"),
+        (["--cores=17", "--quantum=1", "0:grant:1"], "fault 20\n"),
+        (
+            ["--cores=18446744073709551615", "--seed=2", "0:grant:1"],
+            "fault 20\n",
+        ),
+        (["--cores=4", "--quantum=0", "0:grant:4"], "fault 21\n"),
+        (["--cores=16", "--quantum=10001", "0:grant:0"], "fault 21\n"),
+        (
+            ["--quantum=10000", "0:grant:1", "0:grant:4"],
+            "fault 22 order 1\n",
+        ),
+        (
+            ["--cores=16", "0:grant:16", "0:release:0"],
+            "fault 22 order 0\n",
+        ),
+        (
+            ["--quantum=1", "0:release:0", "0:grant:4"],
+            "fault 23 order 0\n",
+        ),
+        (
+            ["--quantum=1", "5:grant:1", "4:grant:1"],
+            "fault 25 order 1\n",
+        ),
+        (
+            ["--quantum=1", "5:grant:1", "4:release:0"],
+            "fault 23 order 1\n",
+        ),
+    ] {
+        let [first, second, third] = settings;
+        let words = ["arachne", "run", first, second, third];
+        let ended = run(&rt, rt.alloc(), &words, text.as_bytes());
+        assert_fault(&rt, &ended, &words, 1, line);
+    }
+    Ok(())
+}
+
+/// A text's faults are told before those of the settings.
+#[test]
+fn texts_at_fault_are_not_run(rt: HostRuntime) -> Result<(), Fail> {
+    let alloc = rt.alloc();
+    for (expr, line) in [
+        ("(num 00)", "fault 2 at 34\n"),
+        ("(num 18446744073709551616)", "fault 3 at 52\n"),
+        ("(add (var 0) (num 1))", "fault 8 node 1\n"),
+        ("(sweep add 0 (num 0) (num 1) (num 2))", "fault 11 node 0\n"),
+    ] {
+        let text = text_of(alloc, expr)?;
+        let words = ["arachne", "run", "--cores=0", "--quantum=0", "0:release:0"];
+        let ended = run(&rt, alloc, &words, text.as_bytes());
+        assert_fault(&rt, &ended, &words, 1, line);
+    }
+    Ok(())
+}
+
+/// A reader that tells whether it was read.
+#[derive(Drop)]
+struct Watched {
+    is_read: bool,
+}
+
+impl Read for Watched {
+    fn read(&mut self, _buf: &mut [u8]) -> io::Result<usize> {
+        self.is_read = true;
+        Err(io::Error::from(ErrorKind::Other))
+    }
+}
+
+/// The first word that is no order is told by its index, before anything is read.
+#[test]
+fn words_that_are_no_orders(rt: HostRuntime) {
+    let alloc = rt.alloc();
+    for (words, line) in [
+        (["0:take:1", "0:grant:1", "--names"], "fault 26 order 0\n"),
+        (["0:grant:1", "--cores=0", "5"], "fault 26 order 1\n"),
+        (["0:release:0", "", "x"], "fault 26 order 1\n"),
+        (
+            ["0:grant:18446744073709551616", "--quantum=0", "--names"],
+            "fault 26 order 0\n",
+        ),
+    ] {
+        let [first, second, third] = words;
+        let words = ["arachne", "run", first, second, third];
+        let mut input = Watched { is_read: false };
+        let mut output = Vec::new(alloc);
+        let mut faults = Vec::new(alloc);
+        let status = drive(&rt, alloc, &words, &mut input, &mut output, &mut faults);
+        assert!(rt; !input.is_read, "{words:?}");
+        let ended = Ended {
+            status,
+            output,
+            faults,
+        };
+        assert_fault(&rt, &ended, &words, 2, line);
+    }
+}
+
+/// Words that `clap` refuses are refused by it, orders or not.
+#[test]
+fn options_that_are_not_understood(rt: HostRuntime) {
+    for words in [
+        ["arachne", "run", "--cores", "18446744073709551616"],
+        ["arachne", "run", "--cores", "-1"],
+        ["arachne", "run", "5", "--seeds=1"],
+        ["arachne", "run", "0:grant:1", "--quantum"],
+        ["arachne", "run", "--names=yes", "5"],
+        ["arachne", "eval", "--cores", "4"],
+        ["arachne", "eval", "--names", "0:grant:1"],
+    ] {
+        let ended = run(&rt, rt.alloc(), &words, b"");
+        assert_eq!(rt; ended.status, 2, "{words:?}");
+        assert!(rt; ended.output.is_empty(), "{words:?}");
+        assert!(rt; !ended.faults.is_empty(), "{words:?}");
+        assert!(rt; !ended.faults.starts_with(b"fault"), "{words:?}");
+    }
+}
