@@ -4,3 +4,4 @@ pub mod Slices
 pub mod Reports
 pub mod Setups
 pub mod Tokens
+pub mod Distinct

@@ -1,5 +1,5 @@
 -- What a report says.
-use Rattle.std.specs.Prelude.{map}
+use Rattle.std.specs.Prelude.{ℕ, List, map}
 use Rattle.arachne_lang.specs.declared.meaning.Meaning.{Meaning}
 use Rattle.arachne_machine.specs.Outcome.{named_holds}
 use Rattle.arachne_run.specs.declared.report.Report.{Report}
@@ -7,3 +7,7 @@ use Rattle.arachne_run.specs.declared.report.Report.{Report}
 -- the value and totals, and the names and holds of the threads
 abbrev pub meaning_in : Report → Meaning
 meaning_in report = record { value = report.value; totals = report.totals; threads = map named_holds report.threads }
+
+-- the tags of the threads
+abbrev pub tags_of : Report → List ℕ
+tags_of report = map (λ line. line.tag) report.threads

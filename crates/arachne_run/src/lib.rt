@@ -1,6 +1,7 @@
 //! The parallel run: a task program's threads on one kernel thread for each core, over any context table.
 #![tactic(auto)]
 
+mod audit;
 mod crew;
 mod fault;
 mod gate;

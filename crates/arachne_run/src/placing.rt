@@ -13,7 +13,7 @@ use rand_core::Rng;
 use std::sync::Wait;
 
 impl<'a, H: Wait, T: RunJob, C: Contexts<T>, R: Rng, G: Gate> Worker<'a, H, T, C, R, G> {
-    /// Answers a fork: the child gets a place on the first core from the next one on that has one, else it runs in
+    /// Answers a normal fork: the child gets a place on the first core from the next one on that has one, else it runs in
     /// place.
     pub(crate) fn fork(
         &self,
@@ -52,7 +52,7 @@ impl<'a, H: Wait, T: RunJob, C: Contexts<T>, R: Rng, G: Gate> Worker<'a, H, T, C
     }
 
     /// The child runs in the place of the thread that forks it.
-    fn fork_in_place(
+    pub(crate) fn fork_in_place(
         &self,
         kit: &mut Kit<C::Seat, R>,
         held: &mut Held<T, C::Hold>,

@@ -3,7 +3,8 @@ ghost use Rattle.std.specs.Prelude.{◌≡◌, ◌≤◌, [], IfOk, Some, Err, v
 ghost use Rattle.arachne_lang.specs.Program.{source_of};
 ghost use Rattle.arachne_lang.specs.Meaning.{meaning_of};
 ghost use Rattle.arachne_lang.specs.Checked.{IsChecked};
-ghost use Rattle.arachne_run.specs.Reports.{meaning_in};
+ghost use Rattle.arachne_run.specs.Distinct.{AreDistinct};
+ghost use Rattle.arachne_run.specs.Reports.{meaning_in, tags_of};
 ghost use Rattle.arachne_run.specs.Setups.{refusal_of};
 ghost use Rattle.arachne_run.specs.declared.fault.RunFault.{RunFault};
 
@@ -41,6 +42,7 @@ pub fn run<
 ) -> Result<Report, RunFault>
     requires { IsChecked (source_of program.now) }
     ensures meaning { IfOk result (λ report. meaning_in report ≡ meaning_of (source_of program.now)) }
+    ensures tags { IfOk result (λ report. AreDistinct (tags_of report)) }
     ensures refused { (fault : RunFault) → refusal_of setup.cores setup.quantum (vec_len choosers) ≡ Some fault → result ≡ Err fault }
 {
     setup.check(choosers.len())?;
@@ -61,6 +63,6 @@ pub fn run<
     let Ok((outcome, _)) = outlet.fetch() else {
         return Err(RunFault::Foreign);
     };
-    let report = Report::of(outcome, totals)?;
+    let report = Report::of(alloc, outcome, totals)?;
     Ok(report)
 }

@@ -13,6 +13,7 @@ use crate::slice::{RunJob, Slice};
 use crate::tokens::Tokens;
 use arachne_contexts::{Contexts, Held, Seats};
 use arachne_core::{Rest, SLOTS};
+use arachne_lang::Class;
 use rand_core::Rng;
 use std::alloc::Global;
 use std::marker::PhantomData;
@@ -98,7 +99,11 @@ impl<'a, H: Wait, T: RunJob, C: Contexts<T>, R: Rng, G: Gate> Worker<'a, H, T, C
         let mut held = held;
         match self.slice(kit, &mut held)? {
             Slice::Goes => self.put_back(kit, held, Rest::Ready),
-            Slice::Forks(_, child) => self.fork(kit, held, child),
+            Slice::Forks(Class::Normal, child) => self.fork(kit, held, child),
+            Slice::Forks(Class::Exclusive, child) => {
+                self.fork_in_place(kit, &mut held, child)?;
+                self.put_back(kit, held, Rest::Ready)
+            }
             Slice::Blocks => self.put_back(kit, held, Rest::Blocked),
             Slice::Tallies(ledger, amount) => {
                 self.tally(kit, &mut held, ledger, amount)?;
