@@ -55,11 +55,7 @@ fn served(cores: u64) -> u64
 }
 
 /// The choosers of so many cores. That of core k begins from the number `seed + k`.
-fn choosers(
-    alloc: Global,
-    seed: u64,
-    cores: u64,
-) -> Result<Vec<Xoshiro256PlusPlus>, AllocError>
+fn choosers(alloc: Global, seed: u64, cores: u64) -> Result<Vec<Xoshiro256PlusPlus>, AllocError>
     ensures { IfOk result (λ choosers. choosers.items ≡ choosers_of seed cores) }
 {
     let mut choosers = Vec::with_capacity(alloc, cores as usize)?;

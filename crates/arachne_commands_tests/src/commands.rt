@@ -22,12 +22,7 @@ struct Ended {
     faults: Vec<u8>,
 }
 
-fn run<R: Threads + Wait + Sync>(
-    rt: &R,
-    alloc: Global,
-    words: &[&str],
-    mut input: &[u8],
-) -> Ended {
+fn run<R: Threads + Wait + Sync>(rt: &R, alloc: Global, words: &[&str], mut input: &[u8]) -> Ended {
     let mut output = Vec::new(alloc);
     let mut faults = Vec::new(alloc);
     let status = drive(rt, alloc, words, &mut input, &mut output, &mut faults);
@@ -46,7 +41,10 @@ fn text_of(alloc: Global, expr: &str) -> Result<String, Fail> {
 /// The words of a test's own process ask for nothing, so that the program has nothing to do but to refuse them.
 #[test]
 fn program_ends_with_the_status(rt: HostRuntime) {
-    assert_eq!(rt; run_process(&rt, &mut rt.stderr()).report(&rt), ExitCode::from(2));
+    assert_eq!(rt;
+        run_process(&rt, &mut rt.stderr()).report(&rt),
+        ExitCode::from(2)
+    );
 }
 
 /// A text that may run, one that is refused, and words that are not understood.
@@ -104,7 +102,12 @@ fn values_are_printed(rt: HostRuntime) -> Result<(), Fail> {
         assert_eq!(rt; short.status, 0, "{expr}");
         assert_eq!(rt; short.output.as_slice(), plain.as_bytes(), "{expr}");
         assert!(rt; short.faults.is_empty(), "{expr}");
-        let long = run(&rt, rt.alloc(), &["arachne", "eval", "--names"], text.as_bytes());
+        let long = run(
+            &rt,
+            rt.alloc(),
+            &["arachne", "eval", "--names"],
+            text.as_bytes(),
+        );
         let whole = format!(in rt.alloc(); "{plain}{names}")?;
         assert_eq!(rt; long.output.as_slice(), whole.as_bytes(), "{expr}");
     }
@@ -112,12 +115,7 @@ fn values_are_printed(rt: HostRuntime) -> Result<(), Fail> {
 }
 
 /// The input has this fault, and nothing is printed on the output.
-fn assert_fault<R: Abort + Threads + Wait + Sync>(
-    rt: &R,
-    alloc: Global,
-    input: &[u8],
-    line: &str,
-) {
+fn assert_fault<R: Abort + Threads + Wait + Sync>(rt: &R, alloc: Global, input: &[u8], line: &str) {
     for command in ["eval", "check"] {
         let run = run(rt, alloc, &["arachne", command], input);
         assert_eq!(rt; run.status, 1, "{line}");

@@ -44,8 +44,8 @@ const ROWS: [Row; 8] = [
         output: "value 18446744073709551615\nthreads 1\nthread /\n",
     },
     Row {
-        text: "arachne 1\nledgers 1\nlocks 1\n(sweep add 1 (num 0) (num 8) (hold 0 (tally 0 (num 5) (num 1))))\n",
-        output: "value 8\nledger 0 40\nthreads 8\nthread / 1\nthread /2 1\nthread /1 1\nthread /1/0 1\nthread /0 1\nthread /0/1 1\nthread /0/0 1\nthread /0/0/0 1\n",
+        text: "arachne 1\nledgers 1\nlocks 0\n(sweep add 1 (num 0) (num 8) (tally 0 (num 5) (num 1)))\n",
+        output: "value 8\nledger 0 40\nthreads 8\nthread /\nthread /2\nthread /1\nthread /1/0\nthread /0\nthread /0/1\nthread /0/0\nthread /0/0/0\n",
     },
 ];
 
@@ -142,71 +142,6 @@ fn every_seed_gives_the_output(rt: HostRuntime) {
     }
 }
 
-/// Cores are taken back and granted again while a program runs.
-#[test]
-fn orders_change_no_output(rt: HostRuntime) {
-    for orders in [
-        ["0:release:1", "1:release:2", "2:grant:1"],
-        ["0:release:1", "0:release:2", "0:release:3"],
-        ["0:grant:1", "0:release:1", "0:release:1"],
-        [
-            "0:release:1",
-            "18446744073709551615:grant:1",
-            "18446744073709551615:release:3",
-        ],
-    ] {
-        for row in &ROWS {
-            let [first, second, third] = orders;
-            assert_output(
-                &rt,
-                rt.alloc(),
-                &[
-                    "arachne",
-                    "run",
-                    first,
-                    "--cores",
-                    "4",
-                    second,
-                    "--quantum",
-                    "1",
-                    "--names",
-                    third,
-                ],
-                row.text.as_bytes(),
-                row.output,
-            );
-        }
-    }
-}
-
-/// A thousand orders, which take each core but the first back and grant it again.
-#[test]
-fn a_thousand_orders_are_carried_out(rt: HostRuntime) -> Result<(), Fail> {
-    let alloc = rt.alloc();
-    let mut orders = Vec::new(alloc);
-    for after in 0..1000u64 {
-        let kind = if after % 2 == 0 { "release" } else { "grant" };
-        let core = 1 + (after / 2) % 3;
-        orders.push(format!(in alloc; "{after}:{kind}:{core}")?)?;
-    }
-    let mut words = Vec::new(alloc);
-    for word in ["arachne", "run", "--cores", "4", "--quantum", "1"] {
-        words.push(word)?;
-    }
-    for order in &orders {
-        words.push(order.as_str())?;
-    }
-    let text = text_of(alloc, SUMS)?;
-    assert_output(
-        &rt,
-        alloc,
-        words.as_slice(),
-        text.as_bytes(),
-        "value 405450\nthreads 901\n",
-    );
-    Ok(())
-}
-
 /// Nothing is on the output, and this is on the faults stream.
 fn assert_fault<R: Abort>(rt: &R, ended: &Ended, words: &[&str], status: u8, line: &str) {
     assert_eq!(rt; ended.status, status, "{words:?}");
@@ -254,6 +189,24 @@ fn settings_at_fault(rt: HostRuntime) -> Result<(), Fail> {
         assert_fault(&rt, &ended, &words, 1, line);
     }
     Ok(())
+}
+
+/// Orders that are in order are not carried out yet, and a program with a lock is not run yet, even where it holds none.
+#[test]
+fn orders_and_locks_are_not_served_yet(rt: HostRuntime) {
+    let plain = "arachne 1\nledgers 0\nlocks 0\n(num 7)\n";
+    let locked = "arachne 1\nledgers 0\nlocks 1\n(hold 0 (num 7))\n";
+    let idle = "arachne 1\nledgers 0\nlocks 1\n(num 7)\n";
+    for (word, text) in [
+        ("0:release:1", plain),
+        ("18446744073709551615:grant:0", plain),
+        ("--quantum=1", locked),
+        ("--cores=16", idle),
+    ] {
+        let words = ["arachne", "run", word];
+        let ended = run(&rt, rt.alloc(), &words, text.as_bytes());
+        assert_fault(&rt, &ended, &words, 1, "fault 39\n");
+    }
 }
 
 /// A text's faults are told before those of the settings.

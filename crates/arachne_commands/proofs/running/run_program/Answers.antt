@@ -15,13 +15,29 @@ use Rattle.arachne_commands.proofs.running.run_program.Goals as goal
 pub run-requires : goal.run-requires
 run-requires g c κs = (
   search (sendable, job_send) depth 20,
-  (search (sendable, chooser.the_send) depth 20,
-  (search (sendable, thread_send) depth 20,
-  (search (sendable, claim.the_send) depth 20,
-  (search (sendable, hold.the_send) depth 20,
-  (search (sendable, seat.the_send) depth 20,
-  (search (sendable, c.type_bounds.sync-R) depth 20,
-  (search (sendable, std.crosses, table.the_sync, job_send) depth 20,
-  (search (sendable, gate.the_sync) depth 20,
-  ((refl, tt), c.requires)))))))))
+  (
+    search (sendable, chooser.the_send) depth 20,
+    (
+      search (sendable, thread_send) depth 20,
+      (
+        search (sendable, claim.the_send) depth 20,
+        (
+          search (sendable, hold.the_send) depth 20,
+          (
+            search (sendable, seat.the_send) depth 20,
+            (
+              search (sendable, c.type_bounds.sync-R) depth 20,
+              (
+                search (sendable, std.crosses, table.the_sync, job_send) depth 20,
+                (
+                  search (sendable, gate.the_sync) depth 20,
+                  ((refl, tt), c.requires),
+                ),
+              ),
+            ),
+          ),
+        ),
+      ),
+    ),
+  ),
 )
