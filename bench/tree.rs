@@ -135,6 +135,7 @@ pub fn program(text: &str) -> Program {
 }
 
 /// The most memory that the process had, in kilobytes.
+#[allow(dead_code)]
 pub fn peak() -> u64 {
     let status = std::fs::read_to_string("/proc/self/status").unwrap();
     let line = status.lines().find(|line| line.starts_with("VmHWM:")).unwrap();
