@@ -4,3 +4,4 @@ pub mod Steps
 pub mod Calls
 pub mod Ending
 pub mod FirstWords
+pub mod Moves

@@ -30,5 +30,5 @@ invariant_of-seat-in-Ok g c =
     let a = claimed_by (record { place = record { core = c.args.core; index = 0 }; alone = true }) won.0 won.1 in
     let inside = subst (λ t. won.0 < t.slots) (sym (ap (λ v. v.table) c.seat.view_is ∙ c.requires.own)) won.2 in
     keeps-more c.seat.inside.at c.try_claim_alone.new.seat c.seat.inside.weight c.seat.inside.out _ c.seat.invariant
-    (won.4 ∙ ap (λ (v : CallView g.row.T.Denot). record v { known = noted kind.Alone i 0 (sum_of true 0) (with_context v.known a) }) c.see_core-seen.ensures) a inside
-    (ap (λ v. carried_at won.0 v.known.carried) (sym c.see_core-seen.ensures) ∙ won.3) refl
+    (won.4 ∙ ap (λ (v : CallView g.row.T.Denot). record v { known = noted kind.Alone i 0 (sum_of true 0) (with_context v.known a) }) c.see_core-seen.ensures.seat) a inside
+    (ap (λ v. carried_at won.0 v.known.carried) (sym c.see_core-seen.ensures.seat) ∙ won.3) refl
