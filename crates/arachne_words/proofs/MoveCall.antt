@@ -1,23 +1,22 @@
 -- A move: what its steps ask, and what they leave.
-use Rattle.std.proofs.Common.{◌≡◌, ◌≢◌, ℕ, ◌+◌, ◌-◌, ◌<◌, ◌∙◌, ◌==◌, if◌then◌else◌, ap, sym, subst, refl, inl, inr, true, false, List, [], ◌∷◌}
+use Rattle.std.proofs.Common.{◌≡◌, ℕ, ◌<◌, ◌∙◌, ◌==◌, if◌then◌else◌, ap, sym, subst, refl, inr, List}
 use Rattle.arachne_core.specs.declared.layout.TheConstants.{CORE_BITS}
 use Rattle.arachne_core.specs.declared.place.Place.{Place}
-use Rattle.arachne_core.specs.declared.mark.Mark.TheVariants as mark
-use Rattle.arachne_core.specs.Marked.{Marked, mark_word, marked_of}
+use Rattle.arachne_core.specs.Marked.{Marked, mark_word}
 use Rattle.arachne_contexts.specs.declared.answers.Moved.{Moved}
 use Rattle.arachne_contexts.specs.declared.answers.Moved.TheVariants as moved
 use Rattle.arachne_rule.specs.declared.view.Carried.{Carried}
 use Rattle.arachne_rule.specs.declared.view.Kind.TheVariants as kind
 use Rattle.arachne_rule.specs.declared.view.Known.{Known}
-use Rattle.arachne_rule.specs.Changes.{index_sum, left_context, marked_free, release_sum}
+use Rattle.arachne_rule.specs.Changes.{index_sum, left_context}
 use Rattle.arachne_rule.specs.Layout.{Contexts, occ_index, name_index}
-use Rattle.arachne_rule.specs.Plays.{Carries, SaysCarried}
+use Rattle.arachne_rule.specs.Plays.{Carries}
 use Rattle.arachne_rule.specs.Views.{noted, with_context, with_carried, without_context, without}
 use Rattle.arachne_rule.proofs.Carrying.{with-at}
-use Rattle.arachne_words.specs.Seats.{CallView, ClaimView, HasClaim, claimed_by}
+use Rattle.arachne_words.specs.Seats.{CallView, HasClaim, claimed_by}
 use Rattle.arachne_words.specs.Sizes.{IsPlaceIn}
 use Rattle.arachne_words.specs.Steps.{IsClaimed}
-use Rattle.arachne_words.specs.Calls.{looked, learned, released}
+use Rattle.arachne_words.specs.Calls.{released}
 use Rattle.arachne_words.specs.Moves.{shared_claim, free_at, moved_off, HasRoom, ToAnswer, SeenAnswer}
 use Rattle.arachne_words.proofs.Out.{without-with}
 

@@ -1,10 +1,10 @@
 -- What a move answers, by its steps: each step is noted with its word, and what stood there before and after it.
-use Rattle.std.specs.Prelude.{◌≡◌, ◌≢◌, ℕ, ◌+◌, ◌-◌, ◌<◌, ◌⊎◌, ◌==◌, if◌then◌else◌, true, false, []}
+use Rattle.std.specs.Prelude.{◌≡◌, ◌≢◌, ℕ, ◌-◌, ◌<◌, ◌⊎◌, ◌==◌, if◌then◌else◌, true, false, []}
 use Rattle.arachne_core.specs.declared.place.Place.{Place}
 use Rattle.arachne_core.specs.declared.layout.TheConstants.{CORE_BITS}
 use Rattle.arachne_core.specs.declared.mark.Mark.TheVariants as mark
-use Rattle.arachne_core.specs.Occupancy.{Occupancy, occupancy_of}
-use Rattle.arachne_core.specs.Marked.{Marked, mark_word, marked_of}
+use Rattle.arachne_core.specs.Occupancy.{occupancy_of}
+use Rattle.arachne_core.specs.Marked.{Marked, mark_word}
 use Rattle.arachne_contexts.specs.declared.answers.Moved.{Moved}
 use Rattle.arachne_contexts.specs.declared.answers.Moved.TheVariants as moved
 use Rattle.arachne_rule.specs.declared.view.Kind.TheVariants as kind

@@ -1,4 +1,4 @@
-use Rattle.std.proofs.Common.{◌≡◌, ◌<◌, ℕ, ◌∙◌, ap, sym, subst, refl, arith, false}
+use Rattle.std.proofs.Common.{◌<◌, ℕ, ◌∙◌, ap, sym, subst, refl, arith, false}
 use Rattle.arachne_core.specs.Occupancy.{occupancy_word}
 use Rattle.arachne_rule.specs.Layout.{occ_index}
 use Rattle.arachne_rule.specs.Views.{carried_at}
