@@ -1,14 +1,12 @@
 -- The end of a thread: what its steps ask, and what they leave.
-use Rattle.std.proofs.Common.{◌≡◌, ℕ, ◌+◌, ◌-◌, ◌<◌, ◌∙◌, ap, sym, subst, refl, true, false, List, [], ◌∷◌}
+use Rattle.std.proofs.Common.{◌≡◌, ℕ, ◌+◌, ◌-◌, ◌∙◌, ap, sym, subst, refl, ◌∷◌}
 use Rattle.arachne_core.specs.declared.layout.TheConstants.{CORE_BITS}
 use Rattle.arachne_core.specs.Marked.{mark_word}
-use Rattle.arachne_rule.specs.declared.view.Carried.{Carried}
 use Rattle.arachne_rule.specs.declared.view.Kind.TheVariants as kind
-use Rattle.arachne_rule.specs.declared.view.Known.{Known}
 use Rattle.arachne_rule.specs.Changes.{retired, spent_known, claimed_again, marked_free, release_sum}
-use Rattle.arachne_rule.specs.Layout.{Contexts, occ_index}
+use Rattle.arachne_rule.specs.Layout.{Contexts}
 use Rattle.arachne_rule.specs.Plays.{Carries}
-use Rattle.arachne_rule.specs.Views.{noted, with_context, with_carried, without, thread_in}
+use Rattle.arachne_rule.specs.Views.{noted, thread_in}
 use Rattle.arachne_rule.proofs.Carrying.{with-at}
 use Rattle.arachne_words.specs.Seats.{CallView, HoldView, ClaimView, HasClaim, HasThread, held_by, claimed_by}
 use Rattle.arachne_words.specs.Calls.{released}

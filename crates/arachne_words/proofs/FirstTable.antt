@@ -1,15 +1,13 @@
 -- The first words of a table are those that its rule asks for.
-use Rattle.std.proofs.Common.{◌≡◌, ◌≢◌, ℕ, ◌+◌, ◌-◌, ◌*◌, ◌/◌, ◌%◌, ◌<◌, ◌≤◌, ◌∙◌, cond, ltb, false, true, ap, sym, arith, List, [], ◌∷◌, ◌++◌, length, get_or, subst, refl, inl, inr}
+use Rattle.std.proofs.Common.{◌≡◌, ℕ, ◌+◌, ◌-◌, ◌*◌, ◌/◌, ◌%◌, ◌<◌, ◌≤◌, ◌∙◌, ltb, false, ap, sym, arith, List, [], ◌∷◌, ◌++◌, length, get_or, inl, inr}
 use Rattle.std.proofs.lemmas.Bool.{cases_lt, cond-true, cond-false, lt-ltb, le-ltb}
 use Rattle.std.proofs.Math.ListN.{get_or-append}
 use Rattle.std.proofs.Math.Seq.{get_or-append_seam}
 use Rattle.arachne_core.specs.declared.layout.TheConstants.{CORE_BITS, SLOTS}
-use Rattle.arachne_core.specs.declared.place.Place.{Place}
 use Rattle.arachne_core.specs.declared.mark.Mark.TheVariants as mark
-use Rattle.arachne_core.specs.Place.{first_place, number_of}
+use Rattle.arachne_core.specs.Place.{first_place}
 use Rattle.arachne_core.specs.Marked.{mark_word}
-use Rattle.arachne_rule.specs.declared.view.Shape.{Shape}
-use Rattle.arachne_rule.specs.Layout.{contexts_in, words_in, occ_index, name_index, AreFirstWords}
+use Rattle.arachne_rule.specs.Layout.{AreFirstWords}
 use Rattle.arachne_words.specs.FirstWords.{first_word, block_word}
 
 pub block-before : (core offset : ℕ) → offset < 16 → block_word core offset ≡ 0

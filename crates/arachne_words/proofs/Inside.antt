@@ -1,5 +1,5 @@
 -- That the words of a sized table are among its words.
-use Rattle.std.proofs.Common.{◌≡◌, ℕ, ◌+◌, ◌*◌, ◌<◌, ◌≤◌, arith}
+use Rattle.std.proofs.Common.{◌≡◌, ℕ, ◌<◌, arith}
 use Rattle.arachne_core.specs.declared.place.Place.{Place}
 use Rattle.arachne_rule.specs.Layout.{Contexts, occ_index, name_index}
 use Rattle.arachne_words.specs.Sizes.{IsSized, IsPlaceIn}

@@ -8,3 +8,4 @@ pub mod WakeSteps
 pub mod RestCall
 pub mod FirstTable
 pub mod Leaving
+pub mod MoveCall

@@ -1,5 +1,5 @@
 -- How many contexts are out with a seat, after one was claimed or taken, changed, or given up.
-use Rattle.std.proofs.Common.{◌≡◌, ◌≢◌, ℕ, zero, suc, ◌+◌, ◌-◌, ◌<◌, ◌≤◌, List, [], ◌∷◌, length, eqb, refl, sym, ap, ◌∙◌, subst, arith, inl, inr}
+use Rattle.std.proofs.Common.{◌≡◌, ℕ, zero, suc, ◌+◌, ◌-◌, ◌<◌, ◌≤◌, List, [], ◌∷◌, length, eqb, refl, sym, ap, ◌∙◌, subst, arith, inl, inr}
 use Rattle.std.proofs.lemmas.Bool.{cases_eq, cond-true, cond-false, eq-eqb, ne_eqb}
 use Rattle.arachne_rule.specs.declared.view.Carried.{Carried}
 use Rattle.arachne_rule.specs.declared.view.Known.{Known}
@@ -73,6 +73,14 @@ out-none n k is = record { counted = ap length is; once = λ x. let a = ap (λ (
 
 pub out-same : (n out : ℕ) (k k' : Known) → AreOut n out k → k'.carried ≡ k.carried → AreOut n out k'
 out-same = moved
+
+pub without-fresh : (x : ℕ) (cs : List Carried) → carried_at x cs ≡ [] → without x cs ≡ cs
+without-fresh x [] e = refl
+without-fresh x (c ∷ cs) e = elim (cases_eq c.context x) [
+  | inl f ↦ absurd (no-more c (carried_at x cs) (sym (cond-true (eqb c.context x) (c ∷ carried_at x cs) (carried_at x cs) (eq-eqb _ _ f)) ∙ e))
+  | inr n ↦ cond-false (eqb c.context x) (without x cs) (c ∷ without x cs) (ne_eqb _ _ n)
+      ∙ ap (λ (r : List Carried). c ∷ r) (without-fresh x cs (sym (cond-false (eqb c.context x) (c ∷ carried_at x cs) (carried_at x cs) (ne_eqb _ _ n)) ∙ e))
+]
 
 pub without-twice : (x : ℕ) (cs : List Carried) → without x (without x cs) ≡ without x cs
 without-twice x [] = refl

@@ -1,5 +1,5 @@
 -- A post: what its steps ask, and what it leaves.
-use Rattle.std.proofs.Common.{◌≡◌, ℕ, ◌+◌, ◌<◌, ◌∙◌, ap, sym, subst, refl, true, false, Some, None, Option, List, [], ◌∷◌}
+use Rattle.std.proofs.Common.{◌≡◌, ℕ, ◌<◌, ◌∙◌, ap, sym, subst, refl, true, Some, None, ◌∷◌}
 use Rattle.atomic_table.specs.Table.{rest}
 use Rattle.arachne_core.specs.declared.layout.TheConstants.{CORE_BITS}
 use Rattle.arachne_core.specs.declared.mark.Mark.TheVariants as mark
@@ -10,10 +10,9 @@ use Rattle.arachne_rule.specs.declared.view.Known.{Known}
 use Rattle.arachne_rule.specs.Changes.{marked_as, posted}
 use Rattle.arachne_rule.specs.Layout.{Contexts, name_index}
 use Rattle.arachne_rule.specs.Plays.{Carries, SaysCarried}
-use Rattle.arachne_rule.specs.Views.{noted, with_context, without}
+use Rattle.arachne_rule.specs.Views.{noted, with_context}
 use Rattle.arachne_rule.proofs.Carrying.{with-at}
 use Rattle.arachne_words.specs.Seats.{CallView, ClaimView, claimed_by}
-use Rattle.arachne_words.specs.Sizes.{IsPlaceIn}
 use Rattle.arachne_words.specs.Steps.{IsAtHome, IsPostable, HasLast}
 use Rattle.arachne_words.specs.Calls.{looked, learned}
 use Rattle.arachne_words.proofs.Out.{without-with}

@@ -7,15 +7,14 @@ use Rattle.arachne_core.specs.declared.mark.Mark.TheVariants as mark
 use Rattle.arachne_core.specs.Marked.{Marked, mark_word}
 use Rattle.arachne_rule.specs.declared.view.Carried.{Carried}
 use Rattle.arachne_rule.specs.declared.view.Kind.TheVariants as kind
-use Rattle.arachne_rule.specs.declared.view.Known.{Known}
 use Rattle.arachne_rule.specs.Changes.{taken_context}
 use Rattle.arachne_rule.specs.Layout.{Contexts, name_index}
 use Rattle.arachne_rule.specs.Plays.{Carries}
-use Rattle.arachne_rule.specs.Views.{noted, with_context, with_carried, without, carried_at}
+use Rattle.arachne_rule.specs.Views.{noted, with_context, carried_at}
 use Rattle.arachne_rule.proofs.Carrying.{with-at}
 use Rattle.arachne_words.specs.Seats.{CallView, HoldView, held_by, marked_by}
 use Rattle.arachne_words.specs.Steps.{HasLast, IsTaken}
-use Rattle.arachne_words.specs.Calls.{looked, learned, HasTaken}
+use Rattle.arachne_words.specs.Calls.{looked, learned}
 use Rattle.arachne_words.proofs.Out.{without-with}
 
 abbrev value_in : {T : Type 0} → T → Option T → T

@@ -2,5 +2,5 @@ pub mod Seats
 pub mod Sizes
 pub mod Steps
 pub mod Calls
-pub mod Ending
 pub mod FirstWords
+pub mod Moves

@@ -1,5 +1,5 @@
 -- What the steps of a call ask of the seat within it. The seat's slots are out, the one taken last first.
-use Rattle.std.specs.Prelude.{◌≡◌, ◌≢◌, ℕ, ◌<◌, true, false, List, [], ◌∷◌, Option, Some, None}
+use Rattle.std.specs.Prelude.{◌≡◌, ℕ, ◌<◌, true, false, List, ◌∷◌, Option, Some, None}
 use Rattle.atomic_table.specs.Table.{rest}
 use Rattle.arachne_core.specs.declared.place.Place.{Place}
 use Rattle.arachne_core.specs.declared.mark.Mark.TheVariants as mark

@@ -1,21 +1,45 @@
 //! Moves of threads from core to core.
-ghost use Rattle.std.specs.Prelude.{◌≡◌, ◌≢◌, ℕ, ◌<◌, ◌==◌, if◌then◌else◌, true, false, IfOk, IfErr};
+ghost use Rattle.std.specs.Prelude.{◌≡◌, ◌≢◌, ℕ, ◌<◌, ◌==◌, if◌then◌else◌, true, false, ◌↔◌, IsTrue, IfSome, IfNone, IfOk, IfErr};
 ghost use Rattle.arachne_core.specs.declared.layout.TheConstants.{CORE_BITS};
 ghost use Rattle.arachne_core.specs.Marked.{mark_word};
 ghost use Rattle.arachne_rule.specs.declared.view.Carried.{Carried};
 ghost use Rattle.arachne_rule.specs.declared.view.Kind.TheVariants as kind;
 ghost use Rattle.arachne_rule.specs.Changes.{left_context, marked_free};
 ghost use Rattle.arachne_rule.specs.Layout.{name_index};
-ghost use Rattle.arachne_rule.specs.Plays.{IsRestMark};
-ghost use Rattle.arachne_rule.specs.Views.{noted, with_context};
+ghost use Rattle.arachne_rule.specs.Plays.{Carries, IsRestMark};
+ghost use Rattle.arachne_rule.specs.Views.{noted, with_context, without_context};
 ghost use Rattle.arachne_words.specs.Sizes.{IsPlaceIn};
+ghost use Rattle.arachne_words.specs.Moves.{IsObstacle, MoveAnswer, SeenAnswer, ToAnswer, free_at, moved_off, shared_claim};
+ghost use Rattle.arachne_words.specs.Seats.{HasClaim, claimed_by};
 ghost use Rattle.arachne_words.specs.Steps.{IsClaimed};
 
 use crate::call_seat::CallSeat;
+use crate::seat::WordSeat;
 use crate::steps::{Move, NameSource, NameTarget, Replace};
 use crate::table::WordContexts;
-use arachne_contexts::Tagged;
-use arachne_core::{MarkWord, Place};
+use arachne_contexts::{Moved, Tagged};
+use arachne_core::{Mark, MarkWord, Place};
+
+/// Whether a mark word shows its context at the place.
+fn stands_at(seen: MarkWord, place: Place) -> bool
+    ensures { IsTrue result ↔ (seen.place ≡ place) }
+{
+    let at = seen.place();
+    at.core == place.core && at.index == place.index
+}
+
+/// Why the thread of a mark word can't be moved, if it isn't at rest or has its core alone.
+fn obstacle(seen: MarkWord) -> Option<Moved>
+    ensures some { IfSome result (IsObstacle seen) }
+    ensures none { IfNone result (IsRestMark seen.mark × (seen.alone ≡ false)) }
+{
+    match seen.mark() {
+        Mark::Free | Mark::Spent => Some(Moved::Unposted),
+        _ if seen.is_alone() => Some(Moved::Alone),
+        Mark::Held | Mark::Woken => Some(Moved::Running),
+        Mark::Ready | Mark::Blocked => None,
+    }
+}
 
 impl<T: Tagged + Drop> WordContexts<T> {
     /// One try to move a thread at rest to a place on another core where the seat has claimed a context.
@@ -90,5 +114,120 @@ impl<T: Tagged + Drop> WordContexts<T> {
         let shared = &self.table.shared;
         let word = self.name_word(source);
         shared.store::<NameSource>(&mut seat.seat, word, context as u64);
+    }
+
+    /// The steps after the exchange of a move: context `replaced`, which stood at the target, stands at the source now.
+    fn move_off(
+        &self,
+        seat: &mut CallSeat<T>,
+        moving: usize,
+        replaced: usize,
+        free: MarkWord,
+        source: Place,
+        target: Place,
+    )
+        requires own { seat.old.table ≡ self.now.table }
+        requires places { IsPlaceIn self.now.shape target × IsPlaceIn self.now.shape source }
+        requires contexts { (moving < self.now.table.slots) × (replaced < self.now.table.slots) }
+        requires free { free ≡ free_at source free.generation }
+        requires left { Carries seat.old.known (left_context (claimed_by (shared_claim target) replaced free.generation) source) }
+        ensures { (named before named_before found : ℕ) × (seat.new ≡ record seat.old {
+          known = moved_off self.now.table.slots moving replaced free.generation source target named before named_before found (without_context seat.old.known (claimed_by (shared_claim source) replaced free.generation));
+        }) }
+    {
+        self.name_target(seat, target, replaced, moving);
+        self.replace(seat, replaced, free);
+        self.name_source(seat, source, replaced);
+        self.release(seat, source, false);
+    }
+
+    /// Moves a thread at rest to a place that the seat has claimed on another core. Where its mark word changed, the place
+    /// is free again.
+    fn move_to(
+        &self,
+        seat: &mut CallSeat<T>,
+        moving: usize,
+        seen: MarkWord,
+        source: Place,
+        target: Place,
+    ) -> Moved
+        requires own { seat.old.table ≡ self.now.table }
+        requires context { moving < self.now.table.slots }
+        requires places { IsPlaceIn self.now.shape target × IsPlaceIn self.now.shape source × (seen.place ≡ source) }
+        requires rests { IsRestMark seen.mark × (seen.alone ≡ false) × (source.core ≢ target.core) }
+        requires claim { HasClaim self.now seat.old.known (shared_claim target) }
+        ensures seat { (seat.new.table ≡ seat.old.table) × (seat.new.weight ≡ seat.old.weight) × (seat.new.slots ≡ seat.old.slots) }
+        ensures answer { (y g : ℕ) → y < self.now.table.slots → Carries seat.old.known (claimed_by (shared_claim target) y g)
+            → ToAnswer self.now moving seen target y g seat.old.known result seat.new.known }
+    {
+        let _ = &self.slots;
+        let replaced = self.see_name(seat, target);
+        let free = self.see_mark(seat, replaced);
+        if let Err(found) = self.try_move(seat, moving, seen, target) {
+            self.release(seat, target, false);
+            return Moved::Lost(found);
+        }
+        self.move_off(
+            seat,
+            moving,
+            replaced,
+            free.with_place(source),
+            source,
+            target,
+        );
+        Moved::Moved
+    }
+
+    /// Claims a place on the target core for a thread at rest that was seen, and moves it there.
+    fn move_seen(
+        &self,
+        seat: &mut CallSeat<T>,
+        moving: usize,
+        seen: MarkWord,
+        source: Place,
+        to: u8,
+    ) -> Moved
+        requires own { seat.old.table ≡ self.now.table }
+        requires context { moving < self.now.table.slots }
+        requires places { (to < self.now.shape.cores) × IsPlaceIn self.now.shape source × (seen.place ≡ source) }
+        requires rests { IsRestMark seen.mark × (seen.alone ≡ false) × (source.core ≢ to) }
+        ensures seat { (seat.new.table ≡ seat.old.table) × (seat.new.weight ≡ seat.old.weight) × (seat.new.slots ≡ seat.old.slots) }
+        ensures carried { seat.new.known.carried ≡ seat.old.known.carried }
+        ensures answer { SeenAnswer self.now moving seen to seat.old.known result seat.new.known }
+    {
+        let _ = &self.slots;
+        let room = self.see_core(seat, to);
+        if room.is_closed() {
+            return Moved::NoRoom(room.word());
+        }
+        let Some(index) = self.free_index(room) else {
+            return Moved::NoRoom(room.word());
+        };
+        let target = Place { core: to, index };
+        if let Err(found) = self.try_claim(seat, target, room) {
+            return Moved::Lost(found);
+        }
+        self.move_to(seat, moving, seen, source, target)
+    }
+
+    /// Moves the thread at a place to the lowest free index of another core, if it is at rest: one try. Its value stays
+    /// where it lies, and its mark word differs in its place alone.
+    pub fn move_one(&self, seat: &mut WordSeat<T>, place: Place, to: u8) -> Moved
+        requires own { seat.old.table ≡ self.now.table }
+        requires place { IsPlaceIn self.now.shape place }
+        requires target { to < self.now.shape.cores }
+        requires apart { place.core ≢ to }
+        ensures seat { (seat.new.table ≡ seat.old.table) × (seat.new.weight ≡ seat.old.weight) }
+        ensures answer { MoveAnswer self.now place to seat.old.known result seat.new.known }
+    {
+        let moving = self.see_name(&mut seat.at, place);
+        let seen = self.see_mark(&mut seat.at, moving);
+        if !stands_at(seen, place) {
+            return Moved::Lost(seen.word());
+        }
+        if let Some(obstacle) = obstacle(seen) {
+            return obstacle;
+        }
+        self.move_seen(&mut seat.at, moving, seen, place, to)
     }
 }

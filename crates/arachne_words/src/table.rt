@@ -1,7 +1,7 @@
 //! The table, where its words lie, and what a step sees of them.
 ghost use Rattle.std.specs.Prelude.{◌≡◌, ◌+◌, ◌*◌, ◌<◌, true};
 ghost use Rattle.arachne_core.specs.declared.layout.TheConstants.{CORE_BITS};
-ghost use Rattle.arachne_core.specs.Occupancy.{occupancy_word};
+ghost use Rattle.arachne_core.specs.Occupancy.{occupancy_of, occupancy_word};
 ghost use Rattle.arachne_core.specs.Marked.{mark_word, marked_of};
 ghost use Rattle.arachne_core.specs.World.{Thread};
 ghost use Rattle.arachne_rule.specs.declared.view.Carried.{Carried};
@@ -70,7 +70,8 @@ impl<T: Tagged + Drop> WordContexts<T> {
     pub(crate) fn see_core(&self, seat: &mut CallSeat<T>, core: u8) -> OccWord
         requires own { seat.old.table ≡ self.now.table }
         requires core { core < self.now.shape.cores }
-        ensures { seat.new ≡ record seat.old { known = looked (occ_index self.now.table.slots core) (occupancy_word result) seat.old.known } }
+        ensures seat { seat.new ≡ record seat.old { known = looked (occ_index self.now.table.slots core) (occupancy_word result) seat.old.known } }
+        ensures read { occupancy_of (occupancy_word result) ≡ result }
     {
         let shared = &self.table.shared;
         let word = shared.load::<LookCore>(&mut seat.seat, self.core_word(core));

@@ -1,4 +1,4 @@
-use Rattle.std.proofs.Common.{◌≡◌, ◌*◌, ◌<◌, ℕ, vec_len, slice_index}
+use Rattle.std.proofs.Common.{◌≡◌, ◌<◌, ℕ, vec_len, slice_index}
 use Rattle.arachne_words.specs.FirstWords.{first_word}
 use Rattle.arachne_words.proofs.first_words.first_words.Given as goal
 

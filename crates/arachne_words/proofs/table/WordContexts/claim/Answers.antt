@@ -1,4 +1,4 @@
-use Rattle.std.proofs.Common.{◌≡◌, ◌<◌, ℕ, ◌∙◌, ap, sym, subst, refl, arith, false}
+use Rattle.std.proofs.Common.{◌<◌, ℕ, ◌∙◌, ap, sym, subst, refl, arith, false}
 use Rattle.arachne_core.specs.Occupancy.{occupancy_word}
 use Rattle.arachne_rule.specs.Layout.{occ_index}
 use Rattle.arachne_rule.specs.Views.{carried_at}
@@ -17,12 +17,12 @@ invariant_of-seat-in-Ok g c =
     let a = claimed_by (record { place = record { core = c.args.core; index = c.in-Some.index }; alone = false }) won.0 won.1 in
     let inside = subst (λ t. won.0 < t.slots) (sym (ap (λ v. v.table) c.seat.view_is ∙ c.requires.own)) won.2 in
     keeps-more c.seat.inside.at c.try_claim.new.seat c.seat.inside.weight c.seat.inside.out _ c.seat.invariant
-    (won.4 ∙ ap (λ (v : CallView g.row.T.Denot). record v { known = won_claim i (occupancy_word c.see_core-seen.result) a v.known }) c.see_core-seen.ensures) a inside
-    (ap (λ v. carried_at won.0 v.known.carried) (sym c.see_core-seen.ensures) ∙ won.3) refl
+    (won.4 ∙ ap (λ (v : CallView g.row.T.Denot). record v { known = won_claim i (occupancy_word c.see_core-seen.result) a v.known }) c.see_core-seen.ensures.seat) a inside
+    (ap (λ v. carried_at won.0 v.known.carried) (sym c.see_core-seen.ensures.seat) ∙ won.3) refl
 
 pub returns-in-Err-clause-answer : goal.returns-in-Err-clause-answer
 returns-in-Err-clause-answer g c =
     let lost = c.in-Err.ensures.lost in
     let i : ℕ = occ_index c.args.self.now.table.slots c.args.core in
     let word : ℕ = occupancy_word c.see_core-seen.result in
-    (word, lost.0, ap (λ v. v.known) lost.1 ∙ ap (λ v. lost_claim i c.in-Err.found v.known) c.see_core-seen.ensures ∙ ap (λ v. lost_claim i c.in-Err.found (looked i word v.known)) c.seat.view_is)
+    (word, lost.0, ap (λ v. v.known) lost.1 ∙ ap (λ v. lost_claim i c.in-Err.found v.known) c.see_core-seen.ensures.seat ∙ ap (λ v. lost_claim i c.in-Err.found (looked i word v.known)) c.seat.view_is)

@@ -1,4 +1,4 @@
-use Rattle.std.proofs.Common.{◌≡◌, ◌≢◌, ℕ, suc, ◌+◌, ◌<◌, ◌≤◌, ◌∙◌, ◌++◌, ap, sym, subst, refl, arith, rules, None, Some, Option, List, [], ◌∷◌, false, get_or}
+use Rattle.std.proofs.Common.{◌≡◌, ℕ, suc, ◌+◌, ◌<◌, ◌∙◌, ◌++◌, ap, sym, subst, arith, rules, Option, List, [], ◌∷◌}
 use mathlib.Core.Option as opt
 use Rattle.std.specs.Slots.{IsFull, slots_items, slots_filled, slots_len}
 use Rattle.atomic_table.specs.Table.{Final, Seen}

@@ -1,4 +1,4 @@
-use Rattle.std.proofs.Common.{◌≡◌, ◌∙◌, ap, sym, subst}
+use Rattle.std.proofs.Common.{ap, sym, subst}
 use Rattle.arachne_rule.specs.declared.view.Known.{Known}
 use Rattle.arachne_words.specs.Seats.{HasThread, held_by}
 use Rattle.arachne_words.specs.Calls.{HasFinished}

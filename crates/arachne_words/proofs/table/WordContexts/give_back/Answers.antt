@@ -1,4 +1,4 @@
-use Rattle.std.proofs.Common.{◌≡◌, ◌∙◌, ap, sym, subst, refl, arith}
+use Rattle.std.proofs.Common.{ap, sym, subst, refl}
 use Rattle.arachne_rule.specs.Plays.{Carries}
 use Rattle.arachne_rule.specs.declared.view.Known.{Known}
 use Rattle.arachne_words.specs.Seats.{ClaimView, claimed_by}

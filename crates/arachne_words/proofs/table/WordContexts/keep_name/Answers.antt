@@ -1,9 +1,7 @@
-use Rattle.std.proofs.Common.{◌≡◌, ◌≢◌, ℕ, ◌+◌, ◌-◌, ◌*◌, ◌<◌, ◌≤◌, ◌^◌, ◌∙◌, ap, sym, subst, refl, arith, rules, true, false, Some, None, List, [], ◌∷◌}
+use Rattle.std.proofs.Common.{◌<◌, ◌∙◌, ap, sym, subst, None}
 use Rattle.arachne_core.specs.declared.layout.TheConstants.{CORE_BITS}
 use Rattle.arachne_rule.specs.declared.view.Known.{Known}
-use Rattle.arachne_rule.specs.Layout.{Contexts, occ_index, name_index}
-use Rattle.atomic_table.specs.Table.{rest}
-use Rattle.arachne_rule.specs.declared.view.Carried.{Carried}
+use Rattle.arachne_rule.specs.Layout.{Contexts, name_index}
 use Rattle.arachne_rule.specs.Plays.{Carries}
 use Rattle.arachne_words.specs.Sizes.{IsPlaceIn}
 use Rattle.arachne_words.specs.Steps.{HasLast}

@@ -1,17 +1,13 @@
-use Rattle.std.proofs.Common.{◌≡◌, ◌<◌, ℕ, ◌∙◌, ap, sym, subst, refl, arith, None}
+use Rattle.std.proofs.Common.{◌≡◌, ℕ, ◌∙◌, ap, sym, subst, refl, arith, None}
 use Rattle.arachne_core.specs.declared.layout.TheConstants.{CORE_BITS}
 use Rattle.arachne_core.specs.declared.mark.Mark.TheVariants as mark
 use Rattle.arachne_core.specs.declared.thread_id.ThreadId.{ThreadId}
 use Rattle.arachne_core.specs.Marked.{mark_word}
 use Rattle.arachne_rule.specs.declared.view.Known.{Known}
-use Rattle.arachne_rule.specs.declared.view.Kind.TheVariants as kind
-use Rattle.arachne_rule.specs.Layout.{name_index}
-use Rattle.arachne_rule.specs.Changes.{marked_as, posted}
 use Rattle.arachne_rule.specs.Plays.{Carries}
-use Rattle.arachne_rule.specs.Views.{noted}
 use Rattle.arachne_words.specs.Seats.{CallView, ClaimView, HasClaim, claimed_by}
 use Rattle.arachne_words.specs.Steps.{HasLast}
-use Rattle.arachne_words.specs.Calls.{looked, learned, HasPosted}
+use Rattle.arachne_words.specs.Calls.{looked, HasPosted}
 use Rattle.arachne_words.proofs.Out.{keeps-less}
 use Rattle.arachne_words.proofs.PostSteps.{out_with, at-home, generation, postable, after}
 use Rattle.arachne_words.proofs.table.WordContexts.post.Goals as goal

@@ -1,20 +1,12 @@
-use Rattle.std.proofs.Common.{◌≡◌, ◌≢◌, ℕ, ◌+◌, ◌-◌, ◌*◌, ◌<◌, ◌≤◌, ◌^◌, ◌⊎◌, ◌∙◌, ap, sym, subst, refl, arith, rules, true, false, Some, None, List, [], ◌∷◌, Bool, inl, inr, bit_and, bit_or}
-use Rattle.atomic_table.specs.Table.{rest}
+use Rattle.std.proofs.Common.{ℕ, ◌<◌, ◌∙◌, ap, sym, subst}
 use Rattle.arachne_core.specs.declared.layout.TheConstants.{CORE_BITS}
-use Rattle.arachne_core.specs.declared.place.Place.{Place}
-use Rattle.arachne_core.specs.declared.mark.Mark.TheVariants as mark
-use Rattle.arachne_core.specs.Marked.{Marked, mark_word, marked_of}
-use Rattle.arachne_rule.specs.declared.view.Carried.{Carried}
+use Rattle.arachne_core.specs.Marked.{mark_word}
 use Rattle.arachne_rule.specs.declared.view.Kind.TheVariants as kind
 use Rattle.arachne_rule.specs.declared.view.Known.{Known}
-use Rattle.arachne_rule.specs.Layout.{Contexts, occ_index, name_index}
+use Rattle.arachne_rule.specs.Layout.{Contexts}
 use Rattle.arachne_rule.specs.Plays.{Carries}
-use Rattle.arachne_rule.specs.Views.{noted, with_context, without_context, without, carried_at}
-use Rattle.arachne_words.specs.Seats.{CallView, HasThread, HasClaim, HoldView, ClaimView, held_by, claimed_by}
-use Rattle.arachne_words.specs.Sizes.{IsPlaceIn}
-use Rattle.arachne_words.specs.Steps.{HasLast}
-use Rattle.arachne_words.specs.Calls.{looked, learned}
-use Rattle.arachne_words.proofs.Inside.{mark-in, core-in, name-in}
+use Rattle.arachne_rule.specs.Views.{noted, with_context}
+use Rattle.arachne_words.proofs.Inside.{mark-in}
 use Rattle.arachne_words.proofs.Told.{changed, live-told, view-told}
 use Rattle.arachne_rule.proofs.MoveSteps.{replace-allowed}
 use Rattle.arachne_words.proofs.table.WordContexts.replace.Goals as goal

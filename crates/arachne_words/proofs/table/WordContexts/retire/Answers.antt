@@ -1,17 +1,14 @@
-use Rattle.std.proofs.Common.{◌≡◌, ◌≢◌, ℕ, ◌+◌, ◌-◌, ◌*◌, ◌<◌, ◌≤◌, ◌^◌, ◌∙◌, ap, sym, subst, refl, arith, rules, true, false, Some, None, List, [], ◌∷◌, Bool}
+use Rattle.std.proofs.Common.{ℕ, ◌+◌, ◌<◌, ◌∙◌, ap, sym, subst, refl, false}
 use Rattle.arachne_core.specs.declared.layout.TheConstants.{CORE_BITS}
-use Rattle.arachne_core.specs.declared.place.Place.{Place}
-use Rattle.arachne_core.specs.Marked.{Marked, mark_word}
-use Rattle.arachne_rule.specs.declared.view.Carried.{Carried}
+use Rattle.arachne_core.specs.Marked.{mark_word}
 use Rattle.arachne_rule.specs.declared.view.Kind.TheVariants as kind
 use Rattle.arachne_rule.specs.declared.view.Known.{Known}
-use Rattle.arachne_rule.specs.Changes.{posted, retired, spent_known, claimed_again, marked_free, marked_spent, release_sum}
-use Rattle.arachne_rule.specs.Layout.{Contexts, occ_index, name_index}
+use Rattle.arachne_rule.specs.Changes.{retired}
+use Rattle.arachne_rule.specs.Layout.{Contexts}
 use Rattle.arachne_rule.specs.Plays.{Carries}
 use Rattle.arachne_rule.specs.Views.{noted}
-use Rattle.arachne_words.specs.Seats.{HasThread, HoldView, ClaimView, held_by, claimed_by}
-use Rattle.arachne_words.specs.Calls.{released}
-use Rattle.arachne_words.proofs.Inside.{mark-in, core-in}
+use Rattle.arachne_words.specs.Seats.{HoldView, held_by}
+use Rattle.arachne_words.proofs.Inside.{mark-in}
 use Rattle.arachne_words.proofs.Told.{changed, live-told, view-told}
 use Rattle.arachne_core.specs.declared.mark.Mark.TheVariants as mark
 use Rattle.arachne_rule.proofs.ThreadSteps.{retire-allowed}

@@ -1,6 +1,6 @@
-use Rattle.std.proofs.Common.{◌≡◌, ◌≢◌, ℕ, ◌+◌, ◌-◌, ◌*◌, ◌<◌, ◌≤◌, ◌^◌, ◌∙◌, ap, sym, subst, refl, arith, rules, true, false, Some, None, List, [], ◌∷◌}
+use Rattle.std.proofs.Common.{◌∙◌, ap, sym, subst}
 use Rattle.arachne_core.specs.declared.layout.TheConstants.{CORE_BITS}
-use Rattle.arachne_rule.specs.Layout.{Contexts, occ_index, name_index}
+use Rattle.arachne_rule.specs.Layout.{Contexts, name_index}
 use Rattle.arachne_words.specs.Sizes.{IsPlaceIn}
 use Rattle.arachne_rule.proofs.LookSteps.{learn-allowed}
 use Rattle.arachne_words.proofs.Inside.{name-in}

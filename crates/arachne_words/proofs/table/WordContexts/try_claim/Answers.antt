@@ -1,7 +1,6 @@
-use Rattle.std.proofs.Common.{◌≡◌, ◌≢◌, ℕ, ◌+◌, ◌-◌, ◌*◌, ◌<◌, ◌≤◌, ◌^◌, ◌∙◌, ap, sym, subst, refl, arith, true, false, Some, None, List, [], ◌∷◌, Bool, get_or}
-use Rattle.arachne_core.specs.Occupancy.{Occupancy, occupancy_of, occupancy_word}
+use Rattle.std.proofs.Common.{ℕ, ◌+◌, ◌<◌, ◌∙◌, ap, sym, subst, arith, false, get_or}
+use Rattle.arachne_core.specs.Occupancy.{Occupancy}
 use Rattle.arachne_core.specs.declared.layout.TheConstants.{CORE_BITS}
-use Rattle.arachne_core.specs.declared.place.Place.{Place}
 use Rattle.arachne_rule.specs.declared.view.Kind.TheVariants as kind
 use Rattle.arachne_rule.specs.declared.view.Known.{Known}
 use Rattle.arachne_rule.specs.Changes.{index_sum, claimed_context}
