@@ -5,7 +5,7 @@ use Rattle.arachne_core.specs.declared.layout.TheConstants.{CORE_BITS}
 use Rattle.arachne_core.specs.Occupancy.{Occupancy, occupancy_of}
 use Rattle.arachne_core.specs.declared.thread_id.ThreadId.{ThreadId}
 use Rattle.arachne_core.specs.declared.mark.Mark.TheVariants as mark
-use Rattle.arachne_core.specs.Marked.{Marked, mark_word}
+use Rattle.arachne_core.specs.Marked.{Marked, mark_word, marked_of}
 use Rattle.arachne_core.specs.declared.state.Rest.{Rest}
 use Rattle.arachne_core.specs.declared.state.Rest.TheVariants as rest
 use Rattle.arachne_contexts.specs.Words.{ShowsReadyAt, ShowsWoken}
@@ -152,7 +152,7 @@ pub record HasFinished (c : Contexts) (k : Known) (hold : HoldView) (tag : ℕ) 
 
 -- the thread of the id was blocked and is ready, or was held and is marked as woken
 abbrev pub HasWoken : ThreadId → Known → Known → Type 0
-HasWoken id k after = (seen : Marked) × (seen.generation ≡ id.generation)
+HasWoken id k after = (seen : Marked) × (marked_of CORE_BITS (mark_word CORE_BITS seen) ≡ seen) × (seen.generation ≡ id.generation)
     × (((seen.mark ≡ mark.Blocked) × (after ≡ noted kind.Wake id.context (mark_word CORE_BITS seen) (mark_word CORE_BITS (record seen { mark = mark.Ready })) (looked id.context (mark_word CORE_BITS seen) k)))
     ⊎ ((seen.mark ≡ mark.Held) × (after ≡ noted kind.MarkWoken id.context (mark_word CORE_BITS seen) (mark_word CORE_BITS (record seen { mark = mark.Woken })) (looked id.context (mark_word CORE_BITS seen) k))))
 

@@ -4,7 +4,7 @@ use Rattle.arachne_core.specs.declared.place.Place.{Place}
 use Rattle.arachne_core.specs.declared.layout.TheConstants.{CORE_BITS}
 use Rattle.arachne_core.specs.declared.mark.Mark.TheVariants as mark
 use Rattle.arachne_core.specs.Occupancy.{occupancy_of}
-use Rattle.arachne_core.specs.Marked.{Marked, mark_word}
+use Rattle.arachne_core.specs.Marked.{Marked, mark_word, marked_of}
 use Rattle.arachne_contexts.specs.declared.answers.Moved.{Moved}
 use Rattle.arachne_contexts.specs.declared.answers.Moved.TheVariants as moved
 use Rattle.arachne_rule.specs.declared.view.Kind.TheVariants as kind
@@ -66,17 +66,17 @@ SeenAnswer c x seen to k (moved.Lost word) after = ((room : ℕ) × (word ≢ ro
     ⊎ HasTried c x seen to k (moved.Lost word) after
 SeenAnswer c x seen to k answer after = HasTried c x seen to k answer after
 
--- a thread that isn't moved: there is none, it has its core alone, or it is held
+-- a thread that isn't moved: there is none, it has its core alone, or it is held and shares its core
 abbrev pub IsObstacle : Marked → Moved → Type 0
 IsObstacle seen moved.Unposted = (seen.mark ≡ mark.Free) ⊎ (seen.mark ≡ mark.Spent)
-IsObstacle seen moved.Alone = seen.alone ≡ true
-IsObstacle seen moved.Running = IsHeldMark seen.mark
+IsObstacle seen moved.Alone = (IsRestMark seen.mark ⊎ IsHeldMark seen.mark) × (seen.alone ≡ true)
+IsObstacle seen moved.Running = IsHeldMark seen.mark × (seen.alone ≡ false)
 IsObstacle seen answer = ⊥
 
 -- What a move answers, with the context x that was seen in the place's word, and what its mark word said: it stands elsewhere; or it isn't moved; or it is
 -- at rest there, and then the target was tried
 abbrev pub MoveAnswer : Contexts → Place → ℕ → Known → Moved → Known → Type 0
-MoveAnswer c p to k answer after = (x : ℕ) × (seen : Marked) × (known : Known) × (known ≡ looked x (mark_word CORE_BITS seen) (learned (name_index c.table.slots p) x k))
+MoveAnswer c p to k answer after = (x : ℕ) × (seen : Marked) × (marked_of CORE_BITS (mark_word CORE_BITS seen) ≡ seen) × (known : Known) × (known ≡ looked x (mark_word CORE_BITS seen) (learned (name_index c.table.slots p) x k))
     × (((answer ≡ moved.Lost (mark_word CORE_BITS seen)) × (seen.place ≢ p) × (after ≡ known))
     ⊎ (((seen.place ≡ p) × IsObstacle seen answer × (after ≡ known))
     ⊎ ((seen.place ≡ p) × IsRestMark seen.mark × (seen.alone ≡ false) × SeenAnswer c x seen to known answer after)))

@@ -13,6 +13,7 @@ returns-clause-answer g c =
     let i : ℕ = name_index c.args.self.now.table.slots c.args.place in (
       x,
       c.see_mark-seen.result,
+      c.see_mark-seen.ensures.read,
       c.see_mark-seen.new.seat.known,
       ap (λ v. v.known) c.see_mark-seen.ensures.seat ∙ ap (λ (v : CallView g.row.T.Denot). looked x w v.known) c.see_name-moving.ensures.seat ∙ ap (λ v. looked x w (learned i x v.known)) c.seat.view_is,
       inr (inr (c.stands_at.ensures.0 c.if-not-stands_at.false, c.in_default.ensures.none.0, c.in_default.ensures.none.1, c.move_seen.ensures.answer)),

@@ -24,6 +24,7 @@ returns-after-try_wake-clause-answer g c =
     elim c.match-try_wake.branch [
       | in-Ok w ↦ subst (λ r. WakeAnswer c.args.self.now c.args.id c.args.seat.now.known r c.try_wake.new.seat.known) (sym w.result-is) (
         seen,
+        c.see_mark-seen.ensures.read,
         generation,
         inl (
           sym c.in-Blocked.ensures,
@@ -56,6 +57,7 @@ returns-after-try_mark_woken-clause-answer g c =
     elim c.match-try_mark_woken.branch [
       | in-Ok-try_mark_woken w ↦ subst (λ r. WakeAnswer c.args.self.now c.args.id c.args.seat.now.known r c.try_mark_woken.new.seat.known) (sym w.result-is) (
         seen,
+        c.see_mark-seen.ensures.read,
         generation,
         inr (
           sym c.in-Held.ensures,
