@@ -548,10 +548,10 @@ fn a_chain_in_place(rt: HostRuntime) -> Result<(), Fail> {
     let program = program(alloc, 0, &expression)?;
     let (parts, _) = all_in_place(alloc, &program, 3)?;
     assert_eq!(rt; parts.value, 61);
-    let mut tag = 9;
+    let mut tag = 9u64;
     for line in parts.lines.as_slice() {
         assert_eq!(rt; (line.tag, line.in_place), (tag, tag > 9));
-        tag += 1;
+        tag = tag.wrapping_add(1);
     }
     assert_eq!(rt; tag, 70);
     Ok(())
