@@ -17,6 +17,10 @@ name_of thread = (whole thread).name
 abbrev pub tag_of : Thread → ℕ
 tag_of thread = (whole thread).label.tag
 
+-- the tag of the innermost thread, which goes on next
+abbrev pub running_tag_of : Thread → ℕ
+running_tag_of thread = thread.running.label.tag
+
 -- the pause that is not answered
 abbrev pub pause_of : Thread → Option Pending
 pause_of thread = pending_in thread

@@ -59,21 +59,17 @@ pub(crate) fn work_all<
             let mut choosers = choosers;
             let mut others = Vec::new(alloc);
             let of: PhantomData<(T, R)> = PhantomData;
-            let Some(own) = choosers.pop() else {
-                machine.shared.fail(rt, RunFault::Choosers);
-                return None;
-            };
+            let own = choosers.pop();
             for core in 1..machine.cores {
-                let Some(chooser) = choosers.pop() else {
-                    machine.shared.fail(rt, RunFault::Choosers);
+                let (rest, part) = part_off::<H, C, R>(rt, alloc, machine, tokens, choosers.pop());
+                tokens = rest;
+                let Some((theirs, chooser)) = part else {
                     break;
                 };
                 if others.try_reserve(1).is_err() {
                     machine.shared.fail(rt, RunFault::Memory);
                     break;
                 }
-                let (rest, theirs) = tokens.split::<H, C>(rt, machine);
-                tokens = rest;
                 let returns = Returns {
                     machine: Snapshot::of(machine),
                 };
@@ -88,10 +84,11 @@ pub(crate) fn work_all<
                         )
                     },
                 );
-                match started {
-                    Ok(other) => others.push_reserved(other),
-                    Err(_) => machine.shared.fail(rt, RunFault::KernelThread),
-                }
+                let Ok(other) = started else {
+                    machine.shared.fail(rt, RunFault::KernelThread);
+                    break;
+                };
+                others.push_reserved(other);
             }
             let mut all = work_from_root::<H, T, C, R, G>(
                 rt, alloc, machine, gate, root, own, tokens,
@@ -102,6 +99,31 @@ pub(crate) fn work_all<
             all
         },
     )
+}
+
+/// The tokens and the chooser of one worker more. Where they can't be had that is recorded.
+fn part_off<H: Wait, C: Seats, R: Drop>(
+    rt: &H,
+    alloc: Global,
+    machine: &Machine<C>,
+    tokens: Tokens<C::Seat>,
+    chooser: Option<R>,
+) -> (Tokens<C::Seat>, Option<(Tokens<C::Seat>, R)>)
+    requires { AreIdle C.sits C.idle machine.now tokens }
+    ensures own { AreIdle C.sits C.idle machine.now result.0 }
+    ensures others { IfSome result.1 (λ part. AreIdle C.sits C.idle machine.now part.0) }
+{
+    let Some(chooser) = chooser else {
+        machine.shared.fail(rt, RunFault::Choosers);
+        return (tokens, None);
+    };
+    match tokens.split::<H, C>(rt, alloc, machine) {
+        Ok((own, theirs)) => (own, Some((theirs, chooser))),
+        Err(own) => {
+            machine.shared.fail(rt, RunFault::Memory);
+            (own, None)
+        }
+    }
 }
 
 /// The tokens of two workers together, if both gave theirs back.
@@ -128,13 +150,17 @@ fn work_from_root<H: Wait, T: RunJob, C: Contexts<T>, R: Rng + Drop, G: Gate>(
     machine: &Machine<C>,
     gate: &G,
     root: T,
-    chooser: R,
+    chooser: Option<R>,
     tokens: Tokens<C::Seat>,
 ) -> Option<Tokens<C::Seat>>
     requires tokens { AreIdle C.sits C.idle machine.now tokens }
     requires set_up { IsSetUp C.core_count machine.now }
     ensures { IfSome result (AreIdle C.sits C.idle machine.now) }
 {
+    let Some(chooser) = chooser else {
+        machine.shared.fail(rt, RunFault::Choosers);
+        return None;
+    };
     let mut kit = Kit {
         tokens,
         chooser,

@@ -1,9 +1,9 @@
 //! What a context holds in a run: a thread of the program.
-ghost use Rattle.std.specs.Prelude.{◌≡◌, ◌≤◌, true, [], All, IfOk, IfSome, None, Some};
+ghost use Rattle.std.specs.Prelude.{◌≡◌, ◌≤◌, false, true, [], All, IfOk, IfSome, None, Some};
 ghost use Rattle.std.specs.Arc.{arc_value};
 ghost use Rattle.arachne_lang.specs.Program.{source_of};
 ghost use Rattle.arachne_lang.specs.Checked.{IsChecked};
-ghost use Rattle.arachne_run.specs.Threads.{IsForking, IsGoing, IsAwaiting, pause_of, program_of, tag_of};
+ghost use Rattle.arachne_run.specs.Threads.{IsForking, IsGoing, IsAwaiting, pause_of, program_of, running_tag_of, tag_of};
 ghost use Rattle.arachne_run.specs.Cells.{IsOf, IsFor};
 ghost use Rattle.arachne_run.specs.Slices.{IsLeft};
 
@@ -64,9 +64,15 @@ impl<'p> Tagged for Job<'p> {
 impl<'p> RunJob for Job<'p> {
     type Child = Thread<'p>;
 
+    ghost running_tag_of = { running_tag_of };
+
     ghost pause_of = { pause_of };
 
     ghost forks = { IsForking };
+
+    fn running_tag(&self) -> u64 {
+        self.thread.running_tag()
+    }
 
     fn slice(&mut self, budget: u32) -> Result<Slice<Thread<'p>>, RunFault> {
         match self.thread.pending() {
@@ -76,10 +82,10 @@ impl<'p> RunJob for Job<'p> {
                     return Ok(Slice::Blocks);
                 }
             }
+            Some(Pending::Asks(lock)) => return Ok(Slice::Awaits(lock)),
             _ => return Err(RunFault::Foreign),
         }
-        let slice = self.advance(budget)?;
-        Ok(slice)
+        self.advance(budget)
     }
 
     fn fork_off(
@@ -106,6 +112,14 @@ impl<'p> RunJob for Job<'p> {
         }
     }
 
+    fn granted(&mut self) {
+        self.thread.granted();
+    }
+
+    fn freed(&mut self) {
+        self.thread.freed();
+    }
+
     fn tallied(&mut self) {
         self.thread.tallied();
     }
@@ -126,8 +140,7 @@ impl<'p> RunJob for Job<'p> {
 impl<'p> JobOf<'p> for Job<'p> {
     fn begin(alloc: Global, program: &'p Program) -> Result<(Job<'p>, Arc<Cell<'p>>), AllocError> {
         let thread = Thread::start(alloc, program, 0)?;
-        let made = Job::of(alloc, thread, None)?;
-        Ok(made)
+        Job::of(alloc, thread, None)
     }
 }
 
@@ -175,14 +188,8 @@ impl<'p> Job<'p> {
                     Ok(Slice::Blocks)
                 }
             }
-            Pause::Asks(_) => {
-                self.thread.granted();
-                Ok(Slice::Goes)
-            }
-            Pause::Frees(_) => {
-                self.thread.freed();
-                Ok(Slice::Goes)
-            }
+            Pause::Asks(lock) => Ok(Slice::Asks(lock)),
+            Pause::Frees(lock) => Ok(Slice::Frees(lock)),
             Pause::Tallies(ledger, amount) => Ok(Slice::Tallies(ledger, amount)),
             Pause::Ended => Ok(Slice::Ends),
         }
@@ -204,6 +211,7 @@ impl<'p> Job<'p> {
         requires { IsAwaiting self.old }
         ensures tag { tag_of self.new ≡ tag_of self.old }
         ensures joined { IfOk result (λ joined. joined ≡ true → IsGoing self.new) }
+        ensures awaits { IfOk result (λ joined. joined ≡ false → IsAwaiting self.new) }
     {
         let Some(outcome) = self.fetch()? else {
             return Ok(false);

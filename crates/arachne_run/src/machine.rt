@@ -1,5 +1,7 @@
 //! What the workers of a run share.
-ghost use Rattle.std.specs.Prelude.{◌≡◌, ◌≤◌, IfOk, IfSome};
+ghost use Rattle.std.specs.Prelude.{◌≡◌, ◌≤◌, All, IfOk, IfSome, length};
+ghost use Rattle.arachne_sleep.specs.History.{IsSound};
+ghost use Rattle.arachne_sleep.specs.OneHolder.{HasOneHolderAtATime};
 ghost use Rattle.arachne_run.specs.Tokens.{AreIdle};
 
 use crate::fault::RunFault;
@@ -7,17 +9,28 @@ use crate::shared::Shared;
 use crate::tokens::Tokens;
 use arachne_contexts::{Contexts, Seats, Tagged};
 use arachne_ledger::Ledgers;
+use arachne_sleep::{LockEvent, SleepLocks};
 use std::alloc::{AllocError, Global};
 use std::sync::Wait;
 
-/// The table of contexts, the ledgers, and the words that all workers look at.
+/// The table of contexts, the ledgers, the locks, and the words that all workers look at.
 #[derive(Drop)]
 pub(crate) struct Machine<C> {
     pub(crate) table: C,
     pub(crate) ledgers: Ledgers,
+    pub(crate) locks: SleepLocks,
     pub(crate) shared: Shared,
     pub(crate) cores: u8,
     pub(crate) quantum: u32,
+}
+
+/// What is left of a machine once all workers have ended.
+#[derive(Drop)]
+pub(crate) struct Remains {
+    /// The words of the ledgers.
+    pub(crate) words: Vec<u64>,
+    /// The history of each lock.
+    pub(crate) histories: Vec<Vec<LockEvent>>,
 }
 
 impl<C: Seats + Drop> Machine<C> {
@@ -27,40 +40,53 @@ impl<C: Seats + Drop> Machine<C> {
         cores: u8,
         quantum: u32,
         ledgers: u8,
+        locks: u8,
     ) -> Result<(Machine<C>, Tokens<C::Seat>), AllocError>
         requires some { 1 ≤ cores }
         requires most { cores ≤ 16 }
         ensures tokens { IfOk result (λ made. AreIdle C.sits C.idle made.0 made.1) }
         ensures cores { IfOk result (λ made. (made.0.cores ≡ cores) × (C.core_count made.0.table ≡ cores)) }
         ensures quantum { IfOk result (λ made. made.0.quantum ≡ quantum) }
+        ensures locks { IfOk result (λ made. length made.0.locks ≡ locks) }
     {
         let (table, seat) = C::new(alloc, cores, 0)?;
         let (ledgers, share) = Ledgers::new(alloc, usize::from(ledgers))?;
+        let (locks, lock_seats) = SleepLocks::new(alloc, locks)?;
         let machine = Machine {
             table,
             ledgers,
+            locks,
             shared: Shared::new(),
             cores,
             quantum,
         };
-        Ok((machine, Tokens { seat, share }))
+        let tokens = Tokens {
+            seat,
+            share,
+            lock_seats,
+        };
+        Ok((machine, tokens))
     }
 
-    /// The first fault, if there was one; else what is left once all workers have ended: the ledgers' words.
+    /// The first fault, if there was one; else what is left once all workers have ended.
     pub(crate) fn close<H: Wait, T>(
         self,
         rt: &H,
         alloc: Global,
         tokens: Option<Tokens<C::Seat>>,
-    ) -> Result<Vec<u64>, RunFault>
+    ) -> Result<Remains, RunFault>
     where
         T: Tagged + Drop,
         C: Contexts<T>,
         requires { IfSome tokens (AreIdle C.sits C.idle self) }
+        ensures histories { IfOk result (λ remains. length remains.histories.items ≡ length self.locks) }
+        ensures sound { IfOk result (λ remains. All (λ history. IsSound history.items) remains.histories.items) }
+        ensures one_holder { IfOk result (λ remains. All (λ history. HasOneHolderAtATime history.items) remains.histories.items) }
     {
         let Machine {
             table,
             ledgers,
+            locks,
             shared,
             cores: _,
             quantum: _,
@@ -68,18 +94,29 @@ impl<C: Seats + Drop> Machine<C> {
         if let Some(fault) = shared.into_first_fault() {
             return Err(fault);
         }
-        let Some(Tokens { seat, share }) = tokens else {
+        let Some(
+            Tokens {
+                seat,
+                share,
+                lock_seats,
+            },
+        ) = tokens
+        else {
             return Err(RunFault::Token);
         };
-        if !table.is_whole(&seat) || !share.is_whole() {
+        let is_all = table.is_whole(&seat) && table.out(&seat) == 0;
+        if !is_all || !share.is_whole() || !locks.are_whole(&lock_seats) {
             return Err(RunFault::Token);
         }
         if table.close(rt, alloc, seat).is_err() {
             return Err(RunFault::Memory);
         }
-        match ledgers.close(alloc, share) {
-            Ok(words) => Ok(words),
-            Err(_) => Err(RunFault::Memory),
-        }
+        let Ok(words) = ledgers.close(alloc, share) else {
+            return Err(RunFault::Memory);
+        };
+        let Ok(histories) = locks.close(alloc, lock_seats) else {
+            return Err(RunFault::Memory);
+        };
+        Ok(Remains { words, histories })
     }
 }

@@ -1,5 +1,5 @@
 //! Where the thread that a fork begins gets its place.
-ghost use Rattle.std.specs.Prelude.{◌≡◌, ◌<◌, ◌≤◌, [], ◌∷◌, OnOk, IfOk, MatchOption};
+ghost use Rattle.std.specs.Prelude.{◌≡◌, ◌<◌, ◌≤◌, [], ◌∷◌, None, OnOk, IfOk, MatchOption};
 ghost use Rattle.arachne_contexts.specs.Out.{Claim as a_claim};
 ghost use Rattle.arachne_run.specs.Tokens.{AreIdle, AreWith, thread_in};
 
@@ -43,7 +43,8 @@ impl<'a, H: Wait, T: RunJob, C: Contexts<T>, R: Rng, G: Gate> Worker<'a, H, T, C
     ) -> Result<(), RunFault>
         requires tokens { AreWith C.sits C.has self.now.machine.now (a_claim claim ∷ thread_in T.tag_of held.old ∷ []) kit.old.tokens }
         requires forks { T.forks held.old.value child }
-        ensures { OnOk result (AreWith C.sits C.has self.now.machine.now (thread_in T.tag_of held.new ∷ []) kit.new.tokens) }
+        ensures tokens { OnOk result (AreWith C.sits C.has self.now.machine.now (thread_in T.tag_of held.new ∷ []) kit.new.tokens) }
+        ensures answered { OnOk result (T.pause_of held.new.value ≡ None) }
     {
         let me = held.id();
         let tag = self.machine.shared.next_tag();
@@ -60,7 +61,8 @@ impl<'a, H: Wait, T: RunJob, C: Contexts<T>, R: Rng, G: Gate> Worker<'a, H, T, C
     ) -> Result<(), RunFault>
         requires tokens { AreWith C.sits C.has self.now.machine.now (thread_in T.tag_of held.old ∷ []) kit.old.tokens }
         requires forks { T.forks held.old.value child }
-        ensures { AreWith C.sits C.has self.now.machine.now (thread_in T.tag_of held.new ∷ []) kit.new.tokens }
+        ensures tokens { AreWith C.sits C.has self.now.machine.now (thread_in T.tag_of held.new ∷ []) kit.new.tokens }
+        ensures answered { OnOk result (T.pause_of held.new.value ≡ None) }
     {
         let _ = kit;
         let tag = self.machine.shared.next_tag();

@@ -1,10 +1,10 @@
 //! What a worker does with a job: it runs a slice, and answers what the slice asks for.
-ghost use Rattle.std.specs.Prelude.{◌≡◌, ◌≤◌, [], IfOk};
+ghost use Rattle.std.specs.Prelude.{◌≡◌, ◌≤◌, [], IfOk, OnOk};
 ghost use Rattle.std.specs.Arc.{arc_value};
 ghost use Rattle.arachne_lang.specs.Program.{source_of};
 ghost use Rattle.arachne_lang.specs.Checked.{IsChecked};
 ghost use Rattle.std.specs.Prelude.{ℕ, Option, None, Some};
-ghost use Rattle.arachne_machine.specs.Suspended.{IsTally};
+ghost use Rattle.arachne_machine.specs.Suspended.{IsAsk, IsFree, IsTally};
 ghost use Rattle.arachne_machine.specs.declared.pause.Pending.{Pending};
 ghost use Rattle.arachne_machine.specs.declared.pause.Pending.TheVariants as pause;
 ghost use Rattle.arachne_run.specs.Slices.{IsLeft};
@@ -26,6 +26,12 @@ pub enum Slice<Child> {
     Forks(Class, Child),
     /// It awaits a child that has not ended.
     Blocks,
+    /// It asks for this lock, and goes on once it is answered.
+    Asks(u64),
+    /// It has asked for this lock before, and is not answered yet.
+    Awaits(u64),
+    /// It frees this lock, and goes on once it is answered.
+    Frees(u64),
     /// It adds to this ledger this amount, and goes on once it is answered.
     Tallies(u64, u64),
     /// It has ended.
@@ -37,19 +43,26 @@ pub trait RunJob: Tagged + Drop {
     /// A thread that was forked and has no place yet.
     type Child: Drop + Send;
 
+    /// The tag of the thread that goes on next: the job's own, or that of one that runs in its place.
+    ghost running_tag_of: { Self → ℕ };
+
     /// The pause that is not answered.
     ghost pause_of: { Self → Option Pending };
 
     /// The job forks this child, and is not answered.
     ghost forks: { Self → Self.Child → Type 0 };
 
-    /// Goes on for at most so many steps.
+    /// The tag of the thread that goes on next, and whose the pause is that is not answered.
+    fn running_tag(&self) -> u64
+        ensures { result ≡ running_tag_of self.now };
+
+    /// Goes on for at most so many steps. A thread that waits for a lock makes none.
     fn slice(&mut self, budget: u32) -> Result<Slice<Self::Child>, RunFault>
         requires { 1 ≤ budget }
         ensures tag { Self.tag_of self.new ≡ Self.tag_of self.old }
         ensures left { IfOk result (λ slice. IsLeft forks pause_of slice self.new) };
 
-    /// The child becomes a job of its own, whose parent runs under this id.
+    /// The child becomes a job of its own with this tag, whose parent runs under this id.
     fn fork_off(
         &mut self,
         alloc: Global,
@@ -58,17 +71,33 @@ pub trait RunJob: Tagged + Drop {
         tag: u64,
     ) -> Result<Self, RunFault>
         requires { forks self.old child }
-        ensures { Self.tag_of self.new ≡ Self.tag_of self.old };
+        ensures tag { Self.tag_of self.new ≡ Self.tag_of self.old }
+        ensures child { IfOk result (λ job. Self.tag_of job ≡ tag) }
+        ensures answered { OnOk result (pause_of self.new ≡ None) };
 
     /// The child will run in this job's place, once it is awaited.
     fn fork_in_place(&mut self, child: Self::Child, tag: u64) -> Result<(), RunFault>
         requires { forks self.old child }
-        ensures { Self.tag_of self.new ≡ Self.tag_of self.old };
+        ensures tag { Self.tag_of self.new ≡ Self.tag_of self.old }
+        ensures answered { OnOk result (pause_of self.new ≡ None) };
+
+    /// The thread holds the lock that it asked for.
+    fn granted(&mut self)
+        requires { IsAsk (pause_of self.old) }
+        ensures tag { Self.tag_of self.new ≡ Self.tag_of self.old }
+        ensures answered { pause_of self.new ≡ None };
+
+    /// The lock was freed.
+    fn freed(&mut self)
+        requires { IsFree (pause_of self.old) }
+        ensures tag { Self.tag_of self.new ≡ Self.tag_of self.old }
+        ensures answered { pause_of self.new ≡ None };
 
     /// The amount was added to the ledger.
     fn tallied(&mut self)
         requires { IsTally (pause_of self.old) }
-        ensures { Self.tag_of self.new ≡ Self.tag_of self.old };
+        ensures tag { Self.tag_of self.new ≡ Self.tag_of self.old }
+        ensures answered { pause_of self.new ≡ None };
 
     /// Leaves the outcome in the job's cell. Its parent is to be woken; the root has none.
     fn leave(self) -> Option<ThreadId>

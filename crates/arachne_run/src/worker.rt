@@ -1,5 +1,5 @@
 //! The loop of one core's kernel thread.
-ghost use Rattle.std.specs.Prelude.{◌≡◌, ◌<◌, ◌≤◌, [], ◌∷◌, Some, OnOk, IfOk};
+ghost use Rattle.std.specs.Prelude.{◌≡◌, ◌<◌, ◌≤◌, [], ◌∷◌, None, Some, OnOk, IfOk};
 ghost use Rattle.arachne_machine.specs.Suspended.{IsTally};
 ghost use Rattle.arachne_machine.specs.declared.pause.Pending.TheVariants as pause;
 ghost use Rattle.arachne_run.specs.Slices.{IsLeft};
@@ -70,7 +70,7 @@ impl<'a, H: Wait, T: RunJob, C: Contexts<T>, R: Rng, G: Gate> Worker<'a, H, T, C
         unreachable!()
     }
 
-    /// Runs each thread of the core that is ready, for one slice. Whether there was one.
+    /// Runs each thread of the core that is ready, for one slice, unless all workers stop. Whether there was one.
     fn scan(&self, kit: &mut Kit<C::Seat, R>) -> Result<bool, RunFault>
         requires { AreIdle C.sits C.idle self.now.machine.now kit.old.tokens }
         ensures { OnOk result (AreIdle C.sits C.idle self.now.machine.now kit.new.tokens) }
@@ -79,7 +79,7 @@ impl<'a, H: Wait, T: RunJob, C: Contexts<T>, R: Rng, G: Gate> Worker<'a, H, T, C
         let mut found = false;
         for _ in 0..SLOTS {
             let index = occupied.trailing_zeros() as u8;
-            if index >= SLOTS {
+            if index >= SLOTS || self.machine.shared.is_stopped() {
                 break;
             }
             occupied ^= 1 << u32::from(index);
@@ -105,6 +105,9 @@ impl<'a, H: Wait, T: RunJob, C: Contexts<T>, R: Rng, G: Gate> Worker<'a, H, T, C
                 self.put_back(kit, held, Rest::Ready)
             }
             Slice::Blocks => self.put_back(kit, held, Rest::Blocked),
+            Slice::Asks(lock) => self.ask(kit, held, lock),
+            Slice::Awaits(lock) => self.look_for_pass(kit, held, lock),
+            Slice::Frees(lock) => self.free(kit, held, lock),
             Slice::Tallies(ledger, amount) => {
                 self.tally(kit, &mut held, ledger, amount)?;
                 self.put_back(kit, held, Rest::Ready)
@@ -138,7 +141,8 @@ impl<'a, H: Wait, T: RunJob, C: Contexts<T>, R: Rng, G: Gate> Worker<'a, H, T, C
     ) -> Result<(), RunFault>
         requires tokens { AreWith C.sits C.has self.now.machine.now (thread_in T.tag_of held.old ∷ []) kit.old.tokens }
         requires tallies { IsTally (T.pause_of held.old.value) }
-        ensures { AreWith C.sits C.has self.now.machine.now (thread_in T.tag_of held.new ∷ []) kit.new.tokens }
+        ensures tokens { AreWith C.sits C.has self.now.machine.now (thread_in T.tag_of held.new ∷ []) kit.new.tokens }
+        ensures answered { OnOk result (T.pause_of held.new.value ≡ None) }
     {
         let ledgers = &self.machine.ledgers;
         if ledger >= ledgers.count() as u64 {
