@@ -1,6 +1,6 @@
 ghost use Rattle.std.specs.Prelude.{◌≡◌, ◌≢◌, ◌↔◌, ◌≤◌, ◌+◌, ◌-◌, ℕ, ◌∷◌, [], ◌++◌, false, None, Some, IfOk, OnOk, IfErr, OnErr, IsTrue};
 ghost use Rattle.arachne_machine.specs.Suspended.{IsAnswered, IsAsk, IsFree, IsFresh, IsNext, IsTally, Joined, SameThread, awaited, own_line_of, raised};
-ghost use Rattle.arachne_machine.specs.Advance.{AdvancedAlone, Moves, RefusedAlone, IsForeign, IsPassed, PausesAt, handed_back, pending_at, shown};
+ghost use Rattle.arachne_machine.specs.Advance.{AdvancedAlone, Moves, RefusedAlone, IsForeign, IsPassed, IsSpentAt, PausesAt, handed_back, pending_at, shown};
 ghost use Rattle.arachne_machine.specs.Nested.{FallsBy, IsAlone, IsChildOf, IsNested, Nested, SameWhole, alone, in_place_of, pending_in, whole, with_tag, work_in};
 ghost use Rattle.arachne_machine.specs.Faultless.{PausesWithin};
 ghost use Rattle.arachne_machine.specs.Trace.{At, trace_of};
@@ -136,11 +136,30 @@ impl<'p> Thread<'p> {
         ensures err_pending { OnErr result (pending_in self.new ≡ None) }
         ensures err_alone { OnErr result (IsAlone self.old → RefusedAlone budget self.old self.new) }
     {
-        if !self.is_alone() {
-            return self.advance_nested(budget);
-        }
         let mut left = budget;
-        let halt = self.running.advance(&mut left)?;
+        self.advance_within(&mut left)
+    }
+
+    /// The same, for at most as many steps as are left. Then so many fewer are: none where the budget is used, and at
+    /// least one fewer at another pause.
+    pub fn advance_within(&mut self, left: &mut u32) -> Result<Pause<'p>, AllocError>
+        requires not_paused { pending_in self.old ≡ None }
+        requires some { 1 ≤ left.old }
+        ensures ok { IfOk result (λ pause. Moves left.old self.old pause self.new) }
+        ensures spent { IfOk result (λ pause. IsSpentAt pause left.old left.new) }
+        ensures within { IfOk result (λ pause. IsChecked (source_of (whole self.old).program) → PausesAt pause self.new.running) }
+        ensures alone { IfOk result (λ pause. IsAlone self.old → AdvancedAlone left.old self.old pause self.new) }
+        ensures err_same { OnErr result (SameWhole self.old self.new) }
+        ensures err_work { OnErr result (FallsBy 0 (left.old - 1) (work_in self.old) (work_in self.new)) }
+        ensures err_pending { OnErr result (pending_in self.new ≡ None) }
+        ensures err_alone { OnErr result (IsAlone self.old → RefusedAlone left.old self.old self.new) }
+    {
+        if !self.is_alone() {
+            let (pause, rest) = self.advance_nested(*left)?;
+            *left = rest;
+            return Ok(pause);
+        }
+        let halt = self.running.advance(left)?;
         Ok(pause_at(self.alloc, halt))
     }
 
@@ -151,12 +170,13 @@ impl<'p> Thread<'p> {
         self.parents.is_empty() && self.placed.is_empty()
     }
 
-    /// The same for a thread with others in its place.
-    fn advance_nested(&mut self, budget: u32) -> Result<Pause<'p>, AllocError>
+    /// The same for a thread with others in its place, with the steps that are left.
+    fn advance_nested(&mut self, budget: u32) -> Result<(Pause<'p>, u32), AllocError>
         requires not_paused { pending_in self.old ≡ None }
         requires some { 1 ≤ budget }
-        ensures ok { IfOk result (λ pause. Moves budget self.old pause self.new) }
-        ensures within { IfOk result (λ pause. IsChecked (source_of (whole self.old).program) → PausesAt pause self.new.running) }
+        ensures ok { IfOk result (λ gives. Moves budget self.old gives.0 self.new) }
+        ensures spent { IfOk result (λ gives. IsSpentAt gives.0 budget gives.1) }
+        ensures within { IfOk result (λ gives. IsChecked (source_of (whole self.old).program) → PausesAt gives.0 self.new.running) }
         ensures err_same { OnErr result (SameWhole self.old self.new) }
         ensures err_work { OnErr result (FallsBy 0 (budget - 1) (work_in self.old) (work_in self.new)) }
         ensures err_pending { OnErr result (pending_in self.new ≡ None) }
@@ -166,10 +186,10 @@ impl<'p> Thread<'p> {
             self.rejoin()?;
             let halt = self.running.advance(&mut left)?;
             if !self.goes_on(&halt) {
-                return Ok(pause_at(self.alloc, halt));
+                return Ok((pause_at(self.alloc, halt), left));
             }
         }
-        Ok(Pause::Budget)
+        Ok((Pause::Budget, 0))
     }
 
     /// Whether it goes on without a pause where the innermost thread stops so: with a child that was placed here

@@ -3,7 +3,7 @@ use Rattle.arachne_machine.specs.Suspended.{Suspended}
 use Rattle.arachne_machine.specs.Advance.{Moves}
 use Rattle.arachne_machine.specs.Nested.{Nested, IsAlone}
 use Rattle.arachne_machine.proofs.Nesting.{alone_at, alone_moves}
-use Rattle.arachne_machine.proofs.thread.Thread.advance.Goals as goal
+use Rattle.arachne_machine.proofs.thread.Thread.advance_within.Goals as goal
 
 pub returns-clause-ok : goal.returns-clause-ok
 returns-clause-ok c =
@@ -13,7 +13,7 @@ returns-clause-ok c =
     let qs : List Suspended = reverse c.self.inside.placed.items in
     let new : Nested = record { running = b; parents = ps; placed = qs } in
     let is : IsAlone c.args.self.now = c.if-not-is_alone.ensures.0 refl in
-    subst (λ v. Moves c.args.budget v c.pause_at.result new) c.self.view_is
-    (subst (λ p. Moves c.args.budget (record { running = a; parents = ps; placed = qs }) p new) (sym c.pause_at.ensures)
-    (alone_at c.args.budget a b _ ps qs (ap (λ v. v.parents) c.self.view_is ∙ is.0) (ap (λ v. v.placed) c.self.view_is ∙ is.1)
-    (alone_moves c.args.budget a b c.in_ok-halt.halt c.in_ok-halt.ensures.ok c.in_ok-halt.ensures.pending)))
+    subst (λ v. Moves c.args.left.now v c.pause_at.result new) c.self.view_is
+    (subst (λ p. Moves c.args.left.now (record { running = a; parents = ps; placed = qs }) p new) (sym c.pause_at.ensures)
+    (alone_at c.args.left.now a b _ ps qs (ap (λ v. v.parents) c.self.view_is ∙ is.0) (ap (λ v. v.placed) c.self.view_is ∙ is.1)
+    (alone_moves c.args.left.now a b c.in_ok-halt.halt c.in_ok-halt.ensures.ok c.in_ok-halt.ensures.pending)))
