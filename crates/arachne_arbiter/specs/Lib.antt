@@ -1,0 +1,4 @@
+pub mod Choice
+pub mod KernelThreads
+pub mod Orders
+pub mod Placed
