@@ -1,5 +1,5 @@
 -- How far the orders of a run are applied, and what they have done to its cores.
-use Rattle.std.specs.Prelude.{◌≡◌, ℕ, zero, suc, ◌+◌, ◌<◌, ◌≤◌, Bool, true, false, ◌==◌, if◌then◌else◌, List, length, slice_index_or, All, MatchOption, Option, Some, None}
+use Rattle.std.specs.Prelude.{◌≡◌, ℕ, zero, suc, ◌+◌, ◌<◌, ◌≤◌, Bool, true, false, ◌==◌, if◌then◌else◌, List, length, slice_index_or, All}
 use Rattle.arachne_policy.specs.declared.orders.CoreOrder.{CoreOrder}
 use Rattle.arachne_policy.specs.Orders.{order_at, is_release}
 use Rattle.arachne_arbiter.specs.declared.orders.Effect.{Effect}
@@ -61,3 +61,8 @@ pub record AreKept (list : List CoreOrder) (applied : ℕ) (closed : List Bool) 
   pub few : length closed < 256
   pub name_cores : All (λ order. order.core < length closed) list
   pub told : (core : ℕ) → core < length closed → slice_index_or closed core false ≡ is_closed_after list applied core
+
+-- the cores that are to be drained are cores that the orders have closed
+pub record AreDraining (p : Progress) (waiting : List Bool) : Type 0 where
+  pub sized : length waiting ≡ p.cores
+  pub closed : (core : ℕ) → core < p.cores → slice_index_or waiting core false ≡ true → is_closed_after p.list p.applied core ≡ true

@@ -1,5 +1,5 @@
 //! What core 0's kernel thread does for the orders of a run.
-ghost use Rattle.std.specs.Prelude.{◌≡◌, ◌<◌, ◌≤◌, length, if◌then◌else◌, IfOk, MatchBool};
+ghost use Rattle.std.specs.Prelude.{◌≡◌, ℕ, ◌<◌, ◌≤◌, length, if◌then◌else◌, IfOk, MatchBool};
 ghost use Rattle.arachne_core.specs.declared.layout.TheConstants.{CORES};
 ghost use Rattle.arachne_policy.specs.Orders.{AreInOrder};
 ghost use Rattle.arachne_contexts.specs.Out.{KeepsOut};
@@ -27,14 +27,13 @@ pub struct Arbiter {
 }
 
 impl Model for Arbiter {
-    ghost use Rattle.std.specs.Prelude.{◌≡◌, vec_len};
-    ghost use Rattle.arachne_arbiter.specs.Orders.{Progress};
+    ghost use Rattle.arachne_arbiter.specs.Orders.{Progress, AreDraining};
 
     ghost Value = { Progress };
 
     ghost view = { λ a. a.orders };
 
-    ghost invariant = { λ a. vec_len a.draining.waiting ≡ a.orders.cores };
+    ghost invariant = { λ a. AreDraining a.orders a.draining.waiting.items };
 }
 
 impl Arbiter {
@@ -74,8 +73,7 @@ impl Arbiter {
         ensures seat { C.sits cores.now.table.now seat.new }
         ensures weight { C.weight seat.new ≡ C.weight seat.old }
         ensures out { KeepsOut (C.has cores.now.table.now) seat.old seat.new }
-        ensures progress { self.new ≡ record self.old { applied = self.new.applied } }
-        ensures rises { self.old.applied ≤ self.new.applied }
+        ensures progress { (ended : ℕ) × HasAppliedDue self.old self.new ended }
     {
         if !self.orders.are_over() {
             self.apply_due(cores, seat, parking, slices.total());

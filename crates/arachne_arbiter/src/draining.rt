@@ -1,5 +1,6 @@
 //! Moving threads away from cores that orders have closed.
-ghost use Rattle.std.specs.Prelude.{◌≡◌, ◌<◌, ◌≤◌, vec_len, IfOk, IfSome};
+ghost use Rattle.std.specs.Prelude.{◌≡◌, ◌<◌, ◌≤◌, true, false, replicate, slice_set, slice_index_or, vec_len, IfOk, IfSome};
+ghost use Rattle.arachne_arbiter.specs.Draining.{WaitsForNoMore};
 ghost use Rattle.arachne_contexts.specs.Out.{KeepsOut};
 
 use crate::cores::Cores;
@@ -20,7 +21,7 @@ pub(crate) struct Draining {
 impl Draining {
     /// No core of so many is closed.
     pub(crate) fn new(alloc: Global, cores: u8) -> Result<Draining, AllocError>
-        ensures { IfOk result (λ draining. vec_len draining.waiting ≡ cores) }
+        ensures { IfOk result (λ draining. draining.waiting.items ≡ replicate cores false) }
     {
         let waiting = vec![in alloc; false; usize::from(cores)]?;
         Ok(Draining {
@@ -33,7 +34,7 @@ impl Draining {
     /// The core was closed, and is to be drained.
     pub(crate) fn start(&mut self, core: u8)
         requires { core < vec_len self.old.waiting }
-        ensures { vec_len self.new.waiting ≡ vec_len self.old.waiting }
+        ensures { self.new.waiting.items ≡ slice_set self.old.waiting.items core true }
     {
         self.waiting[usize::from(core)] = true;
         self.settled = false;
@@ -42,7 +43,7 @@ impl Draining {
     /// The core was opened, or nothing is left on it.
     pub(crate) fn stop(&mut self, core: u8)
         requires { core < vec_len self.old.waiting }
-        ensures { vec_len self.new.waiting ≡ vec_len self.old.waiting }
+        ensures { self.new.waiting.items ≡ slice_set self.old.waiting.items core false }
     {
         self.waiting[usize::from(core)] = false;
     }
@@ -59,7 +60,7 @@ impl Draining {
         ensures seat { C.sits cores.now.table.now seat.new }
         ensures weight { C.weight seat.new ≡ C.weight seat.old }
         ensures out { KeepsOut (C.has cores.now.table.now) seat.old seat.new }
-        ensures cores { vec_len self.new.waiting ≡ vec_len self.old.waiting }
+        ensures fewer { WaitsForNoMore self.old.waiting.items self.new.waiting.items }
     {
         if self.settled {
             return;
@@ -77,8 +78,8 @@ impl Draining {
     /// The next core in turn that is to be drained.
     fn next_core(&mut self, cores: u8) -> Option<u8>
         requires { vec_len self.old.waiting ≡ cores }
-        ensures next { IfSome result (λ core. core < cores) }
-        ensures cores { vec_len self.new.waiting ≡ vec_len self.old.waiting }
+        ensures next { IfSome result (λ core. (core < cores) × (slice_index_or self.old.waiting.items core false ≡ true)) }
+        ensures waiting { self.new.waiting ≡ self.old.waiting }
     {
         for _ in 0..cores {
             self.last = if self.last < cores - 1 {

@@ -1,7 +1,10 @@
 //! Kernel threads of cores that are closed sleep until their core is granted again.
 ghost use Rattle.std.specs.Prelude.{◌≡◌, ◌<◌, IfOk};
+ghost use Rattle.arachne_contexts.specs.Out.{KeepsOut};
 ghost use Rattle.arachne_arbiter.specs.KernelThreads.{parked_cores};
 
+use crate::cores::Cores;
+use arachne_contexts::{Contexts, Tagged};
 use crossbeam_utils::CachePadded;
 use std::alloc::{AllocError, Global};
 use std::sync::Wait;
@@ -46,5 +49,24 @@ impl Parking {
         for parker in &self.parkers {
             parker.unpark();
         }
+    }
+}
+
+impl<'a, H: Wait, T: Tagged, C: Contexts<T>> Cores<'a, H, T, C> {
+    /// Parks a core's kernel thread if the core is closed and nothing is left on it. Whether it was; then the kernel thread
+    /// was unparked since, and looks again why. Called by the core's kernel thread alone.
+    pub fn park_if_drained(&self, seat: &mut C::Seat, parking: &Parking, core: u8) -> bool
+        requires seat { C.sits self.now.table.now seat.old }
+        requires core { core < self.now.count }
+        requires parking { parked_cores parking.now ≡ self.now.count }
+        ensures seat { C.sits self.now.table.now seat.new }
+        ensures weight { C.weight seat.new ≡ C.weight seat.old }
+        ensures out { KeepsOut (C.has self.now.table.now) seat.old seat.new }
+    {
+        let drained = self.table.is_drained(self.rt, seat, core);
+        if drained {
+            parking.park(self.rt, core);
+        }
+        drained
     }
 }

@@ -16,7 +16,7 @@ impl<'a, H: Wait, T: Tagged, C: Contexts<T>> Cores<'a, H, T, C> {
     /// Claims a place for a thread that shares its core with others: on the core that two random choices give, else on
     /// the first of the others that has one. Draws one word from the chooser, whatever comes of it. None where no core
     /// has a place. The error is want of memory for what is posted at the place.
-    pub fn claim_shared<R: Rng>(
+    pub fn claim_normal<R: Rng>(
         &self,
         seat: &mut C::Seat,
         chooser: &mut R,

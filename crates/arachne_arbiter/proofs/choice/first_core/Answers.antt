@@ -1,7 +1,6 @@
-use Rattle.std.proofs.Common.{◌≡◌, ◌<◌, ◌≤◌, ◌+◌, ◌||◌, true, false, length, get_or, take, ap, ◌∙◌, arith, rules}
+use Rattle.std.proofs.Common.{◌≡◌, ◌<◌, ◌≤◌, ◌||◌, true, false, length, get_or, take, ap, ◌∙◌, arith, rules}
 use Rattle.std.proofs.lemmas.List.{get_or_default}
 use Rattle.arachne_core.specs.Occupancy.{vacant}
-use Rattle.arachne_arbiter.specs.Choice.{loads_of}
 use Rattle.arachne_arbiter.proofs.Loads.{AreBelow, AreBelow-found, loads_of-push, loads_of-skip, loads_of-below}
 use Rattle.arachne_arbiter.proofs.choice.first_core.Goals as goal
 use Rattle.arachne_arbiter.proofs.choice.first_core.Goals.{then-not-is_closed+then-not-is_exclusive, else-not-is_closed, else-not-is_closed-via-then-not-is_closed+else-not-is_exclusive, else-not-is_closed-via-else-not-is_closed}
