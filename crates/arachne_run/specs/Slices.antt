@@ -1,5 +1,5 @@
 -- What a slice leaves, and how a job is put back.
-use Rattle.std.specs.Prelude.{◌≡◌, Option, None, Some}
+use Rattle.std.specs.Prelude.{◌≡◌, ◌<◌, ℕ, Option, None, Some}
 use Rattle.arachne_core.specs.declared.state.Rest.{Rest}
 use Rattle.arachne_core.specs.declared.state.Rest.TheVariants as rest
 use Rattle.arachne_machine.specs.Suspended.{IsTally}
@@ -18,6 +18,12 @@ IsWait _ = ⊥
 abbrev pub MayRest : Rest → Option Pending → Type 0
 MayRest rest.Ready pending = pending ≡ None
 MayRest rest.Blocked pending = IsWait pending
+
+-- of the steps that a job had, fewer are left, unless it waits
+abbrev pub UsesSteps : {Child : Type 0} → Slice Child → ℕ → ℕ → Type 0
+UsesSteps Blocks had left = Unit {0}
+UsesSteps (Awaits lock) had left = Unit {0}
+UsesSteps _ had left = left < had
 
 module _ {Job Child : Type 0} (forks : Job → Child → Type 0) (pause_of : Job → Option Pending) where
   -- the job has come to the pause that the slice says

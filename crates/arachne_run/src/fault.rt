@@ -18,9 +18,6 @@ pub enum RunFault {
     /// The first core order at fault.
     #[error("{0}")]
     Orders(OrderFault),
-    /// The setup has core orders, which are not carried out yet.
-    #[error("core orders are not carried out yet")]
-    NotYet,
     /// A growth was refused.
     #[error("out of memory")]
     Memory,

@@ -5,7 +5,7 @@ ghost use Rattle.arachne_lang.specs.Program.{source_of};
 ghost use Rattle.arachne_lang.specs.Checked.{IsChecked};
 ghost use Rattle.arachne_run.specs.Threads.{IsForking, IsGoing, IsAwaiting, pause_of, program_of, running_tag_of, tag_of};
 ghost use Rattle.arachne_run.specs.Cells.{IsOf, IsFor};
-ghost use Rattle.arachne_run.specs.Slices.{IsLeft};
+ghost use Rattle.arachne_run.specs.Slices.{IsLeft, UsesSteps};
 
 use crate::fault::RunFault;
 use crate::slice::{JobOf, RunJob, Slice};
@@ -74,7 +74,7 @@ impl<'p> RunJob for Job<'p> {
         self.thread.running_tag()
     }
 
-    fn slice(&mut self, budget: u32) -> Result<Slice<Thread<'p>>, RunFault> {
+    fn slice(&mut self, left: &mut u32) -> Result<Slice<Thread<'p>>, RunFault> {
         match self.thread.pending() {
             None => {}
             Some(Pending::Joins) => {
@@ -85,7 +85,7 @@ impl<'p> RunJob for Job<'p> {
             Some(Pending::Asks(lock)) => return Ok(Slice::Awaits(lock)),
             _ => return Err(RunFault::Foreign),
         }
-        self.advance(budget)
+        self.advance(left)
     }
 
     fn fork_off(
@@ -171,14 +171,15 @@ impl<'p> Job<'p> {
         Ok((job, outlet))
     }
 
-    /// Goes on for at most so many steps.
-    fn advance(&mut self, budget: u32) -> Result<Slice<Thread<'p>>, RunFault>
-        requires some { 1 ≤ budget }
+    /// Goes on for at most as many steps as are left.
+    fn advance(&mut self, left: &mut u32) -> Result<Slice<Thread<'p>>, RunFault>
+        requires some { 1 ≤ left.old }
         requires going { IsGoing self.old }
         ensures tag { tag_of self.new ≡ tag_of self.old }
         ensures left { IfOk result (λ slice. IsLeft IsForking pause_of slice self.new) }
+        ensures steps { IfOk result (λ slice. UsesSteps slice left.old left.new) }
     {
-        match self.thread.advance(budget)? {
+        match self.thread.advance_within(left)? {
             Pause::Budget => Ok(Slice::Goes),
             Pause::Forks(class, child) => Ok(Slice::Forks(class, child)),
             Pause::Joins => {

@@ -1,14 +1,15 @@
 //! What a worker does for a thread at a sleep lock.
-ghost use Rattle.std.specs.Prelude.{◌≡◌, ◌<◌, [], ◌∷◌, OnOk, IfOk, Some, length};
+ghost use Rattle.std.specs.Prelude.{◌≡◌, ◌<◌, [], ◌∷◌, OnOk, IfOk, None, Some, MatchBool, length};
 ghost use Rattle.arachne_machine.specs.declared.pause.Pending.TheVariants as pause;
-ghost use Rattle.arachne_run.specs.Tokens.{AreIdle, AreWith, thread_in};
+ghost use Rattle.arachne_run.specs.Slices.{IsWait};
+ghost use Rattle.arachne_run.specs.Tokens.{AreWith, thread_in};
 
 use crate::fault::RunFault;
 use crate::gate::Gate;
 use crate::slice::RunJob;
 use crate::worker::{Kit, Worker};
 use arachne_contexts::{Contexts, Held, Identified};
-use arachne_core::{Rest, ThreadId};
+use arachne_core::ThreadId;
 use arachne_sleep::{AskFault, Asked, Pass, Tried, Who};
 use rand_core::Rng;
 use std::sync::Wait;
@@ -21,80 +22,73 @@ fn asker<T: RunJob, H: Identified>(held: &Held<T, H>) -> Who {
     }
 }
 
+/// Whether a job that asks for a lock goes on: it does with its pass, and waits without.
+fn admit<T: RunJob>(job: &mut T, lock: u64, pass: Option<Pass>) -> bool
+    requires { T.pause_of job.old ≡ Some (pause.Asks lock) }
+    ensures tag { T.tag_of job.new ≡ T.tag_of job.old }
+    ensures goes_on { MatchBool result (T.pause_of job.new ≡ None) (IsWait (T.pause_of job.new)) }
+{
+    let _ = lock;
+    if pass.is_none() {
+        return false;
+    }
+    job.granted();
+    true
+}
+
 impl<'a, H: Wait, T: RunJob, C: Contexts<T>, R: Rng, G: Gate> Worker<'a, H, T, C, R, G> {
-    /// Asks for a lock for a thread, which waits unless it holds it at once.
+    /// Asks for a lock for a thread. Whether it holds it at once and goes on; else it waits.
     pub(crate) fn ask(
         &self,
         kit: &mut Kit<C::Seat, R>,
-        held: Held<T, C::Hold>,
+        held: &mut Held<T, C::Hold>,
         lock: u64,
-    ) -> Result<(), RunFault>
-        requires tokens { AreWith C.sits C.has self.now.machine.now (thread_in T.tag_of held ∷ []) kit.old.tokens }
-        requires asks { T.pause_of held.value ≡ Some (pause.Asks lock) }
-        ensures { OnOk result (AreIdle C.sits C.idle self.now.machine.now kit.new.tokens) }
+    ) -> Result<bool, RunFault>
+        requires tokens { AreWith C.sits C.has self.now.machine.now (thread_in T.tag_of held.old ∷ []) kit.old.tokens }
+        requires asks { T.pause_of held.old.value ≡ Some (pause.Asks lock) }
+        ensures tokens { OnOk result (AreWith C.sits C.has self.now.machine.now (thread_in T.tag_of held.new ∷ []) kit.new.tokens) }
+        ensures goes_on { IfOk result (λ goes_on. MatchBool goes_on (T.pause_of held.new.value ≡ None) (IsWait (T.pause_of held.new.value))) }
     {
         let number = self.lock_of(lock)?;
-        let pass = self.try_ask(kit, &held, number)?;
-        self.admit(kit, held, lock, pass)
+        let pass = self.try_ask(kit, held, number)?;
+        Ok(admit(&mut held.value, lock, pass))
     }
 
-    /// Lets a thread that has waited for a lock go on if it holds the lock now.
+    /// Looks whether a thread that has waited for a lock holds it now and goes on; else it waits.
     pub(crate) fn look_for_pass(
         &self,
         kit: &mut Kit<C::Seat, R>,
-        held: Held<T, C::Hold>,
+        held: &mut Held<T, C::Hold>,
         lock: u64,
-    ) -> Result<(), RunFault>
-        requires tokens { AreWith C.sits C.has self.now.machine.now (thread_in T.tag_of held ∷ []) kit.old.tokens }
-        requires asks { T.pause_of held.value ≡ Some (pause.Asks lock) }
-        ensures { OnOk result (AreIdle C.sits C.idle self.now.machine.now kit.new.tokens) }
+    ) -> Result<bool, RunFault>
+        requires tokens { AreWith C.sits C.has self.now.machine.now (thread_in T.tag_of held.old ∷ []) kit.old.tokens }
+        requires asks { T.pause_of held.old.value ≡ Some (pause.Asks lock) }
+        ensures tokens { OnOk result (AreWith C.sits C.has self.now.machine.now (thread_in T.tag_of held.new ∷ []) kit.new.tokens) }
+        ensures goes_on { IfOk result (λ goes_on. MatchBool goes_on (T.pause_of held.new.value ≡ None) (IsWait (T.pause_of held.new.value))) }
     {
         let number = self.lock_of(lock)?;
-        let pass = self.check(kit, &held, number);
-        self.admit(kit, held, lock, pass)
+        let pass = self.check(kit, held, number);
+        Ok(admit(&mut held.value, lock, pass))
     }
 
     /// Frees a lock for a thread, and wakes the thread that holds it next.
     pub(crate) fn free(
         &self,
         kit: &mut Kit<C::Seat, R>,
-        held: Held<T, C::Hold>,
+        held: &mut Held<T, C::Hold>,
         lock: u64,
     ) -> Result<(), RunFault>
-        requires tokens { AreWith C.sits C.has self.now.machine.now (thread_in T.tag_of held ∷ []) kit.old.tokens }
-        requires frees { T.pause_of held.value ≡ Some (pause.Frees lock) }
-        ensures { OnOk result (AreIdle C.sits C.idle self.now.machine.now kit.new.tokens) }
+        requires tokens { AreWith C.sits C.has self.now.machine.now (thread_in T.tag_of held.old ∷ []) kit.old.tokens }
+        requires frees { T.pause_of held.old.value ≡ Some (pause.Frees lock) }
+        ensures tokens { OnOk result (AreWith C.sits C.has self.now.machine.now (thread_in T.tag_of held.new ∷ []) kit.new.tokens) }
+        ensures answered { OnOk result (T.pause_of held.new.value ≡ None) }
     {
         let number = self.lock_of(lock)?;
-        let next = self.try_free(kit, &held, number)?;
-        let mut held = held;
-        held.value.freed();
-        self.put_back(kit, held, Rest::Ready)?;
-        if let Some(id) = next {
+        if let Some(id) = self.try_free(kit, held, number)? {
             self.wake(kit, id);
         }
+        held.value.freed();
         Ok(())
-    }
-
-    /// A thread that has its pass goes on, and one that has none waits.
-    fn admit(
-        &self,
-        kit: &mut Kit<C::Seat, R>,
-        held: Held<T, C::Hold>,
-        lock: u64,
-        pass: Option<Pass>,
-    ) -> Result<(), RunFault>
-        requires tokens { AreWith C.sits C.has self.now.machine.now (thread_in T.tag_of held ∷ []) kit.old.tokens }
-        requires asks { T.pause_of held.value ≡ Some (pause.Asks lock) }
-        ensures { OnOk result (AreIdle C.sits C.idle self.now.machine.now kit.new.tokens) }
-    {
-        let _ = lock;
-        if pass.is_none() {
-            return self.put_back(kit, held, Rest::Blocked);
-        }
-        let mut held = held;
-        held.value.granted();
-        self.put_back(kit, held, Rest::Ready)
     }
 
     /// The lock of this number. In a checked program a pause names a lock that is there.

@@ -1,16 +1,21 @@
 //! What the workers of a run share.
 ghost use Rattle.std.specs.Prelude.{◌≡◌, ◌≤◌, All, IfOk, IfSome, length};
+ghost use Rattle.arachne_policy.specs.Orders.{AreInOrder};
 ghost use Rattle.arachne_sleep.specs.History.{IsSound};
 ghost use Rattle.arachne_sleep.specs.OneHolder.{HasOneHolderAtATime};
-ghost use Rattle.arachne_run.specs.Tokens.{AreIdle};
+ghost use Rattle.arachne_run.specs.Tokens.{AreIdle, IsSetUp};
 
 use crate::fault::RunFault;
 use crate::shared::Shared;
 use crate::tokens::Tokens;
+use arachne_arbiter::Arbiter;
 use arachne_contexts::{Contexts, Seats, Tagged};
+use arachne_lang::Program;
 use arachne_ledger::Ledgers;
+use arachne_policy::CoreOrder;
 use arachne_sleep::{LockEvent, SleepLocks};
 use std::alloc::{AllocError, Global};
+use std::snapshot::Snapshot;
 use std::sync::Wait;
 
 /// The table of contexts, the ledgers, the locks, and the words that all workers look at.
@@ -22,6 +27,8 @@ pub(crate) struct Machine<C> {
     pub(crate) shared: Shared,
     pub(crate) cores: u8,
     pub(crate) quantum: u32,
+    // What happens to the cores. It has no bytes.
+    pub(crate) orders: Snapshot<Vec<CoreOrder>>,
 }
 
 /// What is left of a machine once all workers have ended.
@@ -31,6 +38,8 @@ pub(crate) struct Remains {
     pub(crate) words: Vec<u64>,
     /// The history of each lock.
     pub(crate) histories: Vec<Vec<LockEvent>>,
+    /// How many orders were applied.
+    pub(crate) applied: usize,
 }
 
 impl<C: Seats + Drop> Machine<C> {
@@ -39,31 +48,37 @@ impl<C: Seats + Drop> Machine<C> {
         alloc: Global,
         cores: u8,
         quantum: u32,
-        ledgers: u8,
-        locks: u8,
+        orders: Vec<CoreOrder>,
+        program: &Program,
     ) -> Result<(Machine<C>, Tokens<C::Seat>), AllocError>
         requires some { 1 ≤ cores }
         requires most { cores ≤ 16 }
+        requires some_steps { 1 ≤ quantum }
+        requires orders { AreInOrder cores orders.items }
         ensures tokens { IfOk result (λ made. AreIdle C.sits C.idle made.0 made.1) }
-        ensures cores { IfOk result (λ made. (made.0.cores ≡ cores) × (C.core_count made.0.table ≡ cores)) }
-        ensures quantum { IfOk result (λ made. made.0.quantum ≡ quantum) }
-        ensures locks { IfOk result (λ made. length made.0.locks ≡ locks) }
+        ensures set_up { IfOk result (λ made. IsSetUp C.core_count made.0) }
+        ensures orders { IfOk result (λ made. made.0.orders.value ≡ orders) }
+        ensures locks { IfOk result (λ made. length made.0.locks ≡ program.now.locks) }
     {
+        let given = Snapshot::of(&orders);
         let (table, seat) = C::new(alloc, cores, 0)?;
-        let (ledgers, share) = Ledgers::new(alloc, usize::from(ledgers))?;
-        let (locks, lock_seats) = SleepLocks::new(alloc, locks)?;
+        let (ledgers, share) = Ledgers::new(alloc, usize::from(program.ledgers))?;
+        let (locks, lock_seats) = SleepLocks::new(alloc, program.locks)?;
+        let arbiter = Arbiter::new(alloc, orders, cores)?;
         let machine = Machine {
             table,
             ledgers,
             locks,
-            shared: Shared::new(),
+            shared: Shared::new(alloc, cores)?,
             cores,
             quantum,
+            orders: given,
         };
         let tokens = Tokens {
             seat,
             share,
             lock_seats,
+            arbiter: Some(arbiter),
         };
         Ok((machine, tokens))
     }
@@ -79,6 +94,7 @@ impl<C: Seats + Drop> Machine<C> {
         T: Tagged + Drop,
         C: Contexts<T>,
         requires { IfSome tokens (AreIdle C.sits C.idle self) }
+        ensures applied { IfOk result (λ remains. remains.applied ≤ length self.orders.value.items) }
         ensures histories { IfOk result (λ remains. length remains.histories.items ≡ length self.locks) }
         ensures sound { IfOk result (λ remains. All (λ history. IsSound history.items) remains.histories.items) }
         ensures one_holder { IfOk result (λ remains. All (λ history. HasOneHolderAtATime history.items) remains.histories.items) }
@@ -90,6 +106,7 @@ impl<C: Seats + Drop> Machine<C> {
             shared,
             cores: _,
             quantum: _,
+            orders: _,
         } = self;
         if let Some(fault) = shared.into_first_fault() {
             return Err(fault);
@@ -99,6 +116,7 @@ impl<C: Seats + Drop> Machine<C> {
                 seat,
                 share,
                 lock_seats,
+                arbiter: Some(arbiter),
             },
         ) = tokens
         else {
@@ -117,6 +135,10 @@ impl<C: Seats + Drop> Machine<C> {
         let Ok(histories) = locks.close(alloc, lock_seats) else {
             return Err(RunFault::Memory);
         };
-        Ok(Remains { words, histories })
+        Ok(Remains {
+            words,
+            histories,
+            applied: arbiter.applied(),
+        })
     }
 }

@@ -25,6 +25,8 @@ pub struct Report {
     pub threads: Sequence<ThreadLine>,
     /// For each lock all that was asked, granted and freed, oldest first.
     pub histories: Vec<Vec<LockEvent>>,
+    /// How many of the orders were applied.
+    pub applied: usize,
 }
 
 impl Report {
@@ -36,11 +38,16 @@ impl Report {
         ensures tags { IfOk result (λ report. AreDistinct (tags_of report)) }
         ensures histories { IfOk result (λ report. report.histories ≡ remains.histories) }
         ensures grants { IfOk result (λ report. GrantsAreHolds report.threads (histories_in report)) }
+        ensures applied { IfOk result (λ report. report.applied ≡ remains.applied) }
     {
         let Ok(parts) = outcome.into_parts() else {
             return Err(RunFault::Memory);
         };
-        let Remains { words, histories } = remains;
+        let Remains {
+            words,
+            histories,
+            applied,
+        } = remains;
         if parts.sums.as_slice() != words.as_slice() {
             return Err(RunFault::Ledgers);
         }
@@ -57,6 +64,7 @@ impl Report {
             totals: Sequence::from(words),
             threads: parts.lines,
             histories,
+            applied,
         })
     }
 }

@@ -26,6 +26,7 @@ use std::sync::Wait;
 use std::thread::Threads;
 
 /// Runs a program on one kernel thread for each core, over a table of the type `C`. Each core draws from its own chooser.
+/// The orders take cores back and grant them again while it runs; those that are not reached before its end are not applied.
 ///
 /// The program is unchanged. After an error nothing of the run is left.
 pub fn run<
@@ -50,12 +51,10 @@ pub fn run<
     ensures sound { IfOk result (λ report. All IsSound (histories_in report)) }
     ensures one_holder { IfOk result (λ report. All HasOneHolderAtATime (histories_in report)) }
     ensures grants { IfOk result (λ report. GrantsAreHolds report.threads (histories_in report)) }
+    ensures applied { IfOk result (λ report. report.applied ≤ length setup.orders.items) }
     ensures refused { (fault : RunFault) → refusal_of setup.cores setup.quantum (vec_len choosers) ≡ Some fault → result ≡ Err fault }
 {
     setup.check(choosers.len())?;
-    if !setup.orders.is_empty() {
-        return Err(RunFault::NotYet);
-    }
     let mut choosers = choosers;
     choosers.reverse();
     let (root, outlet) = T::begin(alloc, program)?;
@@ -63,8 +62,8 @@ pub fn run<
         alloc,
         setup.cores as u8,
         setup.quantum as u32,
-        program.ledgers,
-        program.locks,
+        setup.orders,
+        program,
     )?;
     let tokens = work_all::<H, T, C, R, G>(rt, alloc, &machine, gate, root, choosers, tokens);
     let remains = machine.close::<H, T>(rt, alloc, tokens)?;

@@ -1,8 +1,8 @@
 //! The calls of the table that a worker makes, with what is out with its seat.
 ghost use Rattle.std.specs.Prelude.{◌≡◌, ◌<◌, [], ◌∷◌, OnOk, IfOk, MatchOption};
-ghost use Rattle.arachne_contexts.specs.Out.{Claim as a_claim};
+ghost use Rattle.arachne_contexts.specs.Out.{KeepsOut, Claim as a_claim};
 ghost use Rattle.arachne_run.specs.Slices.{MayRest};
-ghost use Rattle.arachne_run.specs.Tokens.{AreIdle, AreWith, thread_in};
+ghost use Rattle.arachne_run.specs.Tokens.{AreIdle, AreOf, AreWith, thread_in};
 
 use crate::fault::RunFault;
 use crate::gate::Gate;
@@ -74,8 +74,9 @@ impl<'a, H: Wait, T: RunJob, C: Contexts<T>, R: Rng, G: Gate> Worker<'a, H, T, C
 
     /// Wakes the thread of this id, if it has not ended.
     pub(crate) fn wake(&self, kit: &mut Kit<C::Seat, R>, id: ThreadId)
-        requires { AreIdle C.sits C.idle self.now.machine.now kit.old.tokens }
-        ensures { AreIdle C.sits C.idle self.now.machine.now kit.new.tokens }
+        requires { AreOf C.sits self.now.machine.now kit.old.tokens }
+        ensures tokens { AreOf C.sits self.now.machine.now kit.new.tokens }
+        ensures out { KeepsOut (C.has self.now.machine.now.table) kit.old.tokens.seat kit.new.tokens.seat }
     {
         for _ in self.rt.forever() {
             let table = &self.machine.table;
@@ -84,31 +85,6 @@ impl<'a, H: Wait, T: RunJob, C: Contexts<T>, R: Rng, G: Gate> Worker<'a, H, T, C
                 break;
             }
         }
-    }
-
-    /// A place on a core, for a thread that the one that is held forks. A claim that another worker was at is made again.
-    pub(crate) fn claim_on(
-        &self,
-        kit: &mut Kit<C::Seat, R>,
-        held: &Held<T, C::Hold>,
-        core: u8,
-    ) -> Result<Option<C::Claim>, RunFault>
-        requires tokens { AreWith C.sits C.has self.now.machine.now (thread_in T.tag_of held.now ∷ []) kit.old.tokens }
-        requires core { core < self.now.machine.now.cores }
-        ensures { IfOk result (λ place. MatchOption place (AreWith C.sits C.has self.now.machine.now (thread_in T.tag_of held.now ∷ []) kit.new.tokens) (λ claim. AreWith C.sits C.has self.now.machine.now (a_claim claim ∷ thread_in T.tag_of held.now ∷ []) kit.new.tokens)) }
-    {
-        let _ = held;
-        for _ in self.rt.forever() {
-            let table = &self.machine.table;
-            match table.claim(self.rt, &mut kit.tokens.seat, core) {
-                Ok(Claimed::Place(claim)) => return Ok(Some(claim)),
-                Ok(Claimed::Full(_)) => return Ok(None),
-                Ok(Claimed::Closed(_)) => return Ok(None),
-                Ok(Claimed::Lost(_)) => {}
-                Err(_) => return Err(RunFault::Memory),
-            }
-        }
-        unreachable!()
     }
 
     /// Posts a thread that the one that is held has forked.

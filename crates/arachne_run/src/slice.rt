@@ -7,7 +7,7 @@ ghost use Rattle.std.specs.Prelude.{ℕ, Option, None, Some};
 ghost use Rattle.arachne_machine.specs.Suspended.{IsAsk, IsFree, IsTally};
 ghost use Rattle.arachne_machine.specs.declared.pause.Pending.{Pending};
 ghost use Rattle.arachne_machine.specs.declared.pause.Pending.TheVariants as pause;
-ghost use Rattle.arachne_run.specs.Slices.{IsLeft};
+ghost use Rattle.arachne_run.specs.Slices.{IsLeft, UsesSteps};
 
 use crate::fault::RunFault;
 use crate::wanted::Cell;
@@ -17,7 +17,7 @@ use arachne_lang::{Class, Program};
 use std::alloc::{AllocError, Global};
 use std::sync::Arc;
 
-/// What a slice ended with.
+/// Where a slice stops.
 #[derive(Drop)]
 pub enum Slice<Child> {
     /// The job goes on.
@@ -56,10 +56,11 @@ pub trait RunJob: Tagged + Drop {
     fn running_tag(&self) -> u64
         ensures { result ≡ running_tag_of self.now };
 
-    /// Goes on for at most so many steps. A thread that waits for a lock makes none.
-    fn slice(&mut self, budget: u32) -> Result<Slice<Self::Child>, RunFault>
-        requires { 1 ≤ budget }
+    /// Goes on for at most as many steps as are left, of which fewer are left then. A thread that waits makes none.
+    fn slice(&mut self, left: &mut u32) -> Result<Slice<Self::Child>, RunFault>
+        requires { 1 ≤ left.old }
         ensures tag { Self.tag_of self.new ≡ Self.tag_of self.old }
+        ensures steps { IfOk result (λ slice. UsesSteps slice left.old left.new) }
         ensures left { IfOk result (λ slice. IsLeft forks pause_of slice self.new) };
 
     /// The child becomes a job of its own with this tag, whose parent runs under this id.

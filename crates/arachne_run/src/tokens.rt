@@ -3,22 +3,24 @@ ghost use Rattle.std.specs.Prelude.{◌≡◌, ◌≤◌, IfOk, IfErr};
 ghost use Rattle.arachne_run.specs.Tokens.{AreIdle};
 
 use crate::machine::Machine;
+use arachne_arbiter::Arbiter;
 use arachne_contexts::Seats;
 use arachne_ledger::Share;
 use arachne_sleep::LockSeats;
 use std::alloc::Global;
 use std::sync::Wait;
 
-/// A seat at the table, a share of the ledgers, and a seat of each lock.
+/// A seat at the table, a share of the ledgers, a seat of each lock, and for one of the workers the arbiter.
 #[derive(Drop)]
 pub(crate) struct Tokens<S> {
     pub(crate) seat: S,
     pub(crate) share: Share,
     pub(crate) lock_seats: LockSeats,
+    pub(crate) arbiter: Option<Arbiter>,
 }
 
 impl<S> Tokens<S> {
-    /// Half for the worker and half for another. Where memory is refused they come back.
+    /// Half for the worker, with the arbiter, and half for another. Where memory is refused they come back.
     pub(crate) fn split<H: Wait, C: Seats<Seat = S>>(
         self,
         rt: &H,
@@ -34,6 +36,7 @@ impl<S> Tokens<S> {
             seat,
             share,
             lock_seats,
+            arbiter,
         } = self;
         let (lock_seats, other_lock_seats) = match machine.locks.split(alloc, lock_seats) {
             Ok(parts) => parts,
@@ -42,6 +45,7 @@ impl<S> Tokens<S> {
                     seat,
                     share,
                     lock_seats,
+                    arbiter,
                 });
             }
         };
@@ -51,16 +55,18 @@ impl<S> Tokens<S> {
             seat,
             share,
             lock_seats,
+            arbiter,
         };
         let others = Tokens {
             seat: other_seat,
             share: other_share,
             lock_seats: other_lock_seats,
+            arbiter: None,
         };
         Ok((own, others))
     }
 
-    /// Both together.
+    /// Both together, with the own arbiter.
     pub(crate) fn join<H: Wait, C: Seats<Seat = S>>(
         self,
         rt: &H,
@@ -75,6 +81,7 @@ impl<S> Tokens<S> {
             seat: machine.table.join_seats(rt, self.seat, other.seat),
             share: machine.ledgers.join_shares(self.share, other.share),
             lock_seats: machine.locks.join_seats(self.lock_seats, other.lock_seats),
+            arbiter: self.arbiter,
         }
     }
 }
