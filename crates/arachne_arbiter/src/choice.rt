@@ -1,9 +1,16 @@
 //! The core that a new thread is offered first.
 ghost use Rattle.std.specs.Prelude.{◌≡◌, ◌<◌, ◌≤◌, length, IfSome};
-ghost use Rattle.arachne_arbiter.specs.Choice.{core_chosen, loads_of};
+ghost use Rattle.arachne_arbiter.specs.Choice.{core_chosen, is_candidate_at, loads_of};
 
 use arachne_core::{CORES, OccWord};
 use arachne_policy::{CoreLoad, two_choices};
+
+/// Whether the core takes threads that share it: it is open, and no thread has it alone.
+fn is_candidate(occupancy: OccWord) -> bool
+    ensures { result ≡ is_candidate_at occupancy }
+{
+    !occupancy.is_closed() && !occupancy.is_exclusive()
+}
 
 /// Of the cores whose occupancies these are, from core 0 on, the one that two random choices among the open cores that
 /// no thread has alone give for this word. None where there is no such core.
@@ -15,7 +22,7 @@ pub fn first_core(word: u64, occupancies: &[OccWord]) -> Option<u8>
     let mut loads = [CoreLoad { core: 0, count: 0 }; CORES as usize];
     let mut candidates = 0;
     for (core, occupancy) in occupancies.iter().enumerate() {
-        if !occupancy.is_closed() && !occupancy.is_exclusive() {
+        if is_candidate(*occupancy) {
             loads[candidates] = CoreLoad {
                 core: core as u8,
                 count: occupancy.count(),

@@ -1,9 +1,10 @@
-use Rattle.std.proofs.Common.{◌≡◌, ◌<◌, ◌≤◌, ◌||◌, true, false, length, get_or, take, ap, ◌∙◌, arith, rules}
+use Rattle.std.proofs.Common.{◌≡◌, ◌<◌, ◌≤◌, true, false, length, get_or, take, ap, ◌∙◌, arith, rules}
 use Rattle.std.proofs.lemmas.List.{get_or_default}
 use Rattle.arachne_core.specs.Occupancy.{vacant}
+use Rattle.arachne_arbiter.specs.Choice.{is_candidate_at}
 use Rattle.arachne_arbiter.proofs.Loads.{AreBelow, AreBelow-found, loads_of-push, loads_of-skip, loads_of-below}
 use Rattle.arachne_arbiter.proofs.choice.first_core.Goals as goal
-use Rattle.arachne_arbiter.proofs.choice.first_core.Goals.{then-not-is_closed+then-not-is_exclusive, else-not-is_closed, else-not-is_closed-via-then-not-is_closed+else-not-is_exclusive, else-not-is_closed-via-else-not-is_closed}
+use Rattle.arachne_arbiter.proofs.choice.first_core.Goals.{then-is_candidate, else-is_candidate}
 
 pub loop-core-preserved : goal.loop-core-preserved
 loop-core-preserved c =
@@ -14,30 +15,26 @@ loop-core-preserved c =
     let is : occupancy ≡ get_or occupancies core vacant =
     c.index-occupancies-core.is ∙ get_or_default occupancies core occupancy vacant c.loop-core-test.true in
     record {
-      room = elim c.if-not-is_closed.branch [
-        | then-not-is_closed+then-not-is_exclusive w ↦ search rules
-        | else-not-is_closed w ↦ search rules
+      room = elim c.if-is_candidate.branch [
+        | then-is_candidate w ↦ search rules
+        | else-is_candidate w ↦ search rules
       ];
-      fewer = elim c.if-not-is_closed.branch [
-        | then-not-is_closed+then-not-is_exclusive w ↦ search rules
-        | else-not-is_closed w ↦ search rules
+      fewer = elim c.if-is_candidate.branch [
+        | then-is_candidate w ↦ search rules
+        | else-is_candidate w ↦ search rules
       ];
-      listed = elim c.if-not-is_closed.branch [
-        | then-not-is_closed+then-not-is_exclusive w ↦
+      listed = elim c.if-is_candidate.branch [
+        | then-is_candidate w ↦
             let few : length occupancies ≤ 16 = c.requires in
             let room : c.loop-core.candidates < length c.loop-core.loads = omega arith in
-            let is_open : occupancy.closed ≡ false = cc in
-            let is_shared : occupancy.exclusive ≡ false = cc in
+            let candidate : is_candidate_at occupancy ≡ true = cc in
             rw (w.candidates-is, w.loads-is)
-            (loads_of-push occupancies core c.loop-core.candidates c.loop-core.loads occupancy _ room was.listed is is_open is_shared
+            (loads_of-push occupancies core c.loop-core.candidates c.loop-core.loads occupancy _ room was.listed is candidate
             (ap (λ count. record { core = core; count = count }) w.count.ensures.bits))
-        | else-not-is_closed w ↦
-            let skipped : (occupancy.closed || occupancy.exclusive) ≡ true = elim w.else-not-is_closed.branch [
-              | else-not-is_closed-via-then-not-is_closed+else-not-is_exclusive v ↦ search rules
-              | else-not-is_closed-via-else-not-is_closed v ↦ search rules
-            ] in
+        | else-is_candidate w ↦
+            let none : is_candidate_at occupancy ≡ false = cc in
             rw (w.candidates-is, w.loads-is)
-            (loads_of-skip occupancies core occupancy _ was.listed is skipped)
+            (loads_of-skip occupancies core occupancy _ was.listed is none)
       ];
     }
 
