@@ -5,6 +5,7 @@ ghost use Rattle.arachne_lang.specs.Program.{source_of};
 ghost use Rattle.arachne_lang.specs.Checked.{IsChecked};
 ghost use Rattle.std.specs.Prelude.{ℕ, Option, None, Some};
 ghost use Rattle.arachne_machine.specs.Suspended.{IsAsk, IsFree, IsTally};
+ghost use Rattle.arachne_core.specs.declared.thread_id.ThreadId.{ThreadId};
 ghost use Rattle.arachne_machine.specs.declared.pause.Pending.{Pending};
 ghost use Rattle.arachne_machine.specs.declared.pause.Pending.TheVariants as pause;
 ghost use Rattle.arachne_run.specs.Slices.{IsLeft, UsesSteps};
@@ -46,6 +47,9 @@ pub trait RunJob: Tagged + Drop {
     /// The tag of the thread that goes on next: the job's own, or that of one that runs in its place.
     ghost running_tag_of: { Self → ℕ };
 
+    /// The id under which its parent runs. The root has none.
+    ghost parent_of: { Self → Option ThreadId };
+
     /// The pause that is not answered.
     ghost pause_of: { Self → Option Pending };
 
@@ -61,6 +65,7 @@ pub trait RunJob: Tagged + Drop {
         requires { 1 ≤ left.old }
         ensures tag { Self.tag_of self.new ≡ Self.tag_of self.old }
         ensures steps { IfOk result (λ slice. UsesSteps slice left.old left.new) }
+        ensures parent { parent_of self.new ≡ parent_of self.old }
         ensures left { IfOk result (λ slice. IsLeft forks pause_of slice self.new) };
 
     /// The child becomes a job of its own with this tag, whose parent runs under this id.
@@ -73,36 +78,43 @@ pub trait RunJob: Tagged + Drop {
     ) -> Result<Self, RunFault>
         requires { forks self.old child }
         ensures tag { Self.tag_of self.new ≡ Self.tag_of self.old }
+        ensures parent { parent_of self.new ≡ parent_of self.old }
         ensures child { IfOk result (λ job. Self.tag_of job ≡ tag) }
+        ensures childs_parent { IfOk result (λ job. parent_of job ≡ Some me) }
         ensures answered { OnOk result (pause_of self.new ≡ None) };
 
     /// The child will run in this job's place, once it is awaited.
     fn fork_in_place(&mut self, child: Self::Child, tag: u64) -> Result<(), RunFault>
         requires { forks self.old child }
         ensures tag { Self.tag_of self.new ≡ Self.tag_of self.old }
+        ensures parent { parent_of self.new ≡ parent_of self.old }
         ensures answered { OnOk result (pause_of self.new ≡ None) };
 
     /// The thread holds the lock that it asked for.
     fn granted(&mut self)
         requires { IsAsk (pause_of self.old) }
         ensures tag { Self.tag_of self.new ≡ Self.tag_of self.old }
+        ensures parent { parent_of self.new ≡ parent_of self.old }
         ensures answered { pause_of self.new ≡ None };
 
     /// The lock was freed.
     fn freed(&mut self)
         requires { IsFree (pause_of self.old) }
         ensures tag { Self.tag_of self.new ≡ Self.tag_of self.old }
+        ensures parent { parent_of self.new ≡ parent_of self.old }
         ensures answered { pause_of self.new ≡ None };
 
     /// The amount was added to the ledger.
     fn tallied(&mut self)
         requires { IsTally (pause_of self.old) }
         ensures tag { Self.tag_of self.new ≡ Self.tag_of self.old }
+        ensures parent { parent_of self.new ≡ parent_of self.old }
         ensures answered { pause_of self.new ≡ None };
 
     /// Leaves the outcome in the job's cell. Its parent is to be woken; the root has none.
     fn leave(self) -> Option<ThreadId>
-        requires { pause_of self ≡ Some pause.Ended };
+        requires { pause_of self ≡ Some pause.Ended }
+        ensures { result ≡ parent_of self };
 }
 
 /// The jobs of a program's threads.
@@ -111,5 +123,6 @@ pub trait JobOf<'p>: RunJob {
     fn begin(alloc: Global, program: &'p Program) -> Result<(Self, Arc<Cell<'p>>), AllocError>
         requires { IsChecked (source_of program.now) }
         ensures program { IfOk result (λ made. (arc_value made.1).key.program.value ≡ program.now) }
-        ensures name { IfOk result (λ made. (arc_value made.1).key.name.value ≡ []) };
+        ensures name { IfOk result (λ made. (arc_value made.1).key.name.value ≡ []) }
+        ensures parent { IfOk result (λ made. Self.parent_of made.0 ≡ None) };
 }

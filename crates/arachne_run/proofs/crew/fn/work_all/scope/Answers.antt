@@ -8,7 +8,7 @@ loop-core-preserved g c =
     let kept : c.in-Ok.other.promise.machine.value ≡ c.captures.machine.now = search rules in
     let all = All-push (λ h. h.promise.machine.value ≡ c.captures.machine.now) _ c.in-Ok.other was kept in
     let b = c.push_reserved.ensures.items in
-    let d = c.try_reserve.ensures.items in
+    let d = c.part_off-rest.ensures.same in
     (c.part_off-rest.ensures.own, rw (b, d) all)
 
 pub loop-other-preserved : goal.loop-other-preserved
