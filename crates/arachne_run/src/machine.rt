@@ -116,10 +116,13 @@ impl<C: Seats + Drop> Machine<C> {
                 seat,
                 share,
                 lock_seats,
-                arbiter: Some(arbiter),
+                arbiter,
             },
         ) = tokens
         else {
+            return Err(RunFault::Token);
+        };
+        let Some(arbiter) = arbiter else {
             return Err(RunFault::Token);
         };
         let is_all = table.is_whole(&seat) && table.out(&seat) == 0;
