@@ -1,6 +1,8 @@
 //! Tables behind a lock, by public calls: each answer with the words before and after.
 ghost use Rattle.std.specs.Prelude.{◌≡◌, ◌<◌, ◌≢◌, ℕ, IfOk};
 
+mod contention;
+
 use crate::{
     Claimed, Contexts, Held, LockedClaim, LockedContexts, LockedHold, LockedSeat, Moved, Placed,
     Rested, Seats, Tagged, Taken, Woken,
