@@ -32,6 +32,7 @@ pub(crate) const NAMES: usize = 16;
 /// A context table on atomic words. Whoever has a seat may step on it, without waiting.
 ///
 /// Contracts see which table it is, and its shape.
+// In its methods a line `let _ = &self.slots;` opens the table for the prover, which learns its sizes (`IsSized`) there.
 #[derive(Drop)]
 pub struct WordContexts<T: Tagged + Drop> {
     pub(crate) table: Table<Option<T>, View, Shape, ContextRule, Global>,
