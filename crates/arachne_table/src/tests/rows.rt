@@ -197,8 +197,14 @@ pub(super) fn woken_while_held<C: Contexts<Job> + Drop, R: Wait>(
     };
     holds(rested == Rested::WokenMeanwhile, "woken meanwhile")?;
     same(table.look_mark(rt, &mut seat, 0), 0x1)?;
-    holds(table.wake(rt, &mut seat, id(0, 0)) == Woken::Already(0x1), "already")?;
-    holds(table.wake(rt, &mut seat, id(56, 0)) == Woken::Gone, "no context")?;
+    holds(
+        table.wake(rt, &mut seat, id(0, 0)) == Woken::Already(0x1),
+        "already",
+    )?;
+    holds(
+        table.wake(rt, &mut seat, id(56, 0)) == Woken::Gone,
+        "no context",
+    )?;
     same(table.look_mark(rt, &mut seat, 0), 0x1)
 }
 
@@ -216,7 +222,10 @@ pub(super) fn gone_once_it_has_ended<C: Contexts<Job> + Drop, R: Wait>(
     holds(table.wake(rt, &mut seat, ended) == Woken::Gone, "gone")?;
     same(table.look_mark(rt, &mut seat, 0), 0x4000)?;
     holds(post(rt, &table, &mut seat, 0, 4)? == id(0, 1), "next id")?;
-    holds(table.wake(rt, &mut seat, ended) == Woken::Gone, "still gone")?;
+    holds(
+        table.wake(rt, &mut seat, ended) == Woken::Gone,
+        "still gone",
+    )?;
     same(table.look_mark(rt, &mut seat, 0), 0x4001)
 }
 
@@ -267,10 +276,7 @@ fn marks<C: Contexts<Job>, R: Wait>(
     holds(found == moved && behind == left, "the marks")
 }
 
-pub(super) fn drained<C: Contexts<Job> + Drop, R: Wait>(
-    rt: &R,
-    alloc: Global,
-) -> Result<(), Fail> {
+pub(super) fn drained<C: Contexts<Job> + Drop, R: Wait>(rt: &R, alloc: Global) -> Result<(), Fail> {
     let (table, mut seat) = C::new(alloc, 2, 0)?;
     post(rt, &table, &mut seat, 1, 5)?;
     post(rt, &table, &mut seat, 1, 6)?;
@@ -280,20 +286,35 @@ pub(super) fn drained<C: Contexts<Job> + Drop, R: Wait>(
     };
     same(table.close_core(rt, &mut seat, 1), 0x0300000000000007)?;
     same(table.look(rt, &mut seat, 1), 0x4300000000000007)?;
-    holds(moved(rt, &table, &mut seat, 0) == Moved::Moved, "the ready one")?;
-    holds(moved(rt, &table, &mut seat, 1) == Moved::Moved, "the blocked one")?;
-    holds(moved(rt, &table, &mut seat, 2) == Moved::Unposted, "the claim")?;
+    holds(
+        moved(rt, &table, &mut seat, 0) == Moved::Moved,
+        "the ready one",
+    )?;
+    holds(
+        moved(rt, &table, &mut seat, 1) == Moved::Moved,
+        "the blocked one",
+    )?;
+    holds(
+        moved(rt, &table, &mut seat, 2) == Moved::Unposted,
+        "the claim",
+    )?;
     same(table.look(rt, &mut seat, 1), 0x4100000000000004)?;
     same(table.look(rt, &mut seat, 0), 0x0200000000000003)?;
     marks(rt, &table, &mut seat, (0x1, 0x12), (0x400, 0x410))?;
-    holds(table.wake(rt, &mut seat, id(57, 0)) == Woken::Woken, "woken")?;
+    holds(
+        table.wake(rt, &mut seat, id(57, 0)) == Woken::Woken,
+        "woken",
+    )?;
     marks(rt, &table, &mut seat, (0x1, 0x11), (0x400, 0x410))?;
     let Ok(last) = table.post(rt, &mut seat, claim, Job(7)) else {
         return Err("not posted".into());
     };
     holds(last == id(58, 0), "the id")?;
     same(table.look_mark(rt, &mut seat, 58), 0x421)?;
-    holds(moved(rt, &table, &mut seat, 2) == Moved::Moved, "the last one")?;
+    holds(
+        moved(rt, &table, &mut seat, 2) == Moved::Moved,
+        "the last one",
+    )?;
     same(table.look(rt, &mut seat, 0), 0x0300000000000007)?;
     same(table.look(rt, &mut seat, 1), 0x4000000000000000)?;
     holds(table.is_drained(rt, &mut seat, 1), "drained")
@@ -309,7 +330,10 @@ pub(super) fn there_and_back<C: Contexts<Job> + Drop, R: Wait>(
     same(table.look_mark(rt, &mut seat, 56), 0x1)?;
     same(table.look_mark(rt, &mut seat, 0), 0x400)?;
     let place = Place { core: 0, index: 0 };
-    holds(table.move_one(rt, &mut seat, place, 1) == Moved::Moved, "back")?;
+    holds(
+        table.move_one(rt, &mut seat, place, 1) == Moved::Moved,
+        "back",
+    )?;
     same(table.look_mark(rt, &mut seat, 56), 0x401)?;
     same(table.look_mark(rt, &mut seat, 0), 0x0)?;
     same(table.look(rt, &mut seat, 0), 0)?;
