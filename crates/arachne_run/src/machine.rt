@@ -15,7 +15,6 @@ use arachne_ledger::Ledgers;
 use arachne_policy::CoreOrder;
 use arachne_sleep::{LockEvent, SleepLocks};
 use std::alloc::{AllocError, Global};
-use std::snapshot::Snapshot;
 use std::sync::Wait;
 
 /// The table of contexts, the ledgers, the locks, and the words that all workers look at.
@@ -27,8 +26,8 @@ pub(crate) struct Machine<C> {
     pub(crate) shared: Shared,
     pub(crate) cores: u8,
     pub(crate) quantum: u32,
-    // What happens to the cores. It has no bytes.
-    pub(crate) orders: Snapshot<Vec<CoreOrder>>,
+    /// How many orders there are.
+    pub(crate) orders: usize,
 }
 
 /// What is left of a machine once all workers have ended.
@@ -57,10 +56,10 @@ impl<C: Seats + Drop> Machine<C> {
         requires orders { AreInOrder cores orders.items }
         ensures tokens { IfOk result (λ made. AreIdle C.sits C.idle made.0 made.1) }
         ensures set_up { IfOk result (λ made. IsSetUp C.core_count made.0) }
-        ensures orders { IfOk result (λ made. made.0.orders.value ≡ orders) }
+        ensures orders { IfOk result (λ made. made.0.orders ≡ length orders.items) }
         ensures locks { IfOk result (λ made. length made.0.locks ≡ program.now.locks) }
     {
-        let given = Snapshot::of(&orders);
+        let count = orders.len();
         let (table, seat) = C::new(alloc, cores, 0)?;
         let (ledgers, share) = Ledgers::new(alloc, usize::from(program.ledgers))?;
         let (locks, lock_seats) = SleepLocks::new(alloc, program.locks)?;
@@ -72,7 +71,7 @@ impl<C: Seats + Drop> Machine<C> {
             shared: Shared::new(alloc, cores)?,
             cores,
             quantum,
-            orders: given,
+            orders: count,
         };
         let tokens = Tokens {
             seat,
@@ -94,7 +93,7 @@ impl<C: Seats + Drop> Machine<C> {
         T: Tagged + Drop,
         C: Contexts<T>,
         requires { IfSome tokens (AreIdle C.sits C.idle self) }
-        ensures applied { IfOk result (λ remains. remains.applied ≤ length self.orders.value.items) }
+        ensures applied { IfOk result (λ remains. remains.applied ≤ self.orders) }
         ensures histories { IfOk result (λ remains. length remains.histories.items ≡ length self.locks) }
         ensures sound { IfOk result (λ remains. All (λ history. IsSound history.items) remains.histories.items) }
         ensures one_holder { IfOk result (λ remains. All (λ history. HasOneHolderAtATime history.items) remains.histories.items) }
@@ -105,9 +104,10 @@ impl<C: Seats + Drop> Machine<C> {
         let Some(tokens) = tokens else {
             return Err(RunFault::Token);
         };
-        let Some(arbiter) = tokens.arbiter else {
+        let Some(arbiter) = &tokens.arbiter else {
             return Err(RunFault::Token);
         };
+        let applied = arbiter.applied();
         let is_all = self.table.is_whole(&tokens.seat) && self.table.out(&tokens.seat) == 0;
         if !is_all || !tokens.share.is_whole() || !self.locks.are_whole(&tokens.lock_seats) {
             return Err(RunFault::Token);
@@ -124,7 +124,7 @@ impl<C: Seats + Drop> Machine<C> {
         Ok(Remains {
             words,
             histories,
-            applied: arbiter.applied(),
+            applied,
         })
     }
 }

@@ -6,6 +6,7 @@ use crate::fault::RunFault;
 use arachne_arbiter::{Parking, SliceCounts};
 use crossbeam_utils::CachePadded;
 use std::alloc::{AllocError, Global};
+use std::marker::Model;
 use std::sync::atomic::{AtomicU64, Ordering};
 use std::sync::{Mutex, Wait};
 use std::time::Duration;
@@ -17,15 +18,26 @@ pub(crate) struct Shared {
     stop: AtomicU64,
     next_tag: CachePadded<AtomicU64>,
     first_fault: Mutex<Option<RunFault>>,
-    pub(crate) parking: Parking,
-    pub(crate) slices: SliceCounts,
+    parking: Parking,
+    slices: SliceCounts,
+}
+
+// Contracts see for how many cores it is.
+impl Model for Shared {
+    ghost use Rattle.std.specs.Prelude.{◌≡◌, ℕ};
+    ghost use Rattle.arachne_arbiter.specs.KernelThreads.{counted_cores, parked_cores};
+
+    ghost Value = { ℕ };
+
+    ghost view = { λ s. parked_cores s.parking };
+
+    ghost invariant = { λ s. counted_cores s.slices ≡ parked_cores s.parking };
 }
 
 impl Shared {
     /// The root has the tag 0.
     pub(crate) fn new(alloc: Global, cores: u8) -> Result<Shared, AllocError>
-        ensures parked { IfOk result (λ shared. parked_cores shared.parking ≡ cores) }
-        ensures counted { IfOk result (λ shared. counted_cores shared.slices ≡ cores) }
+        ensures { IfOk result (λ shared. shared ≡ cores) }
     {
         let parking = Parking::new(alloc, cores)?;
         let slices = SliceCounts::new(alloc, cores)?;
@@ -36,6 +48,20 @@ impl Shared {
             parking,
             slices,
         })
+    }
+
+    /// The parkers of the kernel threads.
+    pub(crate) fn parking(&self) -> &Parking
+        ensures { parked_cores result.now ≡ self.now }
+    {
+        &self.parking
+    }
+
+    /// The counts of the slices.
+    pub(crate) fn slices(&self) -> &SliceCounts
+        ensures { counted_cores result.now ≡ self.now }
+    {
+        &self.slices
     }
 
     /// Stops all workers, those that sleep or are parked too.

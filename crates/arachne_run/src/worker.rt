@@ -87,7 +87,7 @@ impl<'a, H: Wait, T: RunJob, C: Contexts<T>, R: Rng, G: Gate> Worker<'a, H, T, C
             if let Some(held) = self.take(kit, index) {
                 found = true;
                 self.turn(kit, held)?;
-                self.machine.shared.slices.count(self.core);
+                self.machine.shared.slices().count(self.core);
             }
         }
         Ok(found)
@@ -187,8 +187,8 @@ impl<'a, H: Wait, T: RunJob, C: Contexts<T>, R: Rng, G: Gate> Worker<'a, H, T, C
             arbiter.tend(
                 &self.cores(),
                 &mut kit.tokens.seat,
-                &shared.parking,
-                &shared.slices,
+                shared.parking(),
+                shared.slices(),
             );
         }
     }
@@ -199,7 +199,7 @@ impl<'a, H: Wait, T: RunJob, C: Contexts<T>, R: Rng, G: Gate> Worker<'a, H, T, C
         ensures tokens { AreOf C.sits self.now.machine.now kit.new.tokens }
         ensures out { KeepsOut (C.has self.now.machine.now.table) kit.old.tokens.seat kit.new.tokens.seat }
     {
-        let parking = &self.machine.shared.parking;
+        let parking = self.machine.shared.parking();
         self.cores()
             .park_if_drained(&mut kit.tokens.seat, parking, self.core)
     }

@@ -24,7 +24,7 @@ run-requires g c κs = (
         (
           search (sendable, hold.the_send) depth 20,
           (
-            search (sendable, seat.the_send) depth 20,
+            search (sendable, seat.the_send, job_send) depth 20,
             (
               search (sendable, c.type_bounds.sync-R) depth 20,
               (

@@ -1,9 +1,5 @@
-use Rattle.std.proofs.Common.{rules, ◌≡◌, ◌+◌}
-use Rattle.std.proofs.lemmas.List.Elements.{All-push}
-use denote.Param.Send.{sendable}
-use Rattle.std.proofs.Crossing as std
-use Rattle.arachne_run.proofs.machine.Machine.TheSendSync as machine
-use Rattle.arachne_run.proofs.tokens.Tokens.TheSendSync as tokens
+use Rattle.std.proofs.Common.{rules, ◌≡◌, All, subst}
+use Rattle.std.proofs.lemmas.List.Elements.{All-push, All-tail}
 use Rattle.arachne_run.proofs.crew.fn.work_all.scope.Goals as goal
 
 pub loop-core-preserved : goal.loop-core-preserved
@@ -19,7 +15,4 @@ pub loop-other-preserved : goal.loop-other-preserved
 loop-other-preserved g c =
     let was = c.loop-other.invariant in
     let step = c.in-Some-other.ensures.steps in
-    (c.joined-all.ensures, λ k d below. let h = was.1 (k + 1) d in grind rules)
-
-pub spawn_with-started-requires-send-F : goal.spawn_with-started-requires-send-F
-spawn_with-started-requires-send-F g c κs within = search (sendable, std.crosses, machine.the_sync, tokens.the_send, c.type_bounds) depth 30
+    (c.joined-all.ensures, All-tail (λ h. h.promise.machine.value ≡ c.captures.machine.now) _ _ (subst (All (λ h. h.promise.machine.value ≡ c.captures.machine.now)) step.0 was.1))
