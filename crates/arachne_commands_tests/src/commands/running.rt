@@ -179,21 +179,131 @@ fn settings_at_fault(rt: HostRuntime) -> Result<(), Fail> {
     Ok(())
 }
 
-/// Orders that are in order are not carried out yet, and a program with a lock is not run yet, even where it holds none.
+/// Programs that hold locks, and their outputs with the names of their threads.
+const LOCKED: &[Row] = &[
+    Row {
+        text: "arachne 1\nledgers 0\nlocks 1\n(num 7)\n",
+        output: "value 7\nthreads 1\nthread / 0\n",
+    },
+    Row {
+        text: "arachne 1\nledgers 0\nlocks 1\n(hold 0 (num 7))\n",
+        output: "value 7\nthreads 1\nthread / 1\n",
+    },
+    Row {
+        text: "arachne 1\nledgers 1\nlocks 1\n(sweep add 1 (num 0) (num 8) (hold 0 (tally 0 (num 5) (num 1))))\n",
+        output: "value 8\nledger 0 40\nthreads 8\nthread / 1\nthread /2 1\nthread /1 1\nthread /1/0 1\nthread /0 1\nthread /0/1 1\nthread /0/0 1\nthread /0/0/0 1\n",
+    },
+    Row {
+        text: "arachne 1\nledgers 0\nlocks 1\n(fork n (let (fold (num 0) (num 100) (num 0) (var 1)) (hold 0 (num 1))) (hold 0 (fold (num 0) (num 10000) (num 0) (var 1))) (num 2))\n",
+        output: "value 2\nthreads 2\nthread / 1\nthread /0 1\n",
+    },
+    Row {
+        text: "arachne 1\nledgers 2\nlocks 2\n(fork x (tally 1 (num 18446744073709551615) (hold 1 (num 1))) (hold 0 (tally 0 (num 4) (num 2))) (tally 1 (num 3) (hold 1 (add (var 0) (var 1)))))\n",
+        output: "value 3\nledger 0 4\nledger 1 2\nthreads 2\nthread / 1 1\nthread /0 0 1\n",
+    },
+];
+
 #[test]
-fn orders_and_locks_are_not_served_yet(rt: HostRuntime) {
-    let plain = "arachne 1\nledgers 0\nlocks 0\n(num 7)\n";
-    let locked = "arachne 1\nledgers 0\nlocks 1\n(hold 0 (num 7))\n";
-    let idle = "arachne 1\nledgers 0\nlocks 1\n(num 7)\n";
-    for (word, text) in [
-        ("0:release:1", plain),
-        ("18446744073709551615:grant:0", plain),
-        ("--quantum=1", locked),
-        ("--cores=16", idle),
-    ] {
-        let words = ["arachne", "run", word];
-        let ended = run(&rt, rt.alloc(), &words, text.as_bytes());
-        assert_fault(&rt, &ended, &words, 1, "fault 39\n");
+fn locks_are_served_on_every_machine(rt: HostRuntime) {
+    for cores in CORES {
+        for quantum in QUANTA {
+            let words = [
+                "arachne",
+                "run",
+                "--cores",
+                cores,
+                "--quantum",
+                quantum,
+                "--names",
+            ];
+            for row in LOCKED {
+                assert_output(&rt, rt.alloc(), &words, row.text.as_bytes(), row.output);
+            }
+        }
+    }
+}
+
+/// Runs with orders, which change no output.
+const ORDERED: &[&[&str]] = &[
+    &[
+        "arachne",
+        "run",
+        "--cores",
+        "4",
+        "--quantum",
+        "1",
+        "--names",
+        "0:release:1",
+        "1:release:2",
+        "2:grant:1",
+    ],
+    &[
+        "arachne",
+        "run",
+        "--cores",
+        "4",
+        "--quantum",
+        "1",
+        "--names",
+        "0:release:3",
+    ],
+    &[
+        "arachne",
+        "run",
+        "--cores",
+        "4",
+        "--quantum",
+        "100",
+        "--names",
+        "0:release:1",
+        "0:release:2",
+        "0:release:3",
+    ],
+    &[
+        "arachne",
+        "run",
+        "--cores",
+        "4",
+        "--quantum",
+        "1",
+        "--names",
+        "3:release:2",
+        "3:grant:2",
+        "5:release:2",
+    ],
+    &[
+        "arachne",
+        "run",
+        "--cores",
+        "4",
+        "--quantum",
+        "1",
+        "--names",
+        "18446744073709551615:grant:0",
+    ],
+    &[
+        "arachne",
+        "run",
+        "--cores",
+        "16",
+        "--quantum",
+        "1",
+        "--names",
+        "0:release:15",
+        "1:release:15",
+        "2:grant:15",
+    ],
+];
+
+#[test]
+fn orders_change_no_output(rt: HostRuntime) {
+    for &words in ORDERED {
+        for row in &ROWS {
+            assert_output(&rt, rt.alloc(), words, row.text.as_bytes(), row.output);
+        }
+        for row in LOCKED {
+            assert_output(&rt, rt.alloc(), words, row.text.as_bytes(), row.output);
+        }
     }
 }
 
