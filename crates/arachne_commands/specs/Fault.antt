@@ -39,7 +39,6 @@ run_fault_words run.Cores = codes "fault 20"
 run_fault_words run.Quantum = codes "fault 21"
 run_fault_words run.Choosers = codes "fault 24"
 run_fault_words (run.Orders fault) = codes "fault " ++ order_fault_number fault.kind ++ codes " order " ++ decimal fault.index
-run_fault_words run.NotYet = codes "fault 39"
 run_fault_words run.Memory = codes "fault 30"
 run_fault_words run.Foreign = codes "fault 31"
 run_fault_words run.Threads = codes "fault 32"

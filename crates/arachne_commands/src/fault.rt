@@ -93,7 +93,6 @@ impl fmt::Display for Fault {
                 OrderFaultKind::ReleasesCoreZero => write!(f, "fault 23 order {index}"),
                 OrderFaultKind::AfterFalls => write!(f, "fault 25 order {index}"),
             },
-            Fault::InRun(RunFault::NotYet) => write!(f, "fault 39"),
             Fault::InRun(RunFault::Memory) => write!(f, "fault 30"),
             Fault::InRun(RunFault::Foreign) => write!(f, "fault 31"),
             Fault::InRun(RunFault::Threads) => write!(f, "fault 32"),

@@ -10,15 +10,15 @@ ghost use Rattle.arachne_commands.specs.Running.{IsRefusal, choosers_of};
 use crate::command_line::RunSettings;
 use arachne_core::CORES;
 use arachne_lang::Program;
-use arachne_locked::LockedContexts;
 use arachne_run::{Job, OpenGate, Report, RunFault, Setup, run};
+use arachne_words::WordContexts;
 use rand_core::SeedableRng;
 use rand_xoshiro::Xoshiro256PlusPlus;
 use std::alloc::{AllocError, Global};
 use std::sync::Wait;
 use std::thread::Threads;
 
-/// Runs a program as the settings say, over a table behind a lock.
+/// Runs a program as the settings say, over a table on atomic words.
 pub fn run_program<'p, R: Threads + Wait + Sync>(
     rt: &R,
     alloc: Global,
@@ -42,7 +42,7 @@ pub fn run_program<'p, R: Threads + Wait + Sync>(
         quantum,
         orders: orders.into_vec(),
     };
-    run::<R, Job<'p>, LockedContexts<Job<'p>>, Xoshiro256PlusPlus, OpenGate>(
+    run::<R, Job<'p>, WordContexts<Job<'p>>, Xoshiro256PlusPlus, OpenGate>(
         rt, alloc, program, setup, choosers, &OpenGate,
     )
 }

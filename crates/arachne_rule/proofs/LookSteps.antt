@@ -1,8 +1,8 @@
 -- What the table asks of loads, and of a load that takes a slot.
-use Rattle.std.proofs.Common.{None, ◌≡◌, ℕ, ◌*◌, ◌<◌, ◌≤◌, true, false, List, ◌∷◌, length-set, refl, sym, ap, ◌∙◌, subst, arith, inl, inr, set, get_or, Option}
+use Rattle.std.proofs.Common.{None, ◌≡◌, ℕ, ◌*◌, ◌^◌, ◌<◌, ◌≤◌, true, false, List, ◌∷◌, length-set, refl, sym, ap, ◌∙◌, subst, arith, inl, inr, set, get_or, Option}
 use mathlib.Core.Option.{some, none}
 use mathlib.Core.Option as opt
-use Rattle.atomic_table.specs.Table.{Act, keeps, takes, step, Allows}
+use Rattle.atomic_table.specs.Table.{Act, State, keeps, takes, step, Allows}
 use Rattle.arachne_core.specs.declared.place.Place.{Place}
 use Rattle.arachne_core.specs.declared.event.Event.TheVariants as event
 use Rattle.arachne_core.specs.Marked.{Marked, mark_word, marked_of, IsMarkWord}
@@ -10,6 +10,7 @@ use Rattle.arachne_core.specs.World.{World, IsContext, IsPlace, with_at}
 use Rattle.arachne_core.specs.ContextTable.{marked}
 use Rattle.arachne_core.proofs.MarkWords.{marked_of-mark_word}
 use Rattle.arachne_core.proofs.Changes.{cases_place}
+use Rattle.arachne_weights.specs.declared.token.Token.{Token}
 use Rattle.arachne_weights.specs.Tokens.{held}
 use Rattle.arachne_rule.specs.declared.view.Carried.{Carried}
 use Rattle.arachne_rule.specs.declared.view.Known.{Known}
@@ -69,25 +70,32 @@ module _ {T : Type 0} (tag_in : T → ℕ) (bits : ℕ) (shape : Shape) where
 
   -- ---- a mark word
 
+  -- the mark word of a context is one
+  pub mark-packed : (s : State (Option T) (Token Known)) → Holds tag_in bits shape s → (x : ℕ) → x < contexts_in shape → get_or s.words x 0 < 2 ^ 64 → IsMarkWord bits (get_or s.words x 0)
+  mark-packed s hs x x_in small =
+      let w : World = hs.world in
+      let c = hs.shows.contexts x (subst (λ (m : ℕ). x < m) (λ j. sym hs.fits.cores j * sym hs.fits.slots j) x_in) in
+      let m : Marked = record (marked w x) { place = (hs.phase x).shown } in
+      let index_in : m.place.index < 56 = omega (arith, c.within.1, hs.shows.fits.1) in
+      let reads : marked_of bits (mark_word bits m) ≡ m = marked_of-mark_word bits m (omega (arith, index_in)) (omega (arith, c.within.0, hs.shows.fits.0)) in
+      (
+        ap (λ (q : ℕ). mark_word bits (marked_of bits q)) c.mark ∙ ap (mark_word bits) reads ∙ sym c.mark,
+        subst (λ (q : ℕ). (marked_of bits q).place.index < 56) (sym c.mark) (subst (λ (q : Marked). q.place.index < 56) (sym reads) index_in),
+        small,
+      )
+
   looks-mark : (id weight : ℕ) (k : Known) (l : List (ℕ × Option T)) (x : ℕ) → x < contexts_in shape
       → Allows (Holds tag_in bits shape) (contexts_in shape) id (held weight k, l) x (λ m. m)
       (LooksMark bits (step (contexts_in shape) x 0 0 none) (held weight k, l))
   looks-mark id weight k l x x_in s hs long mine small =
       let w : World = hs.world in
-      let x_is : IsContext w x = subst (λ (m : ℕ). x < m) (λ j. sym hs.fits.cores j * sym hs.fits.slots j) x_in in
-      let c = hs.shows.contexts x x_is in
-      let m : Marked = record (marked w x) { place = (hs.phase x).shown } in
-      let index_in : m.place.index < 56 = omega (arith, c.within.1, hs.shows.fits.1) in
-      let reads : marked_of bits (mark_word bits m) ≡ m = marked_of-mark_word bits m (omega (arith, index_in)) (omega (arith, c.within.0, hs.shows.fits.0)) in
-      let is : (mark_word bits (marked_of bits (mark_word bits m)) ≡ mark_word bits m) × ((marked_of bits (mark_word bits m)).place.index < 56) =
-      (ap (mark_word bits) reads, subst (λ (q : Marked). q.place.index < 56) (sym reads) index_in) in
-      let whole : IsMarkWord bits (get_or s.words x 0) = (ap (λ (q : ℕ). mark_word bits (marked_of bits q)) c.mark ∙ is.0 ∙ sym c.mark, subst (λ (q : ℕ). (marked_of bits q).place.index < 56) (sym c.mark) is.1, small) in (
+      let x_is : IsContext w x = subst (λ (m : ℕ). x < m) (λ j. sym hs.fits.cores j * sym hs.fits.slots j) x_in in (
         held weight (noted kind.Look x (get_or s.words x 0) (get_or s.words x 0) k),
         keeps,
         tt,
         sees tag_in bits shape s hs id weight k mine kind.Look x l (inr (refl, refl)),
         (
-          whole,
+          mark-packed s hs x x_in small,
           refl,
           (λ c same has. says-carried tag_in bits w hs.phase (board_of (contexts_in shape) s) hs.shows id weight k mine x c x_is same has),
           (λ t same has. says-gone tag_in bits w hs.phase (board_of (contexts_in shape) s) hs.shows id weight k mine x t x_is same has),

@@ -26,11 +26,12 @@ use Rattle.arachne_rule.specs.Layout.{contexts_in, board_of}
 use Rattle.arachne_rule.specs.History.{IsExchange, EventOf}
 use Rattle.arachne_rule.specs.Table.{Table, Mine, Holds}
 use Rattle.arachne_rule.specs.Plays.{Carries, IsLive, RestsReady, RestsBlocked, Wakes}
+use Rattle.arachne_rule.proofs.LookSteps.{mark-packed}
 use Rattle.arachne_rule.proofs.Resting.{rest_ready, rest_blocked}
 use Rattle.arachne_rule.proofs.Waking.{wake_blocked, wake_held}
 use Rattle.arachne_rule.proofs.Boards.{home-set}
 use Rattle.arachne_rule.proofs.Stepping.{sees, mark-made, for-seat}
-use Rattle.arachne_rule.proofs.OwnWords.{same-carried}
+use Rattle.arachne_rule.proofs.OwnWords.{same-carried, says-carried}
 use Rattle.arachne_rule.proofs.ThreadSteps.{is-context}
 
 module _ {T : Type 0} (tag_in : T → ℕ) (bits : ℕ) (shape : Shape) where
@@ -71,7 +72,7 @@ module _ {T : Type 0} (tag_in : T → ℕ) (bits : ℕ) (shape : Shape) where
 
   rests-blocked : (id weight : ℕ) (k : Known) (l : List (ℕ × Option T)) (c : Carried) (v : T) (old new : ℕ) → c.context < n → Carries k c → c.held ≡ true → tag_in v ≡ c.tag
       → (marked_of bits old).mark ≡ mark.Held → new ≡ mark_word bits (marked_as mark.Blocked c)
-      → Allows (Holds tag_in bits shape) n id (held weight k, (c.context, Some v) ∷ l) c.context (λ q. either (eqb q old) new q) (RestsBlocked (step n c.context old new none) (held weight k, (c.context, Some v) ∷ l))
+      → Allows (Holds tag_in bits shape) n id (held weight k, (c.context, Some v) ∷ l) c.context (λ q. either (eqb q old) new q) (RestsBlocked bits (step n c.context old new none) (held weight k, (c.context, Some v) ∷ l))
   rests-blocked id weight k l c v old new c_in has holds tagged is_held new_is s hs long mine small =
       let x : ℕ = c.context in
       let b : Board T = board_of n s in
@@ -81,7 +82,7 @@ module _ {T : Type 0} (tag_in : T → ℕ) (bits : ℕ) (shape : Shape) where
       let home : ℕ → opt.Option (opt.Option (Option T)) = with_at b.home x (opt.some (opt.some (Some v))) in
       let e : Event = event.Rest id x put.Blocked in
       let F : ℕ → Type 0 = λ (q : ℕ). (u : Token Known) × (a : Act (Option T)) × Valid s.homes out a × Holds tag_in bits shape (stepped s x q id out u a)
-      × RestsBlocked (step n x old new none) me (get_or s.words x 0) (u, carried_after out a) in
+      × RestsBlocked bits (step n x old new none) me (get_or s.words x 0) (u, carried_after out a) in
       exchanged (get_or s.words x 0) old new F
       (λ hit.
       let r = rest_blocked tag_in bits hs.world hs.phase b hs.shows id weight k mine x c v (marked_of bits old) (is-context tag_in bits shape s hs x c_in) has refl holds tagged (ap (marked_of bits) hit) is_held in
@@ -100,15 +101,22 @@ module _ {T : Type 0} (tag_in : T → ℕ) (bits : ℕ) (shape : Shape) where
         keeps,
         tt,
         sees tag_in bits shape s hs id weight k mine kind.RestBlocked x out (inl (tt, refl, refl)),
-        λ f f_at f_has. ((λ hit. absurd (miss hit)), (λ _. refl)),
+        λ f f_at f_has. (
+          (λ hit. absurd (miss hit)),
+          (λ _. (
+            mark-packed tag_in bits shape s hs x c_in small,
+            says-carried tag_in bits hs.world hs.phase b hs.shows id weight k mine x f (is-context tag_in bits shape s hs x c_in) f_at f_has,
+            refl,
+          )),
+        ),
       ))
 
   pub rest-blocked-allowed : (slots id : ℕ) (me : Mine T) (c : Carried) (v : T) (x old new : ℕ) → slots ≡ contexts_in shape → IsLive me → x ≡ c.context → x < slots → Carries me.0.known c → c.held ≡ true
       → me.1 ≡ (c.context, Some v) ∷ rest me.1 → tag_in v ≡ c.tag → (marked_of bits old).mark ≡ mark.Held → new ≡ mark_word bits (marked_as mark.Blocked c)
-      → Allows (Holds tag_in bits shape) slots id me x (λ q. either (eqb q old) new q) (RestsBlocked (step slots x old new none) me)
+      → Allows (Holds tag_in bits shape) slots id me x (λ q. either (eqb q old) new q) (RestsBlocked bits (step slots x old new none) me)
   rest-blocked-allowed slots id me c v x old new laid live there x_in has holds slot tagged is_held new_is =
-      for-seat (λ m j e. Allows (Holds tag_in bits shape) m id e j (λ q. either (eqb q old) new q) (RestsBlocked (step m j old new none) e)) slots x n c.context me laid there live
-      (subst (λ (z : List (ℕ × Option T)). Allows (Holds tag_in bits shape) n id (held me.0.weight me.0.known, z) c.context (λ q. either (eqb q old) new q) (RestsBlocked (step n c.context old new none) (held me.0.weight me.0.known, z))) (sym slot)
+      for-seat (λ m j e. Allows (Holds tag_in bits shape) m id e j (λ q. either (eqb q old) new q) (RestsBlocked bits (step m j old new none) e)) slots x n c.context me laid there live
+      (subst (λ (z : List (ℕ × Option T)). Allows (Holds tag_in bits shape) n id (held me.0.weight me.0.known, z) c.context (λ q. either (eqb q old) new q) (RestsBlocked bits (step n c.context old new none) (held me.0.weight me.0.known, z))) (sym slot)
       (rests-blocked id me.0.weight me.0.known (rest me.1) c v old new (subst (λ (q : ℕ). q < n) there (subst (λ (m : ℕ). x < m) laid x_in)) has holds tagged is_held new_is))
 
   -- ---- a wake

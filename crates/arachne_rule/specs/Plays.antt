@@ -139,11 +139,11 @@ module _ {T : Type 0} where
   RestsReady step before found after = (c : Carried) → c.context ≡ step.word → Carries before.0.known c
       → (was : ℕ) × (after ≡ knowing_home before (noted kind.RestReady step.word was step.first (without_context before.0.known c)))
 
-  -- where the word was the one expected, the thread is blocked, and its value at home
-  abbrev pub RestsBlocked : Step (Option T) → Mine T → ℕ → Mine T → Type 0
-  RestsBlocked step before found after = (c : Carried) → c.context ≡ step.word → Carries before.0.known c
+  -- where the word was the one expected, the thread is blocked, and its value at home; else the word found is the seat's own thread's
+  abbrev pub RestsBlocked : ℕ → Step (Option T) → Mine T → ℕ → Mine T → Type 0
+  RestsBlocked bits step before found after = (c : Carried) → c.context ≡ step.word → Carries before.0.known c
       → (found ≡ step.first → after ≡ knowing_home before (noted kind.RestBlocked step.word found step.second (without_context before.0.known c)))
-      × (found ≢ step.first → after ≡ saw kind.RestBlocked step found before)
+      × (found ≢ step.first → IsMarkWord bits found × SaysCarried bits c found × (after ≡ saw kind.RestBlocked step found before))
 
   -- a wake, of either kind: the seat knows what it knew
   abbrev pub Wakes : Kind → Step (Option T) → Mine T → ℕ → Mine T → Type 0

@@ -5,3 +5,4 @@ pub mod Reports
 pub mod Setups
 pub mod Tokens
 pub mod Distinct
+pub mod Histories

@@ -1,16 +1,38 @@
--- What a slice leaves.
-use Rattle.std.specs.Prelude.{◌≡◌, Option, Some}
+-- What a slice leaves, and how a job is put back.
+use Rattle.std.specs.Prelude.{◌≡◌, ◌<◌, ℕ, Option, None, Some}
+use Rattle.arachne_core.specs.declared.state.Rest.{Rest}
+use Rattle.arachne_core.specs.declared.state.Rest.TheVariants as rest
 use Rattle.arachne_machine.specs.Suspended.{IsTally}
 use Rattle.arachne_machine.specs.declared.pause.Pending.{Pending}
 use Rattle.arachne_machine.specs.declared.pause.Pending.TheVariants as pause
 use Rattle.arachne_run.specs.declared.slice.Slice.{Slice}
-use Rattle.arachne_run.specs.declared.slice.Slice.TheVariants.{Goes, Forks, Blocks, Tallies, Ends}
+use Rattle.arachne_run.specs.declared.slice.Slice.TheVariants.{Goes, Forks, Blocks, Asks, Awaits, Frees, Tallies, Ends}
+
+-- the pauses at which a job waits for another: for the end of a child, or for a lock
+abbrev pub IsWait : Option Pending → Type 0
+IsWait (Some pause.Joins) = Unit {0}
+IsWait (Some (pause.Asks lock)) = Unit {0}
+IsWait _ = ⊥
+
+-- A job with this pause may rest so: it is ready where its pause was answered, and blocked where it waits.
+abbrev pub MayRest : Rest → Option Pending → Type 0
+MayRest rest.Ready pending = pending ≡ None
+MayRest rest.Blocked pending = IsWait pending
+
+-- of the steps that a job had, fewer are left, unless it waits
+abbrev pub UsesSteps : {Child : Type 0} → Slice Child → ℕ → ℕ → Type 0
+UsesSteps Blocks had left = Unit {0}
+UsesSteps (Awaits lock) had left = Unit {0}
+UsesSteps _ had left = left < had
 
 module _ {Job Child : Type 0} (forks : Job → Child → Type 0) (pause_of : Job → Option Pending) where
   -- the job has come to the pause that the slice says
   abbrev pub IsLeft : Slice Child → Job → Type 0
-  IsLeft Goes job = Unit {0}
+  IsLeft Goes job = pause_of job ≡ None
   IsLeft (Forks class child) job = forks job child
-  IsLeft Blocks job = Unit {0}
+  IsLeft Blocks job = pause_of job ≡ Some pause.Joins
+  IsLeft (Asks lock) job = pause_of job ≡ Some (pause.Asks lock)
+  IsLeft (Awaits lock) job = pause_of job ≡ Some (pause.Asks lock)
+  IsLeft (Frees lock) job = pause_of job ≡ Some (pause.Frees lock)
   IsLeft (Tallies ledger amount) job = IsTally (pause_of job)
   IsLeft Ends job = pause_of job ≡ Some pause.Ended

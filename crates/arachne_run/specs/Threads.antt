@@ -1,5 +1,6 @@
 -- What a run sees of a thread, with those that run in its place.
 use Rattle.std.specs.Prelude.{◌≡◌, ℕ, List, Option, None, Some}
+use Rattle.arachne_core.specs.declared.thread_id.ThreadId.{ThreadId}
 use Rattle.arachne_lang.specs.declared.program.Program.{Program}
 use Rattle.arachne_machine.specs.declared.pause.Pending.{Pending}
 use Rattle.arachne_machine.specs.declared.pause.Pending.TheVariants as pause
@@ -17,6 +18,10 @@ name_of thread = (whole thread).name
 abbrev pub tag_of : Thread → ℕ
 tag_of thread = (whole thread).label.tag
 
+-- the tag of the innermost thread, which goes on next
+abbrev pub running_tag_of : Thread → ℕ
+running_tag_of thread = thread.running.label.tag
+
 -- the pause that is not answered
 abbrev pub pause_of : Thread → Option Pending
 pause_of thread = pending_in thread
@@ -31,3 +36,8 @@ IsAwaiting thread = pause_of thread ≡ Some pause.Joins
 -- it forks this thread
 abbrev pub IsForking : Thread → Thread → Type 0
 IsForking thread child = (pause_of thread ≡ Some pause.Forks) × IsChildOf thread child
+
+-- a thread, and the id under which its parent runs, if it has one
+pub record Posted : Type 0 where
+  pub thread : Thread
+  pub parent : Option ThreadId

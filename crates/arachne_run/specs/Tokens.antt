@@ -1,23 +1,41 @@
 -- Whose tokens they are, and what is out with them.
-use Rattle.std.specs.Prelude.{◌≡◌, ◌≤◌, ℕ, List, [], ◌∷◌}
+use Rattle.std.specs.Prelude.{◌≡◌, ◌≤◌, ℕ, List, [], ◌∷◌, Option, IfSome}
 use Rattle.arachne_contexts.specs.Out.{Out, Claim, Thread}
 use Rattle.arachne_contexts.specs.declared.held.Held.{Held}
 use Rattle.arachne_ledger.specs.Views.{IsShareOf}
+use Rattle.arachne_sleep.specs.SleepLocks.{AreSeatsOf}
+use Rattle.arachne_arbiter.specs.KernelThreads.{counted_cores, parked_cores}
+use Rattle.arachne_arbiter.specs.Orders.{Progress}
+use Rattle.arachne_core.specs.declared.layout.TheConstants.{CORES}
 use Rattle.arachne_run.specs.declared.machine.Machine.{Machine}
 use Rattle.arachne_run.specs.declared.tokens.Tokens.{Tokens}
 
--- the seat sits at the machine's table, nothing is out with it, and the share is of the machine's ledgers
+-- the arbiter, if there is one, applies the machine's orders to its cores
+abbrev pub IsArbiterOf : {Table : Type 0} → Machine Table → Option Progress → Type 0
+IsArbiterOf machine arbiter = IfSome arbiter (λ progress. (progress.list ≡ machine.orders.value.items) × (progress.cores ≡ machine.cores))
+
+-- the seat sits at the machine's table, the share is of its ledgers, the lock seats are of its locks, and the arbiter, if there is one, is its arbiter
+abbrev pub AreOf : {Table Seat : Type 0} → (Table → Seat → Type 0) → Machine Table → Tokens Seat → Type 0
+AreOf sits machine tokens =
+    sits machine.table tokens.seat × IsShareOf machine.ledgers tokens.share × AreSeatsOf machine.locks tokens.lock_seats × IsArbiterOf machine tokens.arbiter
+
+-- the same, with nothing out
 abbrev pub AreIdle : {Table Seat : Type 0} → (Table → Seat → Type 0) → (Table → Seat → Type 0) → Machine Table → Tokens Seat → Type 0
-AreIdle sits idle machine tokens = sits machine.table tokens.seat × idle machine.table tokens.seat × IsShareOf machine.ledgers tokens.share
+AreIdle sits idle machine tokens = AreOf sits machine tokens × idle machine.table tokens.seat
 
 -- the same, with this out
 abbrev pub AreWith : {Table Seat C H : Type 0} → (Table → Seat → Type 0) → (Table → Seat → List (Out C H) → Type 0) → Machine Table → List (Out C H) → Tokens Seat → Type 0
-AreWith sits has machine outs tokens = sits machine.table tokens.seat × has machine.table tokens.seat outs × IsShareOf machine.ledgers tokens.share
+AreWith sits has machine outs tokens = AreOf sits machine tokens × has machine.table tokens.seat outs
 
 -- the thread that is held, as the table knows it
 abbrev pub thread_in : {C T H : Type 0} → (T → ℕ) → Held T H → Out C H
 thread_in tag held = Thread held.hold (tag held.value)
 
--- its table has its cores, of which there is one at least, and a slice has a step at least
-abbrev pub IsSetUp : {Table : Type 0} → (Table → ℕ) → Machine Table → Type 0
-IsSetUp core_count machine = (core_count machine.table ≡ machine.cores) × (1 ≤ machine.cores) × (1 ≤ machine.quantum)
+-- its table has its cores, of which there are one to sixteen, each with a count and a parker, and a slice has a step at least
+pub record IsSetUp {Table : Type 0} (core_count : Table → ℕ) (machine : Machine Table) : Type 0 where
+  pub cores : core_count machine.table ≡ machine.cores
+  pub some : 1 ≤ machine.cores
+  pub few : machine.cores ≤ CORES
+  pub parked : parked_cores machine.shared.parking ≡ machine.cores
+  pub counted : counted_cores machine.shared.slices ≡ machine.cores
+  pub some_steps : 1 ≤ machine.quantum

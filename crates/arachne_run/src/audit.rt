@@ -1,26 +1,109 @@
 //! What is looked at once a run is over.
-ghost use Rattle.std.specs.Prelude.{◌≡◌, ◌<◌, ◌≤◌, true, Ok};
-ghost use Rattle.arachne_run.specs.Distinct.{AreDistinct};
+ghost use Rattle.std.specs.Prelude.{◌≡◌, ℕ, ◌<◌, ◌≤◌, false, true, Contains, IfOk, IfSome, Ok, List, length, map, slice_index, slice_index_or};
+ghost use Rattle.arachne_sleep.specs.declared.event.LockEvent.TheVariants.{Grant};
+ghost use Rattle.arachne_sleep.specs.declared.who.Who.{Who};
+ghost use Rattle.arachne_run.specs.Distinct.{AreDistinct, AreMarksOf};
+ghost use Rattle.arachne_run.specs.Histories.{GrantsAreHolds, IsGrantedAsHeld, grants_to};
 
+use arachne_machine::ThreadLine;
+use arachne_sleep::LockEvent;
 use std::alloc::{AllocError, Global};
 
-/// Whether no two of the numbers, each below 2^64 - 1, are the same. It takes a byte for each number up to the greatest.
-pub(crate) fn are_distinct(alloc: Global, numbers: &[u64]) -> Result<bool, AllocError>
-    ensures { result ≡ Ok true → AreDistinct numbers.now }
+/// The marks of the numbers, each below 2^64 - 1, if no two are the same. They take a byte for each number up to the
+/// greatest.
+pub(crate) fn marks_of(alloc: Global, numbers: &[u64]) -> Result<Option<Vec<bool>>, AllocError>
+    ensures distinct { IfOk result (λ found. IfSome found (λ marks. AreDistinct numbers.now)) }
+    ensures marks { IfOk result (λ found. IfSome found (λ marks. AreMarksOf numbers.now marks.items)) }
 {
-    let mut seen = Vec::new(alloc);
+    let mut marks = Vec::new(alloc);
     for number in numbers {
         let place = *number as usize;
         if place == usize::MAX {
+            return Ok(None);
+        }
+        if place >= marks.len() {
+            marks.resize(place + 1, false)?;
+        }
+        if marks[place] {
+            return Ok(None);
+        }
+        marks[place] = true;
+    }
+    Ok(Some(marks))
+}
+
+/// Whether each lock was granted to each thread as often as that held it, and to no other. The marks are those of the
+/// threads' tags.
+pub(crate) fn are_grants_holds(
+    alloc: Global,
+    threads: &[ThreadLine],
+    marks: &[bool],
+    histories: &[Vec<LockEvent>],
+) -> Result<bool, AllocError>
+    requires { AreMarksOf (map (λ line. line.tag) threads.now) marks.now }
+    ensures { result ≡ Ok true → GrantsAreHolds threads.now (map (λ history. history.items) histories.now) }
+{
+    for lock in 0..histories.len() {
+        let history = histories[lock].as_slice();
+        if !is_granted_as_held(alloc, threads, marks, lock, history)? {
             return Ok(false);
         }
-        if place >= seen.len() {
-            seen.resize(place + 1, false)?;
-        }
-        if seen[place] {
-            return Ok(false);
-        }
-        seen[place] = true;
     }
     Ok(true)
+}
+
+/// The same of one lock, in a time that grows with its events and the threads.
+fn is_granted_as_held(
+    alloc: Global,
+    threads: &[ThreadLine],
+    marks: &[bool],
+    lock: usize,
+    history: &[LockEvent],
+) -> Result<bool, AllocError>
+    requires { AreMarksOf (map (λ line. line.tag) threads.now) marks.now }
+    ensures { result ≡ Ok true → IsGrantedAsHeld lock threads.now history.now }
+{
+    let Some(grants) = grants_by_tag(alloc, marks, history)? else {
+        return Ok(false);
+    };
+    for line in threads {
+        let held = number_at(line.holds.as_slice(), lock);
+        if number_at(grants.as_slice(), line.tag as usize) != held {
+            return Ok(false);
+        }
+    }
+    Ok(true)
+}
+
+/// How often the lock was granted to the thread of each tag, unless there is a grant to one that isn't marked.
+fn grants_by_tag(
+    alloc: Global,
+    marks: &[bool],
+    history: &[LockEvent],
+) -> Result<Option<Vec<u64>>, AllocError>
+    ensures grants { IfOk result (λ found. IfSome found (λ grants. (tag : ℕ) → slice_index grants.items tag ≡ grants_to tag history.now)) }
+    ensures marked { IfOk result (λ found. IfSome found (λ grants. (who : Who) → Contains history.now (Grant who) → slice_index_or marks.now who.tag false ≡ true)) }
+{
+    let mut grants = Vec::new(alloc);
+    grants.resize(marks.len(), 0)?;
+    for event in history {
+        if let LockEvent::Grant(who) = event {
+            let tag = who.tag as usize;
+            if tag >= grants.len() || !marks[tag] {
+                return Ok(None);
+            }
+            grants[tag] += 1;
+        }
+    }
+    Ok(Some(grants))
+}
+
+/// The number at a place, and 0 past the end.
+fn number_at(numbers: &[u64], place: usize) -> u64
+    ensures { result ≡ slice_index numbers.now place }
+{
+    match numbers.get(place) {
+        Some(number) => *number,
+        None => 0,
+    }
 }

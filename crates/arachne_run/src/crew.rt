@@ -1,5 +1,5 @@
 //! The kernel threads of a run, one for each core.
-ghost use Rattle.std.specs.Prelude.{◌≡◌, ◌<◌, ◌≤◌, IfSome};
+ghost use Rattle.std.specs.Prelude.{◌≡◌, ◌<◌, ◌≤◌, IfSome, vec_capacity, vec_len};
 ghost use Rattle.std.specs.Thread.{IsSync};
 ghost use Rattle.arachne_run.specs.Tokens.{AreIdle, IsSetUp};
 
@@ -22,6 +22,16 @@ use std::thread::{Promise, Threads};
 #[derive(Drop)]
 struct Returns<C> {
     machine: Snapshot<Machine<C>>,
+}
+
+impl<C> Returns<C> {
+    fn to(machine: &Machine<C>) -> Returns<C>
+        ensures { result.machine.value ≡ machine.now }
+    {
+        Returns {
+            machine: Snapshot::of(machine),
+        }
+    }
 }
 
 impl<C: Seats> Promise<Option<Tokens<C::Seat>>> for Returns<C> {
@@ -59,26 +69,16 @@ pub(crate) fn work_all<
             let mut choosers = choosers;
             let mut others = Vec::new(alloc);
             let of: PhantomData<(T, R)> = PhantomData;
-            let Some(own) = choosers.pop() else {
-                machine.shared.fail(rt, RunFault::Choosers);
-                return None;
-            };
+            let own = choosers.pop();
             for core in 1..machine.cores {
-                let Some(chooser) = choosers.pop() else {
-                    machine.shared.fail(rt, RunFault::Choosers);
-                    break;
-                };
-                if others.try_reserve(1).is_err() {
-                    machine.shared.fail(rt, RunFault::Memory);
-                    break;
-                }
-                let (rest, theirs) = tokens.split::<H, C>(rt, machine);
+                let chooser = choosers.pop();
+                let (rest, part) = part_off(rt, alloc, machine, tokens, chooser, &mut others);
                 tokens = rest;
-                let returns = Returns {
-                    machine: Snapshot::of(machine),
+                let Some((theirs, chooser)) = part else {
+                    break;
                 };
                 let started = scope.spawn_with(
-                    returns,
+                    Returns::to(machine),
                     move || -> Option<Tokens<C::Seat>>
                         requires { AreIdle C.sits C.idle machine.now theirs × IsSetUp C.core_count machine.now × (core < machine.now.cores) }
                         ensures { IfSome result (AreIdle C.sits C.idle machine.entry.now) }
@@ -88,10 +88,11 @@ pub(crate) fn work_all<
                         )
                     },
                 );
-                match started {
-                    Ok(other) => others.push_reserved(other),
-                    Err(_) => machine.shared.fail(rt, RunFault::KernelThread),
-                }
+                let Ok(other) = started else {
+                    machine.shared.fail(rt, RunFault::KernelThread);
+                    break;
+                };
+                others.push_reserved(other);
             }
             let mut all = work_from_root::<H, T, C, R, G>(
                 rt, alloc, machine, gate, root, own, tokens,
@@ -102,6 +103,39 @@ pub(crate) fn work_all<
             all
         },
     )
+}
+
+/// The tokens and the chooser of one worker more, for which there is room among the others then. Where they can't be had
+/// that is recorded.
+fn part_off<H: Wait, C: Seats, R: Drop, W>(
+    rt: &H,
+    alloc: Global,
+    machine: &Machine<C>,
+    tokens: Tokens<C::Seat>,
+    chooser: Option<R>,
+    others: &mut Vec<W>,
+) -> (Tokens<C::Seat>, Option<(Tokens<C::Seat>, R)>)
+    requires { AreIdle C.sits C.idle machine.now tokens }
+    ensures own { AreIdle C.sits C.idle machine.now result.0 }
+    ensures theirs { IfSome result.1 (λ part. AreIdle C.sits C.idle machine.now part.0) }
+    ensures same { others.new.items ≡ others.old.items }
+    ensures room { IfSome result.1 (λ part. vec_len others.new < vec_capacity others.new) }
+{
+    let Some(chooser) = chooser else {
+        machine.shared.fail(rt, RunFault::Choosers);
+        return (tokens, None);
+    };
+    if others.try_reserve(1).is_err() {
+        machine.shared.fail(rt, RunFault::Memory);
+        return (tokens, None);
+    }
+    match tokens.split::<H, C>(rt, alloc, machine) {
+        Ok((own, theirs)) => (own, Some((theirs, chooser))),
+        Err(own) => {
+            machine.shared.fail(rt, RunFault::Memory);
+            (own, None)
+        }
+    }
 }
 
 /// The tokens of two workers together, if both gave theirs back.
@@ -128,13 +162,17 @@ fn work_from_root<H: Wait, T: RunJob, C: Contexts<T>, R: Rng + Drop, G: Gate>(
     machine: &Machine<C>,
     gate: &G,
     root: T,
-    chooser: R,
+    chooser: Option<R>,
     tokens: Tokens<C::Seat>,
 ) -> Option<Tokens<C::Seat>>
     requires tokens { AreIdle C.sits C.idle machine.now tokens }
     requires set_up { IsSetUp C.core_count machine.now }
     ensures { IfSome result (AreIdle C.sits C.idle machine.now) }
 {
+    let Some(chooser) = chooser else {
+        machine.shared.fail(rt, RunFault::Choosers);
+        return None;
+    };
     let mut kit = Kit {
         tokens,
         chooser,

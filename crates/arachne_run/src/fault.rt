@@ -6,26 +6,36 @@ use thiserror::Error;
 /// Why a run has no report. Where several workers meet one, the first that was recorded is answered.
 #[derive(Clone, Copy, Debug, PartialEq, Eq, Error)]
 pub enum RunFault {
+    /// The setup has no core, or more than 16.
     #[error("the number of cores is not 1 to 16")]
     Cores,
+    /// The setup's quantum is 0, or more than 10,000.
     #[error("the quantum is not 1 to 10,000")]
     Quantum,
+    /// The caller gave fewer choosers than the setup has cores, or more.
     #[error("there is not one chooser for each core")]
     Choosers,
+    /// The first core order at fault.
     #[error("{0}")]
     Orders(OrderFault),
-    #[error("the program has locks, or there are core orders")]
-    NotYet,
+    /// A growth was refused.
     #[error("out of memory")]
     Memory,
+    /// A thread got the outcome of another one than the child that it awaits, or one that its program can't have; or it
+    /// named a ledger or a lock that isn't there.
     #[error("the outcome of another thread")]
     Foreign,
+    /// Two threads have one tag, a thread asked for a lock that it had or freed one that it had not, or a lock's grants
+    /// are not the threads' holds.
     #[error("two threads have one tag, or a lock's grants are not the holds")]
     Threads,
+    /// The word of a ledger is not the root's sum.
     #[error("a ledger's word is not the root's sum")]
     Ledgers,
+    /// The table didn't know a place or a thread that a worker had of it, or in the end a seat or a share was not whole.
     #[error("the table knows no such token, or not all of a table came back")]
     Token,
+    /// A kernel thread was refused.
     #[error("a kernel thread was refused")]
     KernelThread,
 }

@@ -12,7 +12,7 @@ const LAST_YIELD: u32 = 20;
 
 const LONGEST_SLEEP: u64 = 100;
 
-/// How many times in turn a worker has found nothing. It writes no word that others see.
+/// How many times in turn a worker has found nothing.
 #[derive(Clone, Copy, Debug, PartialEq, Eq)]
 pub(crate) struct Idle {
     rounds: u32,

@@ -1,11 +1,11 @@
 //! What a context holds in a run: a thread of the program.
-ghost use Rattle.std.specs.Prelude.{◌≡◌, ◌≤◌, true, [], All, IfOk, IfSome, None, Some};
+ghost use Rattle.std.specs.Prelude.{◌≡◌, ◌≤◌, false, true, [], All, IfOk, IfSome, None, Some};
 ghost use Rattle.std.specs.Arc.{arc_value};
 ghost use Rattle.arachne_lang.specs.Program.{source_of};
 ghost use Rattle.arachne_lang.specs.Checked.{IsChecked};
-ghost use Rattle.arachne_run.specs.Threads.{IsForking, IsGoing, IsAwaiting, pause_of, program_of, tag_of};
+ghost use Rattle.arachne_run.specs.Threads.{IsForking, IsGoing, IsAwaiting, pause_of, program_of, running_tag_of, tag_of};
 ghost use Rattle.arachne_run.specs.Cells.{IsOf, IsFor};
-ghost use Rattle.arachne_run.specs.Slices.{IsLeft};
+ghost use Rattle.arachne_run.specs.Slices.{IsLeft, UsesSteps};
 
 use crate::fault::RunFault;
 use crate::slice::{JobOf, RunJob, Slice};
@@ -23,7 +23,7 @@ use std::sync::Arc;
 /// A thread of the program, with the end that leaves its outcome in its cell, the cells of the children that it has
 /// forked and not joined, the newest last, and the id under which its parent runs.
 ///
-/// Contracts see the thread.
+/// Contracts see the thread and that id.
 #[derive(Drop)]
 pub struct Job<'p> {
     thread: Thread<'p>,
@@ -38,23 +38,23 @@ impl<'p> Model for Job<'p> {
     ghost use Rattle.std.specs.Arc.{arc_value};
     ghost use Rattle.arachne_lang.specs.Program.{source_of};
     ghost use Rattle.arachne_lang.specs.Checked.{IsChecked};
-    ghost use Rattle.arachne_run.specs.Threads.{Thread, program_of};
+    ghost use Rattle.arachne_run.specs.Threads.{Posted, program_of};
     ghost use Rattle.arachne_run.specs.Cells.{IsOf, IsFor};
 
-    ghost Value = { Thread };
+    ghost Value = { Posted };
 
     ghost use Rattle.std.specs.Coded.{codes};
     ghost use Rattle.arachne_lang.specs.contracts.program.Expr as expr;
 
     ghost coded = { Prim.hlevel (codes, expr.the_row.coded) };
 
-    ghost view = { λ j. j.thread };
+    ghost view = { λ j. record { thread = j.thread; parent = j.parent } };
 
     ghost invariant = { λ j. (j.end ≡ (arc_value j.cell).table) × IsFor j.thread (arc_value j.cell) × All (λ cell. IsOf (program_of j.thread) (arc_value cell)) j.awaited.items };
 }
 
 impl<'p> Tagged for Job<'p> {
-    ghost tag_of = { tag_of };
+    ghost tag_of = { λ j. tag_of j.thread };
 
     fn tag(&self) -> u64 {
         self.thread.tag()
@@ -64,11 +64,19 @@ impl<'p> Tagged for Job<'p> {
 impl<'p> RunJob for Job<'p> {
     type Child = Thread<'p>;
 
-    ghost pause_of = { pause_of };
+    ghost running_tag_of = { λ j. running_tag_of j.thread };
 
-    ghost forks = { IsForking };
+    ghost parent_of = { λ j. j.parent };
 
-    fn slice(&mut self, budget: u32) -> Result<Slice<Thread<'p>>, RunFault> {
+    ghost pause_of = { λ j. pause_of j.thread };
+
+    ghost forks = { λ j child. IsForking j.thread child };
+
+    fn running_tag(&self) -> u64 {
+        self.thread.running_tag()
+    }
+
+    fn slice(&mut self, left: &mut u32) -> Result<Slice<Thread<'p>>, RunFault> {
         match self.thread.pending() {
             None => {}
             Some(Pending::Joins) => {
@@ -76,10 +84,10 @@ impl<'p> RunJob for Job<'p> {
                     return Ok(Slice::Blocks);
                 }
             }
+            Some(Pending::Asks(lock)) => return Ok(Slice::Awaits(lock)),
             _ => return Err(RunFault::Foreign),
         }
-        let slice = self.advance(budget)?;
-        Ok(slice)
+        self.advance(left)
     }
 
     fn fork_off(
@@ -106,6 +114,14 @@ impl<'p> RunJob for Job<'p> {
         }
     }
 
+    fn granted(&mut self) {
+        self.thread.granted();
+    }
+
+    fn freed(&mut self) {
+        self.thread.freed();
+    }
+
     fn tallied(&mut self) {
         self.thread.tallied();
     }
@@ -126,8 +142,7 @@ impl<'p> RunJob for Job<'p> {
 impl<'p> JobOf<'p> for Job<'p> {
     fn begin(alloc: Global, program: &'p Program) -> Result<(Job<'p>, Arc<Cell<'p>>), AllocError> {
         let thread = Thread::start(alloc, program, 0)?;
-        let made = Job::of(alloc, thread, None)?;
-        Ok(made)
+        Job::of(alloc, thread, None)
     }
 }
 
@@ -138,7 +153,7 @@ impl<'p> Job<'p> {
         thread: Thread<'p>,
         parent: Option<ThreadId>,
     ) -> Result<(Job<'p>, Arc<Cell<'p>>), AllocError>
-        ensures thread { IfOk result (λ made. made.0 ≡ thread.entry) }
+        ensures thread { IfOk result (λ made. made.0 ≡ record { thread = thread.entry; parent = parent }) }
         ensures cell { IfOk result (λ made. IsFor thread.entry (arc_value made.1)) }
     {
         let wanted = Wanted {
@@ -158,14 +173,16 @@ impl<'p> Job<'p> {
         Ok((job, outlet))
     }
 
-    /// Goes on for at most so many steps.
-    fn advance(&mut self, budget: u32) -> Result<Slice<Thread<'p>>, RunFault>
-        requires some { 1 ≤ budget }
-        requires going { IsGoing self.old }
-        ensures tag { tag_of self.new ≡ tag_of self.old }
-        ensures left { IfOk result (λ slice. IsLeft IsForking pause_of slice self.new) }
+    /// Goes on for at most as many steps as are left.
+    fn advance(&mut self, left: &mut u32) -> Result<Slice<Thread<'p>>, RunFault>
+        requires some { 1 ≤ left.old }
+        requires going { IsGoing self.old.thread }
+        ensures tag { tag_of self.new.thread ≡ tag_of self.old.thread }
+        ensures parent { self.new.parent ≡ self.old.parent }
+        ensures left { IfOk result (λ slice. IsLeft (λ j child. IsForking j.thread child) (λ j. pause_of j.thread) slice self.new) }
+        ensures steps { IfOk result (λ slice. UsesSteps slice left.old left.new) }
     {
-        match self.thread.advance(budget)? {
+        match self.thread.advance_within(left)? {
             Pause::Budget => Ok(Slice::Goes),
             Pause::Forks(class, child) => Ok(Slice::Forks(class, child)),
             Pause::Joins => {
@@ -175,14 +192,8 @@ impl<'p> Job<'p> {
                     Ok(Slice::Blocks)
                 }
             }
-            Pause::Asks(_) => {
-                self.thread.granted();
-                Ok(Slice::Goes)
-            }
-            Pause::Frees(_) => {
-                self.thread.freed();
-                Ok(Slice::Goes)
-            }
+            Pause::Asks(lock) => Ok(Slice::Asks(lock)),
+            Pause::Frees(lock) => Ok(Slice::Frees(lock)),
             Pause::Tallies(ledger, amount) => Ok(Slice::Tallies(ledger, amount)),
             Pause::Ended => Ok(Slice::Ends),
         }
@@ -190,7 +201,7 @@ impl<'p> Job<'p> {
 
     /// Expects the outcome of a child in its cell.
     fn expect(&mut self, cell: Arc<Cell<'p>>) -> Result<(), RunFault>
-        requires { IsOf (program_of self.old) (arc_value cell) }
+        requires { IsOf (program_of self.old.thread) (arc_value cell) }
         ensures { self.new ≡ self.old }
     {
         match self.awaited.push(cell) {
@@ -201,9 +212,11 @@ impl<'p> Job<'p> {
 
     /// Joins the child that it awaits, if that has ended.
     fn join(&mut self) -> Result<bool, RunFault>
-        requires { IsAwaiting self.old }
-        ensures tag { tag_of self.new ≡ tag_of self.old }
-        ensures joined { IfOk result (λ joined. joined ≡ true → IsGoing self.new) }
+        requires { IsAwaiting self.old.thread }
+        ensures tag { tag_of self.new.thread ≡ tag_of self.old.thread }
+        ensures parent { self.new.parent ≡ self.old.parent }
+        ensures joined { IfOk result (λ joined. joined ≡ true → IsGoing self.new.thread) }
+        ensures awaits { IfOk result (λ joined. joined ≡ false → IsAwaiting self.new.thread) }
     {
         let Some(outcome) = self.fetch()? else {
             return Ok(false);
@@ -218,7 +231,7 @@ impl<'p> Job<'p> {
     /// The outcome of the child that it awaits, if that has ended.
     fn fetch(&mut self) -> Result<Option<Outcome<'p>>, RunFault>
         ensures same { self.new ≡ self.old }
-        ensures program { IfOk result (λ found. IfSome found (λ outcome. source_of outcome.program ≡ source_of (program_of self.old))) }
+        ensures program { IfOk result (λ found. IfSome found (λ outcome. source_of outcome.program ≡ source_of (program_of self.old.thread))) }
     {
         let Some(cell) = self.awaited.last() else {
             return Err(RunFault::Foreign);

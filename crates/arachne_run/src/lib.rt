@@ -7,6 +7,7 @@ mod fault;
 mod gate;
 mod idle;
 mod job;
+mod locking;
 mod machine;
 mod placing;
 mod report;

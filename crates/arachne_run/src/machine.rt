@@ -1,23 +1,45 @@
 //! What the workers of a run share.
-ghost use Rattle.std.specs.Prelude.{◌≡◌, ◌≤◌, IfOk, IfSome};
-ghost use Rattle.arachne_run.specs.Tokens.{AreIdle};
+ghost use Rattle.std.specs.Prelude.{◌≡◌, ◌≤◌, All, IfOk, IfSome, length};
+ghost use Rattle.arachne_policy.specs.Orders.{AreInOrder};
+ghost use Rattle.arachne_sleep.specs.History.{IsSound};
+ghost use Rattle.arachne_sleep.specs.OneHolder.{HasOneHolderAtATime};
+ghost use Rattle.arachne_run.specs.Tokens.{AreIdle, IsSetUp};
 
 use crate::fault::RunFault;
 use crate::shared::Shared;
 use crate::tokens::Tokens;
+use arachne_arbiter::Arbiter;
 use arachne_contexts::{Contexts, Seats, Tagged};
+use arachne_lang::Program;
 use arachne_ledger::Ledgers;
+use arachne_policy::CoreOrder;
+use arachne_sleep::{LockEvent, SleepLocks};
 use std::alloc::{AllocError, Global};
+use std::snapshot::Snapshot;
 use std::sync::Wait;
 
-/// The table of contexts, the ledgers, and the words that all workers look at.
+/// The table of contexts, the ledgers, the locks, and the words that all workers look at.
 #[derive(Drop)]
 pub(crate) struct Machine<C> {
     pub(crate) table: C,
     pub(crate) ledgers: Ledgers,
+    pub(crate) locks: SleepLocks,
     pub(crate) shared: Shared,
     pub(crate) cores: u8,
     pub(crate) quantum: u32,
+    // What happens to the cores. It has no bytes.
+    pub(crate) orders: Snapshot<Vec<CoreOrder>>,
+}
+
+/// What is left of a machine once all workers have ended.
+#[derive(Drop)]
+pub(crate) struct Remains {
+    /// The words of the ledgers.
+    pub(crate) words: Vec<u64>,
+    /// The history of each lock.
+    pub(crate) histories: Vec<Vec<LockEvent>>,
+    /// How many orders were applied.
+    pub(crate) applied: usize,
 }
 
 impl<C: Seats + Drop> Machine<C> {
@@ -26,60 +48,100 @@ impl<C: Seats + Drop> Machine<C> {
         alloc: Global,
         cores: u8,
         quantum: u32,
-        ledgers: u8,
+        orders: Vec<CoreOrder>,
+        program: &Program,
     ) -> Result<(Machine<C>, Tokens<C::Seat>), AllocError>
         requires some { 1 ≤ cores }
         requires most { cores ≤ 16 }
+        requires some_steps { 1 ≤ quantum }
+        requires orders { AreInOrder cores orders.items }
         ensures tokens { IfOk result (λ made. AreIdle C.sits C.idle made.0 made.1) }
-        ensures cores { IfOk result (λ made. (made.0.cores ≡ cores) × (C.core_count made.0.table ≡ cores)) }
-        ensures quantum { IfOk result (λ made. made.0.quantum ≡ quantum) }
+        ensures set_up { IfOk result (λ made. IsSetUp C.core_count made.0) }
+        ensures orders { IfOk result (λ made. made.0.orders.value ≡ orders) }
+        ensures locks { IfOk result (λ made. length made.0.locks ≡ program.now.locks) }
     {
+        let given = Snapshot::of(&orders);
         let (table, seat) = C::new(alloc, cores, 0)?;
-        let (ledgers, share) = Ledgers::new(alloc, usize::from(ledgers))?;
+        let (ledgers, share) = Ledgers::new(alloc, usize::from(program.ledgers))?;
+        let (locks, lock_seats) = SleepLocks::new(alloc, program.locks)?;
+        let arbiter = Arbiter::new(alloc, orders, cores)?;
         let machine = Machine {
             table,
             ledgers,
-            shared: Shared::new(),
+            locks,
+            shared: Shared::new(alloc, cores)?,
             cores,
             quantum,
+            orders: given,
         };
-        Ok((machine, Tokens { seat, share }))
+        let tokens = Tokens {
+            seat,
+            share,
+            lock_seats,
+            arbiter: Some(arbiter),
+        };
+        Ok((machine, tokens))
     }
 
-    /// The first fault, if there was one; else what is left once all workers have ended: the ledgers' words.
+    /// The first fault, if there was one; else what is left once all workers have ended.
     pub(crate) fn close<H: Wait, T>(
         self,
         rt: &H,
         alloc: Global,
         tokens: Option<Tokens<C::Seat>>,
-    ) -> Result<Vec<u64>, RunFault>
+    ) -> Result<Remains, RunFault>
     where
         T: Tagged + Drop,
         C: Contexts<T>,
         requires { IfSome tokens (AreIdle C.sits C.idle self) }
+        ensures applied { IfOk result (λ remains. remains.applied ≤ length self.orders.value.items) }
+        ensures histories { IfOk result (λ remains. length remains.histories.items ≡ length self.locks) }
+        ensures sound { IfOk result (λ remains. All (λ history. IsSound history.items) remains.histories.items) }
+        ensures one_holder { IfOk result (λ remains. All (λ history. HasOneHolderAtATime history.items) remains.histories.items) }
     {
         let Machine {
             table,
             ledgers,
+            locks,
             shared,
             cores: _,
             quantum: _,
+            orders: _,
         } = self;
         if let Some(fault) = shared.into_first_fault() {
             return Err(fault);
         }
-        let Some(Tokens { seat, share }) = tokens else {
+        let Some(
+            Tokens {
+                seat,
+                share,
+                lock_seats,
+                arbiter,
+            },
+        ) = tokens
+        else {
             return Err(RunFault::Token);
         };
-        if !table.is_whole(&seat) || !share.is_whole() {
+        let Some(arbiter) = arbiter else {
+            return Err(RunFault::Token);
+        };
+        let is_all = table.is_whole(&seat) && table.out(&seat) == 0;
+        if !is_all || !share.is_whole() || !locks.are_whole(&lock_seats) {
             return Err(RunFault::Token);
         }
         if table.close(rt, alloc, seat).is_err() {
             return Err(RunFault::Memory);
         }
-        match ledgers.close(alloc, share) {
-            Ok(words) => Ok(words),
-            Err(_) => Err(RunFault::Memory),
-        }
+        let Ok(words) = ledgers.close(alloc, share) else {
+            return Err(RunFault::Memory);
+        };
+        let Ok(histories) = locks.close(alloc, lock_seats) else {
+            return Err(RunFault::Memory);
+        };
+        Ok(Remains {
+            words,
+            histories,
+            applied: arbiter.applied(),
+        })
     }
 }

@@ -1,36 +1,35 @@
 //! Where the thread that a fork begins gets its place.
-ghost use Rattle.std.specs.Prelude.{◌≡◌, ◌<◌, ◌≤◌, [], ◌∷◌, OnOk, IfOk, MatchOption};
+ghost use Rattle.std.specs.Prelude.{◌≡◌, [], ◌∷◌, None, OnOk, IfOk, MatchOption};
 ghost use Rattle.arachne_contexts.specs.Out.{Claim as a_claim};
-ghost use Rattle.arachne_run.specs.Tokens.{AreIdle, AreWith, thread_in};
+ghost use Rattle.arachne_run.specs.Tokens.{AreWith, thread_in};
 
 use crate::fault::RunFault;
 use crate::gate::Gate;
 use crate::slice::RunJob;
 use crate::worker::{Kit, Worker};
 use arachne_contexts::{Contexts, Held};
-use arachne_core::Rest;
+use arachne_lang::Class;
 use rand_core::Rng;
 use std::sync::Wait;
 
 impl<'a, H: Wait, T: RunJob, C: Contexts<T>, R: Rng, G: Gate> Worker<'a, H, T, C, R, G> {
-    /// Answers a normal fork: the child gets a place on the first core from the next one on that has one, else it runs in
-    /// place.
+    /// Answers a fork: the child gets a place on a core that has one for a thread of its class, else it runs in place.
     pub(crate) fn fork(
         &self,
         kit: &mut Kit<C::Seat, R>,
-        held: Held<T, C::Hold>,
+        held: &mut Held<T, C::Hold>,
+        class: Class,
         child: T::Child,
     ) -> Result<(), RunFault>
-        requires tokens { AreWith C.sits C.has self.now.machine.now (thread_in T.tag_of held ∷ []) kit.old.tokens }
-        requires forks { T.forks held.value child }
-        ensures { OnOk result (AreIdle C.sits C.idle self.now.machine.now kit.new.tokens) }
+        requires tokens { AreWith C.sits C.has self.now.machine.now (thread_in T.tag_of held.old ∷ []) kit.old.tokens }
+        requires forks { T.forks held.old.value child }
+        ensures tokens { OnOk result (AreWith C.sits C.has self.now.machine.now (thread_in T.tag_of held.new ∷ []) kit.new.tokens) }
+        ensures answered { OnOk result (T.pause_of held.new.value ≡ None) }
     {
-        let mut held = held;
-        match self.claim(kit, &held)? {
-            Some(claim) => self.fork_off(kit, &mut held, claim, child)?,
-            None => self.fork_in_place(kit, &mut held, child)?,
+        match self.claim(kit, held, class)? {
+            Some(claim) => self.fork_off(kit, held, claim, child),
+            None => self.fork_in_place(kit, held, child),
         }
-        self.put_back(kit, held, Rest::Ready)
     }
 
     /// The child becomes a thread at the claimed place.
@@ -43,7 +42,8 @@ impl<'a, H: Wait, T: RunJob, C: Contexts<T>, R: Rng, G: Gate> Worker<'a, H, T, C
     ) -> Result<(), RunFault>
         requires tokens { AreWith C.sits C.has self.now.machine.now (a_claim claim ∷ thread_in T.tag_of held.old ∷ []) kit.old.tokens }
         requires forks { T.forks held.old.value child }
-        ensures { OnOk result (AreWith C.sits C.has self.now.machine.now (thread_in T.tag_of held.new ∷ []) kit.new.tokens) }
+        ensures tokens { OnOk result (AreWith C.sits C.has self.now.machine.now (thread_in T.tag_of held.new ∷ []) kit.new.tokens) }
+        ensures answered { OnOk result (T.pause_of held.new.value ≡ None) }
     {
         let me = held.id();
         let tag = self.machine.shared.next_tag();
@@ -52,7 +52,7 @@ impl<'a, H: Wait, T: RunJob, C: Contexts<T>, R: Rng, G: Gate> Worker<'a, H, T, C
     }
 
     /// The child runs in the place of the thread that forks it.
-    pub(crate) fn fork_in_place(
+    fn fork_in_place(
         &self,
         kit: &mut Kit<C::Seat, R>,
         held: &mut Held<T, C::Hold>,
@@ -60,33 +60,31 @@ impl<'a, H: Wait, T: RunJob, C: Contexts<T>, R: Rng, G: Gate> Worker<'a, H, T, C
     ) -> Result<(), RunFault>
         requires tokens { AreWith C.sits C.has self.now.machine.now (thread_in T.tag_of held.old ∷ []) kit.old.tokens }
         requires forks { T.forks held.old.value child }
-        ensures { AreWith C.sits C.has self.now.machine.now (thread_in T.tag_of held.new ∷ []) kit.new.tokens }
+        ensures tokens { AreWith C.sits C.has self.now.machine.now (thread_in T.tag_of held.new ∷ []) kit.new.tokens }
+        ensures answered { OnOk result (T.pause_of held.new.value ≡ None) }
     {
         let _ = kit;
         let tag = self.machine.shared.next_tag();
         held.value.fork_in_place(child, tag)
     }
 
-    /// A place on the first core from the next one on that has one.
+    /// A place for the thread that the one that is held forks. A normal one gets it on the core with fewer threads of two
+    /// that are drawn, else on another core that has one; an exclusive one on an empty core.
     fn claim(
         &self,
         kit: &mut Kit<C::Seat, R>,
         held: &Held<T, C::Hold>,
+        class: Class,
     ) -> Result<Option<C::Claim>, RunFault>
         requires { AreWith C.sits C.has self.now.machine.now (thread_in T.tag_of held.now ∷ []) kit.old.tokens }
         ensures { IfOk result (λ place. MatchOption place (AreWith C.sits C.has self.now.machine.now (thread_in T.tag_of held.now ∷ []) kit.new.tokens) (λ claim. AreWith C.sits C.has self.now.machine.now (a_claim claim ∷ thread_in T.tag_of held.now ∷ []) kit.new.tokens)) }
     {
-        let cores = self.machine.cores;
-        for core in self.core + 1..cores {
-            if let Some(claim) = self.claim_on(kit, held, core)? {
-                return Ok(Some(claim));
-            }
-        }
-        for core in 0..self.core + 1 {
-            if let Some(claim) = self.claim_on(kit, held, core)? {
-                return Ok(Some(claim));
-            }
-        }
-        Ok(None)
+        let _ = held;
+        let seat = &mut kit.tokens.seat;
+        let place = match class {
+            Class::Normal => self.cores().claim_normal(seat, &mut kit.chooser)?,
+            Class::Exclusive => self.cores().claim_exclusive(seat)?,
+        };
+        Ok(place)
     }
 }

@@ -1,14 +1,17 @@
 //! What a run brings.
-ghost use Rattle.std.specs.Prelude.{◌≡◌, [], IfOk};
+ghost use Rattle.std.specs.Prelude.{◌≡◌, [], All, IfOk, length};
 ghost use Rattle.arachne_lang.specs.Program.{source_of};
 ghost use Rattle.arachne_lang.specs.Meaning.{meaning_of};
 ghost use Rattle.arachne_run.specs.Distinct.{AreDistinct};
-ghost use Rattle.arachne_run.specs.Reports.{meaning_in, tags_of};
+ghost use Rattle.arachne_run.specs.Histories.{GrantsAreHolds};
+ghost use Rattle.arachne_run.specs.Reports.{histories_in, meaning_in, tags_of};
 
-use crate::audit::are_distinct;
+use crate::audit::{are_grants_holds, marks_of};
 use crate::fault::RunFault;
+use crate::machine::Remains;
 use arachne_lang::Sequence;
 use arachne_machine::{Outcome, ThreadLine};
+use arachne_sleep::LockEvent;
 use std::alloc::Global;
 
 /// What a run brings.
@@ -20,30 +23,48 @@ pub struct Report {
     pub totals: Sequence<u64>,
     /// Its threads, the root first.
     pub threads: Sequence<ThreadLine>,
+    /// For each lock all that was asked, granted and freed, oldest first.
+    pub histories: Vec<Vec<LockEvent>>,
+    /// How many of the orders were applied.
+    pub applied: usize,
 }
 
 impl Report {
-    /// What the root's outcome brings. Its sums have to be the words of the ledgers, and no two threads may have one tag.
-    pub(crate) fn of(alloc: Global, outcome: Outcome, words: Vec<u64>) -> Result<Report, RunFault>
+    /// What the root's outcome brings. Its sums have to be the words of the ledgers, no two threads may have one tag, and
+    /// the grants of the locks have to be the threads' holds.
+    pub(crate) fn of(alloc: Global, outcome: Outcome, remains: Remains) -> Result<Report, RunFault>
         requires { outcome.name ≡ [] }
         ensures meaning { IfOk result (λ report. meaning_in report ≡ meaning_of (source_of outcome.entry.program)) }
         ensures tags { IfOk result (λ report. AreDistinct (tags_of report)) }
+        ensures histories { IfOk result (λ report. report.histories ≡ remains.histories) }
+        ensures grants { IfOk result (λ report. GrantsAreHolds report.threads (histories_in report)) }
+        ensures applied { IfOk result (λ report. report.applied ≡ remains.applied) }
     {
         let Ok(parts) = outcome.into_parts() else {
             return Err(RunFault::Memory);
         };
+        let Remains {
+            words,
+            histories,
+            applied,
+        } = remains;
         if parts.sums.as_slice() != words.as_slice() {
             return Err(RunFault::Ledgers);
         }
         let lines = parts.lines.as_slice();
         let tags: Vec<u64> = lines.iter().map(|line| line.tag).collect(alloc)?;
-        if !are_distinct(alloc, tags.as_slice())? {
+        let Some(marks) = marks_of(alloc, tags.as_slice())? else {
+            return Err(RunFault::Threads);
+        };
+        if !are_grants_holds(alloc, lines, marks.as_slice(), histories.as_slice())? {
             return Err(RunFault::Threads);
         }
         Ok(Report {
             value: parts.value,
             totals: Sequence::from(words),
             threads: parts.lines,
+            histories,
+            applied,
         })
     }
 }

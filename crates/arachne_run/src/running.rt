@@ -1,10 +1,13 @@
 //! A run of a program.
-ghost use Rattle.std.specs.Prelude.{◌≡◌, ◌≤◌, [], IfOk, Some, Err, vec_len};
+ghost use Rattle.std.specs.Prelude.{◌≡◌, ◌≤◌, [], All, IfOk, Some, Err, length, vec_len};
 ghost use Rattle.arachne_lang.specs.Program.{source_of};
 ghost use Rattle.arachne_lang.specs.Meaning.{meaning_of};
 ghost use Rattle.arachne_lang.specs.Checked.{IsChecked};
+ghost use Rattle.arachne_sleep.specs.History.{IsSound};
+ghost use Rattle.arachne_sleep.specs.OneHolder.{HasOneHolderAtATime};
 ghost use Rattle.arachne_run.specs.Distinct.{AreDistinct};
-ghost use Rattle.arachne_run.specs.Reports.{meaning_in, tags_of};
+ghost use Rattle.arachne_run.specs.Histories.{GrantsAreHolds};
+ghost use Rattle.arachne_run.specs.Reports.{histories_in, meaning_in, tags_of};
 ghost use Rattle.arachne_run.specs.Setups.{refusal_of};
 ghost use Rattle.arachne_run.specs.declared.fault.RunFault.{RunFault};
 
@@ -23,6 +26,7 @@ use std::sync::Wait;
 use std::thread::Threads;
 
 /// Runs a program on one kernel thread for each core, over a table of the type `C`. Each core draws from its own chooser.
+/// The orders take cores back and grant them again while it runs; those that are not reached before its end are not applied.
 ///
 /// The program is unchanged. After an error nothing of the run is left.
 pub fn run<
@@ -43,12 +47,14 @@ pub fn run<
     requires { IsChecked (source_of program.now) }
     ensures meaning { IfOk result (λ report. meaning_in report ≡ meaning_of (source_of program.now)) }
     ensures tags { IfOk result (λ report. AreDistinct (tags_of report)) }
+    ensures histories { IfOk result (λ report. length (histories_in report) ≡ program.now.locks) }
+    ensures sound { IfOk result (λ report. All IsSound (histories_in report)) }
+    ensures one_holder { IfOk result (λ report. All HasOneHolderAtATime (histories_in report)) }
+    ensures grants { IfOk result (λ report. GrantsAreHolds report.threads (histories_in report)) }
+    ensures applied { IfOk result (λ report. report.applied ≤ length setup.orders.items) }
     ensures refused { (fault : RunFault) → refusal_of setup.cores setup.quantum (vec_len choosers) ≡ Some fault → result ≡ Err fault }
 {
     setup.check(choosers.len())?;
-    if program.locks != 0 || !setup.orders.is_empty() {
-        return Err(RunFault::NotYet);
-    }
     let mut choosers = choosers;
     choosers.reverse();
     let (root, outlet) = T::begin(alloc, program)?;
@@ -56,13 +62,13 @@ pub fn run<
         alloc,
         setup.cores as u8,
         setup.quantum as u32,
-        program.ledgers,
+        setup.orders,
+        program,
     )?;
     let tokens = work_all::<H, T, C, R, G>(rt, alloc, &machine, gate, root, choosers, tokens);
-    let totals = machine.close::<H, T>(rt, alloc, tokens)?;
+    let remains = machine.close::<H, T>(rt, alloc, tokens)?;
     let Ok((outcome, _)) = outlet.fetch() else {
         return Err(RunFault::Foreign);
     };
-    let report = Report::of(alloc, outcome, totals)?;
-    Ok(report)
+    Report::of(alloc, outcome, remains)
 }

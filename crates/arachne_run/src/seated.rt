@@ -1,7 +1,8 @@
 //! The calls of the table that a worker makes, with what is out with its seat.
 ghost use Rattle.std.specs.Prelude.{◌≡◌, ◌<◌, [], ◌∷◌, OnOk, IfOk, MatchOption};
-ghost use Rattle.arachne_contexts.specs.Out.{Claim as a_claim};
-ghost use Rattle.arachne_run.specs.Tokens.{AreIdle, AreWith, thread_in};
+ghost use Rattle.arachne_contexts.specs.Out.{KeepsOut, Claim as a_claim};
+ghost use Rattle.arachne_run.specs.Slices.{MayRest};
+ghost use Rattle.arachne_run.specs.Tokens.{AreIdle, AreOf, AreWith, thread_in};
 
 use crate::fault::RunFault;
 use crate::gate::Gate;
@@ -36,14 +37,15 @@ impl<'a, H: Wait, T: RunJob, C: Contexts<T>, R: Rng, G: Gate> Worker<'a, H, T, C
         }
     }
 
-    /// Puts a thread back to its place.
+    /// Puts a thread back to its place: as ready where its pause was answered, as blocked where it waits.
     pub(crate) fn put_back(
         &self,
         kit: &mut Kit<C::Seat, R>,
         held: Held<T, C::Hold>,
         rest: Rest,
     ) -> Result<(), RunFault>
-        requires { AreWith C.sits C.has self.now.machine.now (thread_in T.tag_of held ∷ []) kit.old.tokens }
+        requires tokens { AreWith C.sits C.has self.now.machine.now (thread_in T.tag_of held ∷ []) kit.old.tokens }
+        requires rest { MayRest rest (T.pause_of held.value) }
         ensures { OnOk result (AreIdle C.sits C.idle self.now.machine.now kit.new.tokens) }
     {
         let table = &self.machine.table;
@@ -72,8 +74,9 @@ impl<'a, H: Wait, T: RunJob, C: Contexts<T>, R: Rng, G: Gate> Worker<'a, H, T, C
 
     /// Wakes the thread of this id, if it has not ended.
     pub(crate) fn wake(&self, kit: &mut Kit<C::Seat, R>, id: ThreadId)
-        requires { AreIdle C.sits C.idle self.now.machine.now kit.old.tokens }
-        ensures { AreIdle C.sits C.idle self.now.machine.now kit.new.tokens }
+        requires { AreOf C.sits self.now.machine.now kit.old.tokens }
+        ensures tokens { AreOf C.sits self.now.machine.now kit.new.tokens }
+        ensures out { KeepsOut (C.has self.now.machine.now.table) kit.old.tokens.seat kit.new.tokens.seat }
     {
         for _ in self.rt.forever() {
             let table = &self.machine.table;
@@ -81,28 +84,6 @@ impl<'a, H: Wait, T: RunJob, C: Contexts<T>, R: Rng, G: Gate> Worker<'a, H, T, C
             if !matches!(woken, Woken::Lost(_)) {
                 break;
             }
-        }
-    }
-
-    /// A place on a core, for a thread that the one that is held forks.
-    pub(crate) fn claim_on(
-        &self,
-        kit: &mut Kit<C::Seat, R>,
-        held: &Held<T, C::Hold>,
-        core: u8,
-    ) -> Result<Option<C::Claim>, RunFault>
-        requires tokens { AreWith C.sits C.has self.now.machine.now (thread_in T.tag_of held.now ∷ []) kit.old.tokens }
-        requires core { core < self.now.machine.now.cores }
-        ensures { IfOk result (λ place. MatchOption place (AreWith C.sits C.has self.now.machine.now (thread_in T.tag_of held.now ∷ []) kit.new.tokens) (λ claim. AreWith C.sits C.has self.now.machine.now (a_claim claim ∷ thread_in T.tag_of held.now ∷ []) kit.new.tokens)) }
-    {
-        let _ = held;
-        let table = &self.machine.table;
-        match table.claim(self.rt, &mut kit.tokens.seat, core) {
-            Ok(Claimed::Place(claim)) => Ok(Some(claim)),
-            Ok(Claimed::Full(_)) => Ok(None),
-            Ok(Claimed::Closed(_)) => Ok(None),
-            Ok(Claimed::Lost(_)) => Ok(None),
-            Err(_) => Err(RunFault::Memory),
         }
     }
 
@@ -130,13 +111,29 @@ impl<'a, H: Wait, T: RunJob, C: Contexts<T>, R: Rng, G: Gate> Worker<'a, H, T, C
         requires { AreIdle C.sits C.idle self.now.machine.now kit.old.tokens }
         ensures { OnOk result (AreIdle C.sits C.idle self.now.machine.now kit.new.tokens) }
     {
+        let claim = self.claim_root(kit)?;
         let table = &self.machine.table;
-        let Ok(Claimed::Place(claim)) = table.claim(self.rt, &mut kit.tokens.seat, self.core) else {
-            return Err(RunFault::Memory);
-        };
         match table.post(self.rt, &mut kit.tokens.seat, claim, root) {
             Ok(_) => Ok(()),
             Err(_) => Err(RunFault::Token),
         }
+    }
+
+    /// The root's place on this core, which a table on which nothing runs has.
+    fn claim_root(&self, kit: &mut Kit<C::Seat, R>) -> Result<C::Claim, RunFault>
+        requires { AreIdle C.sits C.idle self.now.machine.now kit.old.tokens }
+        ensures { IfOk result (λ claim. AreWith C.sits C.has self.now.machine.now (a_claim claim ∷ []) kit.new.tokens) }
+    {
+        for _ in self.rt.forever() {
+            let table = &self.machine.table;
+            match table.claim(self.rt, &mut kit.tokens.seat, self.core) {
+                Ok(Claimed::Place(claim)) => return Ok(claim),
+                Ok(Claimed::Full(_)) => return Err(RunFault::Token),
+                Ok(Claimed::Closed(_)) => return Err(RunFault::Token),
+                Ok(Claimed::Lost(_)) => {}
+                Err(_) => return Err(RunFault::Memory),
+            }
+        }
+        unreachable!()
     }
 }

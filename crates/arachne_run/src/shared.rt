@@ -1,32 +1,48 @@
 //! The words of a run that all its workers see.
+ghost use Rattle.std.specs.Prelude.{◌≡◌, IfOk};
+ghost use Rattle.arachne_arbiter.specs.KernelThreads.{counted_cores, parked_cores};
+
 use crate::fault::RunFault;
+use arachne_arbiter::{Parking, SliceCounts};
 use crossbeam_utils::CachePadded;
+use std::alloc::{AllocError, Global};
 use std::sync::atomic::{AtomicU64, Ordering};
 use std::sync::{Mutex, Wait};
 use std::time::Duration;
 
-/// The word that stops all workers, the next thread's tag, and the first fault. The tag has cache lines of its own.
+/// The word that stops all workers, the next thread's tag, the first fault, and for each core the parker of its kernel
+/// thread and the count of its slices. The tag, the parkers and the counts have cache lines of their own.
 #[derive(Drop)]
 pub(crate) struct Shared {
     stop: AtomicU64,
     next_tag: CachePadded<AtomicU64>,
     first_fault: Mutex<Option<RunFault>>,
+    pub(crate) parking: Parking,
+    pub(crate) slices: SliceCounts,
 }
 
 impl Shared {
     /// The root has the tag 0.
-    pub(crate) fn new() -> Shared {
-        Shared {
+    pub(crate) fn new(alloc: Global, cores: u8) -> Result<Shared, AllocError>
+        ensures parked { IfOk result (λ shared. parked_cores shared.parking ≡ cores) }
+        ensures counted { IfOk result (λ shared. counted_cores shared.slices ≡ cores) }
+    {
+        let parking = Parking::new(alloc, cores)?;
+        let slices = SliceCounts::new(alloc, cores)?;
+        Ok(Shared {
             stop: AtomicU64::new(0),
             next_tag: CachePadded::new(AtomicU64::new(1)),
             first_fault: Mutex::new(None),
-        }
+            parking,
+            slices,
+        })
     }
 
-    /// Stops all workers, those that sleep too.
+    /// Stops all workers, those that sleep or are parked too.
     pub(crate) fn stop(&self) {
         self.stop.store(1, Ordering::SeqCst);
         self.stop.wake_all();
+        self.parking.unpark_all();
     }
 
     pub(crate) fn is_stopped(&self) -> bool {

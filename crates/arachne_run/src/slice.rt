@@ -1,13 +1,14 @@
 //! What a worker does with a job: it runs a slice, and answers what the slice asks for.
-ghost use Rattle.std.specs.Prelude.{◌≡◌, ◌≤◌, [], IfOk};
+ghost use Rattle.std.specs.Prelude.{◌≡◌, ◌≤◌, [], IfOk, OnOk};
 ghost use Rattle.std.specs.Arc.{arc_value};
 ghost use Rattle.arachne_lang.specs.Program.{source_of};
 ghost use Rattle.arachne_lang.specs.Checked.{IsChecked};
 ghost use Rattle.std.specs.Prelude.{ℕ, Option, None, Some};
-ghost use Rattle.arachne_machine.specs.Suspended.{IsTally};
+ghost use Rattle.arachne_machine.specs.Suspended.{IsAsk, IsFree, IsTally};
+ghost use Rattle.arachne_core.specs.declared.thread_id.ThreadId.{ThreadId};
 ghost use Rattle.arachne_machine.specs.declared.pause.Pending.{Pending};
 ghost use Rattle.arachne_machine.specs.declared.pause.Pending.TheVariants as pause;
-ghost use Rattle.arachne_run.specs.Slices.{IsLeft};
+ghost use Rattle.arachne_run.specs.Slices.{IsLeft, UsesSteps};
 
 use crate::fault::RunFault;
 use crate::wanted::Cell;
@@ -17,7 +18,7 @@ use arachne_lang::{Class, Program};
 use std::alloc::{AllocError, Global};
 use std::sync::Arc;
 
-/// What a slice ended with.
+/// Where a slice stops.
 #[derive(Drop)]
 pub enum Slice<Child> {
     /// The job goes on.
@@ -26,6 +27,12 @@ pub enum Slice<Child> {
     Forks(Class, Child),
     /// It awaits a child that has not ended.
     Blocks,
+    /// It asks for this lock, and goes on once it is answered.
+    Asks(u64),
+    /// It has asked for this lock before, and is not answered yet.
+    Awaits(u64),
+    /// It frees this lock, and goes on once it is answered.
+    Frees(u64),
     /// It adds to this ledger this amount, and goes on once it is answered.
     Tallies(u64, u64),
     /// It has ended.
@@ -37,19 +44,31 @@ pub trait RunJob: Tagged + Drop {
     /// A thread that was forked and has no place yet.
     type Child: Drop + Send;
 
+    /// The tag of the thread that goes on next: the job's own, or that of one that runs in its place.
+    ghost running_tag_of: { Self → ℕ };
+
+    /// The id under which its parent runs. The root has none.
+    ghost parent_of: { Self → Option ThreadId };
+
     /// The pause that is not answered.
     ghost pause_of: { Self → Option Pending };
 
     /// The job forks this child, and is not answered.
     ghost forks: { Self → Self.Child → Type 0 };
 
-    /// Goes on for at most so many steps.
-    fn slice(&mut self, budget: u32) -> Result<Slice<Self::Child>, RunFault>
-        requires { 1 ≤ budget }
+    /// The tag of the thread that goes on next, and whose the pause is that is not answered.
+    fn running_tag(&self) -> u64
+        ensures { result ≡ running_tag_of self.now };
+
+    /// Goes on for at most as many steps as are left, of which fewer are left then. A thread that waits makes none.
+    fn slice(&mut self, left: &mut u32) -> Result<Slice<Self::Child>, RunFault>
+        requires { 1 ≤ left.old }
         ensures tag { Self.tag_of self.new ≡ Self.tag_of self.old }
+        ensures steps { IfOk result (λ slice. UsesSteps slice left.old left.new) }
+        ensures parent { parent_of self.new ≡ parent_of self.old }
         ensures left { IfOk result (λ slice. IsLeft forks pause_of slice self.new) };
 
-    /// The child becomes a job of its own, whose parent runs under this id.
+    /// The child becomes a job of its own with this tag, whose parent runs under this id.
     fn fork_off(
         &mut self,
         alloc: Global,
@@ -58,21 +77,44 @@ pub trait RunJob: Tagged + Drop {
         tag: u64,
     ) -> Result<Self, RunFault>
         requires { forks self.old child }
-        ensures { Self.tag_of self.new ≡ Self.tag_of self.old };
+        ensures tag { Self.tag_of self.new ≡ Self.tag_of self.old }
+        ensures parent { parent_of self.new ≡ parent_of self.old }
+        ensures child { IfOk result (λ job. Self.tag_of job ≡ tag) }
+        ensures childs_parent { IfOk result (λ job. parent_of job ≡ Some me) }
+        ensures answered { OnOk result (pause_of self.new ≡ None) };
 
     /// The child will run in this job's place, once it is awaited.
     fn fork_in_place(&mut self, child: Self::Child, tag: u64) -> Result<(), RunFault>
         requires { forks self.old child }
-        ensures { Self.tag_of self.new ≡ Self.tag_of self.old };
+        ensures tag { Self.tag_of self.new ≡ Self.tag_of self.old }
+        ensures parent { parent_of self.new ≡ parent_of self.old }
+        ensures answered { OnOk result (pause_of self.new ≡ None) };
+
+    /// The thread holds the lock that it asked for.
+    fn granted(&mut self)
+        requires { IsAsk (pause_of self.old) }
+        ensures tag { Self.tag_of self.new ≡ Self.tag_of self.old }
+        ensures parent { parent_of self.new ≡ parent_of self.old }
+        ensures answered { pause_of self.new ≡ None };
+
+    /// The lock was freed.
+    fn freed(&mut self)
+        requires { IsFree (pause_of self.old) }
+        ensures tag { Self.tag_of self.new ≡ Self.tag_of self.old }
+        ensures parent { parent_of self.new ≡ parent_of self.old }
+        ensures answered { pause_of self.new ≡ None };
 
     /// The amount was added to the ledger.
     fn tallied(&mut self)
         requires { IsTally (pause_of self.old) }
-        ensures { Self.tag_of self.new ≡ Self.tag_of self.old };
+        ensures tag { Self.tag_of self.new ≡ Self.tag_of self.old }
+        ensures parent { parent_of self.new ≡ parent_of self.old }
+        ensures answered { pause_of self.new ≡ None };
 
     /// Leaves the outcome in the job's cell. Its parent is to be woken; the root has none.
     fn leave(self) -> Option<ThreadId>
-        requires { pause_of self ≡ Some pause.Ended };
+        requires { pause_of self ≡ Some pause.Ended }
+        ensures { result ≡ parent_of self };
 }
 
 /// The jobs of a program's threads.
@@ -81,5 +123,6 @@ pub trait JobOf<'p>: RunJob {
     fn begin(alloc: Global, program: &'p Program) -> Result<(Self, Arc<Cell<'p>>), AllocError>
         requires { IsChecked (source_of program.now) }
         ensures program { IfOk result (λ made. (arc_value made.1).key.program.value ≡ program.now) }
-        ensures name { IfOk result (λ made. (arc_value made.1).key.name.value ≡ []) };
+        ensures name { IfOk result (λ made. (arc_value made.1).key.name.value ≡ []) }
+        ensures parent { IfOk result (λ made. Self.parent_of made.0 ≡ None) };
 }

@@ -1,43 +1,72 @@
 //! What a worker steps with, and gives back in the end.
-ghost use Rattle.std.specs.Prelude.{◌≡◌, ◌≤◌};
+ghost use Rattle.std.specs.Prelude.{◌≡◌, ◌≤◌, IfOk, IfErr};
 ghost use Rattle.arachne_run.specs.Tokens.{AreIdle};
 
 use crate::machine::Machine;
+use arachne_arbiter::Arbiter;
 use arachne_contexts::Seats;
 use arachne_ledger::Share;
+use arachne_sleep::LockSeats;
+use std::alloc::Global;
 use std::sync::Wait;
 
-/// A seat at the table, and a share of the ledgers.
+/// A seat at the table, a share of the ledgers, a seat of each lock, and for one of the workers the arbiter.
 #[derive(Drop)]
 pub(crate) struct Tokens<S> {
     pub(crate) seat: S,
     pub(crate) share: Share,
+    pub(crate) lock_seats: LockSeats,
+    pub(crate) arbiter: Option<Arbiter>,
 }
 
 impl<S> Tokens<S> {
-    /// Half for the worker and half for another.
+    /// Half for the worker, with the arbiter, and half for another. Where memory is refused they come back.
     pub(crate) fn split<H: Wait, C: Seats<Seat = S>>(
         self,
         rt: &H,
+        alloc: Global,
         machine: &Machine<C>,
-    ) -> (Tokens<S>, Tokens<S>)
+    ) -> Result<(Tokens<S>, Tokens<S>), Tokens<S>>
         requires { AreIdle C.sits C.idle machine.now self }
-        ensures own { AreIdle C.sits C.idle machine.now result.0 }
-        ensures others { AreIdle C.sits C.idle machine.now result.1 }
+        ensures own { IfOk result (λ parts. AreIdle C.sits C.idle machine.now parts.0) }
+        ensures others { IfOk result (λ parts. AreIdle C.sits C.idle machine.now parts.1) }
+        ensures err { IfErr result (AreIdle C.sits C.idle machine.now) }
     {
-        let Tokens { seat, share } = self;
+        let Tokens {
+            seat,
+            share,
+            lock_seats,
+            arbiter,
+        } = self;
+        let (lock_seats, other_lock_seats) = match machine.locks.split(alloc, lock_seats) {
+            Ok(parts) => parts,
+            Err(lock_seats) => {
+                return Err(Tokens {
+                    seat,
+                    share,
+                    lock_seats,
+                    arbiter,
+                });
+            }
+        };
         let (seat, other_seat) = machine.table.split(rt, seat);
         let (share, other_share) = machine.ledgers.split(share);
-        (
-            Tokens { seat, share },
-            Tokens {
-                seat: other_seat,
-                share: other_share,
-            },
-        )
+        let own = Tokens {
+            seat,
+            share,
+            lock_seats,
+            arbiter,
+        };
+        let others = Tokens {
+            seat: other_seat,
+            share: other_share,
+            lock_seats: other_lock_seats,
+            arbiter: None,
+        };
+        Ok((own, others))
     }
 
-    /// Both together.
+    /// Both together, with the own arbiter.
     pub(crate) fn join<H: Wait, C: Seats<Seat = S>>(
         self,
         rt: &H,
@@ -51,6 +80,8 @@ impl<S> Tokens<S> {
         Tokens {
             seat: machine.table.join_seats(rt, self.seat, other.seat),
             share: machine.ledgers.join_shares(self.share, other.share),
+            lock_seats: machine.locks.join_seats(self.lock_seats, other.lock_seats),
+            arbiter: self.arbiter,
         }
     }
 }

@@ -7,7 +7,9 @@ use std::snapshot::Snapshot;
 /// What a cell is for: the outcome of the thread of this name in this program. It has no bytes.
 #[derive(Drop)]
 pub struct Wanted {
+    /// The program that the thread is of.
     pub program: Snapshot<Program>,
+    /// The thread's name.
     pub name: Snapshot<Name>,
 }
 

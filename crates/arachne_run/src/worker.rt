@@ -1,9 +1,9 @@
 //! The loop of one core's kernel thread.
-ghost use Rattle.std.specs.Prelude.{◌≡◌, ◌<◌, ◌≤◌, [], ◌∷◌, Some, OnOk, IfOk};
+ghost use Rattle.std.specs.Prelude.{◌≡◌, ◌<◌, ◌≤◌, [], ◌∷◌, None, Some, OnOk};
 ghost use Rattle.arachne_machine.specs.Suspended.{IsTally};
 ghost use Rattle.arachne_machine.specs.declared.pause.Pending.TheVariants as pause;
-ghost use Rattle.arachne_run.specs.Slices.{IsLeft};
-ghost use Rattle.arachne_run.specs.Tokens.{AreIdle, AreWith, thread_in};
+ghost use Rattle.arachne_contexts.specs.Out.{KeepsOut};
+ghost use Rattle.arachne_run.specs.Tokens.{AreIdle, AreOf, AreWith, IsSetUp, thread_in};
 
 use crate::fault::RunFault;
 use crate::gate::Gate;
@@ -11,9 +11,9 @@ use crate::idle::Idle;
 use crate::machine::Machine;
 use crate::slice::{RunJob, Slice};
 use crate::tokens::Tokens;
+use arachne_arbiter::Cores;
 use arachne_contexts::{Contexts, Held, Seats};
 use arachne_core::{Rest, SLOTS};
-use arachne_lang::Class;
 use rand_core::Rng;
 use std::alloc::Global;
 use std::marker::PhantomData;
@@ -36,9 +36,8 @@ pub(crate) struct Worker<'a, H, T, C: Seats, R, G> {
     pub(crate) gate: &'a G,
     pub(crate) core: u8,
     pub(crate) of: PhantomData<(T, R)>,
-    ghost cores_of_table: { C.core_count machine.now.table ≡ machine.now.cores },
+    ghost set_up: { IsSetUp C.core_count machine.now },
     ghost within: { core < machine.now.cores },
-    ghost some_steps: { 1 ≤ machine.now.quantum },
 }
 
 impl<'a, H: Wait, T: RunJob, C: Contexts<T>, R: Rng, G: Gate> Worker<'a, H, T, C, R, G> {
@@ -61,16 +60,17 @@ impl<'a, H: Wait, T: RunJob, C: Contexts<T>, R: Rng, G: Gate> Worker<'a, H, T, C
             if self.machine.shared.is_stopped() {
                 return Ok(());
             }
-            if self.scan(kit)? {
+            if self.scan(kit)? || self.park(kit) {
                 idle.reset();
             } else {
+                self.tend(kit);
                 idle.wait(self.rt, &self.machine.shared);
             }
         }
         unreachable!()
     }
 
-    /// Runs each thread of the core that is ready, for one slice. Whether there was one.
+    /// Runs each thread of the core that is ready, for one slice, unless all workers stop. Whether there was one.
     fn scan(&self, kit: &mut Kit<C::Seat, R>) -> Result<bool, RunFault>
         requires { AreIdle C.sits C.idle self.now.machine.now kit.old.tokens }
         ensures { OnOk result (AreIdle C.sits C.idle self.now.machine.now kit.new.tokens) }
@@ -79,53 +79,50 @@ impl<'a, H: Wait, T: RunJob, C: Contexts<T>, R: Rng, G: Gate> Worker<'a, H, T, C
         let mut found = false;
         for _ in 0..SLOTS {
             let index = occupied.trailing_zeros() as u8;
-            if index >= SLOTS {
+            if index >= SLOTS || self.machine.shared.is_stopped() {
                 break;
             }
             occupied ^= 1 << u32::from(index);
+            self.tend(kit);
             if let Some(held) = self.take(kit, index) {
                 found = true;
                 self.turn(kit, held)?;
+                self.machine.shared.slices.count(self.core);
             }
         }
         Ok(found)
     }
 
-    /// One slice of a thread, and what it asks for.
+    /// One slice of a thread: it goes on for at most a quantum of steps, and what it asks for meanwhile is answered.
     fn turn(&self, kit: &mut Kit<C::Seat, R>, held: Held<T, C::Hold>) -> Result<(), RunFault>
         requires { AreWith C.sits C.has self.now.machine.now (thread_in T.tag_of held ∷ []) kit.old.tokens }
         ensures { OnOk result (AreIdle C.sits C.idle self.now.machine.now kit.new.tokens) }
     {
-        let mut held = held;
-        match self.slice(kit, &mut held)? {
-            Slice::Goes => self.put_back(kit, held, Rest::Ready),
-            Slice::Forks(Class::Normal, child) => self.fork(kit, held, child),
-            Slice::Forks(Class::Exclusive, child) => {
-                self.fork_in_place(kit, &mut held, child)?;
-                self.put_back(kit, held, Rest::Ready)
-            }
-            Slice::Blocks => self.put_back(kit, held, Rest::Blocked),
-            Slice::Tallies(ledger, amount) => {
-                self.tally(kit, &mut held, ledger, amount)?;
-                self.put_back(kit, held, Rest::Ready)
-            }
-            Slice::Ends => self.finish(kit, held),
-        }
-    }
-
-    /// One slice of a thread.
-    fn slice(
-        &self,
-        kit: &mut Kit<C::Seat, R>,
-        held: &mut Held<T, C::Hold>,
-    ) -> Result<Slice<T::Child>, RunFault>
-        requires { AreWith C.sits C.has self.now.machine.now (thread_in T.tag_of held.old ∷ []) kit.old.tokens }
-        ensures tokens { AreWith C.sits C.has self.now.machine.now (thread_in T.tag_of held.new ∷ []) kit.new.tokens }
-        ensures left { IfOk result (λ slice. IsLeft T.forks T.pause_of slice held.new.value) }
-    {
         self.gate.slice(self.core, kit.slices);
         kit.slices = kit.slices.saturating_add(1);
-        held.value.slice(self.machine.quantum)
+        let mut held = held;
+        let mut left = self.machine.quantum;
+        while left > 0 {
+            match held.value.slice(&mut left)? {
+                Slice::Goes => {}
+                Slice::Forks(class, child) => self.fork(kit, &mut held, class, child)?,
+                Slice::Blocks => return self.put_back(kit, held, Rest::Blocked),
+                Slice::Asks(lock) => {
+                    if !self.ask(kit, &mut held, lock)? {
+                        return self.put_back(kit, held, Rest::Blocked);
+                    }
+                }
+                Slice::Awaits(lock) => {
+                    if !self.look_for_pass(kit, &mut held, lock)? {
+                        return self.put_back(kit, held, Rest::Blocked);
+                    }
+                }
+                Slice::Frees(lock) => self.free(kit, &mut held, lock)?,
+                Slice::Tallies(ledger, amount) => self.tally(kit, &mut held, ledger, amount)?,
+                Slice::Ends => return self.finish(kit, held),
+            }
+        }
+        self.put_back(kit, held, Rest::Ready)
     }
 
     /// Adds to a ledger for a thread.
@@ -138,7 +135,8 @@ impl<'a, H: Wait, T: RunJob, C: Contexts<T>, R: Rng, G: Gate> Worker<'a, H, T, C
     ) -> Result<(), RunFault>
         requires tokens { AreWith C.sits C.has self.now.machine.now (thread_in T.tag_of held.old ∷ []) kit.old.tokens }
         requires tallies { IsTally (T.pause_of held.old.value) }
-        ensures { AreWith C.sits C.has self.now.machine.now (thread_in T.tag_of held.new ∷ []) kit.new.tokens }
+        ensures tokens { AreWith C.sits C.has self.now.machine.now (thread_in T.tag_of held.new ∷ []) kit.new.tokens }
+        ensures answered { OnOk result (T.pause_of held.new.value ≡ None) }
     {
         let ledgers = &self.machine.ledgers;
         if ledger >= ledgers.count() as u64 {
@@ -161,5 +159,46 @@ impl<'a, H: Wait, T: RunJob, C: Contexts<T>, R: Rng, G: Gate> Worker<'a, H, T, C
             None => self.machine.shared.stop(),
         }
         Ok(())
+    }
+
+    /// The cores of the table.
+    pub(crate) fn cores(&self) -> Cores<'a, H, T, C>
+        ensures table { result.table.now ≡ self.now.machine.now.table }
+        ensures count { result.count ≡ self.now.machine.now.cores }
+    {
+        Cores {
+            rt: self.rt,
+            table: &self.machine.table,
+            count: self.machine.cores,
+            of: PhantomData,
+        }
+    }
+
+    /// The worker that has the arbiter applies the orders that are due, and moves threads away from a closed core.
+    fn tend(&self, kit: &mut Kit<C::Seat, R>)
+        requires { AreOf C.sits self.now.machine.now kit.old.tokens }
+        ensures tokens { AreOf C.sits self.now.machine.now kit.new.tokens }
+        ensures out { KeepsOut (C.has self.now.machine.now.table) kit.old.tokens.seat kit.new.tokens.seat }
+    {
+        let shared = &self.machine.shared;
+        if let Some(arbiter) = &mut kit.tokens.arbiter {
+            arbiter.tend(
+                &self.cores(),
+                &mut kit.tokens.seat,
+                &shared.parking,
+                &shared.slices,
+            );
+        }
+    }
+
+    /// Parks while the core is closed and nothing is left on it. Whether it was.
+    fn park(&self, kit: &mut Kit<C::Seat, R>) -> bool
+        requires { AreOf C.sits self.now.machine.now kit.old.tokens }
+        ensures tokens { AreOf C.sits self.now.machine.now kit.new.tokens }
+        ensures out { KeepsOut (C.has self.now.machine.now.table) kit.old.tokens.seat kit.new.tokens.seat }
+    {
+        let parking = &self.machine.shared.parking;
+        self.cores()
+            .park_if_drained(&mut kit.tokens.seat, parking, self.core)
     }
 }

@@ -9,6 +9,7 @@ use Rattle.std.specs.Prelude.{slice_index}
 use Rattle.arachne_core.specs.declared.layout.TheConstants.{CORE_BITS}
 use Rattle.arachne_core.specs.declared.thread_id.ThreadId.{ThreadId}
 use Rattle.arachne_core.specs.Marked.{marked_of}
+use Rattle.arachne_contexts.specs.Answers.{IsByContext}
 use Rattle.arachne_weights.specs.Tokens.{held}
 use Rattle.arachne_weights.specs.Weight.{whole}
 use Rattle.arachne_rule.specs.declared.view.Known.{Known}
@@ -71,11 +72,39 @@ module _ {T : Type 0} where
   append-none [] = refl
   append-none (x ∷ xs) = ap (λ (r : List (ThreadId × T)). x ∷ r) (append-none xs)
 
+  -- ---- what is left is listed by context
+
+  abbrev From : ℕ → List (ThreadId × T) → Type 0
+  From x [] = Unit {0}
+  From x (t ∷ ts) = x ≤ t.0.context
+
+  further : (x y : ℕ) → x ≤ y → (ts : List (ThreadId × T)) → From y ts → From x ts
+  further x y h [] f = tt
+  further x y h (t ∷ ts) f = omega (arith, h, f)
+
+  more-by-context : (t : ThreadId × T) (ts : List (ThreadId × T)) → From (suc t.0.context) ts → IsByContext ts → IsByContext (t ∷ ts)
+  more-by-context t [] f b = tt
+  more-by-context t (u ∷ ts) f b = (omega (arith, f), b)
+
+  left-by-context : (bits x : ℕ) (words : List ℕ) (slots : List (Option T)) → From x (left_from bits x words slots) × IsByContext (left_from bits x words slots)
+  left-by-context bits x words [] = (tt, tt)
+  left-by-context bits x words (None ∷ slots) =
+      let r = left-by-context bits (suc x) words slots in
+      (further x (suc x) (omega arith) (left_from bits (suc x) words slots) r.0, r.1)
+  left-by-context bits x words (Some value ∷ slots) =
+      let r = left-by-context bits (suc x) words slots in
+      (omega arith, more-by-context (record { context = x; generation = (marked_of bits (slice_index words x)).generation }, value) (left_from bits (suc x) words slots) r.0 r.1)
+
+  -- the list, once each context was looked at
+  pub all-left : (left : List (ThreadId × T)) (x : ℕ) (words : List ℕ) (slots : List (Option T)) → length slots ≤ x → SoFar left x words slots → left ≡ left_from CORE_BITS 0 words slots
+  all-left left x words slots past so = sym (append-none left) ∙ ap (λ (r : List (Option T)). left ++ left_from CORE_BITS x words r) (sym (drop-past slots x past)) ∙ so
+
+  pub all-by-context : (left : List (ThreadId × T)) (x : ℕ) (words : List ℕ) (slots : List (Option T)) → length slots ≤ x → SoFar left x words slots → IsByContext left
+  all-by-context left x words slots past so = subst IsByContext (sym (all-left left x words slots past so)) (left-by-context CORE_BITS 0 words slots).1
+
   pub all-listed : (tag_of : T → ℕ) (shape : Shape) (k : Known) (none_out : k.carried ≡ []) (left : List (ThreadId × T)) (x : ℕ) (words : List ℕ) (slots : List (Option T))
       → EndsWith tag_of shape k words slots → length slots ≤ x → SoFar left x words slots → IsSettled tag_of k left
   all-listed tag_of shape k none_out left x words slots ends past so =
       let s = ends.1 in
-      let whole_list : left ≡ left_from CORE_BITS 0 words slots =
-      sym (append-none left) ∙ ap (λ (r : List (Option T)). left ++ left_from CORE_BITS x words r) (sym (drop-past slots x past)) ∙ so in
-      subst (IsSettled tag_of k) (ap (λ (ws : List ℕ). left_from CORE_BITS 0 ws slots) s.2 ∙ sym whole_list)
+      subst (IsSettled tag_of k) (ap (λ (ws : List ℕ). left_from CORE_BITS 0 ws slots) s.2 ∙ sym (all-left left x words slots past so))
       (all-settled tag_of CORE_BITS shape s.0 s.1.0 ends.0 k s.1.1 none_out slots s.3 s.4)

@@ -9,3 +9,4 @@ pub mod RestCall
 pub mod FirstTable
 pub mod Leaving
 pub mod MoveCall
+pub mod OutAs

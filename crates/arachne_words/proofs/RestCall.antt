@@ -45,6 +45,7 @@ module _ {T : Type 0} (tag_of : T → ℕ) (z : Contexts) (h : HoldView) (value 
       carried = subst (λ (v : CallView T). Carries v.known out_with) (sym laid) (with-at out_with h.id.context s0.known.carried refl);
       held = refl;
       tagged = refl;
+      shown = refl;
       slot = subst (λ (v : CallView T). HasLast v.slots h.id.context (Some value)) (sym laid) (λ i. (e1.0 i, Some value) ∷ s0.slots);
     }
 
@@ -86,6 +87,7 @@ module _ {T : Type 0} (tag_of : T → ℕ) (z : Contexts) (h : HoldView) (value 
         carried = subst (λ (v : CallView T). Carries v.known out_with) (sym e3) restable.carried;
         held = refl;
         tagged = refl;
+        shown = refl;
         slot = subst (λ (v : CallView T). HasLast v.slots h.id.context (Some value)) (sym e3) restable.slot;
       }
 

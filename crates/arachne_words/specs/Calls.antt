@@ -172,7 +172,7 @@ RestAnswer c hold tag k rest.Ready rested.AsAsked after = (before : ℕ)
 RestAnswer c hold tag k rest.Ready rested.WokenMeanwhile after = ⊥
 RestAnswer c hold tag k rest.Blocked rested.AsAsked after =
     after ≡ noted kind.RestBlocked hold.id.context (mark_word CORE_BITS (marked_by mark.Held hold)) (mark_word CORE_BITS (marked_by mark.Blocked hold)) (learned (name_index c.table.slots hold.place) hold.id.context (without_context k (held_by hold tag)))
-RestAnswer c hold tag k rest.Blocked rested.WokenMeanwhile after = (found before : ℕ) × (found ≢ mark_word CORE_BITS (marked_by mark.Held hold))
+RestAnswer c hold tag k rest.Blocked rested.WokenMeanwhile after = (found before : ℕ) × (found ≡ mark_word CORE_BITS (marked_by mark.Woken hold))
     × (after ≡ noted kind.RestReady hold.id.context before (mark_word CORE_BITS (marked_by mark.Ready hold)) (noted kind.RestBlocked hold.id.context found found (learned (name_index c.table.slots hold.place) hold.id.context (without_context k (held_by hold tag)))))
 
 -- ---- cores

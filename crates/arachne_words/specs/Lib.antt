@@ -4,3 +4,5 @@ pub mod Steps
 pub mod Calls
 pub mod FirstWords
 pub mod Moves
+pub mod Out
+pub mod Swapped

@@ -49,6 +49,7 @@ pub record IsRestable {T : Type 0} (tag_of : T → ℕ) (c : Contexts) (s : Call
   pub carried : Carries s.known a
   pub held : a.held ≡ true
   pub tagged : tag_of value ≡ a.tag
+  pub shown : a.shown ≡ a.place
   pub slot : HasLast s.slots a.context (Some value)
 
 -- the seat has claimed the context

@@ -1,6 +1,7 @@
 //! The end of a table: what was posted and has not ended.
 ghost use Rattle.std.specs.Prelude.{◌≡◌, IfOk, IfErr};
 ghost use Rattle.arachne_rule.specs.Ending.{IsSettled};
+ghost use Rattle.arachne_contexts.specs.Answers.{IsByContext};
 ghost use Rattle.arachne_weights.specs.Weight.{whole};
 ghost use Rattle.arachne_core.specs.declared.layout.TheConstants.{CORE_BITS};
 ghost use Rattle.arachne_core.specs.Marked.{marked_of};
@@ -31,6 +32,7 @@ impl<T: Tagged + Drop> WordContexts<T> {
         requires whole { seat.weight ≡ whole }
         requires nothing_out { HasNothingOut seat.known }
         ensures settled { IfOk result (λ left. IsSettled T.tag_of seat.known left.items) }
+        ensures order { IfOk result (λ left. IsByContext left.items) }
         ensures handed_back { IfErr result (λ back. back ≡ (self, seat)) }
     {
         let contexts = self.table.slot_count();

@@ -1,6 +1,6 @@
 //! The words of a table at first.
 ghost use Rattle.std.specs.Prelude.{◌≡◌, ◌+◌, ◌*◌, ◌<◌, ◌≤◌, ℕ, IfOk, vec_len, slice_index};
-ghost use Rattle.arachne_core.specs.declared.layout.TheConstants.{CORES, LAST_GENERATION};
+ghost use Rattle.arachne_core.specs.declared.layout.TheConstants.{CORES, LAST_GENERATION, SLOTS};
 ghost use Rattle.arachne_words.specs.FirstWords.{first_word};
 
 use crate::table::{BLOCK, NAMES};
@@ -9,9 +9,9 @@ use std::alloc::{AllocError, Global};
 
 /// The word at this index, where each core has its places and there are so many contexts.
 fn word_at(contexts: usize, generation: u64, index: usize) -> u64
-    requires contexts { contexts ≤ 896 }
+    requires contexts { contexts ≤ CORES * SLOTS }
     requires generation { generation ≤ LAST_GENERATION }
-    requires index { index < contexts + 80 * 16 }
+    requires index { index < contexts + 80 * CORES }
     ensures { result ≡ first_word contexts generation index }
 {
     if index < contexts {
@@ -30,8 +30,8 @@ fn word_at(contexts: usize, generation: u64, index: usize) -> u64
 pub(crate) fn first_words(alloc: Global, cores: u8, generation: u64) -> Result<Vec<u64>, AllocError>
     requires cores { cores ≤ CORES }
     requires generation { generation ≤ LAST_GENERATION }
-    ensures length { IfOk result (λ words. vec_len words ≡ cores * 56 + 80 * cores) }
-    ensures words { IfOk result (λ words. (i : ℕ) → i < cores * 56 + 80 * cores → slice_index words.items i ≡ first_word (cores * 56) generation i) }
+    ensures length { IfOk result (λ words. vec_len words ≡ cores * SLOTS + 80 * cores) }
+    ensures words { IfOk result (λ words. (i : ℕ) → i < cores * SLOTS + 80 * cores → slice_index words.items i ≡ first_word (cores * SLOTS) generation i) }
 {
     let contexts = usize::from(cores) * usize::from(SLOTS);
     let count = contexts + BLOCK * usize::from(cores);

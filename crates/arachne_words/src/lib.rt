@@ -8,6 +8,7 @@
 mod call_seat;
 mod claiming;
 mod closing;
+mod contexts;
 mod ending;
 mod finishing;
 mod first_words;

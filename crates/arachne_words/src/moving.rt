@@ -218,6 +218,7 @@ impl<T: Tagged + Drop> WordContexts<T> {
         requires target { to < self.now.shape.cores }
         requires apart { place.core ≢ to }
         ensures seat { (seat.new.table ≡ seat.old.table) × (seat.new.weight ≡ seat.old.weight) }
+        ensures carried { seat.new.known.carried ≡ seat.old.known.carried }
         ensures answer { MoveAnswer self.now place to seat.old.known result seat.new.known }
     {
         let moving = self.see_name(&mut seat.at, place);

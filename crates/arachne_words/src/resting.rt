@@ -1,5 +1,5 @@
 //! Threads that are put back.
-ghost use Rattle.std.specs.Prelude.{◌≡◌, ◌≢◌, ℕ, ◌<◌, IfOk, IfErr};
+ghost use Rattle.std.specs.Prelude.{◌≡◌, ℕ, ◌<◌, IfOk, IfErr};
 ghost use Rattle.atomic_table.specs.Table.{rest};
 ghost use Rattle.arachne_core.specs.declared.mark.Mark.TheVariants as Mark;
 ghost use Rattle.arachne_core.specs.declared.layout.TheConstants.{CORE_BITS};
@@ -45,7 +45,7 @@ impl<T: Tagged + Drop> WordContexts<T> {
           known = noted kind.RestBlocked context (mark_word CORE_BITS held) (mark_word CORE_BITS (record held { mark = Mark.Blocked })) (without_context seat.old.known c);
           slots = rest seat.old.slots;
         }) }
-        ensures lost { IfErr result (λ found. (found ≢ mark_word CORE_BITS held) × (seat.new ≡ record seat.old { known = noted kind.RestBlocked context found found seat.old.known })) }
+        ensures lost { IfErr result (λ found. (found ≡ mark_word CORE_BITS (record held { mark = Mark.Woken })) × (seat.new ≡ record seat.old { known = noted kind.RestBlocked context found found seat.old.known })) }
     {
         let shared = &self.table.shared;
         let old = held.word();

@@ -126,9 +126,10 @@ impl<T> Play<Option<T>, View> for RestReady {
 pub(crate) struct RestBlocked;
 
 impl<T> Play<Option<T>, View> for RestBlocked {
+    ghost use Rattle.arachne_core.specs.declared.layout.TheConstants.{CORE_BITS};
     ghost use Rattle.arachne_rule.specs.Plays.{RestsBlocked};
 
-    ghost then = { λ step before found after. RestsBlocked step before found after };
+    ghost then = { λ step before found after. RestsBlocked CORE_BITS step before found after };
 }
 
 pub(crate) struct WakeBlocked;

@@ -1,8 +1,8 @@
 //! The table, where its words lie, and what a step sees of them.
 ghost use Rattle.std.specs.Prelude.{◌≡◌, ◌+◌, ◌*◌, ◌<◌, true};
 ghost use Rattle.arachne_core.specs.declared.layout.TheConstants.{CORE_BITS};
-ghost use Rattle.arachne_core.specs.Occupancy.{occupancy_of, occupancy_word};
-ghost use Rattle.arachne_core.specs.Marked.{mark_word, marked_of};
+ghost use Rattle.arachne_core.specs.Occupancy.{IsOccupancyWord, occupancy_of, occupancy_word};
+ghost use Rattle.arachne_core.specs.Marked.{IsMarkWord, mark_word, marked_of};
 ghost use Rattle.arachne_core.specs.World.{Thread};
 ghost use Rattle.arachne_rule.specs.declared.view.Carried.{Carried};
 ghost use Rattle.arachne_rule.specs.Layout.{occ_index, name_index};
@@ -32,6 +32,7 @@ pub(crate) const NAMES: usize = 16;
 /// A context table on atomic words. Whoever has a seat may step on it, without waiting.
 ///
 /// Contracts see which table it is, and its shape.
+// In its methods a line `let _ = &self.slots;` opens the table for the prover, which learns its sizes (`IsSized`) there.
 #[derive(Drop)]
 pub struct WordContexts<T: Tagged + Drop> {
     pub(crate) table: Table<Option<T>, View, Shape, ContextRule, Global>,
@@ -112,7 +113,8 @@ impl<T: Tagged + Drop> WordContexts<T> {
     pub fn look(&self, seat: &mut WordSeat<T>, core: u8) -> u64
         requires own { seat.old.table ≡ self.now.table }
         requires core { core < self.now.shape.cores }
-        ensures { seat.new ≡ record seat.old { known = looked (occ_index self.now.table.slots core) result seat.old.known } }
+        ensures word { IsOccupancyWord result }
+        ensures seat { seat.new ≡ record seat.old { known = looked (occ_index self.now.table.slots core) result seat.old.known } }
     {
         self.see_core(&mut seat.at, core).word()
     }
@@ -121,7 +123,8 @@ impl<T: Tagged + Drop> WordContexts<T> {
     pub fn look_mark(&self, seat: &mut WordSeat<T>, context: u32) -> u64
         requires own { seat.old.table ≡ self.now.table }
         requires context { context < self.now.table.slots }
-        ensures { seat.new ≡ record seat.old { known = looked context result seat.old.known } }
+        ensures word { IsMarkWord CORE_BITS result }
+        ensures seat { seat.new ≡ record seat.old { known = looked context result seat.old.known } }
     {
         self.see_mark(&mut seat.at, context as usize).word()
     }

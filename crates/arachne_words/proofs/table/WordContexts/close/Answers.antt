@@ -13,7 +13,7 @@ use Rattle.arachne_rule.specs.declared.view.Shape.{Shape}
 use Rattle.arachne_rule.specs.Layout.{contexts_in}
 use Rattle.arachne_rule.specs.Table.{Holds}
 use Rattle.arachne_rule.specs.Ending.{left_from}
-use Rattle.arachne_words.proofs.Leaving.{EndsWith, SoFar, so-far-none, so-far-some, all-listed, still-filled, none-taken, word-there}
+use Rattle.arachne_words.proofs.Leaving.{EndsWith, SoFar, so-far-none, so-far-some, all-listed, all-by-context, still-filled, none-taken, word-there}
 use Rattle.arachne_words.proofs.table.WordContexts.close.Goals as goal
 
 pub loop-context-init : goal.loop-context-init
@@ -93,3 +93,11 @@ returns-clause-settled g c =
     let shape = ap (λ v. v.shape) c.self.view_is in
     let laid = c.self.invariant.laid_out.slots ∙ ap contexts_in shape in
     all-listed g.T.Tagged.tag_of c.args.self.shape c.args.seat.known c.requires.nothing_out c.loop-context.left.items c.loop-context.context (slots_items c.loop-context.closed.words) (slots_items c.loop-context.closed.slots) inv.ends (omega (arith, e.3, e.1.0.fits.homes, laid, c.slot_count-contexts.ensures, c.loop-context-test.false)) inv.so_far
+
+pub returns-clause-order : goal.returns-clause-order
+returns-clause-order g c =
+    let inv = c.loop-context.invariant in
+    let e = inv.ends.1 in
+    let shape = ap (λ v. v.shape) c.self.view_is in
+    let laid = c.self.invariant.laid_out.slots ∙ ap contexts_in shape in
+    all-by-context c.loop-context.left.items c.loop-context.context (slots_items c.loop-context.closed.words) (slots_items c.loop-context.closed.slots) (omega (arith, e.3, e.1.0.fits.homes, laid, c.slot_count-contexts.ensures, c.loop-context-test.false)) inv.so_far

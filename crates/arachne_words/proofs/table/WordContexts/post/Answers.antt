@@ -1,4 +1,4 @@
-use Rattle.std.proofs.Common.{◌≡◌, ℕ, ◌∙◌, ap, sym, subst, refl, arith, None}
+use Rattle.std.proofs.Common.{◌≡◌, ℕ, ◌<◌, ◌∙◌, ap, sym, subst, refl, arith, None}
 use Rattle.arachne_core.specs.declared.layout.TheConstants.{CORE_BITS}
 use Rattle.arachne_core.specs.declared.mark.Mark.TheVariants as mark
 use Rattle.arachne_core.specs.declared.thread_id.ThreadId.{ThreadId}
@@ -108,3 +108,35 @@ returns-clause-posted g c x y x_in carries =
           (subst (λ (k : Known). HasPosted c.args.self.now k claim (g.T.Tagged.tag_of c.args.value) (record { context = x; generation = y }) c.store_posted.new.seat.known) (ap (λ v. v.known) c.seat.view_is)
           (record { seen = mark_word CORE_BITS c.see_mark.result; before = told.0; steps = ap (λ v. v.known) whole }))),
     )
+
+pub see_mark-requires-clause-own : goal.see_mark-requires-clause-own
+see_mark-requires-clause-own g c =
+    let claim : ClaimView = record { place = c.claim.inside.place; alone = c.claim.inside.alone } in
+    let has = subst (λ (k : Known). HasClaim c.args.self.now k claim) (sym (ap (λ v. v.known) c.seat.view_is)) (subst (λ (v : ClaimView). HasClaim c.args.self.now c.args.seat.now.known v) (sym c.claim.view_is) c.requires.claim) in
+    let home = at-home c.args.self.now claim has.context has.generation has.inside c.seat.inside.at.known has.carried in
+    let told = c.take_slot-context.ensures (claimed_by claim has.context has.generation) home in
+    ap (λ v. v.table) told.1 ∙ ap (λ v. v.table) c.seat.view_is ∙ c.requires.own
+
+pub see_mark-requires-clause-context : goal.see_mark-requires-clause-context
+see_mark-requires-clause-context g c =
+    let claim : ClaimView = record { place = c.claim.inside.place; alone = c.claim.inside.alone } in
+    let has = subst (λ (k : Known). HasClaim c.args.self.now k claim) (sym (ap (λ v. v.known) c.seat.view_is)) (subst (λ (v : ClaimView). HasClaim c.args.self.now c.args.seat.now.known v) (sym c.claim.view_is) c.requires.claim) in
+    let home = at-home c.args.self.now claim has.context has.generation has.inside c.seat.inside.at.known has.carried in
+    let told = c.take_slot-context.ensures (claimed_by claim has.context has.generation) home in
+    subst (λ (x : ℕ). x < c.args.self.now.table.slots) (sym told.0) has.inside
+
+pub lay_in-requires-clause-own : goal.lay_in-requires-clause-own
+lay_in-requires-clause-own g c =
+    let claim : ClaimView = record { place = c.claim.inside.place; alone = c.claim.inside.alone } in
+    let has = subst (λ (k : Known). HasClaim c.args.self.now k claim) (sym (ap (λ v. v.known) c.seat.view_is)) (subst (λ (v : ClaimView). HasClaim c.args.self.now c.args.seat.now.known v) (sym c.claim.view_is) c.requires.claim) in
+    let home = at-home c.args.self.now claim has.context has.generation has.inside c.seat.inside.at.known has.carried in
+    let told = c.take_slot-context.ensures (claimed_by claim has.context has.generation) home in
+    ap (λ v. v.table) c.see_mark.ensures.seat ∙ ap (λ v. v.table) told.1 ∙ ap (λ v. v.table) c.seat.view_is ∙ c.requires.own
+
+pub store_posted-requires-clause-own : goal.store_posted-requires-clause-own
+store_posted-requires-clause-own g c =
+    let claim : ClaimView = record { place = c.claim.inside.place; alone = c.claim.inside.alone } in
+    let has = subst (λ (k : Known). HasClaim c.args.self.now k claim) (sym (ap (λ v. v.known) c.seat.view_is)) (subst (λ (v : ClaimView). HasClaim c.args.self.now c.args.seat.now.known v) (sym c.claim.view_is) c.requires.claim) in
+    let home = at-home c.args.self.now claim has.context has.generation has.inside c.seat.inside.at.known has.carried in
+    let told = c.take_slot-context.ensures (claimed_by claim has.context has.generation) home in
+    ap (λ v. v.table) c.lay_in.ensures ∙ ap (λ v. v.table) c.see_mark.ensures.seat ∙ ap (λ v. v.table) told.1 ∙ ap (λ v. v.table) c.seat.view_is ∙ c.requires.own

@@ -150,7 +150,7 @@ returns-in-Err-clause-answer g c =
     let lost = c.in-Err.ensures.lost in
     let told = c.rest_ready-in-Err.ensures (out_with g.T.Tagged.tag_of c.args.self.now h c.args.value) c.args.value (restable-again g.T.Tagged.tag_of c.args.self.now h c.args.value c.args.seat.now c.take_slot-context.new.seat c.lay_in.new.seat c.take_slot-context.result c.requires.thread (e1.0, e2) c.lay_in.ensures c.try_rest_blocked.new.seat c.in-Err._woken lost.1) in
     let whole = after-lost g.T.Tagged.tag_of c.args.self.now h c.args.value c.args.seat.now c.take_slot-context.new.seat c.lay_in.new.seat c.take_slot-context.result c.requires.thread (e1.0, e2) c.lay_in.ensures c.try_rest_blocked.new.seat c.in-Err._woken lost.1 c.rest_ready-in-Err.new.seat told.0 c.with_mark-ready.result (c.with_mark-ready.ensures ∙ ap (λ (m : Marked). record m { mark = mark.Ready }) c.requires.held) told.1 in
-    subst (λ (r : Rest). RestAnswer c.args.self.now h (g.T.Tagged.tag_of c.args.value) c.args.seat.now.known r rested.WokenMeanwhile c.rest_ready-in-Err.new.seat.known) (sym (blocked-else c.args.rest c.in_default.not-Ready)) (c.in-Err._woken, told.0, (λ e. lost.0 (e ∙ sym (ap (mark_word CORE_BITS) c.requires.held))), ap (λ v. v.known) whole)
+    subst (λ (r : Rest). RestAnswer c.args.self.now h (g.T.Tagged.tag_of c.args.value) c.args.seat.now.known r rested.WokenMeanwhile c.rest_ready-in-Err.new.seat.known) (sym (blocked-else c.args.rest c.in_default.not-Ready)) (c.in-Err._woken, told.0, lost.0 ∙ ap (λ (m : Marked). mark_word CORE_BITS (record m { mark = mark.Woken })) c.requires.held, ap (λ v. v.known) whole)
 
 pub returns-clause-seat : goal.returns-clause-seat
 returns-clause-seat g c =

@@ -9,6 +9,7 @@ use Rattle.arachne_rule.specs.Layout.{Contexts}
 use Rattle.arachne_rule.specs.Plays.{Carries}
 use Rattle.arachne_rule.specs.Views.{noted, without_context}
 use Rattle.arachne_words.specs.Steps.{HasLast}
+use Rattle.arachne_words.proofs.WakeSteps.{found-woken}
 use Rattle.arachne_words.proofs.Inside.{mark-in}
 use Rattle.arachne_words.proofs.Told.{changed, live-told, view-told}
 use Rattle.arachne_rule.proofs.RestSteps.{rest-blocked-allowed}
@@ -33,7 +34,7 @@ invariant_of-seat g c =
     let a = c.requires.restable.0 in
     let v = c.requires.restable.1 in
     let has = c.requires.restable.2 in
-    live-told _ _ _ _ ((c.compare_exchange-found.ensures.2 a (sym has.context_is) (subst (λ (k : Known). Carries k a) (sym (ap (λ v. v.known) c.seat.view_is)) has.carried)).1 c.if-found-old.true)
+    live-told _ _ _ _ ((c.compare_exchange-found.ensures.2 a (sym has.context_is) (subst (λ (k : Known). Carries k a) (sym (ap (λ v. v.known) c.seat.view_is)) has.carried)).1 c.if-found-old.true).2
 
 pub returns-then-found-old-clause-lost : goal.returns-then-found-old-clause-lost
 returns-then-found-old-clause-lost g c =
@@ -41,8 +42,8 @@ returns-then-found-old-clause-lost g c =
     let v = c.requires.restable.1 in
     let has = c.requires.restable.2 in
     let told = (c.compare_exchange-found.ensures.2 a (sym has.context_is) (subst (λ (k : Known). Carries k a) (sym (ap (λ v. v.known) c.seat.view_is)) has.carried)).1 c.if-found-old.true in (
-      (λ e. c.if-found-old.true (e ∙ sym c.word-old.ensures.packed)),
-      view-told c.seat.inside.seat.table_id c.compare_exchange-found.new.seat.table_id c.seat.inside.seat.me c.compare_exchange-found.new.seat.me c.args.seat.now (noted kind.RestBlocked c.args.context c.compare_exchange-found.result c.compare_exchange-found.result) (λ l. l) c.seat.view_is c.compare_exchange-found.ensures.0 told,
+      found-woken a c.args.held c.compare_exchange-found.result told.0 told.1 has.held has.shown c.requires.restable.3 (λ e. c.if-found-old.true (e ∙ sym c.word-old.ensures.packed)),
+      view-told c.seat.inside.seat.table_id c.compare_exchange-found.new.seat.table_id c.seat.inside.seat.me c.compare_exchange-found.new.seat.me c.args.seat.now (noted kind.RestBlocked c.args.context c.compare_exchange-found.result c.compare_exchange-found.result) (λ l. l) c.seat.view_is c.compare_exchange-found.ensures.0 told.2,
     )
 
 pub invariant_of-seat-2 : goal.invariant_of-seat-2

@@ -1,23 +1,15 @@
 use Rattle.std.proofs.Common.{rules, ◌≡◌, ◌+◌}
 use Rattle.std.proofs.lemmas.List.Elements.{All-push}
 use Rattle.arachne_run.proofs.crew.fn.work_all.scope.Goals as goal
-use Rattle.arachne_run.proofs.crew.fn.work_all.scope.Goals.{in-Ok, in-Err}
 
 pub loop-core-preserved : goal.loop-core-preserved
 loop-core-preserved g c =
-    let was = c.loop-core.invariant.1 in (
-      c.split-rest.ensures.own,
-      elim c.match-started.branch [
-        | in-Err w ↦ search rules
-        | in-Ok w ↦
-            let kept : w.in-Ok.other.promise.machine.value ≡ c.captures.machine.now = search rules in
-            let all = All-push (λ h. h.promise.machine.value ≡ c.captures.machine.now) _ w.in-Ok.other was kept in
-            let a = w.others-is in
-            let b = w.push_reserved.ensures.items in
-            let d = c.try_reserve.ensures.items in
-            rw (a, b, d) all
-      ],
-    )
+    let was = c.loop-core.invariant.1 in
+    let kept : c.in-Ok.other.promise.machine.value ≡ c.captures.machine.now = search rules in
+    let all = All-push (λ h. h.promise.machine.value ≡ c.captures.machine.now) _ c.in-Ok.other was kept in
+    let b = c.push_reserved.ensures.items in
+    let d = c.part_off-rest.ensures.same in
+    (c.part_off-rest.ensures.own, rw (b, d) all)
 
 pub loop-other-preserved : goal.loop-other-preserved
 loop-other-preserved g c =

@@ -1,0 +1,31 @@
+-- Which cores are to be drained, as orders are applied.
+use Rattle.std.proofs.Common.{◌≡◌, ℕ, ◌+◌, Bool, true, false, cond, eqb, List, refl, arith, ◌∙◌, add-one}
+use Rattle.std.proofs.Math.ListN.{set}
+use Rattle.std.proofs.lemmas.List.{length-set}
+use Rattle.std.proofs.lemmas.Grind.{common_steps}
+use Rattle.arachne_policy.specs.declared.orders.CoreOrder.{CoreOrder}
+use Rattle.arachne_policy.specs.Orders.{is_release}
+use Rattle.arachne_arbiter.specs.declared.orders.Effect.TheVariants.{Closes}
+use Rattle.arachne_arbiter.specs.Orders.{Progress, is_closed_after, effect_of, next_order, next_effect, with_next, AreDraining}
+
+is_closed-next : (p : Progress) (core : ℕ)
+    → is_closed_after p.list (p.applied + 1) core ≡ cond (eqb (next_order p).core core) (is_release (next_order p).kind) (is_closed_after p.list p.applied core)
+is_closed-next p core = rw (add-one p.applied) refl
+
+-- what closes its core is a release of it
+release-closes : (order : CoreOrder) (closed : Bool) (core : ℕ) → effect_of order closed ≡ Closes core
+    → (is_release order.kind ≡ true) × (order.core ≡ core)
+release-closes order true core is = grind (arith, common_steps, is)
+release-closes order false core is = grind (arith, common_steps, is)
+
+-- a core that an order closes is to be drained
+pub AreDraining-closes : (p : Progress) (waiting : List Bool) (core : ℕ) → AreDraining p waiting → next_effect p ≡ Closes core
+    → AreDraining (with_next p) (set waiting core true)
+AreDraining-closes p waiting core draining is = record {
+  sized = length-set waiting core true ∙ draining.sized;
+  closed = λ other below waits.
+      let release = release-closes (next_order p) _ core is in
+      let next = is_closed-next p other in
+      let was = draining.closed other below in
+      grind (arith, common_steps, waits, release.0, release.1, next, was);
+}

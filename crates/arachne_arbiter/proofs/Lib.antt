@@ -1,0 +1,3 @@
+pub mod DrainingCores
+pub mod Kept
+pub mod Loads

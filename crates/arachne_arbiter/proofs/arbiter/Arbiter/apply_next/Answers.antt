@@ -1,0 +1,13 @@
+use Rattle.std.proofs.Common.{◌≡◌, rules}
+use Rattle.arachne_arbiter.specs.declared.orders.Effect.TheVariants.{Closes}
+use Rattle.arachne_arbiter.specs.Orders.{next_effect, with_next}
+use Rattle.arachne_arbiter.proofs.DrainingCores.{AreDraining-closes}
+use Rattle.arachne_arbiter.proofs.arbiter.Arbiter.apply_next.Goals as goal
+
+pub invariant_of-self-in-Closes : goal.invariant_of-self-in-Closes
+invariant_of-self-in-Closes g c =
+    let old = c.self.inside.orders in
+    let waiting = c.self.inside.draining.waiting.items in
+    let closes : next_effect old ≡ Closes c.in-Closes.core = search rules in
+    let next : c.next_due.new.self ≡ with_next old = search rules in
+    rw (next, c.start.ensures) (AreDraining-closes old waiting c.in-Closes.core c.self.invariant closes)

@@ -1,0 +1,5 @@
+pub mod Choice
+pub mod Draining
+pub mod KernelThreads
+pub mod Orders
+pub mod Placed

@@ -1,0 +1,38 @@
+//! The core that a new thread is offered first.
+ghost use Rattle.std.specs.Prelude.{◌≡◌, ◌<◌, ◌≤◌, length, IfSome};
+ghost use Rattle.arachne_arbiter.specs.Choice.{core_chosen, is_candidate_at, loads_of};
+
+use arachne_core::{CORES, OccWord};
+use arachne_policy::{CoreLoad, two_choices};
+
+/// Whether the core takes threads that share it: it is open, and no thread has it alone.
+fn is_candidate(occupancy: OccWord) -> bool
+    ensures { result ≡ is_candidate_at occupancy }
+{
+    !occupancy.is_closed() && !occupancy.is_exclusive()
+}
+
+/// Of the cores whose occupancies these are, from core 0 on, the one that two random choices among the open cores that
+/// no thread has alone give for this word. None where there is no such core.
+pub fn first_core(word: u64, occupancies: &[OccWord]) -> Option<u8>
+    requires { length occupancies.now ≤ CORES }
+    ensures chosen { result ≡ core_chosen word (loads_of occupancies.now (length occupancies.now)) }
+    ensures within { IfSome result (λ core. core < length occupancies.now) }
+{
+    let mut loads = [CoreLoad { core: 0, count: 0 }; CORES as usize];
+    let mut candidates = 0;
+    for (core, occupancy) in occupancies.iter().enumerate() {
+        if is_candidate(*occupancy) {
+            loads[candidates] = CoreLoad {
+                core: core as u8,
+                count: occupancy.count(),
+            };
+            candidates += 1;
+        }
+    }
+    if candidates == 0 {
+        None
+    } else {
+        Some(two_choices(word, &loads[..candidates]))
+    }
+}

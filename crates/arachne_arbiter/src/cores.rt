@@ -1,0 +1,39 @@
+//! The cores of a table.
+ghost use Rattle.std.specs.Prelude.{◌≡◌, ◌<◌, ◌≤◌};
+ghost use Rattle.arachne_core.specs.declared.layout.TheConstants.{CORES};
+ghost use Rattle.arachne_contexts.specs.Out.{KeepsOut};
+
+use arachne_contexts::{Contexts, Seats, Tagged};
+use arachne_core::{CORES, OccWord};
+use std::marker::PhantomData;
+use std::sync::Wait;
+
+/// A table and how many cores it has, for a kernel thread that steps at it.
+#[derive(Drop)]
+pub struct Cores<'a, H, T, C: Seats> {
+    pub rt: &'a H,
+    pub table: &'a C,
+    /// The number of the table's cores, 1 to 16.
+    pub count: u8,
+    /// What the table's contexts hold.
+    pub of: PhantomData<T>,
+    ghost counted: { C.core_count table.now ≡ count },
+    ghost few: { count ≤ CORES },
+}
+
+impl<'a, H: Wait, T: Tagged, C: Contexts<T>> Cores<'a, H, T, C> {
+    /// Which indexes of a core are occupied, and whether it is closed or one thread has it alone.
+    pub(crate) fn look(&self, seat: &mut C::Seat, core: u8) -> OccWord
+        requires seat { C.sits self.now.table.now seat.old }
+        requires core { core < self.now.count }
+        ensures seat { C.sits self.now.table.now seat.new }
+        ensures weight { C.weight seat.new ≡ C.weight seat.old }
+        ensures out { KeepsOut (C.has self.now.table.now) seat.old seat.new }
+    {
+        let word = self.table.look(self.rt, seat, core);
+        let Some(occupancy) = OccWord::from_word(word) else {
+            unreachable!()
+        };
+        occupancy
+    }
+}

@@ -1,0 +1,149 @@
+//! Moving threads away from cores that orders have closed.
+ghost use Rattle.std.specs.Prelude.{◌≡◌, ◌<◌, ◌≤◌, true, false, replicate, slice_set, slice_index_or, vec_len, IfOk, IfSome};
+ghost use Rattle.arachne_arbiter.specs.Draining.{WaitsForNoMore};
+ghost use Rattle.arachne_contexts.specs.Out.{KeepsOut};
+
+use crate::cores::Cores;
+use arachne_contexts::{Contexts, Moved, Tagged};
+use arachne_core::{Place, SLOTS};
+use std::alloc::{AllocError, Global};
+use std::sync::Wait;
+
+/// Which closed cores may still have threads, and which of them had its turn last.
+#[derive(Debug, Drop)]
+pub(crate) struct Draining {
+    waiting: Vec<bool>,
+    last: u8,
+    // No core is waiting.
+    settled: bool,
+}
+
+impl Draining {
+    /// No core of so many is closed.
+    pub(crate) fn new(alloc: Global, cores: u8) -> Result<Draining, AllocError>
+        ensures { IfOk result (λ draining. draining.waiting.items ≡ replicate cores false) }
+    {
+        let waiting = vec![in alloc; false; usize::from(cores)]?;
+        Ok(Draining {
+            waiting,
+            last: 0,
+            settled: true,
+        })
+    }
+
+    /// The core was closed, and is to be drained.
+    pub(crate) fn start(&mut self, core: u8)
+        requires { core < vec_len self.old.waiting }
+        ensures { self.new.waiting.items ≡ slice_set self.old.waiting.items core true }
+    {
+        self.waiting[usize::from(core)] = true;
+        self.settled = false;
+    }
+
+    /// The core was opened, or nothing is left on it.
+    pub(crate) fn stop(&mut self, core: u8)
+        requires { core < vec_len self.old.waiting }
+        ensures { self.new.waiting.items ≡ slice_set self.old.waiting.items core false }
+    {
+        self.waiting[usize::from(core)] = false;
+    }
+
+    /// Moves threads away from one of the cores that are to be drained, each in its turn. Looks at nothing where there is
+    /// none.
+    pub(crate) fn round<H: Wait, T: Tagged, C: Contexts<T>>(
+        &mut self,
+        cores: &Cores<'_, H, T, C>,
+        seat: &mut C::Seat,
+    )
+        requires seat { C.sits cores.now.table.now seat.old }
+        requires cores { vec_len self.old.waiting ≡ cores.now.count }
+        ensures seat { C.sits cores.now.table.now seat.new }
+        ensures weight { C.weight seat.new ≡ C.weight seat.old }
+        ensures out { KeepsOut (C.has cores.now.table.now) seat.old seat.new }
+        ensures fewer { WaitsForNoMore self.old.waiting.items self.new.waiting.items }
+    {
+        if self.settled {
+            return;
+        }
+        match self.next_core(cores.count) {
+            Some(core) => {
+                if cores.move_away(seat, core) {
+                    self.stop(core);
+                }
+            }
+            None => self.settled = true,
+        }
+    }
+
+    /// The next core in turn that is to be drained.
+    fn next_core(&mut self, cores: u8) -> Option<u8>
+        requires { vec_len self.old.waiting ≡ cores }
+        ensures next { IfSome result (λ core. (core < cores) × (slice_index_or self.old.waiting.items core false ≡ true)) }
+        ensures waiting { self.new.waiting ≡ self.old.waiting }
+    {
+        for _ in 0..cores {
+            self.last = if self.last < cores - 1 {
+                self.last + 1
+            } else {
+                0
+            };
+            if self.waiting[usize::from(self.last)] {
+                return Some(self.last);
+            }
+        }
+        None
+    }
+}
+
+impl<'a, H: Wait, T: Tagged, C: Contexts<T>> Cores<'a, H, T, C> {
+    /// Moves what is at rest on a closed core to the other cores, the first that has room in ascending order. What is
+    /// held, was claimed and not posted, or met a race is left for a later call, and so is all where there is no room.
+    /// Whether nothing is left on the core.
+    pub(crate) fn move_away(&self, seat: &mut C::Seat, core: u8) -> bool
+        requires seat { C.sits self.now.table.now seat.old }
+        requires core { core < self.now.count }
+        ensures seat { C.sits self.now.table.now seat.new }
+        ensures weight { C.weight seat.new ≡ C.weight seat.old }
+        ensures out { KeepsOut (C.has self.now.table.now) seat.old seat.new }
+    {
+        let occupancy = self.look(seat, core);
+        if occupancy.is_empty() {
+            return true;
+        }
+        if occupancy.is_exclusive() {
+            return false;
+        }
+        let mut to = 0;
+        for index in 0..SLOTS {
+            if to >= self.count {
+                break;
+            }
+            if occupancy.is_occupied(index) {
+                to = self.move_from(seat, Place { core, index }, to);
+            }
+        }
+        false
+    }
+
+    /// Moves the thread at a place to the first other core from this one on that has room. The core that is tried first
+    /// for the next thread: those before it have no room.
+    fn move_from(&self, seat: &mut C::Seat, place: Place, from: u8) -> u8
+        requires seat { C.sits self.now.table.now seat.old }
+        requires core { place.core < self.now.count }
+        requires index { place.index < SLOTS }
+        ensures seat { C.sits self.now.table.now seat.new }
+        ensures weight { C.weight seat.new ≡ C.weight seat.old }
+        ensures out { KeepsOut (C.has self.now.table.now) seat.old seat.new }
+    {
+        for to in from..self.count {
+            if to == place.core {
+                continue;
+            }
+            let moved = self.table.move_one(self.rt, seat, place, to);
+            if !matches!(moved, Moved::NoRoom(_)) {
+                return to;
+            }
+        }
+        self.count
+    }
+}

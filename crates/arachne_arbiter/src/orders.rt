@@ -1,0 +1,107 @@
+//! Core orders in their turn.
+ghost use Rattle.std.specs.Prelude.{◌≡◌, ◌+◌, ◌<◌, ◌≤◌, ◌↔◌, length, IsTrue, IfOk, IfSome, MatchOption};
+ghost use Rattle.arachne_core.specs.declared.layout.TheConstants.{CORES};
+ghost use Rattle.arachne_policy.specs.Orders.{AreInOrder};
+
+use arachne_policy::{CoreOrder, OrderKind};
+use std::alloc::{AllocError, Global};
+use std::marker::Model;
+
+/// What an order does.
+#[derive(Clone, Copy, Debug, PartialEq, Eq)]
+pub enum Effect {
+    /// It closes this core.
+    Closes(u8),
+    /// It opens this core.
+    Opens(u8),
+    /// It releases a core that is closed, or grants one that is open.
+    Nothing,
+}
+
+/// Core orders, how many of them were applied, and which cores they have closed.
+///
+/// Contracts see the list, the number of cores, and how many were applied.
+#[derive(Debug, Drop)]
+pub struct Orders {
+    list: Vec<CoreOrder>,
+    applied: usize,
+    closed: Vec<bool>,
+}
+
+impl Model for Orders {
+    ghost use Rattle.std.specs.Prelude.{vec_len};
+    ghost use Rattle.arachne_arbiter.specs.Orders.{Progress, AreKept};
+
+    ghost Value = { Progress };
+
+    ghost view = { λ o. record { list = o.list.items; cores = vec_len o.closed; applied = o.applied } };
+
+    ghost invariant = { λ o. AreKept o.list.items o.applied o.closed.items };
+}
+
+impl Orders {
+    ghost use Rattle.arachne_arbiter.specs.Orders.{is_closed_after, next_effect, with_next, IsDue, IsNoneDue, IsWithin};
+
+    /// Orders of which none was applied yet, on a machine of so many cores, all of which are open.
+    pub fn new(alloc: Global, list: Vec<CoreOrder>, cores: u8) -> Result<Orders, AllocError>
+        requires orders { AreInOrder cores list.items }
+        requires cores { cores ≤ CORES }
+        ensures { IfOk result (λ orders. orders ≡ record { list = list.items; cores = cores; applied = 0 }) }
+    {
+        let closed = vec![in alloc; false; usize::from(cores)]?;
+        Ok(Orders {
+            list,
+            applied: 0,
+            closed,
+        })
+    }
+
+    /// How many were applied.
+    pub fn applied(&self) -> usize
+        ensures applied { result ≡ self.now.applied }
+        ensures within { result ≤ length self.now.list }
+    {
+        self.applied
+    }
+
+    /// Whether all were applied.
+    pub fn are_over(&self) -> bool
+        ensures { IsTrue result ↔ (self.now.applied ≡ length self.now.list) }
+    {
+        self.applied == self.list.len()
+    }
+
+    /// Whether the orders that were applied have closed a core.
+    pub fn has_closed(&self, core: u8) -> bool
+        requires { core < self.now.cores }
+        ensures { result ≡ is_closed_after self.now.list self.now.applied core }
+    {
+        self.closed[usize::from(core)]
+    }
+
+    /// Takes the next order, if it is due once so many slices have ended, and counts it as applied. None where it is not
+    /// due, or where all were applied; then nothing has changed.
+    pub fn next_due(&mut self, ended: u64) -> Option<Effect>
+        ensures due { MatchOption result (IsNoneDue self.old ended) (λ _. IsDue self.old ended) }
+        ensures effect { IfSome result (λ effect. (effect ≡ next_effect self.old) × IsWithin self.old.cores effect) }
+        ensures after { MatchOption result (self.new ≡ self.old) (λ _. self.new ≡ with_next self.old) }
+    {
+        let order = *self.list.get(self.applied)?;
+        if order.after > ended {
+            return None;
+        }
+        self.applied += 1;
+        let closes = order.kind == OrderKind::Release;
+        let closed = &mut self.closed[order.core as usize];
+        if *closed == closes {
+            return Some(Effect::Nothing);
+        }
+        *closed = closes;
+        let core = order.core as u8;
+        Some(if closes {
+            Effect::Closes(core)
+        } else {
+            Effect::Opens(core)
+        })
+    }
+}

@@ -1,0 +1,72 @@
+//! Kernel threads of cores that are closed sleep until their core is granted again.
+ghost use Rattle.std.specs.Prelude.{◌≡◌, ◌<◌, IfOk};
+ghost use Rattle.arachne_contexts.specs.Out.{KeepsOut};
+ghost use Rattle.arachne_arbiter.specs.KernelThreads.{parked_cores};
+
+use crate::cores::Cores;
+use arachne_contexts::{Contexts, Tagged};
+use crossbeam_utils::CachePadded;
+use std::alloc::{AllocError, Global};
+use std::sync::Wait;
+use std::thread::Parker;
+
+/// One parker for each core, on which the core's kernel thread sleeps and uses no processor. An unpark before the park is
+/// kept, and the park then returns at once; so a kernel thread that looks why it should park and then parks misses no
+/// unpark that came in between.
+#[derive(Drop)]
+pub struct Parking {
+    parkers: Vec<CachePadded<Parker>>,
+}
+
+impl Parking {
+    /// Parkers for so many cores.
+    pub fn new(alloc: Global, cores: u8) -> Result<Parking, AllocError>
+        ensures { IfOk result (λ parking. parked_cores parking ≡ cores) }
+    {
+        let mut parkers = Vec::with_capacity(alloc, usize::from(cores))?;
+        for _ in 0..cores {
+            parkers.push(CachePadded::new(Parker::new()))?;
+        }
+        Ok(Parking { parkers })
+    }
+
+    /// Sleeps until the core is unparked. Called by the core's kernel thread alone.
+    pub fn park<H: Wait>(&self, rt: &H, core: u8)
+        requires { core < parked_cores self.now }
+    {
+        self.parkers[usize::from(core)].park(rt);
+    }
+
+    /// Wakes a core's kernel thread, or lets its next park return at once.
+    pub fn unpark(&self, core: u8)
+        requires { core < parked_cores self.now }
+    {
+        self.parkers[usize::from(core)].unpark();
+    }
+
+    /// Wakes all, as at the end of a run.
+    pub fn unpark_all(&self) {
+        for parker in &self.parkers {
+            parker.unpark();
+        }
+    }
+}
+
+impl<'a, H: Wait, T: Tagged, C: Contexts<T>> Cores<'a, H, T, C> {
+    /// Parks a core's kernel thread if the core is closed and nothing is left on it. Whether it was; then the kernel thread
+    /// was unparked since, and looks again why. Called by the core's kernel thread alone.
+    pub fn park_if_drained(&self, seat: &mut C::Seat, parking: &Parking, core: u8) -> bool
+        requires seat { C.sits self.now.table.now seat.old }
+        requires core { core < self.now.count }
+        requires parking { parked_cores parking.now ≡ self.now.count }
+        ensures seat { C.sits self.now.table.now seat.new }
+        ensures weight { C.weight seat.new ≡ C.weight seat.old }
+        ensures out { KeepsOut (C.has self.now.table.now) seat.old seat.new }
+    {
+        let drained = self.table.is_drained(self.rt, seat, core);
+        if drained {
+            parking.park(self.rt, core);
+        }
+        drained
+    }
+}

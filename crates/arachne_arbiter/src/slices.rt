@@ -1,0 +1,45 @@
+//! How many slices ended.
+ghost use Rattle.std.specs.Prelude.{◌≡◌, ◌<◌, IfOk};
+ghost use Rattle.arachne_arbiter.specs.KernelThreads.{counted_cores};
+
+use crossbeam_utils::CachePadded;
+use std::alloc::{AllocError, Global};
+use std::sync::atomic::{AtomicU64, Ordering};
+
+/// One count of ended slices for each core, on cache lines of its own. A core's kernel thread alone writes its count.
+#[derive(Drop)]
+pub struct SliceCounts {
+    counts: Vec<CachePadded<AtomicU64>>,
+}
+
+impl SliceCounts {
+    /// Counts of 0 for so many cores.
+    pub fn new(alloc: Global, cores: u8) -> Result<SliceCounts, AllocError>
+        ensures { IfOk result (λ counts. counted_cores counts ≡ cores) }
+    {
+        let mut counts = Vec::with_capacity(alloc, usize::from(cores))?;
+        for _ in 0..cores {
+            counts.push(CachePadded::new(AtomicU64::new(0)))?;
+        }
+        Ok(SliceCounts { counts })
+    }
+
+    /// One slice more ended on a core. The count stays at 2^64 - 1. Called by the core's kernel thread alone: two that
+    /// called it at once would lose a slice.
+    pub fn count(&self, core: u8)
+        requires { core < counted_cores self.now }
+    {
+        let count = &self.counts[usize::from(core)];
+        let ended = count.load(Ordering::SeqCst);
+        count.store(ended.saturating_add(1), Ordering::SeqCst);
+    }
+
+    /// How many slices ended on all cores, at most 2^64 - 1.
+    pub fn total(&self) -> u64 {
+        let mut total: u64 = 0;
+        for count in &self.counts {
+            total = total.saturating_add(count.load(Ordering::SeqCst));
+        }
+        total
+    }
+}

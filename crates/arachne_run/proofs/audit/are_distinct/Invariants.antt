@@ -1,5 +1,0 @@
-use Rattle.arachne_run.proofs.Marking.{Marks}
-use Rattle.arachne_run.proofs.audit.are_distinct.Given as goal
-
-abbrev pub invariant-loop-number : goal.invariant-loop-number
-invariant-loop-number l = Marks l.numbers l.number-index l.seen.items

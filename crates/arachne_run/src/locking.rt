@@ -1,0 +1,172 @@
+//! What a worker does for a thread at a sleep lock.
+ghost use Rattle.std.specs.Prelude.{◌≡◌, ◌<◌, [], ◌∷◌, OnOk, IfOk, None, Some, MatchBool, length};
+ghost use Rattle.arachne_machine.specs.declared.pause.Pending.TheVariants as pause;
+ghost use Rattle.arachne_run.specs.Slices.{IsWait};
+ghost use Rattle.arachne_run.specs.Tokens.{AreWith, thread_in};
+
+use crate::fault::RunFault;
+use crate::gate::Gate;
+use crate::slice::RunJob;
+use crate::worker::{Kit, Worker};
+use arachne_contexts::{Contexts, Held, Identified};
+use arachne_core::ThreadId;
+use arachne_sleep::{AskFault, Asked, Pass, Tried, Who};
+use rand_core::Rng;
+use std::sync::Wait;
+
+/// A thread as the locks know it: by the tag of the one that runs in its context, under that context's id.
+fn asker<T: RunJob, H: Identified>(held: &Held<T, H>) -> Who {
+    Who {
+        tag: held.value.running_tag(),
+        id: held.id(),
+    }
+}
+
+/// Whether a job that asks for a lock goes on: it does with its pass, and waits without.
+fn admit<T: RunJob>(job: &mut T, lock: u64, pass: Option<Pass>) -> bool
+    requires { T.pause_of job.old ≡ Some (pause.Asks lock) }
+    ensures tag { T.tag_of job.new ≡ T.tag_of job.old }
+    ensures goes_on { MatchBool result (T.pause_of job.new ≡ None) (IsWait (T.pause_of job.new)) }
+{
+    let _ = lock;
+    if pass.is_none() {
+        return false;
+    }
+    job.granted();
+    true
+}
+
+impl<'a, H: Wait, T: RunJob, C: Contexts<T>, R: Rng, G: Gate> Worker<'a, H, T, C, R, G> {
+    /// Asks for a lock for a thread. Whether it holds it at once and goes on; else it waits.
+    pub(crate) fn ask(
+        &self,
+        kit: &mut Kit<C::Seat, R>,
+        held: &mut Held<T, C::Hold>,
+        lock: u64,
+    ) -> Result<bool, RunFault>
+        requires tokens { AreWith C.sits C.has self.now.machine.now (thread_in T.tag_of held.old ∷ []) kit.old.tokens }
+        requires asks { T.pause_of held.old.value ≡ Some (pause.Asks lock) }
+        ensures tokens { OnOk result (AreWith C.sits C.has self.now.machine.now (thread_in T.tag_of held.new ∷ []) kit.new.tokens) }
+        ensures goes_on { IfOk result (λ goes_on. MatchBool goes_on (T.pause_of held.new.value ≡ None) (IsWait (T.pause_of held.new.value))) }
+    {
+        let number = self.lock_of(lock)?;
+        let pass = self.try_ask(kit, held, number)?;
+        Ok(admit(&mut held.value, lock, pass))
+    }
+
+    /// Looks whether a thread that has waited for a lock holds it now and goes on; else it waits.
+    pub(crate) fn look_for_pass(
+        &self,
+        kit: &mut Kit<C::Seat, R>,
+        held: &mut Held<T, C::Hold>,
+        lock: u64,
+    ) -> Result<bool, RunFault>
+        requires tokens { AreWith C.sits C.has self.now.machine.now (thread_in T.tag_of held.old ∷ []) kit.old.tokens }
+        requires asks { T.pause_of held.old.value ≡ Some (pause.Asks lock) }
+        ensures tokens { OnOk result (AreWith C.sits C.has self.now.machine.now (thread_in T.tag_of held.new ∷ []) kit.new.tokens) }
+        ensures goes_on { IfOk result (λ goes_on. MatchBool goes_on (T.pause_of held.new.value ≡ None) (IsWait (T.pause_of held.new.value))) }
+    {
+        let number = self.lock_of(lock)?;
+        let pass = self.check(kit, held, number);
+        Ok(admit(&mut held.value, lock, pass))
+    }
+
+    /// Frees a lock for a thread, and wakes the thread that holds it next.
+    pub(crate) fn free(
+        &self,
+        kit: &mut Kit<C::Seat, R>,
+        held: &mut Held<T, C::Hold>,
+        lock: u64,
+    ) -> Result<(), RunFault>
+        requires tokens { AreWith C.sits C.has self.now.machine.now (thread_in T.tag_of held.old ∷ []) kit.old.tokens }
+        requires frees { T.pause_of held.old.value ≡ Some (pause.Frees lock) }
+        ensures tokens { OnOk result (AreWith C.sits C.has self.now.machine.now (thread_in T.tag_of held.new ∷ []) kit.new.tokens) }
+        ensures answered { OnOk result (T.pause_of held.new.value ≡ None) }
+    {
+        let number = self.lock_of(lock)?;
+        if let Some(id) = self.try_free(kit, held, number)? {
+            self.wake(kit, id);
+        }
+        held.value.freed();
+        Ok(())
+    }
+
+    /// The lock of this number. In a checked program a pause names a lock that is there.
+    fn lock_of(&self, lock: u64) -> Result<u8, RunFault>
+        ensures { IfOk result (λ number. (number ≡ lock) × (number < length self.now.machine.now.locks)) }
+    {
+        if lock >= self.machine.locks.count() as u64 {
+            return Err(RunFault::Foreign);
+        }
+        u8::try_from(lock).map_err(|_| RunFault::Foreign)
+    }
+
+    /// The pass of a thread that asks and holds the lock at once.
+    fn try_ask(
+        &self,
+        kit: &mut Kit<C::Seat, R>,
+        held: &Held<T, C::Hold>,
+        lock: u8,
+    ) -> Result<Option<Pass>, RunFault>
+        requires tokens { AreWith C.sits C.has self.now.machine.now (thread_in T.tag_of held.now ∷ []) kit.old.tokens }
+        requires lock { lock < length self.now.machine.now.locks }
+        ensures { AreWith C.sits C.has self.now.machine.now (thread_in T.tag_of held.now ∷ []) kit.new.tokens }
+    {
+        let who = asker(held);
+        for _ in self.rt.forever() {
+            let locks = &self.machine.locks;
+            match locks.ask(self.rt, &mut kit.tokens.lock_seats, lock, who) {
+                Tried::Answered(Ok(Asked::Granted(pass))) => return Ok(Some(pass)),
+                Tried::Answered(Ok(Asked::Queued { at: _ })) => return Ok(None),
+                Tried::Answered(Err(AskFault::Memory)) => return Err(RunFault::Memory),
+                Tried::Answered(Err(AskFault::AlreadyIn)) => return Err(RunFault::Threads),
+                Tried::Contended => {}
+            }
+        }
+        unreachable!()
+    }
+
+    /// The pass of a thread that has asked for the lock, if it holds it now.
+    fn check(&self, kit: &mut Kit<C::Seat, R>, held: &Held<T, C::Hold>, lock: u8) -> Option<Pass>
+        requires tokens { AreWith C.sits C.has self.now.machine.now (thread_in T.tag_of held.now ∷ []) kit.old.tokens }
+        requires lock { lock < length self.now.machine.now.locks }
+        ensures { AreWith C.sits C.has self.now.machine.now (thread_in T.tag_of held.now ∷ []) kit.new.tokens }
+    {
+        let who = asker(held);
+        for _ in self.rt.forever() {
+            let locks = &self.machine.locks;
+            if let Tried::Answered(pass) = locks.check(
+                self.rt,
+                &mut kit.tokens.lock_seats,
+                lock,
+                who,
+            ) {
+                return pass;
+            }
+        }
+        unreachable!()
+    }
+
+    /// The id of the thread that holds the lock next, if any waits for it.
+    fn try_free(
+        &self,
+        kit: &mut Kit<C::Seat, R>,
+        held: &Held<T, C::Hold>,
+        lock: u8,
+    ) -> Result<Option<ThreadId>, RunFault>
+        requires tokens { AreWith C.sits C.has self.now.machine.now (thread_in T.tag_of held.now ∷ []) kit.old.tokens }
+        requires lock { lock < length self.now.machine.now.locks }
+        ensures { AreWith C.sits C.has self.now.machine.now (thread_in T.tag_of held.now ∷ []) kit.new.tokens }
+    {
+        let who = asker(held);
+        for _ in self.rt.forever() {
+            let locks = &self.machine.locks;
+            match locks.free(self.rt, &mut kit.tokens.lock_seats, lock, who) {
+                Tried::Answered(Ok(freed)) => return Ok(freed.next.map(|next| next.id)),
+                Tried::Answered(Err(_)) => return Err(RunFault::Threads),
+                Tried::Contended => {}
+            }
+        }
+        unreachable!()
+    }
+}

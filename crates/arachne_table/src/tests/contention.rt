@@ -1,0 +1,284 @@
+//! Two kernel threads that contend for the places of one table.
+ghost use Rattle.std.specs.Prelude.{◌≡◌, ◌<◌, ◌≤◌, IfSome};
+ghost use Rattle.arachne_words.specs.Seats.{HasNothingOut};
+ghost use Rattle.std.specs.Thread.{IsSync};
+
+use super::Job;
+use crate::{Claimed, Contexts, Moved, Taken, WordContexts, WordSeat};
+use arachne_core::{Place, SLOTS};
+use std::alloc::Global;
+use std::snapshot::Snapshot;
+use std::sync::Wait;
+use std::test::Fail;
+use std::thread;
+use std::thread::{Promise, Threads};
+
+const ROUNDS: u64 = 10_000;
+
+/// What a thread has done: its seat, the tags of what it has posted and ended, and how many of those were moved.
+#[derive(Drop)]
+struct Work<S> {
+    seat: S,
+    posted: Vec<u64>,
+    ended: Vec<u64>,
+    moved: u64,
+}
+
+type Words = WordContexts<Job>;
+
+type WordWork = Work<WordSeat<Job>>;
+
+/// The seat that comes back is of this table, with nothing out.
+#[derive(Drop)]
+struct SeatOf {
+    table: Snapshot<Words>,
+}
+
+impl Promise<Option<WordWork>> for SeatOf {
+    ghost kept_by = { λ promise work. IfSome work (λ w. (w.seat.table ≡ promise.table.value.table) × HasNothingOut w.seat.known) };
+}
+
+/// Claims a place on a core, and posts a thread there if it got one. None where the table refuses memory or the claim.
+fn post<C: Contexts<Job>, R: Wait>(
+    rt: &R,
+    table: &C,
+    work: &mut Work<C::Seat>,
+    core: u8,
+    tag: u64,
+) -> Option<()>
+    requires seat { C.sits table.now work.old.seat × C.idle table.now work.old.seat }
+    requires core { core < C.core_count table.now }
+    ensures { IfSome result (λ _. C.sits table.now work.new.seat × C.idle table.now work.new.seat) }
+{
+    match table.claim(rt, &mut work.seat, core).ok()? {
+        Claimed::Place(claim) => {
+            table.post(rt, &mut work.seat, claim, Job(tag)).ok()?;
+            work.posted.push(tag).ok()
+        }
+        Claimed::Full(_) => Some(()),
+        Claimed::Closed(_) => Some(()),
+        Claimed::Lost(_) => Some(()),
+    }
+}
+
+/// Takes the thread at a place, if it is ready, and ends it.
+fn end<C: Contexts<Job>, R: Wait>(
+    rt: &R,
+    table: &C,
+    work: &mut Work<C::Seat>,
+    core: u8,
+    index: u8,
+) -> Option<bool>
+    requires seat { C.sits table.now work.old.seat × C.idle table.now work.old.seat }
+    requires core { core < C.core_count table.now }
+    requires index { index < SLOTS }
+    ensures { IfSome result (λ _. C.sits table.now work.new.seat × C.idle table.now work.new.seat) }
+{
+    match table.take(rt, &mut work.seat, core, index) {
+        Taken::Run(held) => {
+            let job = table.finish(rt, &mut work.seat, held).ok()?;
+            work.ended.push(job.0).ok()?;
+            Some(true)
+        }
+        Taken::NotReady(_) => Some(false),
+        Taken::Lost(_) => Some(false),
+    }
+}
+
+/// Ends what is ready on a core. How many there were.
+fn end_all<C: Contexts<Job>, R: Wait>(
+    rt: &R,
+    table: &C,
+    work: &mut Work<C::Seat>,
+    core: u8,
+) -> Option<u64>
+    requires seat { C.sits table.now work.old.seat × C.idle table.now work.old.seat }
+    requires core { core < C.core_count table.now }
+    ensures { IfSome result (λ _. C.sits table.now work.new.seat × C.idle table.now work.new.seat) }
+{
+    let mut ended: u64 = 0;
+    for index in 0..SLOTS {
+        if end(rt, table, work, core, index)? {
+            ended = ended.wrapping_add(1);
+        }
+    }
+    Some(ended)
+}
+
+/// What a kernel thread does in each round, on a table of so many cores: it posts one thread on the last core. If it moves,
+/// it then closes core 1, moves what is there to core 0, and opens it. It ends what is ready on the cores from one on.
+#[derive(Clone, Copy)]
+struct Part {
+    cores: u8,
+    moves: bool,
+    from: u8,
+    first_tag: u64,
+}
+
+/// Closes core 1, moves what is at rest there to core 0, and opens it. How many were moved.
+fn move_away<C: Contexts<Job>, R: Wait>(rt: &R, table: &C, work: &mut Work<C::Seat>) -> u64
+    requires seat { C.sits table.now work.old.seat × C.idle table.now work.old.seat }
+    requires cores { 1 < C.core_count table.now }
+    ensures { C.sits table.now work.new.seat × C.idle table.now work.new.seat }
+{
+    let mut moved: u64 = 0;
+    table.close_core(rt, &mut work.seat, 1);
+    for index in 0..SLOTS {
+        let place = Place { core: 1, index };
+        if let Moved::Moved = table.move_one(rt, &mut work.seat, place, 0) {
+            moved = moved.wrapping_add(1);
+        }
+    }
+    table.open_core(rt, &mut work.seat, 1);
+    moved
+}
+
+/// All rounds of a kernel thread. None where memory is refused.
+fn all_rounds<C: Contexts<Job>, R: Wait>(
+    rt: &R,
+    table: &C,
+    alloc: Global,
+    seat: C::Seat,
+    part: Part,
+) -> Option<Work<C::Seat>>
+    requires seat { C.sits table.now seat × C.idle table.now seat }
+    requires cores { (1 ≤ part.cores) × (part.cores ≡ C.core_count table.now) }
+    ensures { IfSome result (λ w. C.sits table.now w.seat × C.idle table.now w.seat) }
+{
+    let mut work = Work {
+        seat,
+        posted: Vec::new(alloc),
+        ended: Vec::new(alloc),
+        moved: 0,
+    };
+    for round in 0..ROUNDS {
+        let tag = part.first_tag.wrapping_add(round);
+        post(rt, table, &mut work, part.cores - 1, tag)?;
+        if part.moves && part.cores > 1 {
+            work.moved = work.moved.wrapping_add(move_away(rt, table, &mut work));
+        }
+        for core in part.from..part.cores {
+            end_all(rt, table, &mut work, core)?;
+        }
+    }
+    Some(work)
+}
+
+/// The work of two kernel threads, each with a seat of its own.
+fn work_side_by_side<R: Threads + Wait + Sync>(
+    rt: &R,
+    table: &Words,
+    alloc: Global,
+    seat: WordSeat<Job>,
+    own: Part,
+    their: Part,
+) -> Option<(WordWork, WordWork)>
+    requires seat { (seat.table ≡ table.now.table) × HasNothingOut seat.known }
+    requires own { (1 ≤ own.cores) × (own.cores ≡ table.now.shape.cores) }
+    requires their { (1 ≤ their.cores) × (their.cores ≡ table.now.shape.cores) }
+    ensures first { IfSome result (λ w. (w.0.seat.table ≡ table.now.table) × HasNothingOut w.0.seat.known) }
+    ensures second { IfSome result (λ w. (w.1.seat.table ≡ table.now.table) × HasNothingOut w.1.seat.known) }
+{
+    let (first, second) = table.split(seat);
+    thread::scope(
+        thread::scope_env(),
+        rt,
+        |scope| -> Option<(WordWork, WordWork)>
+            requires sync { IsSync R.row }
+            requires first { (first.table ≡ table.now.table) × HasNothingOut first.known }
+            requires second { (second.table ≡ table.now.table) × HasNothingOut second.known }
+            requires own { (1 ≤ own.cores) × (own.cores ≡ table.now.shape.cores) }
+            requires their { (1 ≤ their.cores) × (their.cores ≡ table.now.shape.cores) }
+            ensures first { IfSome result (λ w. (w.0.seat.table ≡ table.entry.now.table) × HasNothingOut w.0.seat.known) }
+            ensures second { IfSome result (λ w. (w.1.seat.table ≡ table.entry.now.table) × HasNothingOut w.1.seat.known) }
+        {
+            let seat_of = SeatOf {
+                table: Snapshot::of(table),
+            };
+            let other = scope
+                .spawn_with(
+                    seat_of,
+                    move || -> Option<WordWork>
+                        requires { (second.table ≡ table.now.table) × HasNothingOut second.known × (1 ≤ their.cores) × (their.cores ≡ table.now.shape.cores) }
+                        ensures { IfSome result (λ w. (w.seat.table ≡ table.entry.now.table) × HasNothingOut w.seat.known) }
+                    { all_rounds::<Words, R>(rt, table, alloc, second, their) },
+                )
+                .ok()?;
+            let own = all_rounds::<Words, R>(rt, table, alloc, first, own);
+            let theirs = other.join(rt);
+            Some((own?, theirs?))
+        },
+    )
+}
+
+/// Two kernel threads on one table. Answers whether each tag that was posted was ended or is left, once, and how many
+/// threads were moved.
+fn contend<R: Threads + Wait + Sync>(
+    rt: &R,
+    alloc: Global,
+    own: Part,
+    their: Part,
+) -> Result<(bool, u64), Fail>
+    requires some { 1 ≤ own.cores }
+    requires cores { own.cores ≤ 16 }
+    requires same { their.cores ≡ own.cores }
+{
+    let (table, seat) = Words::new(alloc, own.cores, 0)?;
+    let works = work_side_by_side(rt, &table, alloc, seat, own, their);
+    let (first, second) = works.ok_or("no memory")?;
+    let moved = first.moved.wrapping_add(second.moved);
+    let seat = table.join_seats(first.seat, second.seat);
+    if !table.is_whole(&seat) {
+        return Err("not whole".into());
+    }
+    let left = table.close(alloc, seat).ok().ok_or("no memory")?;
+    let mut posted = first.posted;
+    posted.extend(second.posted)?;
+    posted.sort()?;
+    let mut gone = first.ended;
+    gone.extend(second.ended)?;
+    for (_, job) in left {
+        gone.push(job.0)?;
+    }
+    gone.sort()?;
+    Ok((posted.as_slice() == gone.as_slice(), moved))
+}
+
+#[test]
+fn two_threads_on_one_core_of_words(rt: HostRuntime) -> Result<(), Fail> {
+    let own = Part {
+        cores: 1,
+        moves: false,
+        from: 0,
+        first_tag: 0,
+    };
+    let their = Part {
+        cores: 1,
+        moves: false,
+        from: 0,
+        first_tag: ROUNDS,
+    };
+    let (settled, _) = contend(&rt, rt.alloc(), own, their)?;
+    assert!(rt; settled);
+    Ok(())
+}
+
+#[test]
+fn two_threads_one_of_which_moves_words(rt: HostRuntime) -> Result<(), Fail> {
+    let own = Part {
+        cores: 2,
+        moves: false,
+        from: 0,
+        first_tag: 0,
+    };
+    let their = Part {
+        cores: 2,
+        moves: true,
+        from: 1,
+        first_tag: ROUNDS,
+    };
+    let (settled, moved) = contend(&rt, rt.alloc(), own, their)?;
+    assert!(rt; settled);
+    assert!(rt; moved > 0);
+    Ok(())
+}
