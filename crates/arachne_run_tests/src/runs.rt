@@ -8,19 +8,32 @@ use crate::choosers::Progression;
 use arachne_lang::{Program, check, parse};
 use arachne_locked::LockedContexts;
 use arachne_policy::CoreOrder;
-use arachne_run::{Gate, Job, OpenGate, Report, RunFault, Setup, run};
+use arachne_run::{Gate, Job, Report, RunFault, Setup, run};
+use arachne_words::WordContexts;
 use std::alloc::Global;
-use std::process::Abort;
 use std::sync::Wait;
 use std::test::Fail;
 use std::thread::Threads;
 
+mod cores;
+mod loads;
+mod locks;
 mod reports;
 mod tables;
 
+/// A form of context table.
+#[derive(Clone, Copy, Debug)]
+enum Form {
+    Locked,
+    Words,
+}
+
+const FORMS: [Form; 2] = [Form::Locked, Form::Words];
+
 /// A machine, and the words that its choosers draw.
-#[derive(Clone, Copy, Debug, Drop)]
+#[derive(Clone, Copy, Debug)]
 struct Trial {
+    form: Form,
     cores: u64,
     quantum: u64,
     chooser: Progression,
@@ -66,7 +79,13 @@ fn checked(alloc: Global, text: &[u8]) -> Result<Program, Fail>
 }
 
 /// Runs a program over an altered table behind a lock.
-fn run_over<'p, R: Threads + Wait + Sync, G: Gate + Sync, const FINISHES: bool, const SHARES: bool>(
+fn run_altered<
+    'p,
+    R: Threads + Wait + Sync,
+    G: Gate + Sync,
+    const FINISHES: bool,
+    const SHARES: bool,
+>(
     rt: &R,
     alloc: Global,
     program: &'p Program,
@@ -81,27 +100,39 @@ fn run_over<'p, R: Threads + Wait + Sync, G: Gate + Sync, const FINISHES: bool, 
     )
 }
 
-/// Runs the program of a text, with one chooser for each core.
-fn tried<R: Threads + Wait + Sync, G: Gate + Sync, const FINISHES: bool, const SHARES: bool>(
+/// Runs a program over a table on words.
+fn run_on_words<'p, R: Threads + Wait + Sync, G: Gate + Sync>(
     rt: &R,
     alloc: Global,
-    text: &[u8],
+    program: &'p Program,
+    setup: Setup,
+    choosers: Vec<Progression>,
+    gate: &G,
+) -> Result<Report, RunFault>
+    requires { IsChecked (source_of program.now) }
+{
+    run::<R, Job<'p>, WordContexts<Job<'p>>, Progression, G>(
+        rt, alloc, program, setup, choosers, gate,
+    )
+}
+
+/// How a run is set up on a machine, and one chooser for each core.
+fn setup_of(
+    alloc: Global,
     machine: Trial,
     orders: &[CoreOrder],
-    gate: &G,
-) -> Result<Result<Report, RunFault>, Fail> {
-    let program = checked(alloc, text)?;
+) -> Result<(Setup, Vec<Progression>), Fail> {
     let choosers = vec![in alloc; machine.chooser; machine.cores as usize]?;
     let setup = Setup {
         cores: machine.cores,
         quantum: machine.quantum,
         orders: orders.to_vec(alloc)?,
     };
-    Ok(run_over::<R, G, FINISHES, SHARES>(rt, alloc, &program, setup, choosers, gate))
+    Ok((setup, choosers))
 }
 
-/// The report of a text's program, over the table as it is.
-fn report<R: Abort + Threads + Wait + Sync, G: Gate + Sync>(
+/// The report of a text's program.
+fn report<R: Threads + Wait + Sync, G: Gate + Sync>(
     rt: &R,
     alloc: Global,
     text: &[u8],
@@ -109,6 +140,32 @@ fn report<R: Abort + Threads + Wait + Sync, G: Gate + Sync>(
     orders: &[CoreOrder],
     gate: &G,
 ) -> Result<Report, Fail> {
-    let report = tried::<R, G, true, true>(rt, alloc, text, machine, orders, gate)??;
+    let program = checked(alloc, text)?;
+    let (setup, choosers) = setup_of(alloc, machine, orders)?;
+    let report = match machine.form {
+        Form::Locked => {
+            run_altered::<R, G, true, true>(rt, alloc, &program, setup, choosers, gate)?
+        }
+        Form::Words => run_on_words(rt, alloc, &program, setup, choosers, gate)?,
+    };
     Ok(report)
+}
+
+/// What comes of a text's program over an altered table behind a lock.
+fn altered<R: Threads + Wait + Sync, G: Gate + Sync, const FINISHES: bool, const SHARES: bool>(
+    rt: &R,
+    alloc: Global,
+    text: &[u8],
+    machine: Trial,
+    gate: &G,
+) -> Result<Result<Report, RunFault>, Fail> {
+    let program = checked(alloc, text)?;
+    let (setup, choosers) = setup_of(alloc, machine, &[])?;
+    Ok(run_altered::<R, G, FINISHES, SHARES>(rt, alloc, &program, setup, choosers, gate))
+}
+
+/// How many threads ran in the place of their parents.
+fn in_place(report: &Report) -> usize {
+    let lines = report.threads.as_slice();
+    lines.iter().filter(|line| line.in_place).count()
 }

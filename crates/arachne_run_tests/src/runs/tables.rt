@@ -1,20 +1,21 @@
-//! That a run goes through its table.
-use super::{FORK, Trial, always, checked, run_over, text_of, tried};
+//! That a run goes through its table, and looks at its setup before it does.
+use super::{FORK, Form, Trial, altered, always, checked, run_on_words, text_of};
 use crate::gates::Noting;
 use arachne_run::{OpenGate, RunFault, Setup};
 use std::test::Fail;
 
-/// A table that finishes no thread gives the run no report.
+/// A table that hands each thread back when it is to be finished gives the run no report.
 #[test]
 fn threads_that_come_back_stop_the_run(rt: HostRuntime) -> Result<(), Fail> {
     let alloc = rt.alloc();
     let text = text_of(alloc, 0, 0, "(num 7)")?;
     let machine = Trial {
+        form: Form::Locked,
         cores: 1,
         quantum: 100,
         chooser: always(0),
     };
-    let answer = tried::<_, _, false, true>(&rt, alloc, text.as_bytes(), machine, &[], &OpenGate)?;
+    let answer = altered::<_, _, false, true>(&rt, alloc, text.as_bytes(), machine, &OpenGate)?;
     assert_eq!(rt; answer.err(), Some(RunFault::Token));
     Ok(())
 }
@@ -25,12 +26,13 @@ fn full_cores_run_nothing(rt: HostRuntime) -> Result<(), Fail> {
     let alloc = rt.alloc();
     let text = text_of(alloc, 0, 0, FORK)?;
     let machine = Trial {
+        form: Form::Locked,
         cores: 4,
         quantum: 1,
         chooser: always(0x0000_0003_0000_0003),
     };
     let gate = Noting::new();
-    let report = tried::<_, _, true, false>(&rt, alloc, text.as_bytes(), machine, &[], &gate)??;
+    let report = altered::<_, _, true, false>(&rt, alloc, text.as_bytes(), machine, &gate)??;
     assert_eq!(rt; report.value, 5);
     assert_eq!(rt; gate.entered(), 0b0001);
     Ok(())
@@ -54,7 +56,7 @@ fn choosers_are_one_for_each_core(rt: HostRuntime) -> Result<(), Fail> {
             orders: Vec::new(alloc),
         };
         let choosers = vec![in alloc; always(0); choosers]?;
-        let answer = run_over::<_, _, true, true>(&rt, alloc, &program, setup, choosers, &OpenGate);
+        let answer = run_on_words(&rt, alloc, &program, setup, choosers, &OpenGate);
         assert_eq!(rt; answer.err(), Some(fault));
     }
     Ok(())

@@ -9,7 +9,7 @@ use Rattle.arachne_machine.proofs.Crossing.{thread_send}
 use Rattle.arachne_run.proofs.Crossing.{job_send}
 use Rattle.arachne_run_tests.proofs.altered.Altered.TheSendSync as altered
 use Rattle.arachne_run_tests.proofs.choosers.Progression.TheSendSync as chooser
-use Rattle.arachne_run_tests.proofs.runs.run_over.Goals as goal
+use Rattle.arachne_run_tests.proofs.runs.run_altered.Goals as goal
 
 -- what a run sends to its kernel threads and shares with them may cross; the program is checked
 pub run-requires : goal.run-requires
