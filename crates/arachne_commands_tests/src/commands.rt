@@ -1,7 +1,7 @@
 //! What the program does, over words, readers and writers.
 use arachne_commands::{drive, refuse_words, run as run_process, run_on, run_without_words};
 use std::alloc::Global;
-use std::io::{self, ErrorKind};
+use std::io::{self, Eprint, ErrorKind};
 use std::process::{Abort, ExitCode, Termination};
 use std::sync::Wait;
 use std::test::Fail;
@@ -47,69 +47,93 @@ fn program_ends_with_the_status(rt: HostRuntime) {
     );
 }
 
-/// A text that may run, one that is refused, and words that are not understood.
+/// Commands with expressions, and the exit codes.
+const ENDS: &[(&str, &str, u8)] = &[
+    ("eval", "(num 7)", 0),
+    ("check", "(num 7)", 0),
+    ("eval", "(num 00)", 1),
+    ("check", "(var 0)", 1),
+    ("walk", "(num 7)", 2),
+];
+
+/// The run ends with this code. Only where it ends well is there an output, and no fault.
+fn assert_code<R: Abort + Eprint + Threads + Wait + Sync>(
+    rt: &R,
+    alloc: Global,
+    words: &[&str],
+    mut input: &[u8],
+    code: u8,
+) {
+    let mut output = Vec::new(alloc);
+    let mut faults = Vec::new(alloc);
+    let status = run_on(rt, alloc, words, &mut input, &mut output, &mut faults);
+    assert_eq!(rt; status.report(rt), ExitCode::from(code), "{words:?}");
+    assert_eq!(rt; output.is_empty(), code != 0, "{words:?}");
+    assert_eq!(rt; faults.is_empty(), code == 0, "{words:?}");
+}
+
+/// Commands with expressions, and the exit codes: texts that may run, texts that are refused, and words that are not understood.
+const CODES: &[(&str, &str, u8)] = &[
+    ("eval", "(num 7)", 0),
+    ("check", "(num 7)", 0),
+    ("eval", "(num 00)", 1),
+    ("check", "(var 0)", 1),
+    ("walk", "(num 7)", 2),
+];
+
 #[test]
 fn runs_end_with_their_status(rt: HostRuntime) -> Result<(), Fail> {
     let alloc = rt.alloc();
-    for (command, expr, code) in [
-        ("eval", "(num 7)", 0),
-        ("check", "(num 7)", 0),
-        ("eval", "(num 00)", 1),
-        ("check", "(var 0)", 1),
-        ("walk", "(num 7)", 2),
-    ] {
+    for &(command, expr, code) in CODES {
         let text = text_of(alloc, expr)?;
-        let mut input = text.as_bytes();
-        let mut output = Vec::new(alloc);
-        let mut faults = Vec::new(alloc);
-        let status = run_on(
-            &rt,
-            alloc,
-            &["arachne", command],
-            &mut input,
-            &mut output,
-            &mut faults,
-        );
-        assert_eq!(rt;
-            status.report(&rt),
-            ExitCode::from(code),
-            "{command} {expr}"
-        );
-        assert_eq!(rt; output.is_empty(), code != 0, "{command} {expr}");
-        assert_eq!(rt; faults.is_empty(), code == 0, "{command} {expr}");
+        assert_code(&rt, alloc, &["arachne", command], text.as_bytes(), code);
     }
     Ok(())
 }
 
+/// Expressions, what is printed of each, and the names of its threads.
+const VALUES: &[(&str, &str, &str)] = &[
+    ("(num 7)", "value 7\nthreads 1\n", "thread /\n"),
+    (
+        "(add (num 18446744073709551615) (num 1))",
+        "value 0\nthreads 1\n",
+        "thread /\n",
+    ),
+    (
+        "(fork n (num 2) (num 3) (add (var 0) (var 1)))",
+        "value 5\nthreads 2\n",
+        "thread /\nthread /0\n",
+    ),
+    (
+        "(fork n (fork n (num 1) (num 2) (add (var 0) (var 1))) (fork n (num 3) (num 4) (add (var 0) (var 1))) (fork n (num 5) (num 6) (add (add (var 0) (var 1)) (add (var 2) (var 3)))))",
+        "value 21\nthreads 5\n",
+        "thread /\nthread /1\nthread /0\nthread /0/0\nthread /2\n",
+    ),
+];
+
+/// The run ends well, with this output.
+fn assert_output<R: Abort + Threads + Wait + Sync>(
+    rt: &R,
+    alloc: Global,
+    words: &[&str],
+    input: &[u8],
+    output: &str,
+) {
+    let ended = run(rt, alloc, words, input);
+    assert_eq!(rt; ended.faults.as_slice(), b"".as_slice(), "{words:?}");
+    assert_eq!(rt; ended.status, 0, "{words:?}");
+    assert_eq!(rt; ended.output.as_slice(), output.as_bytes(), "{words:?}");
+}
+
 #[test]
 fn values_are_printed(rt: HostRuntime) -> Result<(), Fail> {
-    let sum = "(add (num 18446744073709551615) (num 1))";
-    let difference = "(fork n (num 2) (num 3) (add (var 0) (var 1)))";
-    let nested =
-        "(fork n (fork n (num 1) (num 2) (add (var 0) (var 1))) (fork n (num 3) (num 4) (add (var 0) (var 1))) (fork n (num 5) (num 6) (add (add (var 0) (var 1)) (add (var 2) (var 3)))))";
-    for (expr, plain, names) in [
-        ("(num 7)", "value 7\nthreads 1\n", "thread /\n"),
-        (sum, "value 0\nthreads 1\n", "thread /\n"),
-        (difference, "value 5\nthreads 2\n", "thread /\nthread /0\n"),
-        (
-            nested,
-            "value 21\nthreads 5\n",
-            "thread /\nthread /1\nthread /0\nthread /0/0\nthread /2\n",
-        ),
-    ] {
-        let text = text_of(rt.alloc(), expr)?;
-        let short = run(&rt, rt.alloc(), &["arachne", "eval"], text.as_bytes());
-        assert_eq!(rt; short.status, 0, "{expr}");
-        assert_eq!(rt; short.output.as_slice(), plain.as_bytes(), "{expr}");
-        assert!(rt; short.faults.is_empty(), "{expr}");
-        let long = run(
-            &rt,
-            rt.alloc(),
-            &["arachne", "eval", "--names"],
-            text.as_bytes(),
-        );
-        let whole = format!(in rt.alloc(); "{plain}{names}")?;
-        assert_eq!(rt; long.output.as_slice(), whole.as_bytes(), "{expr}");
+    let alloc = rt.alloc();
+    for &(expr, plain, names) in VALUES {
+        let text = text_of(alloc, expr)?;
+        assert_output(&rt, alloc, &["arachne", "eval"], text.as_bytes(), plain);
+        let whole = format!(in alloc; "{plain}{names}")?;
+        let words = ["arachne", "eval", "--names"];
+        assert_output(&rt, alloc, &words, text.as_bytes(), whole.as_str());
     }
     Ok(())
 }
@@ -128,12 +152,17 @@ fn assert_fault<R: Abort + Threads + Wait + Sync>(rt: &R, alloc: Global, input: 
 fn programs_that_may_run_are_told(rt: HostRuntime) -> Result<(), Fail> {
     for expr in ["(num 7)", "(fork n (num 2) (num 3) (add (var 0) (var 1)))"] {
         let text = text_of(rt.alloc(), expr)?;
-        let run = run(&rt, rt.alloc(), &["arachne", "check"], text.as_bytes());
-        assert_eq!(rt; run.status, 0, "{expr}");
-        assert_eq!(rt; run.output.as_slice(), b"ok\n".as_slice(), "{expr}");
-        assert!(rt; run.faults.is_empty(), "{expr}");
+        let words = ["arachne", "check"];
+        assert_output(&rt, rt.alloc(), &words, text.as_bytes(), "ok\n");
     }
     Ok(())
+}
+
+/// A run without words ends with this code.
+fn assert_without_words<R: Abort + Eprint>(rt: &R, alloc: Global, kind: ErrorKind, code: u8) {
+    let mut faults = Vec::new(alloc);
+    let status = run_without_words(&io::Error::from(kind), &mut faults);
+    assert_eq!(rt; status.report(rt), ExitCode::from(code), "{kind:?}");
 }
 
 #[test]
@@ -146,42 +175,46 @@ fn words_that_cannot_be_had(rt: HostRuntime) {
     let status = refuse_words(&mut faults, &io::Error::from(ErrorKind::InvalidData));
     assert_eq!(rt; status, 2);
     assert!(rt; faults.starts_with(b"error: "));
-    for (kind, code) in [(ErrorKind::OutOfMemory, 1), (ErrorKind::InvalidData, 2)] {
-        let status = run_without_words(&io::Error::from(kind), &mut faults);
-        assert_eq!(rt; status.report(&rt), ExitCode::from(code), "{kind:?}");
-    }
+    assert_without_words(&rt, rt.alloc(), ErrorKind::OutOfMemory, 1);
+    assert_without_words(&rt, rt.alloc(), ErrorKind::InvalidData, 2);
 }
+
+/// Expressions, and the faults of their texts.
+const EXPRESSIONS: &[(&str, &str)] = &[
+    ("(add (var 0) (num 1))", "fault 8 node 1\n"),
+    ("(num 18446744073709551616)", "fault 3 at 52\n"),
+    ("(num 00)", "fault 2 at 34\n"),
+    ("(add  (num 1) (num 1))", "fault 2 at 33\n"),
+    ("(num 7)\n", "fault 2 at 36\n"),
+];
 
 #[test]
 fn expressions_at_fault(rt: HostRuntime) -> Result<(), Fail> {
-    for (expr, line) in [
-        ("(add (var 0) (num 1))", "fault 8 node 1\n"),
-        ("(num 18446744073709551616)", "fault 3 at 52\n"),
-        ("(num 00)", "fault 2 at 34\n"),
-        ("(add  (num 1) (num 1))", "fault 2 at 33\n"),
-        ("(num 7)\n", "fault 2 at 36\n"),
-    ] {
+    for &(expr, line) in EXPRESSIONS {
         let text = text_of(rt.alloc(), expr)?;
         assert_fault(&rt, rt.alloc(), text.as_bytes(), line);
     }
     Ok(())
 }
 
+/// Texts, and their faults.
+const TEXTS: &[(&str, &str)] = &[
+    ("", "fault 1 at 0\n"),
+    ("arachne 2\n", "fault 1 at 0\n"),
+    ("arachne 1\n", "fault 2 at 10\n"),
+    (
+        "arachne 1\nledgers 0\nlocks 0\n(add (num 1)",
+        "fault 2 at 40\n",
+    ),
+    (
+        "arachne 1\nledgers 0\nlocks 0\n(num \0)\n",
+        "fault 2 at 33\n",
+    ),
+];
+
 #[test]
 fn texts_at_fault(rt: HostRuntime) {
-    for (text, line) in [
-        ("", "fault 1 at 0\n"),
-        ("arachne 2\n", "fault 1 at 0\n"),
-        ("arachne 1\n", "fault 2 at 10\n"),
-        (
-            "arachne 1\nledgers 0\nlocks 0\n(add (num 1)",
-            "fault 2 at 40\n",
-        ),
-        (
-            "arachne 1\nledgers 0\nlocks 0\n(num \0)\n",
-            "fault 2 at 33\n",
-        ),
-    ] {
+    for &(text, line) in TEXTS {
         assert_fault(&rt, rt.alloc(), text.as_bytes(), line);
     }
 }
@@ -197,16 +230,18 @@ fn many_brackets_are_refused_at_their_byte(rt: HostRuntime) -> Result<(), Fail> 
     Ok(())
 }
 
+const WORDS: &[&[&str]] = &[
+    &["arachne", "eval", "--name"],
+    &["arachne", "walk"],
+    &["arachne"],
+    &["arachne", "--help"],
+    &["arachne", "eval", "more"],
+    &["arachne", "check", "--names"],
+];
+
 #[test]
 fn words_that_are_not_understood(rt: HostRuntime) {
-    for words in [
-        ["arachne", "eval", "--name"].as_slice(),
-        ["arachne", "walk"].as_slice(),
-        ["arachne"].as_slice(),
-        ["arachne", "--help"].as_slice(),
-        ["arachne", "eval", "more"].as_slice(),
-        ["arachne", "check", "--names"].as_slice(),
-    ] {
+    for &words in WORDS {
         let run = run(&rt, rt.alloc(), words, b"");
         assert_eq!(rt; run.status, 2, "{words:?}");
         assert!(rt; run.output.is_empty(), "{words:?}");

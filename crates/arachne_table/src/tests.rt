@@ -2,6 +2,7 @@
 ghost use Rattle.std.specs.Prelude.{ℕ};
 
 mod contention;
+mod desk;
 mod rows;
 
 use crate::{LockedContexts, Tagged, WordContexts};
@@ -75,4 +76,10 @@ fn a_thread_goes_there_and_back(rt: HostRuntime) -> Result<(), Fail> {
 fn what_is_left_comes_back_by_context(rt: HostRuntime) -> Result<(), Fail> {
     rows::left_at_the_end::<Locked, HostRuntime>(&rt, rt.alloc())?;
     rows::left_at_the_end::<Words, HostRuntime>(&rt, rt.alloc())
+}
+
+#[test]
+fn an_id_of_no_context_is_gone(rt: HostRuntime) -> Result<(), Fail> {
+    rows::no_such_context::<Locked, HostRuntime>(&rt, rt.alloc())?;
+    rows::no_such_context::<Words, HostRuntime>(&rt, rt.alloc())
 }

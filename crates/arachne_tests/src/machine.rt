@@ -4,6 +4,7 @@ ghost use Rattle.arachne_machine.specs.declared.pause.Pending.TheVariants as pau
 ghost use Rattle.arachne_machine.specs.Nested.{Nested, IsChildOf, SameWhole, pending_in, whole};
 ghost use Rattle.arachne_machine.specs.Advance.{Moves};
 
+use crate::lang::shown;
 use arachne_lang::{Class, Program, TextFault, parse};
 use arachne_machine::{NotJoined, Outcome, OutcomeParts, Pause, Pending, Thread, run_alone};
 use std::alloc::{AllocError, Global};
@@ -18,39 +19,36 @@ fn program(alloc: Global, count: u8, expression: &str) -> Result<Program, Fail> 
     Ok(parse(alloc, text.as_bytes())?)
 }
 
-const ONE_FORK: &str = "(fork x (num 2) (num 3) (add (var 0) (var 1)))";
-
-/// What a program means: its value and totals, its threads' names, of each its length and then its numbers, and
-/// their holds one after the other.
-#[derive(Clone, Copy)]
-struct Expected<'a> {
-    value: u64,
-    totals: &'a [u64],
-    names: &'a [u64],
-    holds: &'a [u64],
+/// The program of a text. Where memory is refused it is read once more.
+fn read_again(alloc: Global, text: &[u8]) -> Result<Program, Fail> {
+    match parse(alloc, text) {
+        Ok(program) => Ok(program),
+        Err(_) => Ok(parse(alloc, text)?),
+    }
 }
 
+const ONE_FORK: &str = "(fork x (num 2) (num 3) (add (var 0) (var 1)))";
+
+/// Expressions, and what their programs mean, as `shown` writes it.
+const ROWS: &str = "\
+(num 7) => 7 [] [][]
+(add (num 18446744073709551615) (num 1)) => 0 [] [][]
+(fork x (num 2) (num 3) (add (var 0) (var 1))) => 5 [] [][] [0][]
+(fork x (num 2) (num 3) (sub (var 0) (var 1))) => 18446744073709551615 [] [][] [0][]
+(fork x (fork x (num 1) (num 10) (var 0)) (fork x (num 100) (num 5) (var 0)) (add (var 0) (var 1))) => 101 [] [][] [1][] [0][] [0, 0][]
+(fold (num 1) (num 4) (num 0) (add (var 0) (var 1))) => 6 [] [][]
+(sweep add 2 (num 0) (num 8) (var 0)) => 28 [] [][] [1][] [0][] [0, 0][]
+(sweep min 1 (num 5) (num 5) (var 0)) => 18446744073709551615 [] [][]
+(sweep mul 1 (num 1) (num 6) (var 0)) => 120 [] [][] [2][] [1][] [0][] [0, 0][]
+(let (len 0) (if (eq (var 0) (num 3)) (item 0 (num 2)) (num 1))) => 30 [] [][]
+(if (num 0) (num 1) (item 0 (num 3))) => 0 [] [][]
+(item 0 (num 18446744073709551615)) => 0 [] [][]";
+
 /// Each budget gives this meaning.
-fn expect(
-    rt: &impl Abort,
-    alloc: Global,
-    program: &Program,
-    expected: &Expected,
-) -> Result<(), Fail> {
+fn expect(rt: &impl Abort, alloc: Global, program: &Program, expected: &str) -> Result<(), Fail> {
     for budget in [0, 1, 7, 100, 10_000, u32::MAX] {
         let meaning = run_alone(alloc, program, budget)?;
-        let mut names = Vec::new(alloc);
-        let mut holds = Vec::new(alloc);
-        for thread in meaning.threads.as_slice() {
-            let forks = thread.name.forks();
-            names.push(forks.len() as u64)?;
-            names.extend_from_slice(forks)?;
-            holds.extend_from_slice(thread.holds.as_slice())?;
-        }
-        assert_eq!(rt; meaning.value, expected.value);
-        assert_eq!(rt; meaning.totals.as_slice(), expected.totals);
-        assert_eq!(rt; names.as_slice(), expected.names);
-        assert_eq!(rt; holds.as_slice(), expected.holds);
+        assert_eq!(rt; shown(alloc, &meaning)?.as_str(), expected, "{budget}");
     }
     Ok(())
 }
@@ -58,45 +56,9 @@ fn expect(
 #[test]
 fn worked_rows(rt: HostRuntime) -> Result<(), Fail> {
     let alloc = rt.alloc();
-    let most = u64::MAX;
-    let one = [0].as_slice();
-    let two = [0, 1, 0].as_slice();
-    let three = [0, 1, 1, 1, 0, 2, 0, 0].as_slice();
-    let five = [0, 1, 2, 1, 1, 1, 0, 2, 0, 0].as_slice();
-    for (expression, value, names) in [
-        ("(num 7)", 7, one),
-        ("(add (num 18446744073709551615) (num 1))", 0, one),
-        (ONE_FORK, 5, two),
-        ("(fork x (num 2) (num 3) (sub (var 0) (var 1)))", most, two),
-        (
-            "(fork x (fork x (num 1) (num 10) (var 0)) (fork x (num 100) (num 5) (var 0)) (add (var 0) (var 1)))",
-            101,
-            three,
-        ),
-        (
-            "(fold (num 1) (num 4) (num 0) (add (var 0) (var 1)))",
-            6,
-            one,
-        ),
-        ("(sweep add 2 (num 0) (num 8) (var 0))", 28, three),
-        ("(sweep min 1 (num 5) (num 5) (var 0))", most, one),
-        ("(sweep mul 1 (num 1) (num 6) (var 0))", 120, five),
-        (
-            "(let (len 0) (if (eq (var 0) (num 3)) (item 0 (num 2)) (num 1)))",
-            30,
-            one,
-        ),
-        ("(if (num 0) (num 1) (item 0 (num 3)))", 0, one),
-        ("(item 0 (num 18446744073709551615))", 0, one),
-    ] {
-        let program = program(alloc, 0, expression)?;
-        let expected = Expected {
-            value,
-            totals: &[],
-            names,
-            holds: &[],
-        };
-        expect(&rt, alloc, &program, &expected)?;
+    for row in ROWS.lines() {
+        let (expression, expected) = row.split_once(" => ").unwrap_or((row, ""));
+        expect(&rt, alloc, &program(alloc, 0, expression)?, expected)?;
     }
     Ok(())
 }
@@ -106,67 +68,92 @@ const COUNTING: &str = "(sweep add 1 (num 0) (num 8) (hold 0 (tally 0 (num 5) (n
 #[test]
 fn sums_and_holds(rt: HostRuntime) -> Result<(), Fail> {
     let alloc = rt.alloc();
-    let program = program(alloc, 1, COUNTING)?;
-    let expected = Expected {
-        value: 8,
-        totals: &[40],
-        names: &[0, 1, 2, 1, 1, 2, 1, 0, 1, 0, 2, 0, 1, 2, 0, 0, 3, 0, 0, 0],
-        holds: &[1, 1, 1, 1, 1, 1, 1, 1],
+    let expected = "8 [40] [][1] [2][1] [1][1] [1, 0][1] [0][1] [0, 1][1] [0, 0][1] [0, 0, 0][1]";
+    expect(&rt, alloc, &program(alloc, 1, COUNTING)?, expected)
+}
+
+/// Goes on to the next pause of a thread whose last pause is answered. A call that is refused memory is made once more.
+fn go_on<'p>(thread: &mut Thread<'p>, budget: u32) -> Result<Pause<'p>, Fail> {
+    if thread.pending().is_some() || budget == 0 {
+        return Err("a pause is not answered")?;
+    }
+    match thread.advance(budget) {
+        Ok(pause) => Ok(pause),
+        Err(_) => Ok(thread.advance(budget)?),
+    }
+}
+
+/// Answers the thread's pause; a child that it forks is given away.
+fn answer(thread: &mut Thread) -> Result<(), Fail> {
+    match thread.pending() {
+        Some(Pending::Forks) => thread.forked(),
+        Some(Pending::Asks(_)) => thread.granted(),
+        Some(Pending::Frees(_)) => thread.freed(),
+        Some(Pending::Tallies(_, _)) => thread.tallied(),
+        Some(Pending::Joins | Pending::Ended) | None => return Err("no pause to answer so")?,
+    }
+    Ok(())
+}
+
+/// The outcome of a thread that has ended.
+fn finish<'p>(thread: Thread<'p>) -> Result<Outcome<'p>, Fail> {
+    let Some(Pending::Ended) = thread.pending() else {
+        return Err("not ended")?;
     };
-    expect(&rt, alloc, &program, &expected)
+    Ok(thread.finish())
+}
+
+/// Hands an outcome of its own program to a thread that awaits one.
+fn join<'p>(
+    thread: &mut Thread<'p>,
+    outcome: Outcome<'p>,
+) -> Result<Result<(), NotJoined<'p>>, Fail> {
+    let Some(Pending::Joins) = thread.pending() else {
+        return Err("awaits no outcome")?;
+    };
+    if !(*outcome.program() == *thread.program()) {
+        return Err("an outcome of another program")?;
+    }
+    Ok(thread.joined(outcome))
 }
 
 /// The child that the thread forks next. It is given away.
-fn next_child<'p>(thread: &mut Thread<'p>) -> Result<Thread<'p>, Fail>
-    requires { pending_in thread.old ≡ None }
-    ensures running { IfOk result (λ child. pending_in child ≡ None) }
-    ensures program { IfOk result (λ child. source_of (whole child).program ≡ source_of (whole thread.old).program) }
-    ensures goes_on { OnOk result (pending_in thread.new ≡ None) }
-    ensures same_program { source_of (whole thread.new).program ≡ source_of (whole thread.old).program }
-{
-    match thread.advance(100)? {
-        Pause::Forks(Class::Exclusive, child) => {
-            thread.forked();
-            Ok(child)
-        }
-        _ => Err("no exclusive fork")?,
-    }
+fn next_child<'p>(thread: &mut Thread<'p>) -> Result<Thread<'p>, Fail> {
+    let Pause::Forks(Class::Exclusive, child) = go_on(thread, 100)? else {
+        return Err("no exclusive fork")?;
+    };
+    answer(thread)?;
+    Ok(child)
 }
 
-/// The outcome of a thread that ends with no further fork or join.
-fn ended<'p>(mut thread: Thread<'p>) -> Result<Outcome<'p>, Fail>
-    requires { pending_in thread ≡ None }
-    ensures { IfOk result (λ outcome. source_of outcome.program ≡ source_of (whole thread.entry).program) }
-{
-    match thread.advance(100)? {
-        Pause::Ended => Ok(thread.finish()),
-        _ => Err("not ended")?,
-    }
+/// The outcome of a thread that ends within so many steps, with no further fork or join.
+fn ended<'p>(mut thread: Thread<'p>, budget: u32) -> Result<Outcome<'p>, Fail> {
+    let Pause::Ended = go_on(&mut thread, budget)? else {
+        return Err("not ended")?;
+    };
+    finish(thread)
 }
 
-/// Goes on to the next join.
-fn to_join<'p>(thread: &mut Thread<'p>) -> Result<(), Fail>
-    requires { pending_in thread.old ≡ None }
-    ensures awaits { OnOk result (pending_in thread.new ≡ Some pause.Joins) }
-    ensures same_program { source_of (whole thread.new).program ≡ source_of (whole thread.old).program }
-{
-    match thread.advance(100)? {
-        Pause::Joins => Ok(()),
-        _ => Err("no join")?,
-    }
+/// The outcome of the child that a thread forks first, which the thread then awaits.
+fn awaited<'p>(thread: &mut Thread<'p>) -> Result<Outcome<'p>, Fail> {
+    let child = next_child(thread)?;
+    let Pause::Joins = go_on(thread, 100)? else {
+        return Err("no join")?;
+    };
+    ended(child, 100)
 }
 
-/// The outcome of the root of a program with one fork.
-fn root_outcome<'p>(alloc: Global, program: &'p Program) -> Result<Outcome<'p>, Fail>
-    ensures { IfOk result (λ outcome. source_of outcome.program ≡ source_of program.now) }
-{
-    let mut thread = Thread::start(alloc, program, 1)?;
-    let child = next_child(&mut thread)?;
-    to_join(&mut thread)?;
-    let outcome = ended(child)?;
-    thread.joined(outcome)?;
-    let outcome = ended(thread)?;
-    Ok(outcome)
+/// The outcome of the root of a program with one fork. An outcome that was refused for memory is joined once more.
+fn root_outcome<'p>(alloc: Global, program: &'p Program, tag: u64) -> Result<Outcome<'p>, Fail> {
+    let mut thread = match Thread::start(alloc, program, tag) {
+        Ok(thread) => thread,
+        Err(_) => Thread::start(alloc, program, tag)?,
+    };
+    let outcome = awaited(&mut thread)?;
+    if let Err(NotJoined::Memory(outcome)) = join(&mut thread, outcome)? {
+        join(&mut thread, outcome)??;
+    }
+    ended(thread, 100)
 }
 
 /// A thread that awaits its child refuses this outcome as foreign, and then joins its child's.
@@ -175,22 +162,13 @@ fn refuses<'p>(
     thread: &mut Thread<'p>,
     foreign: Outcome<'p>,
     child: Outcome<'p>,
-) -> Result<(), Fail>
-    requires awaits { pending_in thread.old ≡ Some pause.Joins }
-    requires foreign { source_of foreign.program ≡ source_of (whole thread.old).program }
-    requires child { source_of child.program ≡ source_of (whole thread.old).program }
-    ensures goes_on { OnOk result (pending_in thread.new ≡ None) }
-    ensures same_program { OnOk result (source_of (whole thread.new).program ≡ source_of (whole thread.old).program) }
-{
-    let Err(refused) = thread.joined(foreign) else {
-        return Err("the root's outcome was joined as its child's")?;
-    };
-    let NotJoined::Foreign(foreign) = refused else {
-        return Err("the outcome was refused for want of memory")?;
+) -> Result<(), Fail> {
+    let Err(NotJoined::Foreign(foreign)) = join(thread, foreign)? else {
+        return Err("the root's outcome was not refused as foreign")?;
     };
     assert_eq!(rt; foreign.value(), 5);
     assert_eq!(rt; thread.pending(), Some(Pending::Joins));
-    thread.joined(child)?;
+    join(thread, child)??;
     Ok(())
 }
 
@@ -198,62 +176,17 @@ fn refuses<'p>(
 fn foreign_outcome_comes_back(rt: HostRuntime) -> Result<(), Fail> {
     let alloc = rt.alloc();
     let program = program(alloc, 0, ONE_FORK)?;
-    let foreign = root_outcome(alloc, &program)?;
+    let foreign = root_outcome(alloc, &program, 1)?;
     let mut thread = Thread::start(alloc, &program, 2)?;
-    let child = next_child(&mut thread)?;
-    to_join(&mut thread)?;
-    let outcome = ended(child)?;
+    let outcome = awaited(&mut thread)?;
     refuses(&rt, &mut thread, foreign, outcome)?;
-    let outcome = ended(thread)?;
-    let Ok(parts) = outcome.into_parts() else {
-        return Err("memory was refused")?;
-    };
+    let parts = parts(ended(thread, 100)?)?;
     assert_eq!(rt; parts.value, 5);
-    let lines = parts.lines.into_vec();
-    assert_eq!(rt; lines.len(), 2);
-    assert_eq!(rt; lines[0].tag, 2);
-    assert!(rt; !lines[1].in_place);
+    assert_eq!(rt;
+        marks(alloc, &parts)?.as_slice(),
+        [0, 2, 0, 1, 0, 0, 0].as_slice()
+    );
     Ok(())
-}
-
-/// Advances to a pause, and makes a call that was refused memory once more.
-fn advanced<'p>(thread: &mut Thread<'p>) -> Result<Pause<'p>, AllocError>
-    requires { pending_in thread.old ≡ None }
-    ensures { IfOk result (λ pause. (mid : Nested) × SameWhole thread.old mid × Moves 100 mid pause thread.new) }
-{
-    match thread.advance(100) {
-        Ok(pause) => Ok(pause),
-        Err(_) => thread.advance(100),
-    }
-}
-
-/// What a program with one fork gives where the first call that is refused memory is made once more.
-fn persistent(alloc: Global, program: &Program) -> Result<u64, Fail> {
-    let mut thread = match Thread::start(alloc, program, 0) {
-        Ok(thread) => thread,
-        Err(_) => Thread::start(alloc, program, 0)?,
-    };
-    let Pause::Forks(_, mut child) = advanced(&mut thread)? else {
-        return Err("no fork")?;
-    };
-    thread.forked();
-    let Pause::Ended = advanced(&mut child)? else {
-        return Err("the child has not ended")?;
-    };
-    let outcome = child.finish();
-    let Pause::Joins = advanced(&mut thread)? else {
-        return Err("no join")?;
-    };
-    if let Err(refused) = thread.joined(outcome) {
-        let NotJoined::Memory(outcome) = refused else {
-            return Err("foreign")?;
-        };
-        thread.joined(outcome)?;
-    }
-    let Pause::Ended = advanced(&mut thread)? else {
-        return Err("not ended")?;
-    };
-    Ok(thread.finish().value())
 }
 
 /// Run with each allocation refused in turn (`rt try --test --fail-alloc N`) this gives the same value.
@@ -261,36 +194,21 @@ fn persistent(alloc: Global, program: &Program) -> Result<u64, Fail> {
 fn refused_calls_go_on(rt: HostRuntime) -> Result<(), Fail> {
     let alloc = rt.alloc();
     let text = b"arachne 1\nledgers 0\nlocks 0\n(fork x (num 2) (num 3) (add (var 0) (var 1)))\n";
-    let forks = match parse(alloc, text) {
-        Ok(forks) => forks,
-        Err(_) => parse(alloc, text)?,
-    };
-    assert_eq!(rt; persistent(alloc, &forks)?, 5);
+    let forks = read_again(alloc, text)?;
+    assert_eq!(rt; root_outcome(alloc, &forks, 0)?.value(), 5);
     Ok(())
 }
 
-/// Advances by so many steps, which end at no pause of the thread's own.
-fn cut(thread: &mut Thread, budget: u32) -> Result<(), Fail>
-    requires running { pending_in thread.old ≡ None }
-    requires some { 1 ≤ budget }
-    ensures { OnOk result (pending_in thread.new ≡ None) }
-{
-    match thread.advance(budget)? {
-        Pause::Budget => Ok(()),
-        _ => Err("a pause before its time")?,
+/// The value of a program whose only thread is advanced by these budgets: it ends in the last of them and in none before.
+fn value_within(alloc: Global, program: &Program, budgets: &[u32]) -> Result<u64, Fail> {
+    let mut thread = Thread::start(alloc, program, 0)?;
+    for &budget in budgets {
+        match go_on(&mut thread, budget)? {
+            Pause::Budget | Pause::Ended => {}
+            _ => return Err("a pause before its time")?,
+        }
     }
-}
-
-/// Advances to the thread's end.
-fn end(thread: &mut Thread, budget: u32) -> Result<(), Fail>
-    requires running { pending_in thread.old ≡ None }
-    requires some { 1 ≤ budget }
-    ensures { OnOk result (pending_in thread.new ≡ Some pause.Ended) }
-{
-    match thread.advance(budget)? {
-        Pause::Ended => Ok(()),
-        _ => Err("not at its end")?,
-    }
+    Ok(finish(thread)?.value())
 }
 
 /// A sum and its two numbers are begun by three steps; the last adds the numbers and ends.
@@ -298,13 +216,10 @@ fn end(thread: &mut Thread, budget: u32) -> Result<(), Fail>
 fn a_sum_has_three_steps(rt: HostRuntime) -> Result<(), Fail> {
     let alloc = rt.alloc();
     let program = program(alloc, 0, "(add (num 1) (num 2))")?;
-    let mut thread = Thread::start(alloc, &program, 0)?;
-    cut(&mut thread, 1)?;
-    cut(&mut thread, 1)?;
-    end(&mut thread, 1)?;
-    let mut thread = Thread::start(alloc, &program, 0)?;
-    cut(&mut thread, 2)?;
-    end(&mut thread, 2)
+    for budgets in [[1, 1, 1].as_slice(), [2, 1].as_slice()] {
+        assert_eq!(rt; value_within(alloc, &program, budgets)?, 3);
+    }
+    Ok(())
 }
 
 /// A fold takes two steps beside those of its bounds, of its start and of its 5,000 turns, each a sum of two variables: 15,005 in all.
@@ -313,41 +228,54 @@ fn budgets_up_to_the_greatest(rt: HostRuntime) -> Result<(), Fail> {
     let alloc = rt.alloc();
     let fold = "(fold (num 0) (num 5000) (num 0) (add (var 0) (var 1)))";
     let program = program(alloc, 0, fold)?;
-    let mut thread = Thread::start(alloc, &program, 0)?;
-    cut(&mut thread, 10_000)?;
-    end(&mut thread, 10_000)?;
-    assert_eq!(rt; thread.finish().value(), 12_497_500);
-    let mut thread = Thread::start(alloc, &program, 0)?;
-    cut(&mut thread, 15_004)?;
-    end(&mut thread, 1)?;
-    assert_eq!(rt; thread.finish().value(), 12_497_500);
-    let mut thread = Thread::start(alloc, &program, 0)?;
-    end(&mut thread, u32::MAX)?;
-    assert_eq!(rt; thread.finish().value(), 12_497_500);
+    for budgets in [
+        [10_000, 10_000].as_slice(),
+        [15_004, 1].as_slice(),
+        [u32::MAX].as_slice(),
+    ] {
+        assert_eq!(rt; value_within(alloc, &program, budgets)?, 12_497_500);
+    }
+    Ok(())
+}
+
+/// What is pending at a pause.
+fn pending_at(pause: &Pause) -> Option<Pending> {
+    match pause {
+        Pause::Budget => None,
+        Pause::Forks(_, _) => Some(Pending::Forks),
+        Pause::Joins => Some(Pending::Joins),
+        Pause::Asks(lock) => Some(Pending::Asks(*lock)),
+        Pause::Frees(lock) => Some(Pending::Frees(*lock)),
+        Pause::Tallies(ledger, amount) => Some(Pending::Tallies(*ledger, *amount)),
+        Pause::Ended => Some(Pending::Ended),
+    }
+}
+
+/// Goes on to this pause and answers it.
+fn pass(rt: &impl Abort, thread: &mut Thread, expected: Pending) -> Result<(), Fail> {
+    let pending = pending_at(&go_on(thread, 100)?);
+    assert_eq!(rt; pending, Some(expected));
+    assert_eq!(rt; thread.pending(), pending);
+    answer(thread)?;
+    assert_eq!(rt; thread.pending(), None);
     Ok(())
 }
 
 /// Goes on through the pauses of a hold with a tally in it, and answers them.
-fn held_and_tallied(rt: &impl Abort, thread: &mut Thread) -> Result<(), Fail>
-    requires { pending_in thread.old ≡ None }
-    ensures goes_on { OnOk result (pending_in thread.new ≡ None) }
-{
-    let Pause::Asks(lock) = thread.advance(100)? else {
-        return Err("asks for no lock")?;
-    };
-    thread.granted();
-    let Pause::Tallies(ledger, amount) = thread.advance(100)? else {
-        return Err("adds to no ledger")?;
-    };
-    thread.tallied();
-    assert_eq!(rt; thread.pending(), None);
-    let Pause::Frees(freed) = thread.advance(100)? else {
-        return Err("frees no lock")?;
-    };
-    assert_eq!(rt; thread.pending(), Some(Pending::Frees(0)));
-    thread.freed();
-    assert_eq!(rt; (lock, ledger, amount, freed), (0, 0, 5, 0));
+fn held_and_tallied(rt: &impl Abort, thread: &mut Thread) -> Result<(), Fail> {
+    for expected in [Pending::Asks(0), Pending::Tallies(0, 5), Pending::Frees(0)] {
+        pass(rt, thread, expected)?;
+    }
     Ok(())
+}
+
+/// A thread with the tag 9 of a program with a hold and a tally, at its end.
+fn counted<'p>(rt: &impl Abort, alloc: Global, program: &'p Program) -> Result<Outcome<'p>, Fail> {
+    let mut thread = Thread::start(alloc, program, 9)?;
+    assert_eq!(rt; thread.tag(), 9);
+    assert!(rt; thread.program().root == program.root);
+    held_and_tallied(rt, &mut thread)?;
+    ended(thread, 1)
 }
 
 /// A thread and its outcome tell their name, tag and program, and what was counted.
@@ -355,19 +283,10 @@ fn held_and_tallied(rt: &impl Abort, thread: &mut Thread) -> Result<(), Fail>
 fn hold_with_a_tally(rt: HostRuntime) -> Result<(), Fail> {
     let alloc = rt.alloc();
     let program = program(alloc, 1, "(hold 0 (tally 0 (num 5) (num 1)))")?;
-    let mut thread = Thread::start(alloc, &program, 9)?;
-    assert_eq!(rt; thread.tag(), 9);
-    assert_eq!(rt; thread.program().root, program.root);
-    held_and_tallied(&rt, &mut thread)?;
-    end(&mut thread, 1)?;
-    let outcome = thread.finish();
+    let outcome = counted(&rt, alloc, &program)?;
     assert!(rt; outcome.name().forks().is_empty());
     assert_eq!(rt; outcome.program().locks, 1);
-    let Ok(parts) = outcome.into_parts() else {
-        return Err("memory was refused")?;
-    };
-    assert_eq!(rt; parts.sums.as_slice(), [5].as_slice());
-    assert_eq!(rt; parts.lines.as_slice()[0].holds.as_slice(), [1].as_slice());
+    assert_eq!(rt; counts(alloc, &parts(outcome)?)?.as_str(), "1 [5] [1]");
     Ok(())
 }
 
@@ -490,31 +409,54 @@ fn marks(alloc: Global, parts: &OutcomeParts) -> Result<Vec<u64>, AllocError> {
     Ok(marks)
 }
 
+/// Expressions, their values, and the marks of their threads, all of which run in one place.
+const IN_PLACE: &[(&str, u64, &[u64])] = &[
+    ("(num 7)", 7, &[0, 9, 0]),
+    (ONE_FORK, 5, &[0, 9, 0, 1, 0, 10, 1]),
+    (
+        "(fork x (fork x (num 1) (num 10) (var 0)) (fork x (num 100) (num 5) (var 0)) (add (var 0) (var 1)))",
+        101,
+        &[0, 9, 0, 1, 1, 11, 1, 1, 0, 10, 1, 2, 0, 0, 12, 1],
+    ),
+    (
+        "(sweep add 2 (num 0) (num 8) (var 0))",
+        28,
+        &[0, 9, 0, 1, 1, 11, 1, 1, 0, 10, 1, 2, 0, 0, 12, 1],
+    ),
+];
+
+/// Each budget gives this value and these marks.
+fn expect_in_place(
+    rt: &impl Abort,
+    alloc: Global,
+    program: &Program,
+    value: u64,
+    lines: &[u64],
+) -> Result<(), Fail> {
+    for budget in [1, 2, 3, 7, 1000] {
+        let (parts, _) = all_in_place(alloc, program, budget)?;
+        assert_eq!(rt; parts.value, value);
+        assert_eq!(rt; marks(alloc, &parts)?.as_slice(), lines);
+    }
+    Ok(())
+}
+
 #[test]
 fn children_run_in_place(rt: HostRuntime) -> Result<(), Fail> {
     let alloc = rt.alloc();
-    for (expression, value, lines) in [
-        ("(num 7)", 7, [0, 9, 0].as_slice()),
-        (ONE_FORK, 5, [0, 9, 0, 1, 0, 10, 1].as_slice()),
-        (
-            "(fork x (fork x (num 1) (num 10) (var 0)) (fork x (num 100) (num 5) (var 0)) (add (var 0) (var 1)))",
-            101,
-            [0, 9, 0, 1, 1, 11, 1, 1, 0, 10, 1, 2, 0, 0, 12, 1].as_slice(),
-        ),
-        (
-            "(sweep add 2 (num 0) (num 8) (var 0))",
-            28,
-            [0, 9, 0, 1, 1, 11, 1, 1, 0, 10, 1, 2, 0, 0, 12, 1].as_slice(),
-        ),
-    ] {
-        let program = program(alloc, 0, expression)?;
-        for budget in [1, 2, 3, 7, 1000] {
-            let (parts, _) = all_in_place(alloc, &program, budget)?;
-            assert_eq!(rt; parts.value, value);
-            assert_eq!(rt; marks(alloc, &parts)?.as_slice(), lines);
-        }
+    for &(expression, value, lines) in IN_PLACE {
+        expect_in_place(&rt, alloc, &program(alloc, 0, expression)?, value, lines)?;
     }
     Ok(())
+}
+
+/// An outcome's value and sums, and the holds of each of its threads.
+fn counts(alloc: Global, parts: &OutcomeParts) -> Result<String, Fail> {
+    let mut text = format!(in alloc; "{} {:?}", parts.value, parts.sums.as_slice())?;
+    for line in parts.lines.as_slice() {
+        write!(text, " {:?}", line.holds.as_slice())?;
+    }
+    Ok(text)
 }
 
 /// The threads with the tags 9 to 16 hold the lock once each, and are told as the ones that ask for it.
@@ -524,19 +466,17 @@ fn locks_and_ledgers_in_place(rt: HostRuntime) -> Result<(), Fail> {
     let program = program(alloc, 1, COUNTING)?;
     for budget in [1, 7, 100] {
         let (parts, asked) = all_in_place(alloc, &program, budget)?;
-        assert_eq!(rt; (parts.value, asked), (8, 100));
-        assert_eq!(rt; parts.sums.as_slice(), [40].as_slice());
-        for line in parts.lines.as_slice() {
-            assert_eq!(rt; line.holds.as_slice(), [1].as_slice());
-        }
+        assert_eq!(rt; asked, 100);
+        assert_eq!(rt;
+            counts(alloc, &parts)?.as_str(),
+            "8 [40] [1] [1] [1] [1] [1] [1] [1] [1]"
+        );
     }
     Ok(())
 }
 
-/// Sixty threads, each forked by the one before it.
-#[test]
-fn a_chain_in_place(rt: HostRuntime) -> Result<(), Fail> {
-    let alloc = rt.alloc();
+/// Sixty forks within one another.
+fn chain(alloc: Global) -> Result<String, Fail> {
     let mut expression = String::new(alloc);
     for _ in 0..60 {
         expression.push_str("(fork n ")?;
@@ -545,15 +485,27 @@ fn a_chain_in_place(rt: HostRuntime) -> Result<(), Fail> {
     for _ in 0..60 {
         expression.push_str(" (num 1) (add (var 0) (var 1)))")?;
     }
-    let program = program(alloc, 0, &expression)?;
-    let (parts, _) = all_in_place(alloc, &program, 3)?;
-    assert_eq!(rt; parts.value, 61);
+    Ok(expression)
+}
+
+/// The lines' tags count from 9, and all but the first ran in place.
+fn assert_tags(rt: &impl Abort, parts: &OutcomeParts) {
     let mut tag = 9u64;
     for line in parts.lines.as_slice() {
         assert_eq!(rt; (line.tag, line.in_place), (tag, tag > 9));
         tag = tag.wrapping_add(1);
     }
     assert_eq!(rt; tag, 70);
+}
+
+/// Sixty threads, each forked by the one before it.
+#[test]
+fn a_chain_in_place(rt: HostRuntime) -> Result<(), Fail> {
+    let alloc = rt.alloc();
+    let program = program(alloc, 0, &chain(alloc)?)?;
+    let (parts, _) = all_in_place(alloc, &program, 3)?;
+    assert_eq!(rt; parts.value, 61);
+    assert_tags(&rt, &parts);
     Ok(())
 }
 
@@ -561,10 +513,7 @@ fn a_chain_in_place(rt: HostRuntime) -> Result<(), Fail> {
 #[test]
 fn refused_calls_in_place_go_on(rt: HostRuntime) -> Result<(), Fail> {
     let alloc = rt.alloc();
-    let program = match parse(alloc, FORKED_COUNTING) {
-        Ok(program) => program,
-        Err(_) => parse(alloc, FORKED_COUNTING)?,
-    };
+    let program = read_again(alloc, FORKED_COUNTING)?;
     let (parts, asked) = all_in_place(alloc, &program, 5)?;
     assert_eq!(rt; (parts.value, asked), (11, 108));
     assert_eq!(rt; parts.sums.as_slice(), [40].as_slice());

@@ -1,6 +1,7 @@
 mod several;
 mod shared;
 
+use crate::compare::same;
 use arachne_core::ThreadId;
 use arachne_sleep::{AskFault, Asked, Freed, LockEvent, LockState, NotHolder, Pass, Who};
 use std::process::Abort;
@@ -22,9 +23,9 @@ fn ask(lock: &mut LockState, who: Who, rt: &impl Abort) -> Result<Asked, AskFaul
     let before = lock.history().len();
     match lock.ask(who) {
         Err(AskFault::Memory) => {
-            assert_eq!(rt; lock.history().len(), before);
-            assert!(rt; !lock.holds(who));
-            assert!(rt; !lock.waits(who));
+            same(rt, lock.history().len(), before);
+            same(rt, lock.holds(who), false);
+            same(rt, lock.waits(who), false);
             lock.ask(who)
         }
         answer => answer,
@@ -35,47 +36,47 @@ fn ask(lock: &mut LockState, who: Who, rt: &impl Abort) -> Result<Asked, AskFaul
 fn three_threads_in_turn(rt: HostRuntime) -> Result<(), Fail> {
     let (a, b, c) = (thread(0, 3), thread(1, 3), thread(1, 4));
     let mut lock = LockState::new(rt.alloc(), 5);
-    assert_eq!(rt; lock.history().len(), 0);
+    same(&rt, lock.history().len(), 0);
 
     let first = Pass {
         lock: 5,
         who: a,
         at: 1,
     };
-    assert_eq!(rt; ask(&mut lock, a, &rt)?, Asked::Granted(first));
-    assert_eq!(rt; ask(&mut lock, b, &rt)?, Asked::Queued { at: 2 });
-    assert_eq!(rt; ask(&mut lock, c, &rt)?, Asked::Queued { at: 3 });
-    assert_eq!(rt; lock.ask(a), Err(AskFault::AlreadyIn));
-    assert_eq!(rt; lock.ask(b), Err(AskFault::AlreadyIn));
-    assert_eq!(rt; lock.free(c), Err(NotHolder));
-    assert_eq!(rt; lock.history().len(), 4);
+    same(&rt, ask(&mut lock, a, &rt)?, Asked::Granted(first));
+    same(&rt, ask(&mut lock, b, &rt)?, Asked::Queued { at: 2 });
+    same(&rt, ask(&mut lock, c, &rt)?, Asked::Queued { at: 3 });
+    same(&rt, lock.ask(a), Err(AskFault::AlreadyIn));
+    same(&rt, lock.ask(b), Err(AskFault::AlreadyIn));
+    same(&rt, lock.free(c), Err(NotHolder));
+    same(&rt, lock.history().len(), 4);
 
-    assert!(rt; lock.holds(a));
-    assert!(rt; !lock.holds(b));
-    assert!(rt; lock.waits(b));
-    assert!(rt; !lock.waits(a));
-    assert_eq!(rt; lock.check(a), Some(first));
-    assert_eq!(rt; lock.check(b), None);
+    same(&rt, lock.holds(a), true);
+    same(&rt, lock.holds(b), false);
+    same(&rt, lock.waits(b), true);
+    same(&rt, lock.waits(a), false);
+    same(&rt, lock.check(a), Some(first));
+    same(&rt, lock.check(b), None);
 
     let freed = Freed {
         next: Some(b),
         at: 4,
     };
-    assert_eq!(rt; lock.free(a), Ok(freed));
+    same(&rt, lock.free(a), Ok(freed));
     let second = Pass {
         lock: 5,
         who: b,
         at: 5,
     };
-    assert_eq!(rt; lock.check(b), Some(second));
+    same(&rt, lock.check(b), Some(second));
     let freed = Freed {
         next: Some(c),
         at: 6,
     };
-    assert_eq!(rt; lock.free(b), Ok(freed));
-    assert!(rt; !lock.waits(c));
-    assert_eq!(rt; lock.free(c), Ok(Freed { next: None, at: 8 }));
-    assert_eq!(rt; lock.check(c), None);
+    same(&rt, lock.free(b), Ok(freed));
+    same(&rt, lock.waits(c), false);
+    same(&rt, lock.free(c), Ok(Freed { next: None, at: 8 }));
+    same(&rt, lock.check(c), None);
 
     let whole = [
         LockEvent::Ask(a),
@@ -119,9 +120,9 @@ fn a_crowd_leaves_in_the_order_in_which_it_came(rt: HostRuntime) -> Result<(), F
             } else {
                 None
             };
-            assert_eq!(rt; next, due);
+            same(&rt, next, due);
         }
     }
-    assert_eq!(rt; lock.history().len(), 8100);
+    same(&rt, lock.history().len(), 8100);
     Ok(())
 }

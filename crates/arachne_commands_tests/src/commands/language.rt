@@ -3,7 +3,7 @@ ghost use Rattle.std.specs.Prelude.{◌≤◌, IfOk};
 ghost use Rattle.arachne_lang.specs.Program.{tree_of};
 ghost use Rattle.arachne_lang.specs.Text.{nesting};
 
-use super::{assert_fault, run};
+use super::{assert_fault, assert_output, run, text_of};
 use arachne_commands::render;
 use arachne_lang::{Program, parse, print};
 use arachne_machine::run_alone;
@@ -188,22 +188,8 @@ fn rows_may_run(rt: HostRuntime) -> Result<(), Fail> {
     Ok(())
 }
 
-/// Many threads, and nesting at its limit.
-#[test]
-fn long_rows_are_evaluated(rt: HostRuntime) -> Result<(), Fail> {
-    let alloc = rt.alloc();
-    let sweep = "arachne 1\nledgers 0\nlocks 0\n(sweep add 1 (num 0) (num 901) (var 0))\n";
-    let ended = run(&rt, alloc, &["arachne", "eval"], sweep.as_bytes());
-    assert_eq!(rt;
-        ended.output.as_slice(),
-        b"value 405450\nthreads 901\n".as_slice()
-    );
-    let sweep = "arachne 1\nledgers 0\nlocks 0\n(sweep add 1 (num 0) (num 100000) (var 0))\n";
-    let ended = run(&rt, alloc, &["arachne", "eval"], sweep.as_bytes());
-    assert_eq!(rt;
-        ended.output.as_slice(),
-        b"value 4999950000\nthreads 100000\n".as_slice()
-    );
+/// The text of sixty forks within one another.
+fn chain(alloc: Global) -> Result<String, Fail> {
     let mut chain = String::from_str(alloc, "arachne 1\nledgers 0\nlocks 0\n")?;
     for _ in 0..60u8 {
         chain.push_str("(fork n ")?;
@@ -213,10 +199,33 @@ fn long_rows_are_evaluated(rt: HostRuntime) -> Result<(), Fail> {
         chain.push_str(" (num 1) (add (var 0) (var 1)))")?;
     }
     chain.push_str("\n")?;
-    let ended = run(&rt, alloc, &["arachne", "eval"], chain.as_bytes());
-    assert_eq!(rt;
-        ended.output.as_slice(),
-        b"value 61\nthreads 61\n".as_slice()
+    Ok(chain)
+}
+
+/// Many threads, and nesting at its limit.
+#[test]
+fn long_rows_are_evaluated(rt: HostRuntime) -> Result<(), Fail> {
+    let alloc = rt.alloc();
+    for (sweep, output) in [
+        (
+            "(sweep add 1 (num 0) (num 901) (var 0))",
+            "value 405450\nthreads 901\n",
+        ),
+        (
+            "(sweep add 1 (num 0) (num 100000) (var 0))",
+            "value 4999950000\nthreads 100000\n",
+        ),
+    ] {
+        let text = text_of(alloc, sweep)?;
+        assert_output(&rt, alloc, &["arachne", "eval"], text.as_bytes(), output);
+    }
+    let text = chain(alloc)?;
+    assert_output(
+        &rt,
+        alloc,
+        &["arachne", "eval"],
+        text.as_bytes(),
+        "value 61\nthreads 61\n",
     );
     Ok(())
 }
@@ -238,35 +247,38 @@ fn long_arrays_are_evaluated(rt: HostRuntime) -> Result<(), Fail> {
     Ok(())
 }
 
+/// Lines and expressions, and the faults of their texts.
+const FAULTS: &[(&str, &str, &str)] = &[
+    (
+        "ledgers 0\nlocks 1\n",
+        "(hold 0 (fork n (num 1) (num 2) (num 3)))",
+        "fault 9 node 1\n",
+    ),
+    (
+        "ledgers 0\nlocks 1\n",
+        "(hold 0 (hold 5 (num 1)))",
+        "fault 9 node 1\n",
+    ),
+    (
+        PLAIN,
+        "(sweep add 0 (num 0) (num 1) (num 2))",
+        "fault 11 node 0\n",
+    ),
+    (PLAIN, "(len 0)", "fault 5 node 0\n"),
+    (PLAIN, "(tally 0 (num 1) (num 1))", "fault 6 node 0\n"),
+    (PLAIN, "(hold 0 (num 1))", "fault 7 node 0\n"),
+    (PLAIN, "(add (var 0) (num 1))", "fault 8 node 1\n"),
+    ("ledgers 17\nlocks 0\n", "(num 7)", "fault 10\n"),
+    ("ledgers 256\nlocks 0\n", "(num 7)", "fault 3 at 20\n"),
+    (PLAIN, "(num 18446744073709551616)", "fault 3 at 52\n"),
+    (PLAIN, "(num 00)", "fault 2 at 34\n"),
+    (PLAIN, "(add  (num 1) (num 1))", "fault 2 at 33\n"),
+];
+
 #[test]
 fn programs_at_fault(rt: HostRuntime) -> Result<(), Fail> {
     let alloc = rt.alloc();
-    for (lines, expr, line) in [
-        (
-            "ledgers 0\nlocks 1\n",
-            "(hold 0 (fork n (num 1) (num 2) (num 3)))",
-            "fault 9 node 1\n",
-        ),
-        (
-            "ledgers 0\nlocks 1\n",
-            "(hold 0 (hold 5 (num 1)))",
-            "fault 9 node 1\n",
-        ),
-        (
-            PLAIN,
-            "(sweep add 0 (num 0) (num 1) (num 2))",
-            "fault 11 node 0\n",
-        ),
-        (PLAIN, "(len 0)", "fault 5 node 0\n"),
-        (PLAIN, "(tally 0 (num 1) (num 1))", "fault 6 node 0\n"),
-        (PLAIN, "(hold 0 (num 1))", "fault 7 node 0\n"),
-        (PLAIN, "(add (var 0) (num 1))", "fault 8 node 1\n"),
-        ("ledgers 17\nlocks 0\n", "(num 7)", "fault 10\n"),
-        ("ledgers 256\nlocks 0\n", "(num 7)", "fault 3 at 20\n"),
-        (PLAIN, "(num 18446744073709551616)", "fault 3 at 52\n"),
-        (PLAIN, "(num 00)", "fault 2 at 34\n"),
-        (PLAIN, "(add  (num 1) (num 1))", "fault 2 at 33\n"),
-    ] {
+    for &(lines, expr, line) in FAULTS {
         let text = format!(in alloc; "arachne 1\n{lines}{expr}\n")?;
         assert_fault(&rt, alloc, text.as_bytes(), line);
     }

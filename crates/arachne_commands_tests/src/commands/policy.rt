@@ -39,70 +39,73 @@ fn advice_on_each_sample(rt: HostRuntime) {
     assert_run(&rt, rt.alloc(), words, b"", 0, "");
 }
 
+const SETTINGS: &[(&[&str], &[u8], &str)] = &[
+    (
+        &["arachne", "policy", "--max", "1"],
+        b"1 2000 1 0 1\n",
+        "stay\n",
+    ),
+    (
+        &["arachne", "policy", "--max=64"],
+        b"64 2000 1 0 1\n",
+        "remove\n",
+    ),
+    (
+        &["arachne", "policy", "--up", "1510"],
+        b"2 151 100 1900 1000\n",
+        "stay\n",
+    ),
+    (
+        &["arachne", "policy", "--up", "+007"],
+        b"2 8 1000 1900 1000\n",
+        "add\n",
+    ),
+    (
+        &["arachne", "policy", "--hysteresis", "0"],
+        b"2 0 0 999 1000\n2 0 0 1000 1000\n",
+        "remove\nstay\n",
+    ),
+    (
+        &[
+            "arachne",
+            "policy",
+            "--hysteresis",
+            "18446744073709551615",
+            "--up",
+            "18446744073709551615",
+        ],
+        b"2 0 0 0 1000\n2 9000 1 0 1\n",
+        "stay\nstay\n",
+    ),
+];
+
 #[test]
 fn settings_of_the_words(rt: HostRuntime) {
-    for (words, input, advice) in [
-        (
-            ["arachne", "policy", "--max", "1"].as_slice(),
-            b"1 2000 1 0 1\n".as_slice(),
-            "stay\n",
-        ),
-        (
-            ["arachne", "policy", "--max=64"].as_slice(),
-            b"64 2000 1 0 1\n",
-            "remove\n",
-        ),
-        (
-            ["arachne", "policy", "--up", "1510"].as_slice(),
-            b"2 151 100 1900 1000\n",
-            "stay\n",
-        ),
-        (
-            ["arachne", "policy", "--up", "+007"].as_slice(),
-            b"2 8 1000 1900 1000\n",
-            "add\n",
-        ),
-        (
-            ["arachne", "policy", "--hysteresis", "0"].as_slice(),
-            b"2 0 0 999 1000\n2 0 0 1000 1000\n",
-            "remove\nstay\n",
-        ),
-        (
-            [
-                "arachne",
-                "policy",
-                "--hysteresis",
-                "18446744073709551615",
-                "--up",
-                "18446744073709551615",
-            ]
-            .as_slice(),
-            b"2 0 0 0 1000\n2 9000 1 0 1\n",
-            "stay\nstay\n",
-        ),
-    ] {
+    for &(words, input, advice) in SETTINGS {
         assert_run(&rt, rt.alloc(), words, input, 0, advice);
     }
 }
 
+const FAULTS: &[(&[u8], &str)] = &[
+    (b"0 1 1 1 1\n", "fault 12 line 1\n"),
+    (b"1 1 1 1 1\n1 1 1 2 1\n0 1 1 1 1\n", "fault 12 line 2\n"),
+    (b"17 1 1 1 1\n", "fault 12 line 1\n"),
+    (b"1 0 0 0 0\n", "fault 12 line 1\n"),
+    (b"2 151 100 1900\n", "fault 2 at 14\n"),
+    (b"18446744073709551616 1 1 1 1\n", "fault 3 at 19\n"),
+    // All is read before any sample is judged.
+    (b"0 1 1 1 1\n1 1 1 1 1", "fault 2 at 19\n"),
+    (
+        b"0 1 1 1 1\n1 1 1 1 18446744073709551616\n",
+        "fault 3 at 37\n",
+    ),
+    (b"arachne 1\n", "fault 2 at 0\n"),
+];
+
 #[test]
 fn samples_at_fault(rt: HostRuntime) {
     let words = ["arachne", "policy"].as_slice();
-    for (input, line) in [
-        (b"0 1 1 1 1\n".as_slice(), "fault 12 line 1\n"),
-        (b"1 1 1 1 1\n1 1 1 2 1\n0 1 1 1 1\n", "fault 12 line 2\n"),
-        (b"17 1 1 1 1\n", "fault 12 line 1\n"),
-        (b"1 0 0 0 0\n", "fault 12 line 1\n"),
-        (b"2 151 100 1900\n", "fault 2 at 14\n"),
-        (b"18446744073709551616 1 1 1 1\n", "fault 3 at 19\n"),
-        // All is read before any sample is judged.
-        (b"0 1 1 1 1\n1 1 1 1 1", "fault 2 at 19\n"),
-        (
-            b"0 1 1 1 1\n1 1 1 1 18446744073709551616\n",
-            "fault 3 at 37\n",
-        ),
-        (b"arachne 1\n", "fault 2 at 0\n"),
-    ] {
+    for &(input, line) in FAULTS {
         assert_run(&rt, rt.alloc(), words, input, 1, line);
     }
     assert_run(
@@ -123,20 +126,22 @@ fn samples_at_fault(rt: HostRuntime) {
     );
 }
 
+const OPTIONS: &[&[&str]] = &[
+    &["arachne", "policy", "--max", "65"],
+    &["arachne", "policy", "--max", "-1"],
+    &["arachne", "policy", "--max", ""],
+    &["arachne", "policy", "--up", "18446744073709551616"],
+    &["arachne", "policy", "--hysteresis", "1.5"],
+    &["arachne", "policy", "--hysteresis"],
+    &["arachne", "policy", "--names"],
+    &["arachne", "policy", "3"],
+    &["arachne", "eval", "--up", "3"],
+];
+
 #[test]
 fn options_that_are_not_understood(rt: HostRuntime) {
     let alloc = rt.alloc();
-    for words in [
-        ["arachne", "policy", "--max", "65"].as_slice(),
-        ["arachne", "policy", "--max", "-1"].as_slice(),
-        ["arachne", "policy", "--max", ""].as_slice(),
-        ["arachne", "policy", "--up", "18446744073709551616"].as_slice(),
-        ["arachne", "policy", "--hysteresis", "1.5"].as_slice(),
-        ["arachne", "policy", "--hysteresis"].as_slice(),
-        ["arachne", "policy", "--names"].as_slice(),
-        ["arachne", "policy", "3"].as_slice(),
-        ["arachne", "eval", "--up", "3"].as_slice(),
-    ] {
+    for &words in OPTIONS {
         let mut input = b"1 1 1 1 1\n".as_slice();
         let mut output = Vec::new(alloc);
         let mut faults = Vec::new(alloc);

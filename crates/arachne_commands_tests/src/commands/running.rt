@@ -1,5 +1,5 @@
 //! Programs that are run: their output on machines of several sizes, and what is refused.
-use super::{Ended, run, text_of};
+use super::{Ended, assert_output, run, text_of};
 use arachne_commands::drive;
 use std::alloc::Global;
 use std::io::{self, ErrorKind, Read};
@@ -55,20 +55,6 @@ const SUMS: &str = "(sweep add 1 (num 0) (num 901) (var 0))";
 const CORES: [&str; 4] = ["1", "2", "4", "16"];
 
 const QUANTA: [&str; 2] = ["1", "100"];
-
-/// The run ends well, with this output.
-fn assert_output<R: Abort + Threads + Wait + Sync>(
-    rt: &R,
-    alloc: Global,
-    words: &[&str],
-    text: &[u8],
-    output: &str,
-) {
-    let ended = run(rt, alloc, words, text);
-    assert_eq!(rt; ended.faults.as_slice(), b"".as_slice(), "{words:?}");
-    assert_eq!(rt; ended.status, 0, "{words:?}");
-    assert_eq!(rt; ended.output.as_slice(), output.as_bytes(), "{words:?}");
-}
 
 #[test]
 fn rows_are_run_on_every_machine(rt: HostRuntime) {
@@ -150,39 +136,41 @@ fn assert_fault<R: Abort>(rt: &R, ended: &Ended, words: &[&str], status: u8, lin
 }
 
 /// What the run refuses, the first of two faults each time.
+const SETTINGS: &[([&str; 3], &str)] = &[
+    (["--cores=0", "--quantum=0", "0:grant:4"], "fault 20\n"),
+    (["--cores=17", "--quantum=1", "0:grant:1"], "fault 20\n"),
+    (
+        ["--cores=18446744073709551615", "--seed=2", "0:grant:1"],
+        "fault 20\n",
+    ),
+    (["--cores=4", "--quantum=0", "0:grant:4"], "fault 21\n"),
+    (["--cores=16", "--quantum=10001", "0:grant:0"], "fault 21\n"),
+    (
+        ["--quantum=10000", "0:grant:1", "0:grant:4"],
+        "fault 22 order 1\n",
+    ),
+    (
+        ["--cores=16", "0:grant:16", "0:release:0"],
+        "fault 22 order 0\n",
+    ),
+    (
+        ["--quantum=1", "0:release:0", "0:grant:4"],
+        "fault 23 order 0\n",
+    ),
+    (
+        ["--quantum=1", "5:grant:1", "4:grant:1"],
+        "fault 25 order 1\n",
+    ),
+    (
+        ["--quantum=1", "5:grant:1", "4:release:0"],
+        "fault 23 order 1\n",
+    ),
+];
+
 #[test]
 fn settings_at_fault(rt: HostRuntime) -> Result<(), Fail> {
     let text = text_of(rt.alloc(), "(num 7)")?;
-    for (settings, line) in [
-        (["--cores=0", "--quantum=0", "0:grant:4"], "fault 20\n"),
-        (["--cores=17", "--quantum=1", "0:grant:1"], "fault 20\n"),
-        (
-            ["--cores=18446744073709551615", "--seed=2", "0:grant:1"],
-            "fault 20\n",
-        ),
-        (["--cores=4", "--quantum=0", "0:grant:4"], "fault 21\n"),
-        (["--cores=16", "--quantum=10001", "0:grant:0"], "fault 21\n"),
-        (
-            ["--quantum=10000", "0:grant:1", "0:grant:4"],
-            "fault 22 order 1\n",
-        ),
-        (
-            ["--cores=16", "0:grant:16", "0:release:0"],
-            "fault 22 order 0\n",
-        ),
-        (
-            ["--quantum=1", "0:release:0", "0:grant:4"],
-            "fault 23 order 0\n",
-        ),
-        (
-            ["--quantum=1", "5:grant:1", "4:grant:1"],
-            "fault 25 order 1\n",
-        ),
-        (
-            ["--quantum=1", "5:grant:1", "4:release:0"],
-            "fault 23 order 1\n",
-        ),
-    ] {
+    for &(settings, line) in SETTINGS {
         let [first, second, third] = settings;
         let words = ["arachne", "run", first, second, third];
         let ended = run(&rt, rt.alloc(), &words, text.as_bytes());
@@ -209,16 +197,18 @@ fn orders_and_locks_are_not_served_yet(rt: HostRuntime) {
     }
 }
 
+const TEXTS: &[(&str, &str)] = &[
+    ("(num 00)", "fault 2 at 34\n"),
+    ("(num 18446744073709551616)", "fault 3 at 52\n"),
+    ("(add (var 0) (num 1))", "fault 8 node 1\n"),
+    ("(sweep add 0 (num 0) (num 1) (num 2))", "fault 11 node 0\n"),
+];
+
 /// A text's faults are told before those of the settings.
 #[test]
 fn texts_at_fault_are_not_run(rt: HostRuntime) -> Result<(), Fail> {
     let alloc = rt.alloc();
-    for (expr, line) in [
-        ("(num 00)", "fault 2 at 34\n"),
-        ("(num 18446744073709551616)", "fault 3 at 52\n"),
-        ("(add (var 0) (num 1))", "fault 8 node 1\n"),
-        ("(sweep add 0 (num 0) (num 1) (num 2))", "fault 11 node 0\n"),
-    ] {
+    for &(expr, line) in TEXTS {
         let text = text_of(alloc, expr)?;
         let words = ["arachne", "run", "--cores=0", "--quantum=0", "0:release:0"];
         let ended = run(&rt, alloc, &words, text.as_bytes());
@@ -240,19 +230,21 @@ impl Read for Watched {
     }
 }
 
+const NO_ORDERS: &[([&str; 3], &str)] = &[
+    (["0:take:1", "0:grant:1", "--names"], "fault 26 order 0\n"),
+    (["0:grant:1", "--cores=0", "5"], "fault 26 order 1\n"),
+    (["0:release:0", "", "x"], "fault 26 order 1\n"),
+    (
+        ["0:grant:18446744073709551616", "--quantum=0", "--names"],
+        "fault 26 order 0\n",
+    ),
+];
+
 /// The first word that is no order is told by its index, before anything is read.
 #[test]
 fn words_that_are_no_orders(rt: HostRuntime) {
     let alloc = rt.alloc();
-    for (words, line) in [
-        (["0:take:1", "0:grant:1", "--names"], "fault 26 order 0\n"),
-        (["0:grant:1", "--cores=0", "5"], "fault 26 order 1\n"),
-        (["0:release:0", "", "x"], "fault 26 order 1\n"),
-        (
-            ["0:grant:18446744073709551616", "--quantum=0", "--names"],
-            "fault 26 order 0\n",
-        ),
-    ] {
+    for &(words, line) in NO_ORDERS {
         let [first, second, third] = words;
         let words = ["arachne", "run", first, second, third];
         let mut input = Watched { is_read: false };
@@ -269,18 +261,20 @@ fn words_that_are_no_orders(rt: HostRuntime) {
     }
 }
 
+const OPTIONS: &[[&str; 4]] = &[
+    ["arachne", "run", "--cores", "18446744073709551616"],
+    ["arachne", "run", "--cores", "-1"],
+    ["arachne", "run", "5", "--seeds=1"],
+    ["arachne", "run", "0:grant:1", "--quantum"],
+    ["arachne", "run", "--names=yes", "5"],
+    ["arachne", "eval", "--cores", "4"],
+    ["arachne", "eval", "--names", "0:grant:1"],
+];
+
 /// Words that `clap` refuses are refused by it, orders or not.
 #[test]
 fn options_that_are_not_understood(rt: HostRuntime) {
-    for words in [
-        ["arachne", "run", "--cores", "18446744073709551616"],
-        ["arachne", "run", "--cores", "-1"],
-        ["arachne", "run", "5", "--seeds=1"],
-        ["arachne", "run", "0:grant:1", "--quantum"],
-        ["arachne", "run", "--names=yes", "5"],
-        ["arachne", "eval", "--cores", "4"],
-        ["arachne", "eval", "--names", "0:grant:1"],
-    ] {
+    for &words in OPTIONS {
         let ended = run(&rt, rt.alloc(), &words, b"");
         assert_eq!(rt; ended.status, 2, "{words:?}");
         assert!(rt; ended.output.is_empty(), "{words:?}");

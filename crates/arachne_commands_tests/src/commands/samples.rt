@@ -51,33 +51,67 @@ fn each_front_of_a_text_is_cut_short(rt: HostRuntime) {
     }
 }
 
+/// Texts, and the fault of each.
+const FAULTS: &[(&[u8], Option<TextFault>)] = &[
+    (b"2 151 100 1900\n", Some(TextFault::Syntax { at: 14 })),
+    (b"2  151 100 1900 1000\n", Some(TextFault::Syntax { at: 2 })),
+    (b" 2 151 100 1900 1000\n", Some(TextFault::Syntax { at: 0 })),
+    (b"2 00 100 1900 1000\n", Some(TextFault::Syntax { at: 3 })),
+    (b"2 01 100 1900 1000\n", Some(TextFault::Syntax { at: 3 })),
+    (
+        b"2 151 100 1900 1000 \n",
+        Some(TextFault::Syntax { at: 19 }),
+    ),
+    (
+        b"2 151 100 1900 1000 7\n",
+        Some(TextFault::Syntax { at: 19 }),
+    ),
+    (
+        b"2 151 100 1900 1000\r\n",
+        Some(TextFault::Syntax { at: 19 }),
+    ),
+    (
+        b"2 151 100 1900 1000\n\n",
+        Some(TextFault::Syntax { at: 20 }),
+    ),
+    (
+        b"2 151 100 1900 1000\n\0",
+        Some(TextFault::Syntax { at: 20 }),
+    ),
+    (b"2 -1 100 1900 1000\n", Some(TextFault::Syntax { at: 2 })),
+    (b"2 +1 100 1900 1000\n", Some(TextFault::Syntax { at: 2 })),
+    (b"\n", Some(TextFault::Syntax { at: 0 })),
+    (b"\xff\xfe\n", Some(TextFault::Syntax { at: 0 })),
+    (
+        b"18446744073709551616 1 1 1 1\n",
+        Some(TextFault::Number { at: 19 }),
+    ),
+    (
+        b"1 99999999999999999999999 1 1 1\n",
+        Some(TextFault::Number { at: 21 }),
+    ),
+    (
+        b"1 1 1 1 184467440737095516150\n",
+        Some(TextFault::Number { at: 28 }),
+    ),
+    (
+        b"1 18446744073709551616 1  1 1\n",
+        Some(TextFault::Number { at: 21 }),
+    ),
+    (
+        b"1  1 18446744073709551616 1 1\n",
+        Some(TextFault::Syntax { at: 2 }),
+    ),
+    (
+        b"1 1 1 1 1\n1 1 1 18446744073709551616",
+        Some(TextFault::Number { at: 35 }),
+    ),
+    (b"18446744073709551615 1 1 1 1\n", None),
+];
+
 #[test]
 fn faults_stand_at_their_bytes(rt: HostRuntime) {
-    let syntax = |at| Some(TextFault::Syntax { at });
-    let number = |at| Some(TextFault::Number { at });
-    for (text, fault) in [
-        (b"2 151 100 1900\n".as_slice(), syntax(14)),
-        (b"2  151 100 1900 1000\n", syntax(2)),
-        (b" 2 151 100 1900 1000\n", syntax(0)),
-        (b"2 00 100 1900 1000\n", syntax(3)),
-        (b"2 01 100 1900 1000\n", syntax(3)),
-        (b"2 151 100 1900 1000 \n", syntax(19)),
-        (b"2 151 100 1900 1000 7\n", syntax(19)),
-        (b"2 151 100 1900 1000\r\n", syntax(19)),
-        (b"2 151 100 1900 1000\n\n", syntax(20)),
-        (b"2 151 100 1900 1000\n\0", syntax(20)),
-        (b"2 -1 100 1900 1000\n", syntax(2)),
-        (b"2 +1 100 1900 1000\n", syntax(2)),
-        (b"\n", syntax(0)),
-        (b"\xff\xfe\n", syntax(0)),
-        (b"18446744073709551616 1 1 1 1\n", number(19)),
-        (b"1 99999999999999999999999 1 1 1\n", number(21)),
-        (b"1 1 1 1 184467440737095516150\n", number(28)),
-        (b"1 18446744073709551616 1  1 1\n", number(21)),
-        (b"1  1 18446744073709551616 1 1\n", syntax(2)),
-        (b"1 1 1 1 1\n1 1 1 18446744073709551616", number(35)),
-        (b"18446744073709551615 1 1 1 1\n", None),
-    ] {
+    for &(text, fault) in FAULTS {
         assert_eq!(rt; fault_of(rt.alloc(), text), fault, "{text:?}");
     }
 }

@@ -50,24 +50,31 @@ impl Read for Endless {
     }
 }
 
-#[test]
-fn readers_that_fail_or_never_end(rt: HostRuntime) {
-    let alloc = rt.alloc();
+/// What is read of this ends in a fault, and nothing is printed on the output.
+fn assert_unread<R: Abort + Threads + Wait + Sync>(
+    rt: &R,
+    alloc: Global,
+    input: &mut impl Read,
+    line: &str,
+    case: &str,
+) {
     let mut output = Vec::new(alloc);
     let mut faults = Vec::new(alloc);
+    let status = drive(rt, alloc, &WORDS, input, &mut output, &mut faults);
+    assert_eq!(rt; status, 1, "{case}");
+    assert!(rt; output.is_empty(), "{case}");
+    assert_eq!(rt; faults.as_slice(), line.as_bytes(), "{case}");
+}
+
+#[test]
+fn readers_that_fail_or_never_end(rt: HostRuntime) {
     let mut failing = Failing {
         bytes: b"arachne 1\n",
     };
-    let status = drive(&rt, alloc, &WORDS, &mut failing, &mut output, &mut faults);
-    assert_eq!(rt; status, 1);
-    assert_eq!(rt; faults.as_slice(), b"fault 37\n".as_slice());
-    faults.clear();
+    assert_unread(&rt, rt.alloc(), &mut failing, "fault 37\n", "failing");
     let mut endless = Endless { given: 0 };
-    let status = drive(&rt, alloc, &WORDS, &mut endless, &mut output, &mut faults);
-    assert_eq!(rt; status, 1);
-    assert_eq!(rt; faults.as_slice(), b"fault 36\n".as_slice());
+    assert_unread(&rt, rt.alloc(), &mut endless, "fault 36\n", "endless");
     assert_eq!(rt; endless.given, INPUT_LIMIT as u64 + 1);
-    assert!(rt; output.is_empty());
 }
 
 /// A reader that gives its first bytes, fails once, and then gives the rest.
@@ -103,16 +110,8 @@ fn a_failed_read_is_not_tried_again(rt: HostRuntime) -> Result<(), Fail> {
                 error: Some(kind),
                 rest,
             };
-            let mut output = Vec::new(alloc);
-            let mut faults = Vec::new(alloc);
-            let status = drive(&rt, alloc, &WORDS, &mut input, &mut output, &mut faults);
-            assert_eq!(rt; status, 1, "{at} {kind:?}");
-            assert!(rt; output.is_empty(), "{at} {kind:?}");
-            assert_eq!(rt;
-                faults.as_slice(),
-                b"fault 37\n".as_slice(),
-                "{at} {kind:?}"
-            );
+            let case = format!(in alloc; "{at} {kind:?}")?;
+            assert_unread(&rt, alloc, &mut input, "fault 37\n", case.as_str());
         }
     }
     Ok(())
@@ -319,27 +318,29 @@ fn a_fault_line_that_fails_changes_nothing(rt: HostRuntime) {
     assert_eq!(rt; faults.kept.as_slice(), b"fau".as_slice());
 }
 
+const LONGEST: &[(Fault, &str)] = &[
+    (
+        Fault::InProgram(CheckFault::NoGrain(u64::MAX)),
+        "fault 11 node 18446744073709551615\n",
+    ),
+    (
+        Fault::BadSample { line: usize::MAX },
+        "fault 12 line 18446744073709551615\n",
+    ),
+    (
+        Fault::InText(TextFault::Nesting { at: usize::MAX }),
+        "fault 4 at 18446744073709551615\n",
+    ),
+    (
+        Fault::NoOrder { index: usize::MAX },
+        "fault 26 order 18446744073709551615\n",
+    ),
+];
+
 /// The lines with the largest numbers, also where the writer takes one byte at a time.
 #[test]
 fn the_longest_fault_lines_are_written_whole(rt: HostRuntime) {
-    for (fault, line) in [
-        (
-            Fault::InProgram(CheckFault::NoGrain(u64::MAX)),
-            "fault 11 node 18446744073709551615\n",
-        ),
-        (
-            Fault::BadSample { line: usize::MAX },
-            "fault 12 line 18446744073709551615\n",
-        ),
-        (
-            Fault::InText(TextFault::Nesting { at: usize::MAX }),
-            "fault 4 at 18446744073709551615\n",
-        ),
-        (
-            Fault::NoOrder { index: usize::MAX },
-            "fault 26 order 18446744073709551615\n",
-        ),
-    ] {
+    for &(fault, line) in LONGEST {
         let mut faults = Vec::new(rt.alloc());
         assert_eq!(rt; refuse(&mut faults, fault), 1, "{line}");
         assert_eq!(rt; faults.as_slice(), line.as_bytes(), "{line}");

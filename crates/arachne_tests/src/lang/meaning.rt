@@ -1,3 +1,4 @@
+use super::shown;
 use arachne_lang::{
     CheckFault, Expr, Meaning, Name, Operation, Program, Sequence, check, eval, parse,
 };
@@ -95,20 +96,10 @@ fn meaning_of(alloc: Global, program: &Program) -> Result<Meaning, Fail> {
 }
 
 fn answer(alloc: Global, program: &Program) -> Result<String, Fail> {
-    if let Err(fault) = check(program) {
-        return Ok(format!(in alloc; "{fault}")?);
+    match check(program) {
+        Ok(()) => shown(alloc, &eval(alloc, program)?),
+        Err(fault) => Ok(format!(in alloc; "{fault}")?),
     }
-    let meaning = eval(alloc, program)?;
-    let mut answer = format!(in alloc; "{} {:?}", meaning.value, meaning.totals.as_slice())?;
-    for line in meaning.threads.as_slice() {
-        write!(
-            answer,
-            " {:?}{:?}",
-            line.name.forks(),
-            line.holds.as_slice()
-        )?;
-    }
-    Ok(answer)
 }
 
 #[test]

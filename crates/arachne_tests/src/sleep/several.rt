@@ -4,6 +4,7 @@ ghost use Rattle.arachne_sleep.specs.SleepLock.{IsWhole};
 ghost use Rattle.arachne_sleep.specs.SleepLocks.{AreSeatsOf};
 
 use super::thread as user;
+use crate::compare::same;
 use arachne_sleep::{Asked, Freed, LockEvent, LockSeats, Pass, SleepLocks, Tried, Who};
 use std::alloc::{AllocError, Global};
 use std::sync::Wait;
@@ -47,8 +48,8 @@ fn ask<R: Wait>(
 fn each_call_on_three_locks(rt: HostRuntime) -> Result<(), Fail> {
     let (a, b) = (user(0, 3), user(1, 4));
     let (locks, mut seats) = make(rt.alloc(), 3)?;
-    assert_eq!(rt; locks.count(), 3);
-    assert!(rt; locks.are_whole(&seats));
+    same(&rt, locks.count(), 3);
+    same(&rt, locks.are_whole(&seats), true);
 
     let pass = Pass {
         lock: 2,
@@ -56,25 +57,31 @@ fn each_call_on_three_locks(rt: HostRuntime) -> Result<(), Fail> {
         at: 1,
     };
     let asked = ask(&rt, &locks, &mut seats, 2, a);
-    assert_eq!(rt; asked, Some(Asked::Granted(pass)));
+    same(&rt, asked, Some(Asked::Granted(pass)));
     let asked = ask(&rt, &locks, &mut seats, 2, b);
-    assert_eq!(rt; asked, Some(Asked::Queued { at: 2 }));
-    assert_eq!(rt;
+    same(&rt, asked, Some(Asked::Queued { at: 2 }));
+    same(
+        &rt,
         locks.check(&rt, &mut seats, 2, a),
-        Tried::Answered(Some(pass))
+        Tried::Answered(Some(pass)),
     );
-    assert_eq!(rt; locks.check(&rt, &mut seats, 1, a), Tried::Answered(None));
+    same(
+        &rt,
+        locks.check(&rt, &mut seats, 1, a),
+        Tried::Answered(None),
+    );
     let freed = Freed {
         next: Some(b),
         at: 3,
     };
-    assert_eq!(rt;
+    same(
+        &rt,
         locks.free(&rt, &mut seats, 2, a),
-        Tried::Answered(Ok(freed))
+        Tried::Answered(Ok(freed)),
     );
 
     let seats = parted_and_joined(rt.alloc(), &locks, seats).ok_or("no memory")?;
-    assert!(rt; locks.are_whole(&seats));
+    same(&rt, locks.are_whole(&seats), true);
     let histories = closed(rt.alloc(), locks, seats).ok_or("no memory")?;
     let last = [
         LockEvent::Ask(a),
@@ -84,7 +91,11 @@ fn each_call_on_three_locks(rt: HostRuntime) -> Result<(), Fail> {
         LockEvent::Grant(b),
     ];
     assert_eq!(rt; histories.len(), 3);
-    assert!(rt; histories[0].is_empty() && histories[1].is_empty());
+    same(
+        &rt,
+        histories[0].is_empty() && histories[1].is_empty(),
+        true,
+    );
     assert_eq!(rt; histories[2].as_slice(), last.as_slice());
     Ok(())
 }

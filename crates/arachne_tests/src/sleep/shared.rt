@@ -4,6 +4,7 @@ ghost use Rattle.std.specs.Thread.{IsSync};
 ghost use Rattle.arachne_sleep.specs.SleepLock.{IsSeatOf, IsWhole};
 
 use super::thread as user;
+use crate::compare::same;
 use arachne_sleep::{
     AskFault, Asked, Freed, LockEvent, LockSeat, NotHolder, Pass, SleepLock, Tried, Who,
 };
@@ -115,9 +116,9 @@ fn two_kernel_threads_take_turns(rt: HostRuntime) -> Result<(), Fail> {
     let seat = take_turns_in_two_threads(&rt, &lock, seat, 100)?;
     assert!(rt; lock.is_whole(&seat));
     let history = closed(lock, seat)?;
-    assert_eq!(rt; history.len(), 600);
-    assert_eq!(rt; grants_to(&history, user(0, 3)), 100);
-    assert_eq!(rt; grants_to(&history, user(1, 4)), 100);
+    same(&rt, history.len(), 600);
+    same(&rt, grants_to(&history, user(0, 3)), 100);
+    same(&rt, grants_to(&history, user(1, 4)), 100);
     Ok(())
 }
 
@@ -135,29 +136,37 @@ fn closed(lock: SleepLock, seat: LockSeat) -> Result<Vec<LockEvent>, Fail>
 fn each_call_of_a_shared_lock(rt: HostRuntime) -> Result<(), Fail> {
     let (a, b) = (user(0, 3), user(1, 4));
     let (lock, mut seat) = make(rt.alloc(), 5)?;
-    assert_eq!(rt; lock.number(), 5);
+    same(&rt, lock.number(), 5);
     let first = Pass {
         lock: 5,
         who: a,
         at: 1,
     };
     enter(&rt, &lock, &mut seat, a);
-    assert_eq!(rt; lock.check(&rt, &mut seat, a), Tried::Answered(Some(first)));
-    assert_eq!(rt; lock.check(&rt, &mut seat, b), Tried::Answered(None));
+    same(
+        &rt,
+        lock.check(&rt, &mut seat, a),
+        Tried::Answered(Some(first)),
+    );
+    same(&rt, lock.check(&rt, &mut seat, b), Tried::Answered(None));
     let asked = lock.ask(&rt, &mut seat, a);
-    assert_eq!(rt; asked, Tried::Answered(Err(AskFault::AlreadyIn)));
+    same(&rt, asked, Tried::Answered(Err(AskFault::AlreadyIn)));
     let asked = lock.ask(&rt, &mut seat, b);
-    assert_eq!(rt; asked, Tried::Answered(Ok(Asked::Queued { at: 2 })));
+    same(&rt, asked, Tried::Answered(Ok(Asked::Queued { at: 2 })));
     let freed = lock.free(&rt, &mut seat, b);
-    assert_eq!(rt; freed, Tried::Answered(Err(NotHolder)));
+    same(&rt, freed, Tried::Answered(Err(NotHolder)));
     let freed = Freed {
         next: Some(b),
         at: 3,
     };
-    assert_eq!(rt; lock.free(&rt, &mut seat, a), Tried::Answered(Ok(freed)));
+    same(
+        &rt,
+        lock.free(&rt, &mut seat, a),
+        Tried::Answered(Ok(freed)),
+    );
 
     let (seat, other) = lock.split(seat);
-    assert!(rt; !lock.is_whole(&seat) && !lock.is_whole(&other));
+    same(&rt, lock.is_whole(&seat) || lock.is_whole(&other), false);
     let seat = lock.join_seats(other, seat);
     assert!(rt; lock.is_whole(&seat));
     let whole = [
