@@ -19,10 +19,10 @@ abbrev pub MayRest : Rest → Option Pending → Type 0
 MayRest rest.Ready pending = pending ≡ None
 MayRest rest.Blocked pending = IsWait pending
 
--- of the steps that a job had, fewer are left, unless it waits
+-- of the steps that a job had, fewer are left, unless it awaits a child; one that still waits for a lock has made none
 abbrev pub UsesSteps : {Child : Type 0} → Slice Child → ℕ → ℕ → Type 0
 UsesSteps Blocks had left = Unit {0}
-UsesSteps (Awaits lock) had left = Unit {0}
+UsesSteps (Awaits lock) had left = left ≡ had
 UsesSteps _ had left = left < had
 
 module _ {Job Child : Type 0} (forks : Job → Child → Type 0) (pause_of : Job → Option Pending) where

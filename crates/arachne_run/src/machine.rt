@@ -99,43 +99,26 @@ impl<C: Seats + Drop> Machine<C> {
         ensures sound { IfOk result (λ remains. All (λ history. IsSound history.items) remains.histories.items) }
         ensures one_holder { IfOk result (λ remains. All (λ history. HasOneHolderAtATime history.items) remains.histories.items) }
     {
-        let Machine {
-            table,
-            ledgers,
-            locks,
-            shared,
-            cores: _,
-            quantum: _,
-            orders: _,
-        } = self;
-        if let Some(fault) = shared.into_first_fault() {
+        if let Some(fault) = self.shared.into_first_fault() {
             return Err(fault);
         }
-        let Some(
-            Tokens {
-                seat,
-                share,
-                lock_seats,
-                arbiter,
-            },
-        ) = tokens
-        else {
+        let Some(tokens) = tokens else {
             return Err(RunFault::Token);
         };
-        let Some(arbiter) = arbiter else {
+        let Some(arbiter) = tokens.arbiter else {
             return Err(RunFault::Token);
         };
-        let is_all = table.is_whole(&seat) && table.out(&seat) == 0;
-        if !is_all || !share.is_whole() || !locks.are_whole(&lock_seats) {
+        let is_all = self.table.is_whole(&tokens.seat) && self.table.out(&tokens.seat) == 0;
+        if !is_all || !tokens.share.is_whole() || !self.locks.are_whole(&tokens.lock_seats) {
             return Err(RunFault::Token);
         }
-        if table.close(rt, alloc, seat).is_err() {
+        if self.table.close(rt, alloc, tokens.seat).is_err() {
             return Err(RunFault::Memory);
         }
-        let Ok(words) = ledgers.close(alloc, share) else {
+        let Ok(words) = self.ledgers.close(alloc, tokens.share) else {
             return Err(RunFault::Memory);
         };
-        let Ok(histories) = locks.close(alloc, lock_seats) else {
+        let Ok(histories) = self.locks.close(alloc, tokens.lock_seats) else {
             return Err(RunFault::Memory);
         };
         Ok(Remains {

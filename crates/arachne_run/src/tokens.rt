@@ -32,30 +32,17 @@ impl<S> Tokens<S> {
         ensures others { IfOk result (λ parts. AreIdle C.sits C.idle machine.now parts.1) }
         ensures err { IfErr result (AreIdle C.sits C.idle machine.now) }
     {
-        let Tokens {
-            seat,
-            share,
-            lock_seats,
-            arbiter,
-        } = self;
-        let (lock_seats, other_lock_seats) = match machine.locks.split(alloc, lock_seats) {
+        let (lock_seats, other_lock_seats) = match machine.locks.split(alloc, self.lock_seats) {
             Ok(parts) => parts,
-            Err(lock_seats) => {
-                return Err(Tokens {
-                    seat,
-                    share,
-                    lock_seats,
-                    arbiter,
-                });
-            }
+            Err(lock_seats) => return Err(Tokens { lock_seats, ..self }),
         };
-        let (seat, other_seat) = machine.table.split(rt, seat);
-        let (share, other_share) = machine.ledgers.split(share);
+        let (seat, other_seat) = machine.table.split(rt, self.seat);
+        let (share, other_share) = machine.ledgers.split(self.share);
         let own = Tokens {
             seat,
             share,
             lock_seats,
-            arbiter,
+            arbiter: self.arbiter,
         };
         let others = Tokens {
             seat: other_seat,

@@ -116,6 +116,8 @@ impl<'a, H: Wait, T: RunJob, C: Contexts<T>, R: Rng, G: Gate> Worker<'a, H, T, C
                     if !self.look_for_pass(kit, &mut held, lock)? {
                         return self.put_back(kit, held, Rest::Blocked);
                     }
+                    // The look counts as a step.
+                    left -= 1;
                 }
                 Slice::Frees(lock) => self.free(kit, &mut held, lock)?,
                 Slice::Tallies(ledger, amount) => self.tally(kit, &mut held, ledger, amount)?,

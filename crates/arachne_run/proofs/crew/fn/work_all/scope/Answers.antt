@@ -1,5 +1,9 @@
 use Rattle.std.proofs.Common.{rules, ◌≡◌, ◌+◌}
 use Rattle.std.proofs.lemmas.List.Elements.{All-push}
+use denote.Param.Send.{sendable}
+use Rattle.std.proofs.Crossing as std
+use Rattle.arachne_run.proofs.machine.Machine.TheSendSync as machine
+use Rattle.arachne_run.proofs.tokens.Tokens.TheSendSync as tokens
 use Rattle.arachne_run.proofs.crew.fn.work_all.scope.Goals as goal
 
 pub loop-core-preserved : goal.loop-core-preserved
@@ -16,3 +20,6 @@ loop-other-preserved g c =
     let was = c.loop-other.invariant in
     let step = c.in-Some-other.ensures.steps in
     (c.joined-all.ensures, λ k d below. let h = was.1 (k + 1) d in grind rules)
+
+pub spawn_with-started-requires-send-F : goal.spawn_with-started-requires-send-F
+spawn_with-started-requires-send-F g c κs within = search (sendable, std.crosses, machine.the_sync, tokens.the_send, c.type_bounds) depth 30
