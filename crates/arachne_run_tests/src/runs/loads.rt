@@ -12,19 +12,18 @@ const THREADS: u64 = 100_000;
 /// Each of the threads holds the lock once and tallies.
 const SUMS: &str = "(sweep add 1 (num 0) (num 100000) (hold 0 (tally 0 (num 5) (num 1))))";
 
-/// Runs the threads so many times on 16 cores.
-fn run_many<R: Abort + Threads + Wait + Sync>(
+/// Runs the threads ten times on 16 cores.
+fn run_ten_times<R: Abort + Threads + Wait + Sync>(
     rt: &R,
     alloc: Global,
-    form: Form,
-    times: u32,
+    quantum: u64,
 ) -> Result<(), Fail> {
     let text = text_of(alloc, 1, 1, SUMS)?;
-    for _ in 0..times {
+    for _ in 0..10u32 {
         let machine = Trial {
-            form,
+            form: Form::Words,
             cores: 16,
-            quantum: 100,
+            quantum,
             chooser: spread(),
         };
         let report = report(rt, alloc, text.as_bytes(), machine, &[], &OpenGate)?;
@@ -36,11 +35,16 @@ fn run_many<R: Abort + Threads + Wait + Sync>(
 }
 
 #[test]
-fn many_threads_end_over_a_lock(rt: HostRuntime) -> Result<(), Fail> {
-    run_many(&rt, rt.alloc(), Form::Locked, 10)
+fn many_threads_end_by_short_slices(rt: HostRuntime) -> Result<(), Fail> {
+    run_ten_times(&rt, rt.alloc(), 100)
 }
 
 #[test]
-fn many_threads_end_on_words(rt: HostRuntime) -> Result<(), Fail> {
-    run_many(&rt, rt.alloc(), Form::Words, 20)
+fn many_threads_end_by_longer_slices(rt: HostRuntime) -> Result<(), Fail> {
+    run_ten_times(&rt, rt.alloc(), 1_000)
+}
+
+#[test]
+fn many_threads_end_by_the_longest_slices(rt: HostRuntime) -> Result<(), Fail> {
+    run_ten_times(&rt, rt.alloc(), 10_000)
 }
