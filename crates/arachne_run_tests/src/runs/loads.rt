@@ -7,10 +7,10 @@ use std::sync::Wait;
 use std::test::Fail;
 use std::thread::Threads;
 
-const THREADS: u64 = 100_000;
+const THREADS: u64 = 10_000;
 
 /// Each of the threads holds the lock once and tallies.
-const SUMS: &str = "(sweep add 1 (num 0) (num 100000) (hold 0 (tally 0 (num 5) (num 1))))";
+const SUMS: &str = "(sweep add 1 (num 0) (num 10000) (hold 0 (tally 0 (num 5) (num 1))))";
 
 /// Runs the threads ten times on 16 cores.
 fn run_ten_times<R: Abort + Threads + Wait + Sync>(
