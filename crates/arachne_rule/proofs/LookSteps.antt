@@ -77,8 +77,7 @@ module _ {T : Type 0} (tag_in : T → ℕ) (bits : ℕ) (shape : Shape) where
       let c = hs.shows.contexts x (subst (λ (m : ℕ). x < m) (λ j. sym hs.fits.cores j * sym hs.fits.slots j) x_in) in
       let m : Marked = record (marked w x) { place = (hs.phase x).shown } in
       let index_in : m.place.index < 56 = omega (arith, c.within.1, hs.shows.fits.1) in
-      let reads : marked_of bits (mark_word bits m) ≡ m = marked_of-mark_word bits m (omega (arith, index_in)) (omega (arith, c.within.0, hs.shows.fits.0)) in
-      (
+      let reads : marked_of bits (mark_word bits m) ≡ m = marked_of-mark_word bits m (omega (arith, index_in)) (omega (arith, c.within.0, hs.shows.fits.0)) in (
         ap (λ (q : ℕ). mark_word bits (marked_of bits q)) c.mark ∙ ap (mark_word bits) reads ∙ sym c.mark,
         subst (λ (q : ℕ). (marked_of bits q).place.index < 56) (sym c.mark) (subst (λ (q : Marked). q.place.index < 56) (sym reads) index_in),
         small,
