@@ -140,8 +140,8 @@ impl<'p> Thread<'p> {
         self.advance_within(&mut left)
     }
 
-    /// The same, for at most as many steps as are left. Then so many fewer are: none where the budget is used, and at
-    /// least one fewer at another pause.
+    /// The same, for at most as many steps as are left. Then fewer are: none at `Budget`, and at least one fewer at
+    /// another pause.
     pub fn advance_within(&mut self, left: &mut u32) -> Result<Pause<'p>, AllocError>
         requires not_paused { pending_in self.old ≡ None }
         requires some { 1 ≤ left.old }
