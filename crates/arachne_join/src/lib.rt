@@ -4,17 +4,24 @@
 //! The cell is one word and one slot of an `atomic_table`: no call locks, waits, or compares what the value is for.
 #![tactic(auto)]
 
+mod block;
+mod block_steps;
 mod cell;
+mod ends;
 mod fits;
+mod part;
 mod receipt;
 mod sending_end;
+mod spare;
 mod state;
 mod steps;
 mod view;
 
 pub use cell::{JoinCell, Missed};
+pub use ends::{Receiver, Sender, UnusedCell};
 pub use fits::Fits;
 pub use receipt::Receipt;
 pub use sending_end::SendingEnd;
+pub use spare::SpareCells;
 pub use state::CellState;
 pub use view::Role;

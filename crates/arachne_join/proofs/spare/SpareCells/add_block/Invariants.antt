@@ -1,0 +1,8 @@
+use Rattle.std.proofs.Common.{◌≡◌, []}
+use Rattle.arachne_join.specs.declared.block.TheConstants.{CELLS}
+use Rattle.arachne_join.specs.declared.part.Part.TheVariants.{Rest}
+use Rattle.arachne_join.specs.Parts.{part_view}
+use Rattle.arachne_join.proofs.spare.SpareCells.add_block.Given as goal
+
+abbrev pub invariant-loop-index : goal.invariant-loop-index
+invariant-loop-index g l = (l.block.value.slots ≡ CELLS) × (l.all.table_id ≡ l.block.value) × (l.all.me ≡ (part_view Rest l.index 0, []))

@@ -1,0 +1,77 @@
+-- What each step on a block tells its seat: of the seat before, the word found and the seat after.
+use Rattle.std.specs.Prelude.{◌≡◌, ◌≢◌, ℕ, ◌+◌, [], ◌∷◌}
+use Rattle.std.specs.declared.snapshot.Snapshot.{Snapshot}
+use Rattle.atomic_table.specs.Table.{Me}
+use Rattle.arachne_join.specs.declared.part.Content.{Content}
+use Rattle.arachne_join.specs.declared.part.Content.TheVariants.{Empty, For, Value}
+use Rattle.arachne_join.specs.declared.part.Part.{Part}
+use Rattle.arachne_join.specs.declared.part.Part.TheVariants.{Rest, Fresh, Unused, Opened, Sending, Receiving, Spent}
+use Rattle.arachne_join.specs.declared.part.PartView.{PartView}
+use Rattle.arachne_join.specs.Parts.{part_view, as_part, word_after, IsReceivingFor}
+
+module _ {K : Type 0} where
+  -- the seat that has all cells from an index on gives the one there to a new seat
+  abbrev pub without_first : PartView K → PartView K
+  without_first v = part_view Rest (v.index + 1) v.passed
+
+  abbrev pub the_first : PartView K → PartView K
+  the_first v = as_part v Fresh
+
+  -- an opened cell becomes its two ends
+  abbrev pub sending_part : Part K → Part K
+  sending_part Rest = Rest
+  sending_part Fresh = Fresh
+  sending_part Unused = Unused
+  sending_part (Opened key) = Sending key
+  sending_part (Sending key) = Sending key
+  sending_part (Receiving key) = Receiving key
+  sending_part Spent = Spent
+
+  abbrev pub receiving_part : Part K → Part K
+  receiving_part Rest = Spent
+  receiving_part Fresh = Spent
+  receiving_part Unused = Spent
+  receiving_part (Opened key) = Receiving key
+  receiving_part (Sending key) = Spent
+  receiving_part (Receiving key) = Spent
+  receiving_part Spent = Spent
+
+  abbrev pub sending_end : PartView K → PartView K
+  sending_end v = as_part v (sending_part v.part)
+
+  abbrev pub receiving_end : PartView K → PartView K
+  receiving_end v = as_part v (receiving_part v.part)
+
+  -- the cell once the value was fetched
+  abbrev pub emptied : PartView K → PartView K
+  emptied v = part_view Unused v.index (v.passed + 1)
+
+module _ {T K : Type 0} where
+  -- a seat that holds its cell's slot
+  abbrev pub with_slot : PartView K → Content T K → Me (Content T K) (PartView K)
+  with_slot v content = (v, (v.index, content) ∷ [])
+
+  -- an unused cell, whose slot is with the seat
+  abbrev pub IsUnusedAt : ℕ → ℕ → Me (Content T K) (PartView K) → Type 0
+  IsUnusedAt i passed m = m ≡ with_slot (part_view Unused i passed) Empty
+
+  -- the sending end, with the slot, in which no value is
+  abbrev pub IsSendingAt : ℕ → ℕ → K → Me (Content T K) (PartView K) → Type 0
+  IsSendingAt i passed key m = (asked : Snapshot K) × (m ≡ with_slot (part_view (Sending key) i passed) (For asked))
+
+  abbrev pub IsReceivingAt : ℕ → ℕ → K → Me (Content T K) (PartView K) → Type 0
+  IsReceivingAt i passed key m = m ≡ (part_view (Receiving key) i passed, [])
+
+  -- the seat takes the slot of a cell that was never used
+  abbrev pub Starts : Me (Content T K) (PartView K) → Me (Content T K) (PartView K) → Type 0
+  Starts m w = w ≡ with_slot (as_part m.0 Unused) Empty
+
+  -- the cell is opened for the key that lies in the slot
+  abbrev pub Opens : Me (Content T K) (PartView K) → Me (Content T K) (PartView K) → Type 0
+  Opens m w = (asked : Snapshot K) → m ≡ with_slot m.0 (For asked) → w ≡ with_slot (as_part m.0 (Opened asked.value)) (For asked)
+
+  -- Where the word is what it is after one more value, the seat has the whole cell, with a value that fits its key. Else it is as it was
+  abbrev pub Fetches : (K → T → Type 0) → Me (Content T K) (PartView K) → ℕ → Me (Content T K) (PartView K) → Type 0
+  Fetches fits m found w = (key : K) → IsReceivingFor key m.0.part
+      → (found ≡ word_after (m.0.passed + 1) → (value : T) × (w ≡ with_slot (emptied m.0) (Value value)) × fits key value)
+      × (found ≢ word_after (m.0.passed + 1) → w ≡ m)

@@ -1,0 +1,31 @@
+-- What clauses see of a cell of a block between its uses, and of the two ends of an opening.
+use Rattle.std.specs.Prelude.{◌≡◌, ℕ, ◌+◌, ◌<◌, [], ◌∷◌}
+use Rattle.atomic_table.specs.Seated.{TableId}
+use Rattle.atomic_table.specs.Table.{Me}
+use Rattle.arachne_join.specs.declared.part.Content.{Content}
+use Rattle.arachne_join.specs.declared.part.PartView.{PartView}
+use Rattle.arachne_join.specs.Parts.{word_after}
+
+-- a cell: its block's table, its index there, and how many values have passed through it
+pub record BlockCell : Type 0 where
+  pub table : TableId
+  pub index : ℕ
+  pub passed : ℕ
+
+-- one use of a cell, for one value: the cell before, and what the value is for
+pub record Opening (K : Type 0) : Type 0 where
+  pub cell : BlockCell
+  pub key : K
+
+abbrev pub opening : {K : Type 0} → BlockCell → K → Opening K
+opening cell key = record { cell = cell; key = key }
+
+-- the cell once one more value has passed through it
+abbrev pub used_once_more : BlockCell → BlockCell
+used_once_more cell = record { table = cell.table; index = cell.index; passed = cell.passed + 1 }
+
+-- the seat is of the block's table, the index is one of its cells, and `full` is the word once one more value was left
+pub record IsPlaced (block seat : TableId) (index full passed : ℕ) : Type 0 where
+  pub own : seat ≡ block
+  pub inside : index < block.slots
+  pub word : full ≡ word_after (passed + 1)

@@ -1,0 +1,74 @@
+//! Unused cells that are kept for the next opening.
+ghost use Rattle.std.specs.Prelude.{◌≡◌, IfOk};
+
+use crate::block::{CELLS, CellBlock};
+use crate::ends::{Receiver, Sender, UnusedCell};
+use crate::fits::Fits;
+use std::alloc::{AllocError, Global};
+use std::sync::Arc;
+
+/// How many unused cells are kept. Others are given up, so that one thread doesn't collect those that other threads make.
+const MOST: usize = 4 * CELLS;
+
+/// Unused cells. One thread has them, and makes a new block of them where it has none.
+///
+/// A block is freed once none of its cells is in use or kept.
+#[derive(Drop)]
+pub struct SpareCells<T: Fits<K>, K> {
+    cells: Vec<UnusedCell<T, K>>,
+}
+
+impl<T: Fits<K> + Drop, K> SpareCells<T, K> {
+    /// No cells yet. It takes no memory.
+    pub fn new(alloc: Global) -> SpareCells<T, K> {
+        SpareCells {
+            cells: Vec::new(alloc),
+        }
+    }
+
+    /// An unused cell. It takes memory only where none is kept, for a new block.
+    pub fn take(&mut self, alloc: Global) -> Result<UnusedCell<T, K>, AllocError> {
+        match self.cells.pop() {
+            Some(cell) => Ok(cell),
+            None => self.add_block(alloc),
+        }
+    }
+
+    /// Keeps a cell for the next opening, unless enough are kept or there is no memory to keep it.
+    pub fn give(&mut self, cell: UnusedCell<T, K>) {
+        if self.cells.len() < MOST {
+            let _ = self.cells.push(cell);
+        }
+    }
+
+    /// The two ends of an opening of one of the cells, for one value that fits the key.
+    pub fn open(
+        &mut self,
+        alloc: Global,
+        key: &K,
+    ) -> Result<(Receiver<T, K>, Sender<T, K>), AllocError>
+        ensures { IfOk result (λ ends. (ends.0.key ≡ key.now) × (ends.1 ≡ ends.0)) }
+    {
+        match self.take(alloc)?.open(key) {
+            Ok(ends) => Ok(ends),
+            Err(cell) => {
+                self.give(cell);
+                Err(AllocError)
+            }
+        }
+    }
+
+    // Makes a block, keeps its cells but the first, and gives that one.
+    fn add_block(&mut self, alloc: Global) -> Result<UnusedCell<T, K>, AllocError> {
+        self.cells.reserve(CELLS - 1)?;
+        let (block, mut all) = CellBlock::new(alloc)?;
+        let block = Arc::new(alloc, block)?;
+        let first = block.give_first(&mut all, 0);
+        for index in 1..CELLS {
+            let seat = block.give_first(&mut all, index);
+            let owner = Arc::try_clone(&block)?;
+            self.cells.push(UnusedCell::new(owner, seat, index as u32))?;
+        }
+        Ok(UnusedCell::new(block, first, 0))
+    }
+}
