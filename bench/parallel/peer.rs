@@ -1,5 +1,9 @@
-//! An evaluator of the task language over a boxed tree that forks by a pool of kernel threads with a deque each, and keeps sums, holds and lines.
+//! An evaluator of the task language over a boxed tree that forks by a pool of kernel threads with a deque each, or by rayon, and keeps sums, holds
+//! and lines.
 //! `peer FILE CORES` prints the first line of what `arachne run --cores CORES` prints.
+#![allow(unexpected_cfgs)]
+
+#[cfg_attr(rayon, path = "rayon_pool.rs")]
 mod pool;
 #[path = "../tree.rs"]
 mod tree;

@@ -2,7 +2,6 @@
 use Rattle.std.specs.Prelude.{◌≡◌}
 use Rattle.arachne_lang.specs.declared.program.Program.{Program}
 use Rattle.arachne_lang.specs.Program.{source_of}
-use Rattle.arachne_join.specs.Views.{Cell}
 use Rattle.arachne_machine.specs.Outcome.{Finished}
 use Rattle.arachne_run.specs.Threads.{Thread, program_of, name_of}
 use Rattle.arachne_run.specs.declared.wanted.Wanted.{Wanted}
@@ -11,10 +10,10 @@ use Rattle.arachne_run.specs.declared.wanted.Wanted.{Wanted}
 abbrev pub IsWanted : Wanted → Finished → Type 0
 IsWanted wanted outcome = (outcome.program ≡ wanted.program.value) × (outcome.name ≡ wanted.name.value)
 
--- the cell is for outcomes of a program equal to this one
-abbrev pub IsOf : Program → Cell Wanted → Type 0
-IsOf program cell = source_of cell.key.program.value ≡ source_of program
+-- what is wanted is an outcome of a program equal to this one
+abbrev pub IsOf : Program → Wanted → Type 0
+IsOf program wanted = source_of wanted.program.value ≡ source_of program
 
--- the cell is for the outcome of this thread
-abbrev pub IsFor : Thread → Cell Wanted → Type 0
-IsFor thread cell = (cell.key.program.value ≡ program_of thread) × (cell.key.name.value ≡ name_of thread)
+-- what is wanted is the outcome of this thread
+abbrev pub IsFor : Thread → Wanted → Type 0
+IsFor thread wanted = (wanted.program.value ≡ program_of thread) × (wanted.name.value ≡ name_of thread)

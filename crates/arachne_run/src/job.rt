@@ -1,6 +1,5 @@
 //! What a context holds in a run: a thread of the program.
 ghost use Rattle.std.specs.Prelude.{◌≡◌, ◌≤◌, false, true, [], All, IfOk, IfSome, None, Some};
-ghost use Rattle.std.specs.Arc.{arc_value};
 ghost use Rattle.arachne_lang.specs.Program.{source_of};
 ghost use Rattle.arachne_lang.specs.Checked.{IsChecked};
 ghost use Rattle.arachne_run.specs.Threads.{IsForking, IsGoing, IsAwaiting, pause_of, program_of, running_tag_of, tag_of};
@@ -9,35 +8,30 @@ ghost use Rattle.arachne_run.specs.Slices.{IsLeft, UsesSteps};
 
 use crate::fault::RunFault;
 use crate::slice::{JobOf, RunJob, Slice};
-use crate::wanted::{Cell, Wanted};
+use crate::spares::Spares;
+use crate::wanted::{OutcomeReceiver, OutcomeSender, Wanted};
 use arachne_contexts::Tagged;
 use arachne_core::ThreadId;
-use arachne_join::{JoinCell, SendingEnd};
 use arachne_lang::Program;
 use arachne_machine::{NotJoined, Outcome, Pause, Pending, Thread};
 use std::alloc::{AllocError, Global};
 use std::marker::Model;
 use std::snapshot::Snapshot;
-use std::sync::Arc;
 
-/// A thread of the program, with the end that leaves its outcome in its cell, the cells of the children that it has
+/// A thread of the program, with the end that leaves its outcome, the ends that await those of the children that it has
 /// forked and not joined, the newest last, and the id under which its parent runs.
 ///
 /// Contracts see the thread and that id.
 #[derive(Drop)]
 pub struct Job<'p> {
     thread: Thread<'p>,
-    end: SendingEnd<Outcome<'p>, Wanted>,
-    cell: Arc<Cell<'p>>,
-    awaited: Vec<Arc<Cell<'p>>>,
+    end: OutcomeSender<'p>,
+    awaited: Vec<OutcomeReceiver<'p>>,
     parent: Option<ThreadId>,
 }
 
 impl<'p> Model for Job<'p> {
     ghost use Rattle.std.specs.Prelude.{◌≡◌, All};
-    ghost use Rattle.std.specs.Arc.{arc_value};
-    ghost use Rattle.arachne_lang.specs.Program.{source_of};
-    ghost use Rattle.arachne_lang.specs.Checked.{IsChecked};
     ghost use Rattle.arachne_run.specs.Threads.{Posted, program_of};
     ghost use Rattle.arachne_run.specs.Cells.{IsOf, IsFor};
 
@@ -50,7 +44,7 @@ impl<'p> Model for Job<'p> {
 
     ghost view = { λ j. record { thread = j.thread; parent = j.parent } };
 
-    ghost invariant = { λ j. (j.end ≡ (arc_value j.cell).table) × IsFor j.thread (arc_value j.cell) × All (λ cell. IsOf (program_of j.thread) (arc_value cell)) j.awaited.items };
+    ghost invariant = { λ j. IsFor j.thread j.end.key × All (λ receiver. IsOf (program_of j.thread) receiver.opening.key) j.awaited.items };
 }
 
 impl<'p> Tagged for Job<'p> {
@@ -64,6 +58,8 @@ impl<'p> Tagged for Job<'p> {
 impl<'p> RunJob for Job<'p> {
     type Child = Thread<'p>;
 
+    type Spares = Spares<'p>;
+
     ghost running_tag_of = { λ j. running_tag_of j.thread };
 
     ghost parent_of = { λ j. j.parent };
@@ -72,22 +68,30 @@ impl<'p> RunJob for Job<'p> {
 
     ghost forks = { λ j child. IsForking j.thread child };
 
+    fn spares(alloc: Global) -> Spares<'p> {
+        Spares::new(alloc)
+    }
+
     fn running_tag(&self) -> u64 {
         self.thread.running_tag()
     }
 
-    fn slice(&mut self, left: &mut u32) -> Result<Slice<Thread<'p>>, RunFault> {
+    fn slice(
+        &mut self,
+        left: &mut u32,
+        spares: &mut Spares<'p>,
+    ) -> Result<Slice<Thread<'p>>, RunFault> {
         match self.thread.pending() {
             None => {}
             Some(Pending::Joins) => {
-                if !self.join()? {
+                if !self.join(spares)? {
                     return Ok(Slice::Blocks);
                 }
             }
             Some(Pending::Asks(lock)) => return Ok(Slice::Awaits(lock)),
             _ => return Err(RunFault::Foreign),
         }
-        self.advance(left)
+        self.advance(left, spares)
     }
 
     fn fork_off(
@@ -96,11 +100,12 @@ impl<'p> RunJob for Job<'p> {
         me: ThreadId,
         child: Thread<'p>,
         tag: u64,
+        spares: &mut Spares<'p>,
     ) -> Result<Job<'p>, RunFault> {
         let mut child = child;
         child.set_tag(tag);
-        let (job, cell) = Job::of(alloc, child, Some(me))?;
-        self.expect(cell)?;
+        let (job, receiver) = Job::of(alloc, child, Some(me), spares)?;
+        self.expect(receiver)?;
         self.thread.forked();
         Ok(job)
     }
@@ -130,51 +135,56 @@ impl<'p> RunJob for Job<'p> {
         let Job {
             thread,
             end,
-            cell,
             awaited: _,
             parent,
         } = self;
-        end.leave(&cell, thread.finish());
+        end.leave(thread.finish());
         parent
     }
 }
 
 impl<'p> JobOf<'p> for Job<'p> {
-    fn begin(alloc: Global, program: &'p Program) -> Result<(Job<'p>, Arc<Cell<'p>>), AllocError> {
+    fn begin(
+        alloc: Global,
+        program: &'p Program,
+        spares: &mut Spares<'p>,
+    ) -> Result<(Job<'p>, OutcomeReceiver<'p>), AllocError> {
         let thread = Thread::start(alloc, program, 0)?;
-        Job::of(alloc, thread, None)
+        Job::of(alloc, thread, None, spares)
     }
 }
 
 impl<'p> Job<'p> {
-    /// The job of this thread, and the cell that its outcome comes to.
+    /// The job of this thread, and the end that its outcome comes to.
     fn of(
         alloc: Global,
         thread: Thread<'p>,
         parent: Option<ThreadId>,
-    ) -> Result<(Job<'p>, Arc<Cell<'p>>), AllocError>
+        spares: &mut Spares<'p>,
+    ) -> Result<(Job<'p>, OutcomeReceiver<'p>), AllocError>
         ensures thread { IfOk result (λ made. made.0 ≡ record { thread = thread.entry; parent = parent }) }
-        ensures cell { IfOk result (λ made. IsFor thread.entry (arc_value made.1)) }
+        ensures receiver { IfOk result (λ made. IsFor thread.entry made.1.opening.key) }
     {
         let wanted = Wanted {
             program: Snapshot::of(thread.program()),
             name: Snapshot::of(thread.name()),
         };
-        let (cell, end) = JoinCell::new(alloc, &wanted)?;
-        let cell = Arc::new(alloc, cell)?;
-        let outlet = Arc::try_clone(&cell)?;
+        let (receiver, end) = spares.cells.open(alloc, &wanted)?;
         let job = Job {
             thread,
             end,
-            cell,
             awaited: Vec::new(alloc),
             parent,
         };
-        Ok((job, outlet))
+        Ok((job, receiver))
     }
 
     /// Goes on for at most as many steps as are left.
-    fn advance(&mut self, left: &mut u32) -> Result<Slice<Thread<'p>>, RunFault>
+    fn advance(
+        &mut self,
+        left: &mut u32,
+        spares: &mut Spares<'p>,
+    ) -> Result<Slice<Thread<'p>>, RunFault>
         requires some { 1 ≤ left.old }
         requires going { IsGoing self.old.thread }
         ensures tag { tag_of self.new.thread ≡ tag_of self.old.thread }
@@ -186,7 +196,7 @@ impl<'p> Job<'p> {
             Pause::Budget => Ok(Slice::Goes),
             Pause::Forks(class, child) => Ok(Slice::Forks(class, child)),
             Pause::Joins => {
-                if self.join()? {
+                if self.join(spares)? {
                     Ok(Slice::Goes)
                 } else {
                     Ok(Slice::Blocks)
@@ -199,26 +209,26 @@ impl<'p> Job<'p> {
         }
     }
 
-    /// Expects the outcome of a child in its cell.
-    fn expect(&mut self, cell: Arc<Cell<'p>>) -> Result<(), RunFault>
-        requires { IsOf (program_of self.old.thread) (arc_value cell) }
+    /// Expects the outcome of a child.
+    fn expect(&mut self, receiver: OutcomeReceiver<'p>) -> Result<(), RunFault>
+        requires { IsOf (program_of self.old.thread) receiver.opening.key }
         ensures { self.new ≡ self.old }
     {
-        match self.awaited.push(cell) {
+        match self.awaited.push(receiver) {
             Ok(()) => Ok(()),
             Err(_) => Err(RunFault::Memory),
         }
     }
 
     /// Joins the child that it awaits, if that has ended.
-    fn join(&mut self) -> Result<bool, RunFault>
+    fn join(&mut self, spares: &mut Spares<'p>) -> Result<bool, RunFault>
         requires { IsAwaiting self.old.thread }
         ensures tag { tag_of self.new.thread ≡ tag_of self.old.thread }
         ensures parent { self.new.parent ≡ self.old.parent }
         ensures joined { IfOk result (λ joined. joined ≡ true → IsGoing self.new.thread) }
         ensures awaits { IfOk result (λ joined. joined ≡ false → IsAwaiting self.new.thread) }
     {
-        let Some(outcome) = self.fetch()? else {
+        let Some(outcome) = self.fetch(spares)? else {
             return Ok(false);
         };
         match self.thread.joined(outcome) {
@@ -229,17 +239,22 @@ impl<'p> Job<'p> {
     }
 
     /// The outcome of the child that it awaits, if that has ended.
-    fn fetch(&mut self) -> Result<Option<Outcome<'p>>, RunFault>
+    fn fetch(&mut self, spares: &mut Spares<'p>) -> Result<Option<Outcome<'p>>, RunFault>
         ensures same { self.new ≡ self.old }
         ensures program { IfOk result (λ found. IfSome found (λ outcome. source_of outcome.program ≡ source_of (program_of self.old.thread))) }
     {
-        let Some(cell) = self.awaited.last() else {
+        let Some(receiver) = self.awaited.pop() else {
             return Err(RunFault::Foreign);
         };
-        let Ok((outcome, _)) = cell.fetch() else {
-            return Ok(None);
-        };
-        self.awaited.pop();
-        Ok(Some(outcome))
+        match receiver.fetch() {
+            Ok((outcome, cell)) => {
+                spares.cells.give(cell);
+                Ok(Some(outcome))
+            }
+            Err(receiver) => {
+                self.awaited.push_reserved(receiver);
+                Ok(None)
+            }
+        }
     }
 }

@@ -1,6 +1,5 @@
 //! What a worker does with a job: it runs a slice, and answers what the slice asks for.
 ghost use Rattle.std.specs.Prelude.{◌≡◌, ◌≤◌, [], IfOk, OnOk};
-ghost use Rattle.std.specs.Arc.{arc_value};
 ghost use Rattle.arachne_lang.specs.Program.{source_of};
 ghost use Rattle.arachne_lang.specs.Checked.{IsChecked};
 ghost use Rattle.std.specs.Prelude.{ℕ, Option, None, Some};
@@ -11,12 +10,11 @@ ghost use Rattle.arachne_machine.specs.declared.pause.Pending.TheVariants as pau
 ghost use Rattle.arachne_run.specs.Slices.{IsLeft, UsesSteps};
 
 use crate::fault::RunFault;
-use crate::wanted::Cell;
+use crate::wanted::OutcomeReceiver;
 use arachne_contexts::Tagged;
 use arachne_core::ThreadId;
 use arachne_lang::{Class, Program};
 use std::alloc::{AllocError, Global};
-use std::sync::Arc;
 
 /// Where a slice stops.
 #[derive(Drop)]
@@ -44,6 +42,9 @@ pub trait RunJob: Tagged + Drop {
     /// A thread that was forked and has no place yet.
     type Child: Drop + Send;
 
+    /// What a worker keeps of ended threads for those that begin.
+    type Spares: Drop;
+
     /// The tag of the thread that goes on next: the job's own, or that of one that runs in its place.
     ghost running_tag_of: { Self → ℕ };
 
@@ -56,12 +57,19 @@ pub trait RunJob: Tagged + Drop {
     /// The job forks this child, and is not answered.
     ghost forks: { Self → Self.Child → Type 0 };
 
+    /// Nothing is kept yet. It takes no memory.
+    fn spares(alloc: Global) -> Self::Spares;
+
     /// The tag of the thread that goes on next, and whose the pause is that is not answered.
     fn running_tag(&self) -> u64
         ensures { result ≡ running_tag_of self.now };
 
     /// Goes on for at most as many steps as are left, of which fewer are left then. A thread that waits makes none.
-    fn slice(&mut self, left: &mut u32) -> Result<Slice<Self::Child>, RunFault>
+    fn slice(
+        &mut self,
+        left: &mut u32,
+        spares: &mut Self::Spares,
+    ) -> Result<Slice<Self::Child>, RunFault>
         requires { 1 ≤ left.old }
         ensures tag { Self.tag_of self.new ≡ Self.tag_of self.old }
         ensures steps { IfOk result (λ slice. UsesSteps slice left.old left.new) }
@@ -75,6 +83,7 @@ pub trait RunJob: Tagged + Drop {
         me: ThreadId,
         child: Self::Child,
         tag: u64,
+        spares: &mut Self::Spares,
     ) -> Result<Self, RunFault>
         requires { forks self.old child }
         ensures tag { Self.tag_of self.new ≡ Self.tag_of self.old }
@@ -111,7 +120,7 @@ pub trait RunJob: Tagged + Drop {
         ensures parent { parent_of self.new ≡ parent_of self.old }
         ensures answered { pause_of self.new ≡ None };
 
-    /// Leaves the outcome in the job's cell. Its parent is to be woken; the root has none.
+    /// Leaves the outcome for its parent, which is to be woken; the root has none.
     fn leave(self) -> Option<ThreadId>
         requires { pause_of self ≡ Some pause.Ended }
         ensures { result ≡ parent_of self };
@@ -119,10 +128,14 @@ pub trait RunJob: Tagged + Drop {
 
 /// The jobs of a program's threads.
 pub trait JobOf<'p>: RunJob {
-    /// The root's job, and the cell that its outcome comes to.
-    fn begin(alloc: Global, program: &'p Program) -> Result<(Self, Arc<Cell<'p>>), AllocError>
+    /// The root's job, and the end that its outcome comes to.
+    fn begin(
+        alloc: Global,
+        program: &'p Program,
+        spares: &mut Self::Spares,
+    ) -> Result<(Self, OutcomeReceiver<'p>), AllocError>
         requires { IsChecked (source_of program.now) }
-        ensures program { IfOk result (λ made. (arc_value made.1).key.program.value ≡ program.now) }
-        ensures name { IfOk result (λ made. (arc_value made.1).key.name.value ≡ []) }
+        ensures program { IfOk result (λ made. made.1.opening.key.program.value ≡ program.now) }
+        ensures name { IfOk result (λ made. made.1.opening.key.name.value ≡ []) }
         ensures parent { IfOk result (λ made. Self.parent_of made.0 ≡ None) };
 }

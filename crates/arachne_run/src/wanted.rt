@@ -1,5 +1,5 @@
-//! The cell that a fork's parent and child share.
-use arachne_join::{Fits, JoinCell};
+//! What a fork's child leaves for its parent.
+use arachne_join::{Fits, Receiver, Sender};
 use arachne_lang::{Name, Program};
 use arachne_machine::Outcome;
 use std::snapshot::Snapshot;
@@ -19,5 +19,8 @@ impl<'p> Fits<Wanted> for Outcome<'p> {
     ghost fits = { IsWanted };
 }
 
-/// The cell that the outcome of a thread comes to.
-pub type Cell<'p> = JoinCell<Outcome<'p>, Wanted>;
+/// The end that leaves the outcome of a thread.
+pub type OutcomeSender<'p> = Sender<Outcome<'p>, Wanted>;
+
+/// The end that the outcome of a thread comes to.
+pub type OutcomeReceiver<'p> = Receiver<Outcome<'p>, Wanted>;
