@@ -59,14 +59,15 @@ impl Arbiter {
     }
 
     /// Applies the orders that are due, and moves threads away from one closed core. To be called before each slice of
-    /// the kernel thread, and while it finds nothing to run. The counts are read only while an order is left.
+    /// the kernel thread, and while it finds nothing to run. The counts are read only while an order is left. Answers the
+    /// cores to which threads were moved, a bit for each.
     pub fn tend<H: Wait, T: Tagged, C: Contexts<T>>(
         &mut self,
         cores: &Cores<'_, H, T, C>,
         seat: &mut C::Seat,
         parking: &Parking,
         slices: &SliceCounts,
-    )
+    ) -> u16
         requires seat { C.sits cores.now.table.now seat.old }
         requires cores { self.old.cores ≡ cores.now.count }
         requires parking { parked_cores parking.now ≡ cores.now.count }
@@ -78,7 +79,7 @@ impl Arbiter {
         if !self.orders.are_over() {
             self.apply_due(cores, seat, parking, slices.total());
         }
-        self.drain(cores, seat);
+        self.drain(cores, seat)
     }
 
     /// Applies the orders that are due once so many slices have ended: a release closes its core, a grant opens its core
@@ -138,12 +139,12 @@ impl Arbiter {
 
     /// Moves threads away from one of the cores that orders have closed, each core in its turn: what is at rest goes to
     /// the first other core in ascending order that has room. What is held, not posted yet or alone on its core stays.
-    /// Looks at nothing once all closed cores are drained.
+    /// Looks at nothing once all closed cores are drained. Answers the cores to which threads were moved, a bit for each.
     pub fn drain<H: Wait, T: Tagged, C: Contexts<T>>(
         &mut self,
         cores: &Cores<'_, H, T, C>,
         seat: &mut C::Seat,
-    )
+    ) -> u16
         requires seat { C.sits cores.now.table.now seat.old }
         requires cores { self.old.cores ≡ cores.now.count }
         ensures seat { C.sits cores.now.table.now seat.new }
@@ -151,6 +152,8 @@ impl Arbiter {
         ensures out { KeepsOut (C.has cores.now.table.now) seat.old seat.new }
         ensures progress { self.new ≡ self.old }
     {
-        self.draining.round(cores, seat);
+        let mut receivers = 0;
+        self.draining.round(cores, seat, &mut receivers);
+        receivers
     }
 }

@@ -48,12 +48,13 @@ impl Draining {
         self.waiting[usize::from(core)] = false;
     }
 
-    /// Moves threads away from one of the cores that are to be drained, each in its turn. Looks at nothing where there is
-    /// none.
+    /// Moves threads away from one of the cores that are to be drained, each in its turn, and adds the cores that they were
+    /// moved to. Looks at nothing where there is none.
     pub(crate) fn round<H: Wait, T: Tagged, C: Contexts<T>>(
         &mut self,
         cores: &Cores<'_, H, T, C>,
         seat: &mut C::Seat,
+        receivers: &mut u16,
     )
         requires seat { C.sits cores.now.table.now seat.old }
         requires cores { vec_len self.old.waiting ≡ cores.now.count }
@@ -67,7 +68,7 @@ impl Draining {
         }
         match self.next_core(cores.count) {
             Some(core) => {
-                if cores.move_away(seat, core) {
+                if cores.move_away(seat, core, receivers) {
                     self.stop(core);
                 }
             }
@@ -98,8 +99,8 @@ impl Draining {
 impl<'a, H: Wait, T: Tagged, C: Contexts<T>> Cores<'a, H, T, C> {
     /// Moves what is at rest on a closed core to the other cores, the first that has room in ascending order. What is
     /// held, was claimed and not posted, or met a race is left for a later call, and so is all where there is no room.
-    /// Whether nothing is left on the core.
-    pub(crate) fn move_away(&self, seat: &mut C::Seat, core: u8) -> bool
+    /// Adds the cores that something was moved to. Whether nothing is left on the core.
+    pub(crate) fn move_away(&self, seat: &mut C::Seat, core: u8, receivers: &mut u16) -> bool
         requires seat { C.sits self.now.table.now seat.old }
         requires core { core < self.now.count }
         ensures seat { C.sits self.now.table.now seat.new }
@@ -119,15 +120,15 @@ impl<'a, H: Wait, T: Tagged, C: Contexts<T>> Cores<'a, H, T, C> {
                 break;
             }
             if occupancy.is_occupied(index) {
-                to = self.move_from(seat, Place { core, index }, to);
+                to = self.move_from(seat, Place { core, index }, to, receivers);
             }
         }
         false
     }
 
-    /// Moves the thread at a place to the first other core from this one on that has room. The core that is tried first
-    /// for the next thread: those before it have no room.
-    fn move_from(&self, seat: &mut C::Seat, place: Place, from: u8) -> u8
+    /// Moves the thread at a place to the first other core from this one on that has room, and adds that core. The core
+    /// that is tried first for the next thread: those before it have no room.
+    fn move_from(&self, seat: &mut C::Seat, place: Place, from: u8, receivers: &mut u16) -> u8
         requires seat { C.sits self.now.table.now seat.old }
         requires core { place.core < self.now.count }
         requires index { place.index < SLOTS }
@@ -139,9 +140,13 @@ impl<'a, H: Wait, T: Tagged, C: Contexts<T>> Cores<'a, H, T, C> {
             if to == place.core {
                 continue;
             }
-            let moved = self.table.move_one(self.rt, seat, place, to);
-            if !matches!(moved, Moved::NoRoom(_)) {
-                return to;
+            match self.table.move_one(self.rt, seat, place, to) {
+                Moved::NoRoom(_) => {}
+                Moved::Moved => {
+                    *receivers |= 1 << u32::from(to);
+                    return to;
+                }
+                Moved::Unposted | Moved::Running | Moved::Alone | Moved::Lost(_) => return to,
             }
         }
         self.count

@@ -1,6 +1,6 @@
 -- Whose tokens they are, and what is out with them.
-use Rattle.std.specs.Prelude.{◌≡◌, ◌≤◌, ℕ, List, [], ◌∷◌, Option, IfSome, length}
-use Rattle.arachne_contexts.specs.Out.{Out, Claim, Thread}
+use Rattle.std.specs.Prelude.{◌≡◌, ◌≤◌, ℕ, List, Option, IfSome, length}
+use Rattle.arachne_contexts.specs.Out.{Out, Thread}
 use Rattle.arachne_contexts.specs.declared.held.Held.{Held}
 use Rattle.arachne_ledger.specs.Views.{IsShareOf}
 use Rattle.arachne_sleep.specs.SleepLocks.{AreSeatsOf}

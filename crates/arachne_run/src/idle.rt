@@ -10,7 +10,16 @@ const LAST_SPIN: u32 = 6;
 
 const LAST_YIELD: u32 = 20;
 
-const LONGEST_SLEEP: u64 = 100;
+/// How long the first sleep in turn takes, in microseconds. Each further one takes twice as long, up to a longest.
+const FIRST_SLEEP: u64 = 64;
+
+const MOST_DOUBLINGS: u32 = 4;
+
+/// The longest sleep of a worker that has to look by itself whether something is due, in microseconds.
+pub(crate) const SHORT_SLEEP: u64 = 100;
+
+/// The longest sleep of a worker that is woken when there is something to run.
+pub(crate) const LONG_SLEEP: u64 = FIRST_SLEEP << MOST_DOUBLINGS;
 
 /// How many times in turn a worker has found nothing.
 #[derive(Clone, Copy, Debug, PartialEq, Eq)]
@@ -28,20 +37,29 @@ impl Idle {
         self.rounds = 0;
     }
 
-    /// Waits, longer the more often nothing was found: it spins, then yields the processor, then sleeps for up to 100
-    /// microseconds, or until all workers stop.
-    pub(crate) fn wait<H: Wait>(&mut self, rt: &H, shared: &Shared) {
+    /// Whether it looks at all that is occupied, and not at what was hinted alone: when it has nothing to run, and before
+    /// each sleep.
+    pub(crate) fn looks_at_all(self) -> bool {
+        self.rounds == 0 || self.rounds > LAST_YIELD
+    }
+
+    /// Waits, longer the more often nothing was found: it spins, then yields the processor, then sleeps. Each of these ends
+    /// once a thread of the core may be ready, and a sleep once all workers stop too. The longest sleep is in microseconds.
+    pub(crate) fn wait<H: Wait>(&mut self, rt: &H, shared: &Shared, core: u8, longest: u64) {
         let round = self.rounds;
         if round <= LAST_SPIN {
             for _ in 0..1u32 << round {
+                if shared.readiness().is_hinted(core) {
+                    break;
+                }
                 spin_loop();
             }
         } else if round <= LAST_YIELD {
             thread::yield_now();
         } else {
-            let doublings = (round - LAST_YIELD).min(7);
-            let spell = (1u64 << doublings).min(LONGEST_SLEEP);
-            shared.sleep(rt, Duration::from_micros(spell));
+            let doublings = (round - LAST_YIELD - 1).min(MOST_DOUBLINGS);
+            let spell = (FIRST_SLEEP << doublings).min(longest);
+            shared.sleep(rt, core, Duration::from_micros(spell));
         }
         self.rounds = round.saturating_add(1);
     }

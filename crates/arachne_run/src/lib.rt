@@ -10,6 +10,7 @@ mod job;
 mod locking;
 mod machine;
 mod placing;
+mod readiness;
 mod report;
 mod running;
 mod seated;

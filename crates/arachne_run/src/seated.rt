@@ -6,10 +6,11 @@ ghost use Rattle.arachne_run.specs.Tokens.{AreIdle, AreOf, AreWith, thread_in};
 
 use crate::fault::RunFault;
 use crate::gate::Gate;
+use crate::readiness::bit_of;
 use crate::slice::RunJob;
 use crate::worker::{Kit, Worker};
-use arachne_contexts::{Claimed, Contexts, Held, Taken, Woken};
-use arachne_core::{Rest, SLOTS, ThreadId};
+use arachne_contexts::{Claimed, Contexts, Held, Placed, Rested, Taken, Woken};
+use arachne_core::{MarkWord, Place, Rest, SLOTS, ThreadId};
 use rand_core::Rng;
 use std::sync::Wait;
 
@@ -33,7 +34,10 @@ impl<'a, H: Wait, T: RunJob, C: Contexts<T>, R: Rng, G: Gate> Worker<'a, H, T, C
         match table.take(self.rt, &mut kit.tokens.seat, self.core, index) {
             Taken::Run(held) => Some(held),
             Taken::NotReady(_) => None,
-            Taken::Lost(_) => None,
+            Taken::Lost(_) => {
+                kit.ready |= bit_of(index);
+                None
+            }
         }
     }
 
@@ -48,9 +52,15 @@ impl<'a, H: Wait, T: RunJob, C: Contexts<T>, R: Rng, G: Gate> Worker<'a, H, T, C
         requires rest { MayRest rest (T.pause_of held.value) }
         ensures { OnOk result (AreIdle C.sits C.idle self.now.machine.now kit.new.tokens) }
     {
+        let index = held.place().index;
         let table = &self.machine.table;
         match table.put_back(self.rt, &mut kit.tokens.seat, held, rest) {
-            Ok(_) => Ok(()),
+            Ok(rested) => {
+                if rest == Rest::Ready || rested == Rested::WokenMeanwhile {
+                    kit.ready |= bit_of(index);
+                }
+                Ok(())
+            }
             Err(_) => Err(RunFault::Token),
         }
     }
@@ -80,10 +90,41 @@ impl<'a, H: Wait, T: RunJob, C: Contexts<T>, R: Rng, G: Gate> Worker<'a, H, T, C
     {
         for _ in self.rt.forever() {
             let table = &self.machine.table;
-            let woken = table.wake(self.rt, &mut kit.tokens.seat, id);
-            if !matches!(woken, Woken::Lost(_)) {
-                break;
+            match table.wake(self.rt, &mut kit.tokens.seat, id) {
+                Woken::Lost(_) => {}
+                Woken::Woken => {
+                    self.hint_at_context(kit, id.context);
+                    break;
+                }
+                Woken::Already(_) | Woken::Gone => break,
             }
+        }
+    }
+
+    /// Says that a thread may be ready where a context is. If that is moved meanwhile, the arbiter says so of its new core.
+    fn hint_at_context(&self, kit: &mut Kit<C::Seat, R>, context: u32)
+        requires { AreOf C.sits self.now.machine.now kit.old.tokens }
+        ensures tokens { AreOf C.sits self.now.machine.now kit.new.tokens }
+        ensures out { KeepsOut (C.has self.now.machine.now.table) kit.old.tokens.seat kit.new.tokens.seat }
+    {
+        if context >= u32::from(self.machine.cores) * u32::from(SLOTS) {
+            return;
+        }
+        let table = &self.machine.table;
+        let word = table.look_mark(self.rt, &mut kit.tokens.seat, context);
+        if let Some(mark) = MarkWord::from_word(word) {
+            self.hint(kit, mark.place());
+        }
+    }
+
+    /// Says that a thread may be ready at a place: to the worker of its core, or to itself.
+    fn hint(&self, kit: &mut Kit<C::Seat, R>, place: Place)
+        ensures { kit.new.tokens ≡ kit.old.tokens }
+    {
+        if place.core == self.core {
+            kit.ready |= bit_of(place.index);
+        } else {
+            self.machine.shared.readiness().hint(place);
         }
     }
 
@@ -99,9 +140,13 @@ impl<'a, H: Wait, T: RunJob, C: Contexts<T>, R: Rng, G: Gate> Worker<'a, H, T, C
         ensures { OnOk result (AreWith C.sits C.has self.now.machine.now (thread_in T.tag_of held.now ∷ []) kit.new.tokens) }
     {
         let _ = held;
+        let place = claim.place();
         let table = &self.machine.table;
         match table.post(self.rt, &mut kit.tokens.seat, claim, job) {
-            Ok(_) => Ok(()),
+            Ok(_) => {
+                self.hint(kit, place);
+                Ok(())
+            }
             Err(_) => Err(RunFault::Token),
         }
     }
@@ -112,9 +157,13 @@ impl<'a, H: Wait, T: RunJob, C: Contexts<T>, R: Rng, G: Gate> Worker<'a, H, T, C
         ensures { OnOk result (AreIdle C.sits C.idle self.now.machine.now kit.new.tokens) }
     {
         let claim = self.claim_root(kit)?;
+        let place = claim.place();
         let table = &self.machine.table;
         match table.post(self.rt, &mut kit.tokens.seat, claim, root) {
-            Ok(_) => Ok(()),
+            Ok(_) => {
+                self.hint(kit, place);
+                Ok(())
+            }
             Err(_) => Err(RunFault::Token),
         }
     }

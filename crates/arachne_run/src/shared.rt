@@ -3,6 +3,7 @@ ghost use Rattle.std.specs.Prelude.{◌≡◌, IfOk};
 ghost use Rattle.arachne_arbiter.specs.KernelThreads.{counted_cores, parked_cores};
 
 use crate::fault::RunFault;
+use crate::readiness::Readiness;
 use arachne_arbiter::{Parking, SliceCounts};
 use crossbeam_utils::CachePadded;
 use std::alloc::{AllocError, Global};
@@ -11,13 +12,15 @@ use std::sync::atomic::{AtomicU64, Ordering};
 use std::sync::{Mutex, Wait};
 use std::time::Duration;
 
-/// The word that stops all workers, the next thread's tag, the first fault, and for each core the parker of its kernel
-/// thread and the count of its slices. The tag, the parkers and the counts have cache lines of their own.
+/// The word that stops all workers, the next thread's tag, the first fault, and for each core where threads may be ready,
+/// the parker of its kernel thread and the count of its slices. The tag and what is there for each core have cache lines of
+/// their own.
 #[derive(Drop)]
 pub(crate) struct Shared {
     stop: AtomicU64,
     next_tag: CachePadded<AtomicU64>,
     first_fault: Mutex<Option<RunFault>>,
+    readiness: Readiness,
     parking: Parking,
     slices: SliceCounts,
 }
@@ -31,7 +34,7 @@ impl Model for Shared {
 
     ghost view = { λ s. parked_cores s.parking };
 
-    ghost invariant = { λ s. counted_cores s.slices ≡ parked_cores s.parking };
+    ghost invariant = { λ s. (counted_cores s.slices ≡ parked_cores s.parking) × (s.readiness ≡ parked_cores s.parking) };
 }
 
 impl Shared {
@@ -39,15 +42,24 @@ impl Shared {
     pub(crate) fn new(alloc: Global, cores: u8) -> Result<Shared, AllocError>
         ensures { IfOk result (λ shared. shared ≡ cores) }
     {
+        let readiness = Readiness::new(alloc, cores)?;
         let parking = Parking::new(alloc, cores)?;
         let slices = SliceCounts::new(alloc, cores)?;
         Ok(Shared {
             stop: AtomicU64::new(0),
             next_tag: CachePadded::new(AtomicU64::new(1)),
             first_fault: Mutex::new(None),
+            readiness,
             parking,
             slices,
         })
+    }
+
+    /// Where threads may be ready.
+    pub(crate) fn readiness(&self) -> &Readiness
+        ensures { result.now ≡ self.now }
+    {
+        &self.readiness
     }
 
     /// The parkers of the kernel threads.
@@ -67,7 +79,7 @@ impl Shared {
     /// Stops all workers, those that sleep or are parked too.
     pub(crate) fn stop(&self) {
         self.stop.store(1, Ordering::SeqCst);
-        self.stop.wake_all();
+        self.readiness.wake_all();
         self.parking.unpark_all();
     }
 
@@ -75,9 +87,12 @@ impl Shared {
         self.stop.load(Ordering::SeqCst) != 0
     }
 
-    /// Sleeps for so long, or until all workers stop.
-    pub(crate) fn sleep<H: Wait>(&self, rt: &H, spell: Duration) {
-        self.stop.park_timeout(rt, 0, spell);
+    /// A core's worker sleeps for so long, or until a thread of its core may be ready or all workers stop.
+    pub(crate) fn sleep<H: Wait>(&self, rt: &H, core: u8, spell: Duration) {
+        // A stop after the look at its word finds that the worker is about to sleep, and wakes it.
+        if self.readiness.is_about_to_sleep(core) && !self.is_stopped() {
+            self.readiness.sleep(rt, core, spell);
+        }
     }
 
     /// A tag that no other thread of the run has, as long as there are fewer than 2^64.

@@ -7,7 +7,7 @@ ghost use Rattle.arachne_run.specs.Tokens.{AreIdle, AreOf, AreWith, IsSetUp, thr
 
 use crate::fault::RunFault;
 use crate::gate::Gate;
-use crate::idle::Idle;
+use crate::idle::{Idle, LONG_SLEEP, SHORT_SLEEP};
 use crate::machine::Machine;
 use crate::slice::{RunJob, Slice};
 use crate::tokens::Tokens;
@@ -19,12 +19,30 @@ use std::alloc::Global;
 use std::marker::PhantomData;
 use std::sync::Wait;
 
-/// What a worker alone has: its tokens, its core's chooser, and how many slices it has begun.
+/// What a worker alone has.
 #[derive(Drop)]
 pub(crate) struct Kit<S, R> {
     pub(crate) tokens: Tokens<S>,
+    /// Its core's chooser.
     pub(crate) chooser: R,
+    /// How many slices it has begun.
     pub(crate) slices: u64,
+    /// The indexes of its core at which it knows of a thread that may be ready, a bit for each.
+    pub(crate) ready: u64,
+}
+
+impl<S, R> Kit<S, R> {
+    /// What a worker begins with.
+    pub(crate) fn new(tokens: Tokens<S>, chooser: R) -> Kit<S, R>
+        ensures { result.tokens ≡ tokens }
+    {
+        Kit {
+            tokens,
+            chooser,
+            slices: 0,
+            ready: 0,
+        }
+    }
 }
 
 /// The worker of one core.
@@ -60,29 +78,56 @@ impl<'a, H: Wait, T: RunJob, C: Contexts<T>, R: Rng, G: Gate> Worker<'a, H, T, C
             if self.machine.shared.is_stopped() {
                 return Ok(());
             }
-            if self.scan(kit)? || self.park(kit) {
+            if self.run_hinted(kit)? || idle.looks_at_all() && self.run_occupied(kit)? {
                 idle.reset();
             } else {
                 self.tend(kit);
-                idle.wait(self.rt, &self.machine.shared);
+                idle.wait(
+                    self.rt,
+                    &self.machine.shared,
+                    self.core,
+                    self.longest_sleep(kit),
+                );
             }
         }
         unreachable!()
     }
 
-    /// Runs each thread of the core that is ready, for one slice, unless all workers stop. Whether there was one.
-    fn scan(&self, kit: &mut Kit<C::Seat, R>) -> Result<bool, RunFault>
+    /// Runs the threads that may be ready as far as it was told. Whether there was one that was.
+    fn run_hinted(&self, kit: &mut Kit<C::Seat, R>) -> Result<bool, RunFault>
         requires { AreIdle C.sits C.idle self.now.machine.now kit.old.tokens }
         ensures { OnOk result (AreIdle C.sits C.idle self.now.machine.now kit.new.tokens) }
     {
-        let mut occupied = self.look(kit);
+        let hinted = self.machine.shared.readiness().take(self.core);
+        let indexes = kit.ready | hinted;
+        kit.ready = 0;
+        self.run_each(kit, indexes)
+    }
+
+    /// Runs the threads that are ready of all that are on the core, and parks where the core is closed and there is none.
+    /// Whether there was one, or it has parked.
+    fn run_occupied(&self, kit: &mut Kit<C::Seat, R>) -> Result<bool, RunFault>
+        requires { AreIdle C.sits C.idle self.now.machine.now kit.old.tokens }
+        ensures { OnOk result (AreIdle C.sits C.idle self.now.machine.now kit.new.tokens) }
+    {
+        let occupied = self.look(kit);
+        Ok(self.run_each(kit, occupied)? || self.park(kit))
+    }
+
+    /// Runs each thread that is ready at one of these indexes of the core, for one slice, unless all workers stop. Whether
+    /// there was one.
+    fn run_each(&self, kit: &mut Kit<C::Seat, R>, indexes: u64) -> Result<bool, RunFault>
+        requires { AreIdle C.sits C.idle self.now.machine.now kit.old.tokens }
+        ensures { OnOk result (AreIdle C.sits C.idle self.now.machine.now kit.new.tokens) }
+    {
+        let mut indexes = indexes;
         let mut found = false;
         for _ in 0..SLOTS {
-            let index = occupied.trailing_zeros() as u8;
+            let index = indexes.trailing_zeros() as u8;
             if index >= SLOTS || self.machine.shared.is_stopped() {
                 break;
             }
-            occupied ^= 1 << u32::from(index);
+            indexes ^= 1 << u32::from(index);
             self.tend(kit);
             if let Some(held) = self.take(kit, index) {
                 found = true;
@@ -184,12 +229,23 @@ impl<'a, H: Wait, T: RunJob, C: Contexts<T>, R: Rng, G: Gate> Worker<'a, H, T, C
     {
         let shared = &self.machine.shared;
         if let Some(arbiter) = &mut kit.tokens.arbiter {
-            arbiter.tend(
+            let receivers = arbiter.tend(
                 &self.cores(),
                 &mut kit.tokens.seat,
                 shared.parking(),
                 shared.slices(),
             );
+            if receivers != 0 {
+                shared.readiness().hint_cores(receivers);
+            }
+        }
+    }
+
+    /// How long the worker may sleep, in microseconds: nobody tells the arbiter that an order is due.
+    fn longest_sleep(&self, kit: &Kit<C::Seat, R>) -> u64 {
+        match &kit.tokens.arbiter {
+            Some(arbiter) if arbiter.applied() < self.machine.orders => SHORT_SLEEP,
+            _ => LONG_SLEEP,
         }
     }
 

@@ -1,4 +1,4 @@
-use Rattle.std.proofs.Common.{Ok, ap, arith, rules}
+use Rattle.std.proofs.Common.{Ok, ap, arith}
 use Rattle.std.proofs.lemmas.List.{length-map}
 use Rattle.arachne_run.proofs.Granting.{granted-more}
 use Rattle.arachne_run.proofs.audit.are_grants_holds.Goals as goal

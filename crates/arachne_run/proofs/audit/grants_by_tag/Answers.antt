@@ -1,4 +1,4 @@
-use Rattle.std.proofs.Common.{◌<◌, get_or, length, take, arith, rules}
+use Rattle.std.proofs.Common.{◌<◌, length, take, arith, rules}
 use Rattle.std.proofs.lemmas.List.{get_or_read, length-take}
 use Rattle.std.proofs.lemmas.List.Sums.{count_by-le-length}
 use Rattle.arachne_run.specs.Histories.{is_grant_to}

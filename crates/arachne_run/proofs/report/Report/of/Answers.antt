@@ -1,4 +1,4 @@
-use Rattle.std.proofs.Common.{Ok, ap, rules}
+use Rattle.std.proofs.Common.{Ok, ap}
 use Rattle.arachne_run.proofs.Granting.{granted-same}
 use Rattle.arachne_run.proofs.report.Report.of.Goals as goal
 
