@@ -3,8 +3,8 @@ use denote.Ref.{NamedLft}
 use denote.Param.Send.{IsSend, IsSync, sendable}
 use Rattle.std.proofs.Crossing as std
 use Rattle.arachne_core.proofs.thread_id.ThreadId.TheSendSync as id
-use Rattle.arachne_join.proofs.cell.JoinCell.TheSendSync as cell
-use Rattle.arachne_join.proofs.sending_end.SendingEnd.TheSendSync as end
+use Rattle.arachne_join.proofs.ends.Sender.TheSendSync as sender
+use Rattle.arachne_join.proofs.ends.Receiver.TheSendSync as receiver
 use Rattle.arachne_machine.proofs.Crossing.{thread_field_send, outcome_send}
 use Rattle.arachne_run.specs.contracts.job.Job as job
 use Rattle.arachne_run.specs.contracts.wanted.Wanted as wanted
@@ -16,4 +16,4 @@ pub wanted_sync : IsSync wanted.the_row
 wanted_sync = search (sendable, std.crosses) depth 30
 
 pub job_send : (κ : NamedLft) → IsSend (job.the_row κ)
-job_send κ = search (sendable, std.crosses, thread_field_send, end.the_send, cell.the_send, cell.the_sync, outcome_send, id.the_field_send) depth 30
+job_send κ = search (sendable, std.crosses, thread_field_send, sender.the_send, receiver.the_send, outcome_send, id.the_field_send) depth 30

@@ -40,7 +40,7 @@ impl<'a, H: Wait, T: RunJob, C: Contexts<T>, R: Rng, G: Gate> Worker<'a, H, T, C
     /// Asks for a lock for a thread. Whether it holds it at once and goes on; else it waits.
     pub(crate) fn ask(
         &self,
-        kit: &mut Kit<C::Seat, R>,
+        kit: &mut Kit<C::Seat, R, T::Spares>,
         held: &mut Held<T, C::Hold>,
         lock: u64,
     ) -> Result<bool, RunFault>
@@ -57,7 +57,7 @@ impl<'a, H: Wait, T: RunJob, C: Contexts<T>, R: Rng, G: Gate> Worker<'a, H, T, C
     /// Looks whether a thread that has waited for a lock holds it now and goes on; else it waits.
     pub(crate) fn look_for_pass(
         &self,
-        kit: &mut Kit<C::Seat, R>,
+        kit: &mut Kit<C::Seat, R, T::Spares>,
         held: &mut Held<T, C::Hold>,
         lock: u64,
     ) -> Result<bool, RunFault>
@@ -74,7 +74,7 @@ impl<'a, H: Wait, T: RunJob, C: Contexts<T>, R: Rng, G: Gate> Worker<'a, H, T, C
     /// Frees a lock for a thread, and wakes the thread that holds it next.
     pub(crate) fn free(
         &self,
-        kit: &mut Kit<C::Seat, R>,
+        kit: &mut Kit<C::Seat, R, T::Spares>,
         held: &mut Held<T, C::Hold>,
         lock: u64,
     ) -> Result<(), RunFault>
@@ -104,7 +104,7 @@ impl<'a, H: Wait, T: RunJob, C: Contexts<T>, R: Rng, G: Gate> Worker<'a, H, T, C
     /// The pass of a thread that asks and holds the lock at once.
     fn try_ask(
         &self,
-        kit: &mut Kit<C::Seat, R>,
+        kit: &mut Kit<C::Seat, R, T::Spares>,
         held: &Held<T, C::Hold>,
         lock: u8,
     ) -> Result<Option<Pass>, RunFault>
@@ -127,7 +127,12 @@ impl<'a, H: Wait, T: RunJob, C: Contexts<T>, R: Rng, G: Gate> Worker<'a, H, T, C
     }
 
     /// The pass of a thread that has asked for the lock, if it holds it now.
-    fn check(&self, kit: &mut Kit<C::Seat, R>, held: &Held<T, C::Hold>, lock: u8) -> Option<Pass>
+    fn check(
+        &self,
+        kit: &mut Kit<C::Seat, R, T::Spares>,
+        held: &Held<T, C::Hold>,
+        lock: u8,
+    ) -> Option<Pass>
         requires tokens { AreWith C.sits C.has self.now.machine.now (thread_in T.tag_of held.now ∷ []) kit.old.tokens }
         requires lock { lock < length self.now.machine.now.locks }
         ensures { AreWith C.sits C.has self.now.machine.now (thread_in T.tag_of held.now ∷ []) kit.new.tokens }
@@ -150,7 +155,7 @@ impl<'a, H: Wait, T: RunJob, C: Contexts<T>, R: Rng, G: Gate> Worker<'a, H, T, C
     /// The id of the thread that holds the lock next, if any waits for it.
     fn try_free(
         &self,
-        kit: &mut Kit<C::Seat, R>,
+        kit: &mut Kit<C::Seat, R, T::Spares>,
         held: &Held<T, C::Hold>,
         lock: u8,
     ) -> Result<Option<ThreadId>, RunFault>

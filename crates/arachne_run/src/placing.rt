@@ -16,7 +16,7 @@ impl<'a, H: Wait, T: RunJob, C: Contexts<T>, R: Rng, G: Gate> Worker<'a, H, T, C
     /// Answers a fork: the child gets a place on a core that has one for a thread of its class, else it runs in place.
     pub(crate) fn fork(
         &self,
-        kit: &mut Kit<C::Seat, R>,
+        kit: &mut Kit<C::Seat, R, T::Spares>,
         held: &mut Held<T, C::Hold>,
         class: Class,
         child: T::Child,
@@ -35,7 +35,7 @@ impl<'a, H: Wait, T: RunJob, C: Contexts<T>, R: Rng, G: Gate> Worker<'a, H, T, C
     /// The child becomes a thread at the claimed place.
     fn fork_off(
         &self,
-        kit: &mut Kit<C::Seat, R>,
+        kit: &mut Kit<C::Seat, R, T::Spares>,
         held: &mut Held<T, C::Hold>,
         claim: C::Claim,
         child: T::Child,
@@ -47,14 +47,16 @@ impl<'a, H: Wait, T: RunJob, C: Contexts<T>, R: Rng, G: Gate> Worker<'a, H, T, C
     {
         let me = held.id();
         let tag = self.machine.shared.next_tag();
-        let job = held.value.fork_off(self.alloc, me, child, tag)?;
+        let job = held
+            .value
+            .fork_off(self.alloc, me, child, tag, &mut kit.spares)?;
         self.post(kit, held, claim, job)
     }
 
     /// The child runs in the place of the thread that forks it.
     fn fork_in_place(
         &self,
-        kit: &mut Kit<C::Seat, R>,
+        kit: &mut Kit<C::Seat, R, T::Spares>,
         held: &mut Held<T, C::Hold>,
         child: T::Child,
     ) -> Result<(), RunFault>
@@ -72,7 +74,7 @@ impl<'a, H: Wait, T: RunJob, C: Contexts<T>, R: Rng, G: Gate> Worker<'a, H, T, C
     /// that are drawn, else on another core that has one; an exclusive one on an empty core.
     fn claim(
         &self,
-        kit: &mut Kit<C::Seat, R>,
+        kit: &mut Kit<C::Seat, R, T::Spares>,
         held: &Held<T, C::Hold>,
         class: Class,
     ) -> Result<Option<C::Claim>, RunFault>

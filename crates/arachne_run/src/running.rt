@@ -57,7 +57,7 @@ pub fn run<
     setup.check(choosers.len())?;
     let mut choosers = choosers;
     choosers.reverse();
-    let (root, outlet) = T::begin(alloc, program)?;
+    let (root, receiver) = T::begin(alloc, program, &mut T::spares(alloc))?;
     let (machine, tokens) = Machine::<C>::new(
         alloc,
         setup.cores as u8,
@@ -67,7 +67,7 @@ pub fn run<
     )?;
     let tokens = work_all::<H, T, C, R, G>(rt, alloc, &machine, gate, root, choosers, tokens);
     let remains = machine.close::<H, T>(rt, alloc, tokens)?;
-    let Ok((outcome, _)) = outlet.fetch() else {
+    let Ok((outcome, _)) = receiver.fetch() else {
         return Err(RunFault::Foreign);
     };
     Report::of(alloc, outcome, remains)

@@ -16,7 +16,7 @@ use std::sync::Wait;
 
 impl<'a, H: Wait, T: RunJob, C: Contexts<T>, R: Rng, G: Gate> Worker<'a, H, T, C, R, G> {
     /// The occupancy word of the core.
-    pub(crate) fn look(&self, kit: &mut Kit<C::Seat, R>) -> u64
+    pub(crate) fn look(&self, kit: &mut Kit<C::Seat, R, T::Spares>) -> u64
         requires { AreIdle C.sits C.idle self.now.machine.now kit.old.tokens }
         ensures { AreIdle C.sits C.idle self.now.machine.now kit.new.tokens }
     {
@@ -25,7 +25,11 @@ impl<'a, H: Wait, T: RunJob, C: Contexts<T>, R: Rng, G: Gate> Worker<'a, H, T, C
     }
 
     /// The thread at an index of the core, if it is ready.
-    pub(crate) fn take(&self, kit: &mut Kit<C::Seat, R>, index: u8) -> Option<Held<T, C::Hold>>
+    pub(crate) fn take(
+        &self,
+        kit: &mut Kit<C::Seat, R, T::Spares>,
+        index: u8,
+    ) -> Option<Held<T, C::Hold>>
         requires tokens { AreIdle C.sits C.idle self.now.machine.now kit.old.tokens }
         requires index { index < SLOTS }
         ensures { MatchOption result (AreIdle C.sits C.idle self.now.machine.now kit.new.tokens) (λ held. AreWith C.sits C.has self.now.machine.now (thread_in T.tag_of held ∷ []) kit.new.tokens) }
@@ -44,7 +48,7 @@ impl<'a, H: Wait, T: RunJob, C: Contexts<T>, R: Rng, G: Gate> Worker<'a, H, T, C
     /// Puts a thread back to its place: as ready where its pause was answered, as blocked where it waits.
     pub(crate) fn put_back(
         &self,
-        kit: &mut Kit<C::Seat, R>,
+        kit: &mut Kit<C::Seat, R, T::Spares>,
         held: Held<T, C::Hold>,
         rest: Rest,
     ) -> Result<(), RunFault>
@@ -68,7 +72,7 @@ impl<'a, H: Wait, T: RunJob, C: Contexts<T>, R: Rng, G: Gate> Worker<'a, H, T, C
     /// Ends a thread.
     pub(crate) fn end(
         &self,
-        kit: &mut Kit<C::Seat, R>,
+        kit: &mut Kit<C::Seat, R, T::Spares>,
         held: Held<T, C::Hold>,
     ) -> Result<T, RunFault>
         requires { AreWith C.sits C.has self.now.machine.now (thread_in T.tag_of held ∷ []) kit.old.tokens }
@@ -83,7 +87,7 @@ impl<'a, H: Wait, T: RunJob, C: Contexts<T>, R: Rng, G: Gate> Worker<'a, H, T, C
     }
 
     /// Wakes the thread of this id, if it has not ended.
-    pub(crate) fn wake(&self, kit: &mut Kit<C::Seat, R>, id: ThreadId)
+    pub(crate) fn wake(&self, kit: &mut Kit<C::Seat, R, T::Spares>, id: ThreadId)
         requires { AreOf C.sits self.now.machine.now kit.old.tokens }
         ensures tokens { AreOf C.sits self.now.machine.now kit.new.tokens }
         ensures out { KeepsOut (C.has self.now.machine.now.table) kit.old.tokens.seat kit.new.tokens.seat }
@@ -102,7 +106,7 @@ impl<'a, H: Wait, T: RunJob, C: Contexts<T>, R: Rng, G: Gate> Worker<'a, H, T, C
     }
 
     /// Says that a thread may be ready where a context is. If that is moved meanwhile, the arbiter says so of its new core.
-    fn hint_at_context(&self, kit: &mut Kit<C::Seat, R>, context: u32)
+    fn hint_at_context(&self, kit: &mut Kit<C::Seat, R, T::Spares>, context: u32)
         requires { AreOf C.sits self.now.machine.now kit.old.tokens }
         ensures tokens { AreOf C.sits self.now.machine.now kit.new.tokens }
         ensures out { KeepsOut (C.has self.now.machine.now.table) kit.old.tokens.seat kit.new.tokens.seat }
@@ -118,7 +122,7 @@ impl<'a, H: Wait, T: RunJob, C: Contexts<T>, R: Rng, G: Gate> Worker<'a, H, T, C
     }
 
     /// Says that a thread may be ready at a place: to the worker of its core, or to itself.
-    fn hint(&self, kit: &mut Kit<C::Seat, R>, place: Place)
+    fn hint(&self, kit: &mut Kit<C::Seat, R, T::Spares>, place: Place)
         ensures { kit.new.tokens ≡ kit.old.tokens }
     {
         if place.core == self.core {
@@ -131,7 +135,7 @@ impl<'a, H: Wait, T: RunJob, C: Contexts<T>, R: Rng, G: Gate> Worker<'a, H, T, C
     /// Posts a thread that the one that is held has forked.
     pub(crate) fn post(
         &self,
-        kit: &mut Kit<C::Seat, R>,
+        kit: &mut Kit<C::Seat, R, T::Spares>,
         held: &Held<T, C::Hold>,
         claim: C::Claim,
         job: T,
@@ -152,7 +156,11 @@ impl<'a, H: Wait, T: RunJob, C: Contexts<T>, R: Rng, G: Gate> Worker<'a, H, T, C
     }
 
     /// Posts the root on this core.
-    pub(crate) fn post_root(&self, kit: &mut Kit<C::Seat, R>, root: T) -> Result<(), RunFault>
+    pub(crate) fn post_root(
+        &self,
+        kit: &mut Kit<C::Seat, R, T::Spares>,
+        root: T,
+    ) -> Result<(), RunFault>
         requires { AreIdle C.sits C.idle self.now.machine.now kit.old.tokens }
         ensures { OnOk result (AreIdle C.sits C.idle self.now.machine.now kit.new.tokens) }
     {
@@ -169,7 +177,7 @@ impl<'a, H: Wait, T: RunJob, C: Contexts<T>, R: Rng, G: Gate> Worker<'a, H, T, C
     }
 
     /// The root's place on this core, which a table on which nothing runs has.
-    fn claim_root(&self, kit: &mut Kit<C::Seat, R>) -> Result<C::Claim, RunFault>
+    fn claim_root(&self, kit: &mut Kit<C::Seat, R, T::Spares>) -> Result<C::Claim, RunFault>
         requires { AreIdle C.sits C.idle self.now.machine.now kit.old.tokens }
         ensures { IfOk result (λ claim. AreWith C.sits C.has self.now.machine.now (a_claim claim ∷ []) kit.new.tokens) }
     {

@@ -21,7 +21,7 @@ use std::sync::Wait;
 
 /// What a worker alone has.
 #[derive(Drop)]
-pub(crate) struct Kit<S, R> {
+pub(crate) struct Kit<S, R, P> {
     pub(crate) tokens: Tokens<S>,
     /// Its core's chooser.
     pub(crate) chooser: R,
@@ -29,11 +29,13 @@ pub(crate) struct Kit<S, R> {
     pub(crate) slices: u64,
     /// The indexes of its core at which it knows of a thread that may be ready, a bit for each.
     pub(crate) ready: u64,
+    /// What it keeps of ended threads for those that begin.
+    pub(crate) spares: P,
 }
 
-impl<S, R> Kit<S, R> {
+impl<S, R, P> Kit<S, R, P> {
     /// What a worker begins with.
-    pub(crate) fn new(tokens: Tokens<S>, chooser: R) -> Kit<S, R>
+    pub(crate) fn new(tokens: Tokens<S>, chooser: R, spares: P) -> Kit<S, R, P>
         ensures { result.tokens ≡ tokens }
     {
         Kit {
@@ -41,6 +43,7 @@ impl<S, R> Kit<S, R> {
             chooser,
             slices: 0,
             ready: 0,
+            spares,
         }
     }
 }
@@ -60,7 +63,11 @@ pub(crate) struct Worker<'a, H, T, C: Seats, R, G> {
 
 impl<'a, H: Wait, T: RunJob, C: Contexts<T>, R: Rng, G: Gate> Worker<'a, H, T, C, R, G> {
     /// Gives the root its place on this core, and runs threads until all workers stop.
-    pub(crate) fn begin(&self, kit: &mut Kit<C::Seat, R>, root: T) -> Result<(), RunFault>
+    pub(crate) fn begin(
+        &self,
+        kit: &mut Kit<C::Seat, R, T::Spares>,
+        root: T,
+    ) -> Result<(), RunFault>
         requires { AreIdle C.sits C.idle self.now.machine.now kit.old.tokens }
         ensures { OnOk result (AreIdle C.sits C.idle self.now.machine.now kit.new.tokens) }
     {
@@ -69,7 +76,7 @@ impl<'a, H: Wait, T: RunJob, C: Contexts<T>, R: Rng, G: Gate> Worker<'a, H, T, C
     }
 
     /// Runs threads until all workers stop. After an error something may be out with the seat.
-    pub(crate) fn work(&self, kit: &mut Kit<C::Seat, R>) -> Result<(), RunFault>
+    pub(crate) fn work(&self, kit: &mut Kit<C::Seat, R, T::Spares>) -> Result<(), RunFault>
         requires { AreIdle C.sits C.idle self.now.machine.now kit.old.tokens }
         ensures { OnOk result (AreIdle C.sits C.idle self.now.machine.now kit.new.tokens) }
     {
@@ -94,7 +101,7 @@ impl<'a, H: Wait, T: RunJob, C: Contexts<T>, R: Rng, G: Gate> Worker<'a, H, T, C
     }
 
     /// Runs the threads that may be ready as far as it was told. Whether there was one that was.
-    fn run_hinted(&self, kit: &mut Kit<C::Seat, R>) -> Result<bool, RunFault>
+    fn run_hinted(&self, kit: &mut Kit<C::Seat, R, T::Spares>) -> Result<bool, RunFault>
         requires { AreIdle C.sits C.idle self.now.machine.now kit.old.tokens }
         ensures { OnOk result (AreIdle C.sits C.idle self.now.machine.now kit.new.tokens) }
     {
@@ -106,7 +113,7 @@ impl<'a, H: Wait, T: RunJob, C: Contexts<T>, R: Rng, G: Gate> Worker<'a, H, T, C
 
     /// Runs the threads that are ready of all that are on the core, and parks where the core is closed and there is none.
     /// Whether there was one, or it has parked.
-    fn run_occupied(&self, kit: &mut Kit<C::Seat, R>) -> Result<bool, RunFault>
+    fn run_occupied(&self, kit: &mut Kit<C::Seat, R, T::Spares>) -> Result<bool, RunFault>
         requires { AreIdle C.sits C.idle self.now.machine.now kit.old.tokens }
         ensures { OnOk result (AreIdle C.sits C.idle self.now.machine.now kit.new.tokens) }
     {
@@ -116,7 +123,7 @@ impl<'a, H: Wait, T: RunJob, C: Contexts<T>, R: Rng, G: Gate> Worker<'a, H, T, C
 
     /// Runs each thread that is ready at one of these indexes of the core, for one slice, unless all workers stop. Whether
     /// there was one.
-    fn run_each(&self, kit: &mut Kit<C::Seat, R>, indexes: u64) -> Result<bool, RunFault>
+    fn run_each(&self, kit: &mut Kit<C::Seat, R, T::Spares>, indexes: u64) -> Result<bool, RunFault>
         requires { AreIdle C.sits C.idle self.now.machine.now kit.old.tokens }
         ensures { OnOk result (AreIdle C.sits C.idle self.now.machine.now kit.new.tokens) }
     {
@@ -139,7 +146,11 @@ impl<'a, H: Wait, T: RunJob, C: Contexts<T>, R: Rng, G: Gate> Worker<'a, H, T, C
     }
 
     /// One slice of a thread: it goes on for at most a quantum of steps, and what it asks for meanwhile is answered.
-    fn turn(&self, kit: &mut Kit<C::Seat, R>, held: Held<T, C::Hold>) -> Result<(), RunFault>
+    fn turn(
+        &self,
+        kit: &mut Kit<C::Seat, R, T::Spares>,
+        held: Held<T, C::Hold>,
+    ) -> Result<(), RunFault>
         requires { AreWith C.sits C.has self.now.machine.now (thread_in T.tag_of held ∷ []) kit.old.tokens }
         ensures { OnOk result (AreIdle C.sits C.idle self.now.machine.now kit.new.tokens) }
     {
@@ -148,7 +159,7 @@ impl<'a, H: Wait, T: RunJob, C: Contexts<T>, R: Rng, G: Gate> Worker<'a, H, T, C
         let mut held = held;
         let mut left = self.machine.quantum;
         while left > 0 {
-            match held.value.slice(&mut left)? {
+            match held.value.slice(&mut left, &mut kit.spares)? {
                 Slice::Goes => {}
                 Slice::Forks(class, child) => self.fork(kit, &mut held, class, child)?,
                 Slice::Blocks => return self.put_back(kit, held, Rest::Blocked),
@@ -175,7 +186,7 @@ impl<'a, H: Wait, T: RunJob, C: Contexts<T>, R: Rng, G: Gate> Worker<'a, H, T, C
     /// Adds to a ledger for a thread.
     fn tally(
         &self,
-        kit: &mut Kit<C::Seat, R>,
+        kit: &mut Kit<C::Seat, R, T::Spares>,
         held: &mut Held<T, C::Hold>,
         ledger: u64,
         amount: u64,
@@ -195,7 +206,11 @@ impl<'a, H: Wait, T: RunJob, C: Contexts<T>, R: Rng, G: Gate> Worker<'a, H, T, C
     }
 
     /// Ends a thread, and wakes its parent. With the root all workers stop.
-    fn finish(&self, kit: &mut Kit<C::Seat, R>, held: Held<T, C::Hold>) -> Result<(), RunFault>
+    fn finish(
+        &self,
+        kit: &mut Kit<C::Seat, R, T::Spares>,
+        held: Held<T, C::Hold>,
+    ) -> Result<(), RunFault>
         requires tokens { AreWith C.sits C.has self.now.machine.now (thread_in T.tag_of held ∷ []) kit.old.tokens }
         requires over { T.pause_of held.value ≡ Some pause.Ended }
         ensures { OnOk result (AreIdle C.sits C.idle self.now.machine.now kit.new.tokens) }
@@ -222,7 +237,7 @@ impl<'a, H: Wait, T: RunJob, C: Contexts<T>, R: Rng, G: Gate> Worker<'a, H, T, C
     }
 
     /// The worker that has the arbiter applies the orders that are due, and moves threads away from a closed core.
-    fn tend(&self, kit: &mut Kit<C::Seat, R>)
+    fn tend(&self, kit: &mut Kit<C::Seat, R, T::Spares>)
         requires { AreOf C.sits self.now.machine.now kit.old.tokens }
         ensures tokens { AreOf C.sits self.now.machine.now kit.new.tokens }
         ensures out { KeepsOut (C.has self.now.machine.now.table) kit.old.tokens.seat kit.new.tokens.seat }
@@ -242,7 +257,7 @@ impl<'a, H: Wait, T: RunJob, C: Contexts<T>, R: Rng, G: Gate> Worker<'a, H, T, C
     }
 
     /// How long the worker may sleep, in microseconds: nobody tells the arbiter that an order is due.
-    fn longest_sleep(&self, kit: &Kit<C::Seat, R>) -> u64 {
+    fn longest_sleep(&self, kit: &Kit<C::Seat, R, T::Spares>) -> u64 {
         match &kit.tokens.arbiter {
             Some(arbiter) if arbiter.applied() < self.machine.orders => SHORT_SLEEP,
             _ => LONG_SLEEP,
@@ -250,7 +265,7 @@ impl<'a, H: Wait, T: RunJob, C: Contexts<T>, R: Rng, G: Gate> Worker<'a, H, T, C
     }
 
     /// Parks while the core is closed and nothing is left on it. Whether it was.
-    fn park(&self, kit: &mut Kit<C::Seat, R>) -> bool
+    fn park(&self, kit: &mut Kit<C::Seat, R, T::Spares>) -> bool
         requires { AreOf C.sits self.now.machine.now kit.old.tokens }
         ensures tokens { AreOf C.sits self.now.machine.now kit.new.tokens }
         ensures out { KeepsOut (C.has self.now.machine.now.table) kit.old.tokens.seat kit.new.tokens.seat }
