@@ -17,7 +17,7 @@ use Rattle.arachne_join.specs.declared.part.Part.TheVariants.{Rest, Fresh, Unuse
 use Rattle.arachne_join.specs.declared.part.PartView.{PartView}
 use Rattle.arachne_join.specs.Parts.{word_after, part_view, as_part, MaySend, MayReceive, IsSendingFor, IsReceivingFor, AreApart, IsFresh, HasCome, Knows}
 use Rattle.arachne_join.specs.BlockRule.{IsShared, all_cells}
-use Rattle.arachne_join.specs.BlockSteps.{without_first, the_first, sending_end, receiving_end, emptied, with_slot, IsSendingAt, IsReceivingAt, Starts, Opens, Fetches}
+use Rattle.arachne_join.specs.BlockSteps.{without_first, the_first, sending_end, receiving_end, missed_once, emptied, with_slot, IsSendingAt, IsReceivingAt, Starts, Opens, Fetches}
 
 -- one more value flips the word
 flips : (k : ℕ) → word_after k ≡ word_after (k + 1) → ⊥
@@ -43,7 +43,7 @@ module _ {K : Type 0} where
   sends_there k Unused n s = absurd s
   sends_there k (Opened j) n s = absurd s
   sends_there k (Sending j) n s = refl
-  sends_there k (Receiving j) n s = absurd s
+  sends_there k (Receiving j misses) n s = absurd s
   sends_there k Spent n s = absurd s
 
   receives_there : (k : K) (p : Part K) (n : ℕ) → IsReceivingFor k p → MayReceive p n n
@@ -52,7 +52,7 @@ module _ {K : Type 0} where
   receives_there k Unused n s = absurd s
   receives_there k (Opened j) n s = absurd s
   receives_there k (Sending j) n s = absurd s
-  receives_there k (Receiving j) n s = refl
+  receives_there k (Receiving j misses) n s = refl
   receives_there k Spent n s = absurd s
 
   -- the seat keeps no end, and gets no right
@@ -72,19 +72,23 @@ module _ {K : Type 0} where
   )
 
   receiving_apart : (key : K) (n p : ℕ) (u : PartView K) → AreApart (part_view (Opened key) n p) u → AreApart u (part_view (Opened key) n p)
-      → AreApart (part_view (Receiving key) n p) u × AreApart u (part_view (Receiving key) n p)
+      → AreApart (part_view (Receiving key 0) n p) u × AreApart u (part_view (Receiving key 0) n p)
   receiving_apart key n p u a b = (
     record { send = λ i s t. absurd s; receive = a.receive; paired = λ j k s r e. absurd s },
     record { send = λ i s t. absurd t; receive = b.receive; paired = λ j k s r e. absurd (b.send n (subst (MaySend u.part u.index) e (sends_there j u.part u.index s)) refl) },
   )
 
   -- the receiving end has the whole cell, where nobody else may send there
-  emptied_apart : (key : K) (n p : ℕ) (u : PartView K) → (MaySend u.part u.index n → ⊥) → AreApart (part_view (Receiving key) n p) u → AreApart u (part_view (Receiving key) n p)
+  emptied_apart : (key : K) (misses n p : ℕ) (u : PartView K) → (MaySend u.part u.index n → ⊥) → AreApart (part_view (Receiving key misses) n p) u → AreApart u (part_view (Receiving key misses) n p)
       → AreApart (part_view Unused n (p + 1)) u × AreApart u (part_view Unused n (p + 1))
-  emptied_apart key n p u nobody a b = (
+  emptied_apart key misses n p u nobody a b = (
     record { send = λ i s t. nobody (subst (MaySend u.part u.index) (sym s) t); receive = a.receive; paired = λ j k s r e. absurd s },
     record { send = λ i s t. nobody (subst (MaySend u.part u.index) (sym t) s); receive = b.receive; paired = λ j k s r e. absurd r },
   )
+
+  misses_apart : (key : K) (misses n p : ℕ) (u : PartView K) → AreApart (part_view (Receiving key misses) n p) u → AreApart u (part_view (Receiving key misses) n p)
+      → AreApart (part_view (Receiving key (misses + 1)) n p) u × AreApart u (part_view (Receiving key (misses + 1)) n p)
+  misses_apart key misses n p u a b = (record { send = a.send; receive = a.receive; paired = a.paired }, record { send = b.send; receive = b.receive; paired = b.paired })
 
 module _ {T K : Type 0} where
   -- a seat with its cell's slot holds that slot last
@@ -105,9 +109,9 @@ module _ {T K : Type 0} where
     e ∙ ap (λ (m : Me (Content T K) (PartView K)). let x : Me (Content T K) (PartView K) = (sending_end m.0, m.1) in x) is ∙ ap (λ (k : K). with_slot (part_view (Sending k) n p) (For asked)) same,
   )
 
-  pub receives_for : (n p : ℕ) (asked : Snapshot K) (key : K) (me after : Me (Content T K) (PartView K)) → asked.value ≡ key → me ≡ with_slot (part_view (Opened asked.value) n p) (For asked) → after ≡ (receiving_end me.0, []) → IsReceivingAt n p key after
+  pub receives_for : (n p : ℕ) (asked : Snapshot K) (key : K) (me after : Me (Content T K) (PartView K)) → asked.value ≡ key → me ≡ with_slot (part_view (Opened asked.value) n p) (For asked) → after ≡ (receiving_end me.0, []) → IsReceivingAt n p key 0 after
   receives_for n p asked key me after same is e =
-      e ∙ ap (λ (m : Me (Content T K) (PartView K)). let x : Me (Content T K) (PartView K) = (receiving_end m.0, []) in x) is ∙ ap (λ (k : K). let x : Me (Content T K) (PartView K) = (part_view (Receiving k) n p, []) in x) same
+      e ∙ ap (λ (m : Me (Content T K) (PartView K)). let x : Me (Content T K) (PartView K) = (receiving_end m.0, []) in x) is ∙ ap (λ (k : K). let x : Me (Content T K) (PartView K) = (part_view (Receiving k 0) n p, []) in x) same
 
   -- a sending end has the count that its view has
   pub sends_still : (n p : ℕ) (key other : K) (me : Me (Content T K) (PartView K)) → IsSendingAt n p key me → other ≡ key → IsSendingAt n me.0.passed other me
@@ -144,7 +148,7 @@ module _ {T K : Type 0} (fits : K → T → Type 0) where
   elsewhere words words' homes homes' n long ws hs i q Unused no_send no_receive k = ws i no_send ∙ k
   elsewhere words words' homes homes' n long ws hs i q (Opened j) no_send no_receive k = ws i no_send ∙ k
   elsewhere words words' homes homes' n long ws hs i q (Sending j) no_send no_receive k = ws i no_send ∙ k
-  elsewhere words words' homes homes' n long ws hs i q (Receiving j) no_send no_receive k =
+  elsewhere words words' homes homes' n long ws hs i q (Receiving j misses) no_send no_receive k =
       ⊎_elim (λ x. inl (ws i no_receive ∙ x)) (λ x. inr (ws i no_receive ∙ x.0, (x.1.0, hs i no_receive ∙ x.1.1, x.1.2))) k
   elsewhere words words' homes homes' n long ws hs i q Spent no_send no_receive k = tt
 
@@ -158,23 +162,23 @@ module _ {T K : Type 0} (fits : K → T → Type 0) where
   others_told words words' homes homes' n long ws hs key passed come i q Unused a k = elsewhere words words' homes homes' n long ws hs i q Unused (a.send n refl) (a.send n refl) k
   others_told words words' homes homes' n long ws hs key passed come i q (Opened j) a k = elsewhere words words' homes homes' n long ws hs i q (Opened j) (a.send n refl) (a.send n refl) k
   others_told words words' homes homes' n long ws hs key passed come i q (Sending j) a k = elsewhere words words' homes homes' n long ws hs i q (Sending j) (a.send n refl) (λ x. x) k
-  others_told words words' homes homes' n long ws hs key passed come i q (Receiving j) a k = dite (ℕ_discrete i n)
+  others_told words words' homes homes' n long ws hs key passed come i q (Receiving j misses) a k = dite (ℕ_discrete i n)
       (λ e. let same = a.paired key j refl refl (sym e) in inr (
       subst (λ (m : ℕ). HasCome fits j words' homes' m q) (sym e) (subst (λ (r : ℕ). HasCome fits j words' homes' n r) same.1 (subst (λ (x : K). HasCome fits x words' homes' n passed) same.0 come))))
-      (λ ne. elsewhere words words' homes homes' n long ws hs i q (Receiving j) (λ x. x) ne k)
+      (λ ne. elsewhere words words' homes homes' n long ws hs i q (Receiving j misses) (λ x. x) ne k)
   others_told words words' homes homes' n long ws hs key passed come i q Spent a k = tt
 
   -- nobody may send at a cell whose value has come
-  nobody_sends : (words : List ℕ) (homes : List (maybe.Option (Content T K))) (n : ℕ) (key : K) (passed : ℕ) → get_or words n 0 ≡ word_after (passed + 1)
-      → (i q : ℕ) (p : Part K) → AreApart (part_view (Receiving key) n passed) (part_view p i q) → AreApart (part_view p i q) (part_view (Receiving key) n passed) → Knows fits words homes i q p → MaySend p i n → ⊥
-  nobody_sends words homes n key passed come i q Rest a b k s = a.receive n refl s
-  nobody_sends words homes n key passed come i q Fresh a b k s = a.receive n refl s
-  nobody_sends words homes n key passed come i q Unused a b k s = a.receive n refl s
-  nobody_sends words homes n key passed come i q (Opened j) a b k s = a.receive n refl s
-  nobody_sends words homes n key passed come i q (Sending j) a b k s = let same = b.paired j key refl refl s in
+  nobody_sends : (words : List ℕ) (homes : List (maybe.Option (Content T K))) (n : ℕ) (key : K) (misses passed : ℕ) → get_or words n 0 ≡ word_after (passed + 1)
+      → (i q : ℕ) (p : Part K) → AreApart (part_view (Receiving key misses) n passed) (part_view p i q) → AreApart (part_view p i q) (part_view (Receiving key misses) n passed) → Knows fits words homes i q p → MaySend p i n → ⊥
+  nobody_sends words homes n key misses passed come i q Rest a b k s = a.receive n refl s
+  nobody_sends words homes n key misses passed come i q Fresh a b k s = a.receive n refl s
+  nobody_sends words homes n key misses passed come i q Unused a b k s = a.receive n refl s
+  nobody_sends words homes n key misses passed come i q (Opened j) a b k s = a.receive n refl s
+  nobody_sends words homes n key misses passed come i q (Sending j) a b k s = let same = b.paired j key refl refl s in
       flips passed (ap word_after (sym same.1) ∙ sym k ∙ ap (λ m. get_or words m 0) s ∙ come)
-  nobody_sends words homes n key passed come i q (Receiving j) a b k s = absurd s
-  nobody_sends words homes n key passed come i q Spent a b k s = absurd s
+  nobody_sends words homes n key misses passed come i q (Receiving j others) a b k s = absurd s
+  nobody_sends words homes n key misses passed come i q Spent a b k s = absurd s
 
   -- one seat's part changes, with the words and the slots
   changes : (s : table.State (Content T K) (PartView K)) (id : ℕ) (v w : PartView K) (words' : List ℕ) (homes' : List (maybe.Option (Content T K))) → IsShared fits s → get_elem? s.views id ≡ some v → length words' ≡ length homes'
@@ -233,7 +237,7 @@ module _ {T K : Type 0} (fits : K → T → Type 0) where
   -- the ends of an opened cell part
   pub parts_ends : (id n p : ℕ) (key : K) (x : PartView K) → x ≡ part_view (Opened key) n p → Splits (IsShared fits) id x (sending_end x) (receiving_end x)
   parts_ends id n p key x is = subst (λ (y : PartView K). Splits (IsShared fits) id y (sending_end y) (receiving_end y)) (sym is) (λ s kept at. let v = part_view (Opened key) n p in let known = kept.known id v at in
-      cuts s id v (part_view (Sending key) n p) (part_view (Receiving key) n p) kept at
+      cuts s id v (part_view (Sending key) n p) (part_view (Receiving key 0) n p) kept at
       (λ u a b. (sending_apart key n p u a b, receiving_apart key n p u a b))
       (record { send = λ i x y. absurd y; receive = λ i x y. absurd x; paired = λ j k x y e. (sym x ∙ y, refl) })
       (record { send = λ i x y. absurd x; receive = λ i x y. absurd y; paired = λ j k x y e. absurd x })
@@ -298,17 +302,17 @@ module _ {T K : Type 0} (fits : K → T → Type 0) where
       ))
 
   -- the receiving end fetches the value, if it has come
-  pub fetches_there : (slots id n p : ℕ) (key : K) (me : Me (Content T K) (PartView K)) → me ≡ (part_view (Receiving key) n p, []) → Allows (IsShared fits) slots id me n (λ k. k) (λ found w. Fetches fits me found w)
-  fetches_there slots id n p key me is = subst (λ (m : Me (Content T K) (PartView K)). Allows (IsShared fits) slots id m n (λ k. k) (λ found w. Fetches fits m found w)) (sym is) (λ s kept long at _.
-      let v = part_view (Receiving key) n p in let w = part_view Unused n (p + 1) in
+  pub fetches_there : (slots id n p misses : ℕ) (key : K) (me : Me (Content T K) (PartView K)) → IsReceivingAt n p key misses me → Allows (IsShared fits) slots id me n (λ k. k) (λ found w. Fetches fits me found w)
+  fetches_there slots id n p misses key me is = subst (λ (m : Me (Content T K) (PartView K)). Allows (IsShared fits) slots id m n (λ k. k) (λ found w. Fetches fits m found w)) (sym is) (λ s kept long at _.
+      let v = part_view (Receiving key misses) n p in let w = part_view Unused n (p + 1) in let again = part_view (Receiving key (misses + 1)) n p in
       let words' = set s.words n (get_or s.words n 0) in let same : words' ≡ s.words = set-get_or s.words n 0 in let homes' = set s.homes n none in
       ⊎_elim (λ (waits : get_or s.words n 0 ≡ word_after p). (
-        v,
+        again,
         keeps,
         tt,
-        changes s id v v words' s.homes kept at (length-set s.words n (get_or s.words n 0) ∙ kept.sized)
-            (λ u a b k. ((a, b), subst (λ (ws : List ℕ). Knows fits ws s.homes u.index u.passed u.part) (sym same) k))
-            (subst (λ (ws : List ℕ). Knows fits ws s.homes n p (Receiving key)) (sym same) (inl waits)),
+        changes s id v again words' s.homes kept at (length-set s.words n (get_or s.words n 0) ∙ kept.sized)
+            (λ u a b k. (misses_apart key misses n p u a b, subst (λ (ws : List ℕ). Knows fits ws s.homes u.index u.passed u.part) (sym same) k))
+            (subst (λ (ws : List ℕ). Knows fits ws s.homes n p (Receiving key (misses + 1))) (sym same) (inl waits)),
         λ k r. (λ found. absurd (flips p (sym waits ∙ found)), λ ne. refl),
       ))
       (λ (come : HasCome fits key s.words s.homes n p). (
@@ -316,8 +320,8 @@ module _ {T K : Type 0} (fits : K → T → Type 0) where
         takes n (Value come.1.0),
         come.1.1,
         changes s id v w words' homes' kept at (length-set s.words n (get_or s.words n 0) ∙ kept.sized ∙ sym (length-set s.homes n none))
-            (λ u a b k. let nobody = nobody_sends s.words s.homes n key p come.0 u.index u.passed u.part a b k in (
-              emptied_apart key n p u nobody a b,
+            (λ u a b k. let nobody = nobody_sends s.words s.homes n key misses p come.0 u.index u.passed u.part a b k in (
+              emptied_apart key misses n p u nobody a b,
               elsewhere s.words words' s.homes homes' n (length-set s.homes n none) (λ j ne. get_or-set_other s.words n j (get_or s.words n 0) 0 ne) (λ j ne. set_else s.homes n j none ne)
                   u.index u.passed u.part nobody (a.receive n refl) k,
             ))
@@ -326,16 +330,23 @@ module _ {T K : Type 0} (fits : K → T → Type 0) where
       ))
       (kept.known id v at))
 
+  -- what a fetch tells the receiving end
+  pub come : (n p misses full found : ℕ) (key : K) (me w : Me (Content T K) (PartView K)) → IsReceivingAt n p key misses me → Fetches fits me found w → full ≡ word_after (p + 1) → found ≡ full
+      → (value : T) × (w ≡ with_slot (part_view Unused n (p + 1)) (Value value)) × fits key value
+  come n p misses full found key me w is told flipped same = ((subst (λ (m : Me (Content T K) (PartView K)). Fetches fits m found w) is told) key refl).0 (same ∙ flipped)
+
+  pub missed : (n p misses full found : ℕ) (key : K) (me w : Me (Content T K) (PartView K)) → IsReceivingAt n p key misses me → Fetches fits me found w → full ≡ word_after (p + 1) → found ≢ full
+      → w ≡ (missed_once me.0, [])
+  missed n p misses full found key me w is told flipped other =
+      (told key (subst (λ (m : Me (Content T K) (PartView K)). IsReceivingFor key m.0.part) (sym is) refl)).1 (λ e. other (e ∙ ap (λ (m : Me (Content T K) (PartView K)). word_after (m.0.passed + 1)) is ∙ sym flipped))
+      ∙ ap (λ (l : List (ℕ × Content T K)). let x : Me (Content T K) (PartView K) = (missed_once me.0, l) in x) (ap (λ (m : Me (Content T K) (PartView K)). m.1) is)
+
+  pub fits_for : (n p misses : ℕ) (key other : K) (value out : T) (me : Me (Content T K) (PartView K)) → IsReceivingAt n p key misses me → fits key value → value ≡ out → IsReceivingFor other me.0.part → fits other out
+  fits_for n p misses key other value out me is fit same for = let keys : key ≡ other = subst (λ (m : Me (Content T K) (PartView K)). IsReceivingFor other m.0.part) is for in
+      subst (λ (k : K). fits k out) keys (subst (λ (x : T). fits key x) same fit)
+
   abbrev none_there : Content T K
   none_there = Empty
-
-  -- what a fetch tells the receiving end
-  pub come : (n p full found : ℕ) (key : K) (me w : Me (Content T K) (PartView K)) → me ≡ (part_view (Receiving key) n p, []) → Fetches fits me found w → full ≡ word_after (p + 1) → found ≡ full
-      → (value : T) × (w ≡ with_slot (part_view Unused n (p + 1)) (Value value)) × fits key value
-  come n p full found key me w is told flipped same = ((subst (λ (m : Me (Content T K) (PartView K)). Fetches fits m found w) is told) key refl).0 (same ∙ flipped)
-
-  pub missed : (n p full found : ℕ) (key : K) (me w : Me (Content T K) (PartView K)) → me ≡ (part_view (Receiving key) n p, []) → Fetches fits me found w → full ≡ word_after (p + 1) → found ≢ full → w ≡ me
-  missed n p full found key me w is told flipped other = ((subst (λ (m : Me (Content T K) (PartView K)). Fetches fits m found w) is told) key refl).1 (λ e. other (e ∙ sym flipped)) ∙ sym is
 
   -- the rule holds of a new block
   fresh_words : (n j : ℕ) → get_or {A = ℕ} (replicate n 0) j 0 ≡ 0

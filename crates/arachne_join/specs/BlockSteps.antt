@@ -24,16 +24,16 @@ module _ {K : Type 0} where
   sending_part Unused = Unused
   sending_part (Opened key) = Sending key
   sending_part (Sending key) = Sending key
-  sending_part (Receiving key) = Receiving key
+  sending_part (Receiving key misses) = Receiving key misses
   sending_part Spent = Spent
 
   abbrev pub receiving_part : Part K → Part K
   receiving_part Rest = Spent
   receiving_part Fresh = Spent
   receiving_part Unused = Spent
-  receiving_part (Opened key) = Receiving key
+  receiving_part (Opened key) = Receiving key 0
   receiving_part (Sending key) = Spent
-  receiving_part (Receiving key) = Spent
+  receiving_part (Receiving key misses) = Spent
   receiving_part Spent = Spent
 
   abbrev pub sending_end : PartView K → PartView K
@@ -41,6 +41,28 @@ module _ {K : Type 0} where
 
   abbrev pub receiving_end : PartView K → PartView K
   receiving_end v = as_part v (receiving_part v.part)
+
+  -- the receiving end once it looked and found no value
+  abbrev pub missed_part : Part K → Part K
+  missed_part Rest = Rest
+  missed_part Fresh = Fresh
+  missed_part Unused = Unused
+  missed_part (Opened key) = Opened key
+  missed_part (Sending key) = Sending key
+  missed_part (Receiving key misses) = Receiving key (misses + 1)
+  missed_part Spent = Spent
+
+  abbrev pub missed_once : PartView K → PartView K
+  missed_once v = as_part v (missed_part v.part)
+
+  abbrev pub misses_of : Part K → ℕ
+  misses_of Rest = 0
+  misses_of Fresh = 0
+  misses_of Unused = 0
+  misses_of (Opened key) = 0
+  misses_of (Sending key) = 0
+  misses_of (Receiving key misses) = misses
+  misses_of Spent = 0
 
   -- the cell once the value was fetched
   abbrev pub emptied : PartView K → PartView K
@@ -59,8 +81,8 @@ module _ {T K : Type 0} where
   abbrev pub IsSendingAt : ℕ → ℕ → K → Me (Content T K) (PartView K) → Type 0
   IsSendingAt i passed key m = (asked : Snapshot K) × (m ≡ with_slot (part_view (Sending key) i passed) (For asked))
 
-  abbrev pub IsReceivingAt : ℕ → ℕ → K → Me (Content T K) (PartView K) → Type 0
-  IsReceivingAt i passed key m = m ≡ (part_view (Receiving key) i passed, [])
+  abbrev pub IsReceivingAt : ℕ → ℕ → K → ℕ → Me (Content T K) (PartView K) → Type 0
+  IsReceivingAt i passed key misses m = m ≡ (part_view (Receiving key misses) i passed, [])
 
   -- the seat takes the slot of a cell that was never used
   abbrev pub Starts : Me (Content T K) (PartView K) → Me (Content T K) (PartView K) → Type 0
@@ -70,8 +92,8 @@ module _ {T K : Type 0} where
   abbrev pub Opens : Me (Content T K) (PartView K) → Me (Content T K) (PartView K) → Type 0
   Opens m w = (asked : Snapshot K) → m ≡ with_slot m.0 (For asked) → w ≡ with_slot (as_part m.0 (Opened asked.value)) (For asked)
 
-  -- Where the word is what it is after one more value, the seat has the whole cell, with a value that fits its key. Else it is as it was
+  -- Where the word is what it is after one more value, the seat has the whole cell, with a value that fits its key. Else it has missed once more
   abbrev pub Fetches : (K → T → Type 0) → Me (Content T K) (PartView K) → ℕ → Me (Content T K) (PartView K) → Type 0
   Fetches fits m found w = (key : K) → IsReceivingFor key m.0.part
       → (found ≡ word_after (m.0.passed + 1) → (value : T) × (w ≡ with_slot (emptied m.0) (Value value)) × fits key value)
-      × (found ≢ word_after (m.0.passed + 1) → w ≡ m)
+      × (found ≢ word_after (m.0.passed + 1) → w ≡ (missed_once m.0, m.1))

@@ -20,6 +20,17 @@ pub record Opening (K : Type 0) : Type 0 where
 abbrev pub opening : {K : Type 0} → BlockCell → K → Opening K
 opening cell key = record { cell = cell; key = key }
 
+-- what a receiver awaits, and how many times it looked and found no value
+pub record Awaited (K : Type 0) : Type 0 where
+  pub opening : Opening K
+  pub misses : ℕ
+
+abbrev pub awaited : {K : Type 0} → Opening K → Awaited K
+awaited opening = record { opening = opening; misses = 0 }
+
+abbrev pub missed_again : {K : Type 0} → Awaited K → Awaited K
+missed_again a = record { opening = a.opening; misses = a.misses + 1 }
+
 -- the cell once one more value has passed through it
 abbrev pub used_once_more : BlockCell → BlockCell
 used_once_more cell = record { table = cell.table; index = cell.index; passed = cell.passed + 1 }

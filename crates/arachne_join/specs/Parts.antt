@@ -28,7 +28,7 @@ module _ {K : Type 0} where
   MaySend Unused n i = n ≡ i
   MaySend (Opened key) n i = n ≡ i
   MaySend (Sending key) n i = n ≡ i
-  MaySend (Receiving key) n i = ⊥
+  MaySend (Receiving key misses) n i = ⊥
   MaySend Spent n i = ⊥
 
   -- it has the right to fetch from the cell i
@@ -38,7 +38,7 @@ module _ {K : Type 0} where
   MayReceive Unused n i = n ≡ i
   MayReceive (Opened key) n i = n ≡ i
   MayReceive (Sending key) n i = ⊥
-  MayReceive (Receiving key) n i = n ≡ i
+  MayReceive (Receiving key misses) n i = n ≡ i
   MayReceive Spent n i = ⊥
 
   abbrev pub IsSendingFor : K → Part K → Type 0
@@ -47,7 +47,7 @@ module _ {K : Type 0} where
   IsSendingFor key Unused = ⊥
   IsSendingFor key (Opened k) = ⊥
   IsSendingFor key (Sending k) = k ≡ key
-  IsSendingFor key (Receiving k) = ⊥
+  IsSendingFor key (Receiving k misses) = ⊥
   IsSendingFor key Spent = ⊥
 
   abbrev pub IsReceivingFor : K → Part K → Type 0
@@ -56,7 +56,7 @@ module _ {K : Type 0} where
   IsReceivingFor key Unused = ⊥
   IsReceivingFor key (Opened k) = ⊥
   IsReceivingFor key (Sending k) = ⊥
-  IsReceivingFor key (Receiving k) = k ≡ key
+  IsReceivingFor key (Receiving k misses) = k ≡ key
   IsReceivingFor key Spent = ⊥
 
   -- Two seats: each right is of one of them, and the two ends of one cell have one key and one count
@@ -83,5 +83,5 @@ module _ {T K : Type 0} where
     Knows words homes i passed Unused = slice_index words i ≡ word_after passed
     Knows words homes i passed (Opened key) = slice_index words i ≡ word_after passed
     Knows words homes i passed (Sending key) = slice_index words i ≡ word_after passed
-    Knows words homes i passed (Receiving key) = (slice_index words i ≡ word_after passed) ⊎ HasCome key words homes i passed
+    Knows words homes i passed (Receiving key misses) = (slice_index words i ≡ word_after passed) ⊎ HasCome key words homes i passed
     Knows words homes i passed Spent = Unit {0}

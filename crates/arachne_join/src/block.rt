@@ -1,9 +1,9 @@
 //! A block of cells: one table, with a word and a slot for each cell.
-ghost use Rattle.std.specs.Prelude.{◌≡◌, ◌+◌, ◌<◌, ℕ, [], length, replicate, IfOk, IfSome, IfNone};
-ghost use Rattle.arachne_join.specs.declared.part.Part.TheVariants.{Rest, Sending, Receiving};
+ghost use Rattle.std.specs.Prelude.{◌≡◌, ◌+◌, ◌<◌, [], replicate, IfOk, IfSome, IfNone};
+ghost use Rattle.arachne_join.specs.declared.part.Part.TheVariants.{Rest};
 ghost use Rattle.arachne_join.specs.declared.part.Content.TheVariants.{Empty};
-ghost use Rattle.arachne_join.specs.Parts.{part_view, word_after};
-ghost use Rattle.arachne_join.specs.BlockSteps.{IsUnusedAt, IsSendingAt, IsReceivingAt};
+ghost use Rattle.arachne_join.specs.Parts.{part_view, word_after, IsReceivingFor};
+ghost use Rattle.arachne_join.specs.BlockSteps.{IsUnusedAt, IsSendingAt, IsReceivingAt, misses_of, missed_once};
 
 use crate::block_steps::{BlockRule, FetchThere, GiveFirst, LeaveThere, Open, PartEnds, Start};
 use crate::fits::Fits;
@@ -84,7 +84,7 @@ impl<T: Fits<K>, K> CellBlock<T, K> {
         requires unused { IsUnusedAt index seat.old.me.0.passed seat.old.me }
         ensures own { (seat.new.table_id ≡ self.now) × (result.table_id ≡ self.now) }
         ensures sending { IsSendingAt index seat.old.me.0.passed key.now seat.new.me }
-        ensures receiving { IsReceivingAt index seat.old.me.0.passed key.now result.me }
+        ensures receiving { IsReceivingAt index seat.old.me.0.passed key.now 0 result.me }
     {
         let shared = &self.table.shared;
         match shared.exchange(seat, index, Content::For(Snapshot::of(key))) {
@@ -96,21 +96,12 @@ impl<T: Fits<K>, K> CellBlock<T, K> {
     }
 
     /// Leaves the value at the sending end's cell: lays it into the slot, and flips the word.
-    pub(crate) fn leave(
-        &self,
-        seat: BlockSeat<T, K>,
-        index: usize,
-        full: u64,
-        key: Snapshot<K>,
-        value: T,
-    )
+    pub(crate) fn leave(&self, seat: BlockSeat<T, K>, index: usize, full: u64, value: T)
         requires own { seat.table_id ≡ self.now }
         requires inside { index < self.now.slots }
-        requires sending { IsSendingAt index seat.me.0.passed key.value seat.me }
+        requires sending { (key : K) × IsSendingAt index seat.me.0.passed key seat.me × T.fits key value }
         requires word { full ≡ word_after (seat.me.0.passed + 1) }
-        requires value { T.fits key.value value }
     {
-        let _ = key;
         let mut seat = seat;
         let shared = &self.table.shared;
         match shared.exchange(&mut seat, index, Content::Value(value)) {
@@ -121,23 +112,16 @@ impl<T: Fits<K>, K> CellBlock<T, K> {
     }
 
     /// The value that was left at the receiving end's cell, if it is there now. Then the seat has the whole cell, unused.
-    pub(crate) fn fetch(
-        &self,
-        seat: &mut BlockSeat<T, K>,
-        index: usize,
-        full: u64,
-        key: &Snapshot<K>,
-    ) -> Option<T>
+    pub(crate) fn fetch(&self, seat: &mut BlockSeat<T, K>, index: usize, full: u64) -> Option<T>
         requires own { seat.old.table_id ≡ self.now }
         requires inside { index < self.now.slots }
-        requires receiving { IsReceivingAt index seat.old.me.0.passed key.now.value seat.old.me }
+        requires receiving { (key : K) × IsReceivingAt index seat.old.me.0.passed key (misses_of seat.old.me.0.part) seat.old.me }
         requires word { full ≡ word_after (seat.old.me.0.passed + 1) }
         ensures own { seat.new.table_id ≡ self.now }
-        ensures value { IfSome result (λ value. T.fits key.now.value value) }
+        ensures value { IfSome result (λ value. (key : K) → IsReceivingFor key seat.old.me.0.part → T.fits key value) }
         ensures fetched { IfSome result (λ _. IsUnusedAt index (seat.old.me.0.passed + 1) seat.new.me) }
-        ensures missed { IfNone result (seat.new.me ≡ seat.old.me) }
+        ensures missed { IfNone result (seat.new.me ≡ (missed_once seat.old.me.0, [])) }
     {
-        let _ = key;
         let shared = &self.table.shared;
         if shared.load::<FetchThere>(seat, index) != full {
             return None;

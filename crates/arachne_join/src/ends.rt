@@ -2,7 +2,7 @@
 ghost use Rattle.std.specs.Prelude.{◌≡◌, ◌<◌, IfOk, IfErr};
 ghost use Rattle.std.specs.Arc.{arc_value};
 ghost use Rattle.arachne_join.specs.BlockSteps.{IsUnusedAt};
-ghost use Rattle.arachne_join.specs.Openings.{opening, used_once_more};
+ghost use Rattle.arachne_join.specs.Openings.{opening, awaited, missed_again, used_once_more};
 
 use crate::block::{BlockSeat, CellBlock};
 use crate::fits::Fits;
@@ -59,7 +59,7 @@ impl<T: Fits<K>, K> Model for Sender<T, K> {
 
 /// The end of an opening that fetches the value. Where it is dropped, its cell is not used again.
 ///
-/// Contracts see the opening, as those of `Sender` do.
+/// Contracts see the opening, as those of `Sender` do, and how many times the receiver looked and found no value.
 #[derive(Drop)]
 pub struct Receiver<T: Fits<K>, K> {
     block: Arc<CellBlock<T, K>>,
@@ -71,14 +71,17 @@ pub struct Receiver<T: Fits<K>, K> {
 
 impl<T: Fits<K>, K> Model for Receiver<T, K> {
     ghost use Rattle.std.specs.Arc.{arc_value};
-    ghost use Rattle.arachne_join.specs.BlockSteps.{IsReceivingAt};
-    ghost use Rattle.arachne_join.specs.Openings.{Opening, IsPlaced};
+    ghost use Rattle.arachne_join.specs.BlockSteps.{IsReceivingAt, misses_of};
+    ghost use Rattle.arachne_join.specs.Openings.{Awaited, IsPlaced};
 
-    ghost Value = { Opening K };
+    ghost Value = { Awaited K };
 
-    ghost view = { λ r. record { cell = record { table = r.seat.table_id; index = r.index; passed = r.seat.me.0.passed }; key = r.key.value } };
+    ghost view = { λ r. record {
+      opening = record { cell = record { table = r.seat.table_id; index = r.index; passed = r.seat.me.0.passed }; key = r.key.value };
+      misses = misses_of r.seat.me.0.part;
+    } };
 
-    ghost invariant = { λ r. IsPlaced (arc_value r.block) r.seat.table_id r.index r.full r.seat.me.0.passed × IsReceivingAt r.index r.seat.me.0.passed r.key.value r.seat.me };
+    ghost invariant = { λ r. IsPlaced (arc_value r.block) r.seat.table_id r.index r.full r.seat.me.0.passed × IsReceivingAt r.index r.seat.me.0.passed r.key.value (misses_of r.seat.me.0.part) r.seat.me };
 }
 
 impl<T: Fits<K> + Drop, K> UnusedCell<T, K> {
@@ -101,9 +104,10 @@ impl<T: Fits<K> + Drop, K> UnusedCell<T, K> {
         }
     }
 
-    /// Opens the cell for one value that fits the key. It takes no memory; where its block has too many owners, the cell comes back.
+    /// Opens the cell for one value that fits the key. It takes no memory. Where its block can't have one more owner, the cell comes back.
     pub fn open(self, key: &K) -> Result<(Receiver<T, K>, Sender<T, K>), UnusedCell<T, K>>
-        ensures ends { IfOk result (λ ends. (ends.0 ≡ opening self key.now) × (ends.1 ≡ ends.0)) }
+        ensures receiver { IfOk result (λ ends. ends.0 ≡ awaited (opening self key.now)) }
+        ensures sender { IfOk result (λ ends. ends.1 ≡ opening self key.now) }
         ensures handed_back { IfErr result (λ cell. cell ≡ self) }
     {
         let Ok(sender_block) = Arc::try_clone(&self.block) else {
@@ -144,18 +148,18 @@ impl<T: Fits<K> + Drop, K> Sender<T, K> {
             seat,
             index,
             full,
-            key,
+            key: _,
         } = self;
-        block.leave(seat, index as usize, u64::from(full), key, value);
+        block.leave(seat, index as usize, u64::from(full), value);
     }
 }
 
 impl<T: Fits<K> + Drop, K> Receiver<T, K> {
-    /// The value, if it was left, and the cell to be used again. A miss is one load, and leaves the receiver as it was.
+    /// The value, if it was left, and the cell to be used again. A miss is one load, which found no value.
     pub fn fetch(self) -> Result<(T, UnusedCell<T, K>), Receiver<T, K>>
-        ensures value { IfOk result (λ got. T.fits self.key got.0) }
-        ensures cell { IfOk result (λ got. got.1 ≡ used_once_more self.cell) }
-        ensures missed { IfErr result (λ receiver. receiver ≡ self) }
+        ensures value { IfOk result (λ got. T.fits self.opening.key got.0) }
+        ensures cell { IfOk result (λ got. got.1 ≡ used_once_more self.opening.cell) }
+        ensures missed { IfErr result (λ receiver. receiver ≡ missed_again self) }
     {
         let Receiver {
             block,
@@ -164,7 +168,7 @@ impl<T: Fits<K> + Drop, K> Receiver<T, K> {
             full,
             key,
         } = self;
-        match block.fetch(&mut seat, index as usize, u64::from(full), &key) {
+        match block.fetch(&mut seat, index as usize, u64::from(full)) {
             Some(value) => {
                 let cell = UnusedCell {
                     block,

@@ -13,8 +13,8 @@ pub enum Part<K> {
     Opened(K),
     /// The end that leaves the value, with the slot.
     Sending(K),
-    /// The end that fetches it.
-    Receiving(K),
+    /// The end that fetches it, and how many times it looked and found none.
+    Receiving(K, u64),
     /// Nothing any more.
     Spent,
 }

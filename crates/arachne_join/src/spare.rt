@@ -1,5 +1,6 @@
 //! Unused cells that are kept for the next opening.
 ghost use Rattle.std.specs.Prelude.{◌≡◌, IfOk};
+ghost use Rattle.arachne_join.specs.Openings.{awaited};
 
 use crate::block::{CELLS, CellBlock};
 use crate::ends::{Receiver, Sender, UnusedCell};
@@ -47,7 +48,8 @@ impl<T: Fits<K> + Drop, K> SpareCells<T, K> {
         alloc: Global,
         key: &K,
     ) -> Result<(Receiver<T, K>, Sender<T, K>), AllocError>
-        ensures { IfOk result (λ ends. (ends.0.key ≡ key.now) × (ends.1 ≡ ends.0)) }
+        ensures key { IfOk result (λ ends. ends.1.key ≡ key.now) }
+        ensures receiver { IfOk result (λ ends. ends.0 ≡ awaited ends.1) }
     {
         match self.take(alloc)?.open(key) {
             Ok(ends) => Ok(ends),
