@@ -1,4 +1,4 @@
-use Rattle.std.proofs.Common.{◌∷◌, false, sym, subst}
+use Rattle.std.proofs.Common.{◌∷◌, sym, subst}
 use Rattle.arachne_machine.specs.Branches.{lines_in}
 use Rattle.arachne_machine.specs.Outcome.{IsOfItsName}
 use Rattle.arachne_machine.proofs.Soundness.{sound_end}
