@@ -1,3 +1,4 @@
+pub mod Branches
 pub mod Accounts
 pub mod Tabulated
 pub mod Names

@@ -1,11 +1,9 @@
 -- The laws of threads that run in another's place.
 use Rattle.std.proofs.Common.{ℕ, ◌+◌, ◌-◌, List, [], ◌∷◌, ◌++◌, length, Option, None, Some, reverse, ◌≡◌, ◌≢◌, ◌≤◌, ◌<◌, refl, ap, sym, subst, ◌∙◌, arith}
-use Rattle.std.specs.Prelude.{option_map, slice_get, slice_index_or, zero, suc, true, false, ◌==◌, Result, Ok, Err, OnOk, OnErr, IsTrue}
+use Rattle.std.specs.Prelude.{option_map, slice_get, slice_index_or, zero, suc, true, false, ◌==◌, Result, Ok, Err, OnOk, OnErr}
 use Rattle.std.proofs.lemmas.List.{reverse-append}
 use Rattle.arachne_lang.specs.declared.program.Class.{Class}
-use Rattle.arachne_lang.specs.Effects.{Task}
 use Rattle.arachne_lang.specs.Meaning.{child_of}
-use Rattle.arachne_lang.specs.Tree.{Source}
 use Rattle.arachne_lang.specs.Program.{source_of}
 use Rattle.arachne_machine.specs.declared.pause.Pending.{Pending}
 use Rattle.arachne_machine.specs.declared.pause.Pending.TheVariants as pause
@@ -16,7 +14,7 @@ use Rattle.arachne_machine.specs.Faultless.{PausesWithin}
 use Rattle.arachne_machine.specs.Suspended.{Suspended, SameThread, MakesSteps, Forked, Joined, IsAsk, IsFree, IsFresh, IsTally, awaited}
 use Rattle.arachne_machine.specs.Outcome.{Finished}
 use Rattle.arachne_machine.specs.Advance.{Advanced, IsPassed, IsSpentAt, Moves, PausesAt, TakesAllAt, pending_at, shown}
-use Rattle.arachne_machine.specs.Nested.{Nested, FallsBy, IsNested, IsAwaiting, Await, ArePlaced, SameWhole, IsChildOf, IsForked, Stops, alone, whole, outermost, pending_below, pending_in, with_tag, works, work_in}
+use Rattle.arachne_machine.specs.Nested.{Nested, FallsBy, IsNested, Await, ArePlaced, SameWhole, IsChildOf, IsForked, Stops, alone, whole, outermost, pending_below, pending_in, with_tag, works, work_in}
 
 -- A pause that callers see is that of the thread that goes on.
 pub pending_is : (next : Option Pending) (parents : List Suspended) (p : Pending) → pending_below next parents ≡ Some p → next ≡ Some p

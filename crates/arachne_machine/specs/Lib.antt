@@ -1,3 +1,4 @@
+pub mod Branches
 pub mod Outcome
 pub mod Suspended
 pub mod Nested

@@ -20,6 +20,7 @@ use Rattle.arachne_machine.specs.declared.state.Stop.{Stop}
 use Rattle.arachne_machine.specs.declared.state.Stop.TheVariants as stop
 use Rattle.arachne_machine.specs.declared.state.Progress.{Progress}
 use Rattle.arachne_machine.specs.declared.state.Progress.TheVariants.{Value, Made}
+use Rattle.arachne_machine.specs.Branches.{lines_in}
 use Rattle.arachne_machine.specs.Outcome.{Finished}
 use Rattle.arachne_machine.specs.Account.{Account, untouched, after, with_fork}
 use Rattle.arachne_machine.specs.Suspended.{Suspended}
@@ -54,12 +55,12 @@ suspended t = record {
   pending = pending_of t.control;
   sums = t.sums.items;
   holds = t.own.holds.items;
-  below = t.below.items;
+  below = lines_in t.below.items;
   work = work_left t;
   trace = trace_left t;
 }
 
--- A fork's number fits, since each fork that was joined has its line, and each other one its frame.
+-- A fork's number fits, since each fork that was joined has its branch, and each other one its frame.
 abbrev pub IsNumbered : State → Type 0
 IsNumbered t = t.forks ≤ length t.below.items + length (unjoined_of t)
 
@@ -236,7 +237,7 @@ pub record TakesIn (old : State) (outcome : Finished) (new : State) : Type 0 whe
   pub environment : new.environment ≡ old.environment
   pub frames : new.frames ≡ old.frames
   pub control : new.control ≡ old.control
-  pub below : new.below.items ≡ old.below.items ++ outcome.lines
+  pub below : new.below.items ≡ old.below.items ++ outcome.lines ∷ []
   pub sums : (n : ℕ) (own childs : ℕ → ℕ) → old.sums.items ≡ tabulated n own → outcome.sums ≡ tabulated n childs → new.sums.items ≡ tabulated n (λ ledger. own ledger + childs ledger)
 
 -- The thread comes to the same, now that the child of this number is counted.
@@ -257,7 +258,7 @@ pub record Joins (old : State) (outcome : Finished) (new : State) : Type 0 where
   pub name : outcome.name ≡ old.own.name ++ number ∷ []
   pub unjoined : unjoined_of old ≡ number ∷ unjoined_of new
   pub locks : locks_of new ≡ locks_of old
-  pub below : new.below.items ≡ old.below.items ++ outcome.lines
+  pub below : new.below.items ≡ old.below.items ++ outcome.lines ∷ []
   pub sums : (n : ℕ) (own childs : ℕ → ℕ) → old.sums.items ≡ tabulated n own → outcome.sums ≡ tabulated n childs → new.sums.items ≡ tabulated n (λ ledger. own ledger + childs ledger)
   pub keeps : outcome.value ≡ task_value (source_of old.program.now).arrays (child_task (source_of old.program.now) old.own.name number) → KeepsOverJoin old new number
 

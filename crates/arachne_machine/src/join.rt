@@ -1,5 +1,6 @@
 ghost use Rattle.std.specs.Prelude.{◌≡◌, ◌∷◌, [], ◌++◌, ◌↔◌, IsTrue};
 
+use crate::branch::{Branch, reserve_branch};
 use crate::frame::{Control, Frame};
 use crate::outcome::Outcome;
 use crate::state::State;
@@ -36,7 +37,7 @@ impl<'p> State<'p> {
         ensures err { OnErr result (IsUnchanged self.old self.new) }
         ensures handed_back { IfErr result (λ e. e ≡ outcome.entry) }
     {
-        if self.make_room(outcome.below.len()).is_err() {
+        if self.make_room().is_err() {
             return Err(outcome);
         }
         self.join_with_room(outcome);
@@ -50,7 +51,7 @@ impl<'p> State<'p> {
         requires sums { length outcome.sums ≡ length self.old.sums.items }
         requires environment { vec_len self.old.environment + 2 ≤ vec_capacity self.old.environment }
         requires frames { vec_len self.old.frames + 1 ≤ vec_capacity self.old.frames }
-        requires below { vec_len self.old.below + length outcome.lines ≤ vec_capacity self.old.below }
+        requires below { vec_len self.old.below + 1 ≤ vec_capacity self.old.below }
         ensures { Joins self.old outcome.entry self.new }
     {
         match self.control {
@@ -74,22 +75,21 @@ impl<'p> State<'p> {
         }
     }
 
-    /// Room for what a join adds, with so many lines below the child.
-    pub fn make_room(&mut self, lines: usize) -> Result<(), AllocError>
-        requires { lines < 2 ^ 63 }
+    /// Room for what a join adds.
+    pub fn make_room(&mut self) -> Result<(), AllocError>
         ensures same { IsUnchanged self.old self.new }
         ensures environment { OnOk result (vec_len self.new.environment + 2 ≤ vec_capacity self.new.environment) }
         ensures frames { OnOk result (vec_len self.new.frames + 1 ≤ vec_capacity self.new.frames) }
-        ensures below { OnOk result (vec_len self.new.below + (lines + 1) ≤ vec_capacity self.new.below) }
+        ensures below { OnOk result (vec_len self.new.below + 1 ≤ vec_capacity self.new.below) }
     {
         self.reserve_turn()?;
-        self.below.try_reserve(lines + 1)
+        reserve_branch(&mut self.below)
     }
 
-    /// Takes in the child's sums and lines, and gives its value.
+    /// Takes in the child's sums, and its lines as one branch, and gives its value.
     fn take_in(&mut self, outcome: Outcome<'p>) -> u64
         requires sums { length outcome.sums ≡ length self.old.sums.items }
-        requires room { vec_len self.old.below + length outcome.lines ≤ vec_capacity self.old.below }
+        requires room { vec_len self.old.below + 1 ≤ vec_capacity self.old.below }
         ensures value { result ≡ outcome.entry.value }
         ensures taken { TakesIn self.old outcome.entry self.new }
     {
@@ -98,11 +98,10 @@ impl<'p> State<'p> {
             value,
             sums,
             own,
-            mut below,
+            below,
         } = outcome;
         add_each(&mut self.sums, &sums);
-        self.below.push_reserved(own);
-        self.below.append(&mut below).unwrap();
+        self.below.push_reserved(Branch { own, below });
         value
     }
 }

@@ -4,6 +4,7 @@
 mod alone;
 mod answer;
 mod begin;
+mod branch;
 mod fork;
 mod frame;
 mod give;

@@ -1,6 +1,7 @@
 ghost use Rattle.std.specs.Prelude.{◌≡◌, ◌∷◌, IfOk, IfErr};
 ghost use Rattle.arachne_machine.specs.Outcome.{IsOfItsName};
 
+use crate::branch::{Branch, count_lines, move_lines};
 use crate::line::ThreadLine;
 use arachne_lang::{Name, Program, Sequence};
 use std::marker::Model;
@@ -13,11 +14,12 @@ pub struct Outcome<'p> {
     pub(crate) value: u64,
     pub(crate) sums: Vec<u64>,
     pub(crate) own: ThreadLine,
-    pub(crate) below: Vec<ThreadLine>,
+    pub(crate) below: Vec<Branch>,
 }
 
 impl<'p> Model for Outcome<'p> {
     ghost use Rattle.std.specs.Prelude.{◌∷◌};
+    ghost use Rattle.arachne_machine.specs.Branches.{lines_in};
     ghost use Rattle.arachne_machine.specs.Outcome.{Finished, IsOfItsName};
 
     ghost Value = { Finished };
@@ -27,9 +29,9 @@ impl<'p> Model for Outcome<'p> {
 
     ghost coded = { Prim.hlevel (codes, expr.the_row.coded) };
 
-    ghost view = { λ o. record { program = o.program.now; name = o.own.name; value = o.value; sums = o.sums.items; lines = o.own ∷ o.below.items } };
+    ghost view = { λ o. record { program = o.program.now; name = o.own.name; value = o.value; sums = o.sums.items; lines = o.own ∷ lines_in o.below.items } };
 
-    ghost invariant = { λ o. IsOfItsName (record { program = o.program.now; name = o.own.name; value = o.value; sums = o.sums.items; lines = o.own ∷ o.below.items }) };
+    ghost invariant = { λ o. IsOfItsName (record { program = o.program.now; name = o.own.name; value = o.value; sums = o.sums.items; lines = o.own ∷ lines_in o.below.items }) };
 }
 
 /// An outcome taken apart.
@@ -65,30 +67,33 @@ impl<'p> Outcome<'p> {
         self.value
     }
 
-    /// The value, the sums and the lines. It takes memory for one line; where that is refused the outcome
+    /// The value, the sums and the lines. It takes memory for the list of lines; where that is refused the outcome
     /// comes back.
-    pub fn into_parts(mut self) -> Result<OutcomeParts, Outcome<'p>>
+    pub fn into_parts(self) -> Result<OutcomeParts, Outcome<'p>>
         ensures value { IfOk result (λ parts. parts.value ≡ self.entry.value) }
         ensures sums { IfOk result (λ parts. parts.sums ≡ self.entry.sums) }
         ensures lines { IfOk result (λ parts. parts.lines ≡ self.entry.lines) }
         ensures handed_back { IfErr result (λ outcome. outcome ≡ self.entry) }
         ensures of_its_name { IsOfItsName self.entry }
     {
-        if self.below.try_reserve(1).is_err() {
+        let alloc = *self.below.allocator();
+        let count = count_lines(&self.below).saturating_add(1);
+        let Ok(mut lines) = Vec::with_capacity(alloc, count) else {
             return Err(self);
-        }
+        };
         let Outcome {
             program: _,
             value,
             sums,
             own,
-            mut below,
+            below,
         } = self;
-        below.insert(0, own).unwrap();
+        lines.push_reserved(own);
+        move_lines(below, &mut lines);
         Ok(OutcomeParts {
             value,
             sums: Sequence::from(sums),
-            lines: Sequence::from(below),
+            lines: Sequence::from(lines),
         })
     }
 }

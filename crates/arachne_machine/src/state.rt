@@ -1,3 +1,4 @@
+use crate::branch::Branch;
 use crate::frame::{Control, Frame};
 use crate::line::{Label, ThreadLine};
 use crate::outcome::Outcome;
@@ -21,8 +22,8 @@ pub struct State<'p> {
     pub program: &'p Program,
     pub alloc: Global,
     pub own: Own,
-    /// The lines of the threads below it, as far as they were joined.
-    pub below: Vec<ThreadLine>,
+    /// The threads that it has joined, in order, with those below them.
+    pub below: Vec<Branch>,
     /// For each ledger the sum of what was tallied, modulo 2^64.
     pub sums: Vec<u64>,
     /// How many threads it has forked.
@@ -170,7 +171,7 @@ impl<'p> State<'p> {
         ensures program { result.program ≡ self.entry.program.now }
         ensures name { result.name ≡ self.entry.own.name }
         ensures sums { result.sums ≡ self.entry.sums.items }
-        ensures lines { result.lines ≡ own_line_of (suspended self.entry) ∷ self.entry.below.items }
+        ensures lines { result.lines ≡ own_line_of (suspended self.entry) ∷ (suspended self.entry).below }
     {
         let Control::Ended(value) = self.control else {
             unreachable!()

@@ -1,4 +1,4 @@
-use Rattle.std.proofs.Common.{◌+◌, ◌-◌, Some, refl, sym, ap, ◌∙◌, arith}
+use Rattle.std.proofs.Common.{◌+◌, refl, ◌∙◌, arith}
 use Rattle.arachne_machine.proofs.Soundness.{goes_on, goes_then_stops, takes_all}
 use Rattle.arachne_machine.proofs.state.State.advance.Goals as goal
 

@@ -1,4 +1,5 @@
-use Rattle.std.proofs.Common.{◌∷◌, false, sym, subst}
+use Rattle.std.proofs.Common.{◌∷◌, sym, subst}
+use Rattle.arachne_machine.specs.Branches.{lines_in}
 use Rattle.arachne_machine.specs.Outcome.{IsOfItsName}
 use Rattle.arachne_machine.proofs.Soundness.{sound_end}
 use Rattle.arachne_machine.proofs.state.State.finish.Goals as goal
@@ -12,6 +13,6 @@ invariant_of-result c =
       name = t.own.name;
       value = c.in-Ended.value;
       sums = t.sums.items;
-      lines = (record { name = t.own.name; tag = t.own.label.tag; holds = h; in_place = t.own.label.in_place }) ∷ t.below.items;
+      lines = (record { name = t.own.name; tag = t.own.label.tag; holds = h; in_place = t.own.label.in_place }) ∷ lines_in t.below.items;
     }))
     (sym c.from.ensures) (sound_end t c.in-Ended.value c.requires.sound c.in-Ended.is)

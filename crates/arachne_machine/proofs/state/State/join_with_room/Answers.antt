@@ -1,4 +1,4 @@
-use Rattle.std.proofs.Common.{◌≡◌, length, ◌++◌, ◌∷◌, [], refl, ap, sym, ◌∙◌, subst}
+use Rattle.std.proofs.Common.{◌≡◌, length, ◌++◌, ◌∷◌, [], refl, ap, ◌∙◌}
 use Rattle.arachne_lang.specs.Value.{with_newest, apply, operation_of}
 use Rattle.arachne_machine.specs.declared.frame.Frame.TheVariants.{Restore}
 use Rattle.arachne_machine.specs.declared.frame.Control.TheVariants.{Awaits, AwaitsHalf}

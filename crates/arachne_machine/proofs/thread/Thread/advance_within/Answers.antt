@@ -1,4 +1,4 @@
-use Rattle.std.proofs.Common.{◌≡◌, [], List, reverse, refl, sym, ap, ◌∙◌, subst}
+use Rattle.std.proofs.Common.{List, reverse, refl, sym, ap, ◌∙◌, subst}
 use Rattle.arachne_machine.specs.Suspended.{Suspended}
 use Rattle.arachne_machine.specs.Advance.{Moves}
 use Rattle.arachne_machine.specs.Nested.{Nested, IsAlone}

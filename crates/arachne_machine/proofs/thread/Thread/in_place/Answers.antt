@@ -1,7 +1,7 @@
-use Rattle.std.proofs.Common.{rules, ◌≡◌, ◌∷◌, None, Some, true, List, reverse, refl, sym, ap, ◌∙◌, subst}
+use Rattle.std.proofs.Common.{rules, ◌≡◌, ◌∷◌, None, true, List, reverse, sym, ap, ◌∙◌, subst}
 use Rattle.arachne_lang.specs.Program.{source_of}
 use Rattle.arachne_machine.specs.Suspended.{Suspended}
-use Rattle.arachne_machine.specs.Nested.{Nested, IsNested, SameWhole, in_place_of, whole}
+use Rattle.arachne_machine.specs.Nested.{IsNested, SameWhole, in_place_of, whole}
 use Rattle.arachne_machine.proofs.Waiting.{pushed}
 use Rattle.arachne_machine.proofs.Nesting.{nested_placed, next_is, outer_source, whole_is, whole_same}
 use Rattle.arachne_machine.proofs.thread.Thread.in_place.Goals as goal

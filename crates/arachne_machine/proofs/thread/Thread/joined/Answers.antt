@@ -1,4 +1,4 @@
-use Rattle.std.proofs.Common.{◌≡◌, reverse, sym, ap, ◌∙◌, subst}
+use Rattle.std.proofs.Common.{reverse, sym, ap, ◌∙◌, subst}
 use Rattle.arachne_lang.specs.Program.{source_of}
 use Rattle.arachne_machine.specs.Nested.{SameWhole, whole}
 use Rattle.arachne_machine.proofs.Nesting.{outer_source, nested_answered, whole_answered}

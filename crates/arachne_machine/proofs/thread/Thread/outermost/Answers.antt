@@ -1,6 +1,6 @@
-use Rattle.std.proofs.Common.{◌≡◌, ◌<◌, [], ◌∷◌, length, reverse, sym, ap, ◌∙◌, arith}
+use Rattle.std.proofs.Common.{sym, ap, ◌∙◌, arith}
 use Rattle.std.specs.Prelude.{vec_len}
-use Rattle.arachne_machine.specs.Nested.{whole, outermost}
+use Rattle.arachne_machine.specs.Nested.{whole}
 use Rattle.arachne_machine.proofs.Nesting.{outer_first, nonzero}
 use Rattle.arachne_machine.proofs.thread.Thread.outermost.Goals as goal
 

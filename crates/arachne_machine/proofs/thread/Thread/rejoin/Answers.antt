@@ -1,4 +1,4 @@
-use Rattle.std.proofs.Common.{◌≡◌, ◌∷◌, [], List, reverse, sym, ap, ◌∙◌, subst, arith}
+use Rattle.std.proofs.Common.{◌≡◌, ◌∷◌, List, reverse, sym, ap, ◌∙◌, subst, arith}
 use Rattle.arachne_machine.specs.Suspended.{Suspended}
 use Rattle.arachne_machine.specs.Nested.{IsNested, SameWhole}
 use Rattle.arachne_machine.proofs.Waiting.{pushed}
