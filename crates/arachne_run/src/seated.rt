@@ -17,8 +17,9 @@ use std::sync::Wait;
 impl<'a, H: Wait, T: RunJob, C: Contexts<T>, R: Rng, G: Gate> Worker<'a, H, T, C, R, G> {
     /// The occupancy word of the core.
     pub(crate) fn look(&self, kit: &mut Kit<C::Seat, R, T::Spares>) -> u64
-        requires { AreIdle C.sits C.idle self.now.machine.now kit.old.tokens }
-        ensures { AreIdle C.sits C.idle self.now.machine.now kit.new.tokens }
+        requires { AreOf C.sits self.now.machine.now kit.old.tokens }
+        ensures tokens { AreOf C.sits self.now.machine.now kit.new.tokens }
+        ensures out { KeepsOut (C.has self.now.machine.now.table) kit.old.tokens.seat kit.new.tokens.seat }
     {
         let table = &self.machine.table;
         table.look(self.rt, &mut kit.tokens.seat, self.core)

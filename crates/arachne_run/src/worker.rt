@@ -1,19 +1,21 @@
 //! The loop of one core's kernel thread.
-ghost use Rattle.std.specs.Prelude.{◌≡◌, ◌<◌, ◌≤◌, [], ◌∷◌, None, Some, OnOk};
+ghost use Rattle.std.specs.Prelude.{◌≡◌, ◌<◌, ◌≤◌, [], ◌∷◌, None, Some, OnOk, IfOk, MatchOption};
 ghost use Rattle.arachne_machine.specs.Suspended.{IsTally};
 ghost use Rattle.arachne_machine.specs.declared.pause.Pending.TheVariants as pause;
 ghost use Rattle.arachne_contexts.specs.Out.{KeepsOut};
+ghost use Rattle.arachne_run.specs.Slices.{MayRest};
 ghost use Rattle.arachne_run.specs.Tokens.{AreIdle, AreOf, AreWith, IsSetUp, thread_in};
 
 use crate::fault::RunFault;
 use crate::gate::Gate;
 use crate::idle::{Idle, LONG_SLEEP, SHORT_SLEEP};
 use crate::machine::Machine;
+use crate::readiness::bit_of;
 use crate::slice::{RunJob, Slice};
 use crate::tokens::Tokens;
 use arachne_arbiter::Cores;
 use arachne_contexts::{Contexts, Held, Seats};
-use arachne_core::{Rest, SLOTS};
+use arachne_core::{OccWord, Rest, SLOTS};
 use rand_core::Rng;
 use std::alloc::Global;
 use std::marker::PhantomData;
@@ -121,7 +123,7 @@ impl<'a, H: Wait, T: RunJob, C: Contexts<T>, R: Rng, G: Gate> Worker<'a, H, T, C
         Ok(self.run_each(kit, occupied)? || self.park(kit))
     }
 
-    /// Runs each thread that is ready at one of these indexes of the core, for one slice, unless all workers stop. Whether
+    /// Runs each thread that is ready at one of these indexes of the core, for a turn, unless all workers stop. Whether
     /// there was one.
     fn run_each(&self, kit: &mut Kit<C::Seat, R, T::Spares>, indexes: u64) -> Result<bool, RunFault>
         requires { AreIdle C.sits C.idle self.now.machine.now kit.old.tokens }
@@ -139,13 +141,12 @@ impl<'a, H: Wait, T: RunJob, C: Contexts<T>, R: Rng, G: Gate> Worker<'a, H, T, C
             if let Some(held) = self.take(kit, index) {
                 found = true;
                 self.turn(kit, held)?;
-                self.machine.shared.slices().count(self.core);
             }
         }
         Ok(found)
     }
 
-    /// One slice of a thread: it goes on for at most a quantum of steps, and what it asks for meanwhile is answered.
+    /// Runs a thread for a slice, and for more as long as it goes on and has its core to itself.
     fn turn(
         &self,
         kit: &mut Kit<C::Seat, R, T::Spares>,
@@ -154,33 +155,75 @@ impl<'a, H: Wait, T: RunJob, C: Contexts<T>, R: Rng, G: Gate> Worker<'a, H, T, C
         requires { AreWith C.sits C.has self.now.machine.now (thread_in T.tag_of held ∷ []) kit.old.tokens }
         ensures { OnOk result (AreIdle C.sits C.idle self.now.machine.now kit.new.tokens) }
     {
+        let index = held.place().index;
+        let mut held = held;
+        for _ in self.rt.forever() {
+            let rest = self.slice(kit, &mut held)?;
+            self.gate.slice_ended(self.core);
+            self.machine.shared.slices().count(self.core);
+            match rest {
+                None => return self.finish(kit, held),
+                Some(Rest::Ready) if self.has_core_to_itself(kit, index) => self.tend(kit),
+                Some(rest) => return self.put_back(kit, held, rest),
+            }
+        }
+        unreachable!()
+    }
+
+    /// Whether the thread at this index could go on at once if it were put back: it is the only one on the core, which is
+    /// open, and the workers go on.
+    fn has_core_to_itself(&self, kit: &mut Kit<C::Seat, R, T::Spares>, index: u8) -> bool
+        requires { AreOf C.sits self.now.machine.now kit.old.tokens }
+        ensures tokens { AreOf C.sits self.now.machine.now kit.new.tokens }
+        ensures out { KeepsOut (C.has self.now.machine.now.table) kit.old.tokens.seat kit.new.tokens.seat }
+    {
+        let shared = &self.machine.shared;
+        if shared.is_stopped() || shared.readiness().is_hinted(self.core) {
+            return false;
+        }
+        match OccWord::from_word(self.look(kit)) {
+            Some(core) => core.mask() == bit_of(index) && !core.is_closed(),
+            None => false,
+        }
+    }
+
+    /// One slice of a thread: it goes on for at most a quantum of steps, and what it asks for meanwhile is answered. How it
+    /// rests then; none where it has ended.
+    fn slice(
+        &self,
+        kit: &mut Kit<C::Seat, R, T::Spares>,
+        held: &mut Held<T, C::Hold>,
+    ) -> Result<Option<Rest>, RunFault>
+        requires { AreWith C.sits C.has self.now.machine.now (thread_in T.tag_of held.old ∷ []) kit.old.tokens }
+        ensures tokens { OnOk result (AreWith C.sits C.has self.now.machine.now (thread_in T.tag_of held.new ∷ []) kit.new.tokens) }
+        ensures rest { IfOk result (λ rest. MatchOption rest (T.pause_of held.new.value ≡ Some pause.Ended) (λ rest. MayRest rest (T.pause_of held.new.value))) }
+    {
         self.gate.slice(self.core, kit.slices);
         kit.slices = kit.slices.saturating_add(1);
-        let mut held = held;
         let mut left = self.machine.quantum;
         while left > 0 {
             match held.value.slice(&mut left, &mut kit.spares)? {
                 Slice::Goes => {}
-                Slice::Forks(class, child) => self.fork(kit, &mut held, class, child)?,
-                Slice::Blocks => return self.put_back(kit, held, Rest::Blocked),
+                Slice::Forks(class, child) => self.fork(kit, held, class, child)?,
+                Slice::Blocks => return Ok(Some(Rest::Blocked)),
                 Slice::Asks(lock) => {
-                    if !self.ask(kit, &mut held, lock)? {
-                        return self.put_back(kit, held, Rest::Blocked);
+                    if !self.ask(kit, held, lock)? {
+                        return Ok(Some(Rest::Blocked));
                     }
                 }
                 Slice::Awaits(lock) => {
-                    if !self.look_for_pass(kit, &mut held, lock)? {
-                        return self.put_back(kit, held, Rest::Blocked);
+                    if !self.look_for_pass(kit, held, lock)? {
+                        return Ok(Some(Rest::Blocked));
                     }
                     // The look counts as a step.
                     left -= 1;
                 }
-                Slice::Frees(lock) => self.free(kit, &mut held, lock)?,
-                Slice::Tallies(ledger, amount) => self.tally(kit, &mut held, ledger, amount)?,
-                Slice::Ends => return self.finish(kit, held),
+                Slice::Frees(lock) => self.free(kit, held, lock)?,
+                Slice::Tallies(ledger, amount) => self.tally(kit, held, ledger, amount)?,
+                Slice::Ends => return Ok(None),
             }
         }
-        self.put_back(kit, held, Rest::Ready)
+        Ok(Some(Rest::Ready))
     }
 
     /// Adds to a ledger for a thread.
@@ -244,14 +287,19 @@ impl<'a, H: Wait, T: RunJob, C: Contexts<T>, R: Rng, G: Gate> Worker<'a, H, T, C
     {
         let shared = &self.machine.shared;
         if let Some(arbiter) = &mut kit.tokens.arbiter {
+            let before = arbiter.applied();
             let receivers = arbiter.tend(
                 &self.cores(),
                 &mut kit.tokens.seat,
                 shared.parking(),
                 shared.slices(),
             );
+            if arbiter.applied() != before {
+                self.gate.applied(arbiter.applied());
+            }
             if receivers != 0 {
                 shared.readiness().hint_cores(receivers);
+                self.gate.moved(receivers);
             }
         }
     }
@@ -271,7 +319,12 @@ impl<'a, H: Wait, T: RunJob, C: Contexts<T>, R: Rng, G: Gate> Worker<'a, H, T, C
         ensures out { KeepsOut (C.has self.now.machine.now.table) kit.old.tokens.seat kit.new.tokens.seat }
     {
         let parking = self.machine.shared.parking();
-        self.cores()
-            .park_if_drained(&mut kit.tokens.seat, parking, self.core)
+        let parked = self
+            .cores()
+            .park_if_drained(&mut kit.tokens.seat, parking, self.core);
+        if parked {
+            self.gate.unparked(self.core);
+        }
+        parked
     }
 }

@@ -1,11 +1,6 @@
-use Rattle.std.specs.Prelude.{◌≡◌, ◌⊎◌, [], ◌∷◌, None}
+use Rattle.std.specs.Prelude.{[], ◌∷◌}
 use Rattle.arachne_run.specs.Tokens.{AreWith, thread_in}
 use Rattle.arachne_run.proofs.worker.Worker.turn.Given as goal
 
-abbrev pub invariant-loop-left : goal.invariant-loop-left
-invariant-loop-left g l =
-    AreWith g.C.Seats.sits g.C.Contexts.has l.self.machine.now (thread_in g.T.Tagged.tag_of l.held ∷ []) l.kit.tokens
-    × ((l.left ≡ l.self.machine.now.quantum) ⊎ (g.T.RunJob.pause_of l.held.value ≡ None))
-
-abbrev pub decreases-loop-left : goal.decreases-loop-left
-decreases-loop-left g l = l.left
+abbrev pub invariant-loop : goal.invariant-loop
+invariant-loop g l = AreWith g.C.Seats.sits g.C.Contexts.has l.self.machine.now (thread_in g.T.Tagged.tag_of l.held ∷ []) l.kit.tokens
