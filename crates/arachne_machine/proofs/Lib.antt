@@ -7,6 +7,7 @@ pub mod Halves
 pub mod Frames
 pub mod Faultlessness
 pub mod Outlooks
+pub mod Renewing
 pub mod Openings
 pub mod Handings
 pub mod Splitting

@@ -66,7 +66,7 @@ work_at source name k fs env t at =
     ∙ ap (λ x. begun_work source name k x + resume_work source name (frames_left k fs) (begun source name k x)) at.environment_is
 
 -- the trace of what comes next and the newest frames, and that of the frames below
-abbrev trace_by : Source → List ℕ → Control → List Frame → List Frame → List ℕ → List Event
+abbrev pub trace_by : Source → List ℕ → Control → List Frame → List Frame → List ℕ → List Event
 trace_by source name k fs gs env =
     let s = begun source name k env in
     (begun_trace source name k env ++ resume_trace source name gs s) ++ (resume_trace source name fs (resume source name gs s) ++ At pause.Ended ∷ [])
@@ -74,7 +74,7 @@ trace_by source name k fs gs env =
 in_two : (xs ys zs ends : List Event) → (xs ++ (ys ++ zs)) ++ ends ≡ (xs ++ ys) ++ (zs ++ ends)
 in_two xs ys zs ends = ap (λ l. l ++ ends) (sym (append_assoc xs ys zs)) ∙ append_assoc (xs ++ ys) zs ends
 
-trace_at : (source : Source) (name : List ℕ) (k : Control) (fs gs : List Frame) (env : List ℕ) (t : State) → IsAt source name k (fs ++ gs) env t →
+pub trace_at : (source : Source) (name : List ℕ) (k : Control) (fs gs : List Frame) (env : List ℕ) (t : State) → IsAt source name k (fs ++ gs) env t →
     frames_left k (fs ++ gs) ≡ fs ++ gs → trace_left t ≡ trace_by source name k fs gs env
 trace_at source name k fs gs env t at left =
     let s = begun source name k env in

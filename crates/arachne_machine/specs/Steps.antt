@@ -15,6 +15,7 @@ use Rattle.arachne_machine.specs.declared.frame.Control.{Control}
 use Rattle.arachne_machine.specs.declared.frame.Control.TheVariants.{Begin, Give, Cover, Forked, Halved, Awaits, AwaitsHalf, Asks, Frees, Tallies, Ended}
 use Rattle.arachne_machine.specs.declared.pause.Pending.{Pending}
 use Rattle.arachne_machine.specs.declared.pause.Pending.TheVariants as pause
+use Rattle.arachne_machine.specs.declared.state.Own.{Own}
 use Rattle.arachne_machine.specs.declared.state.State.{State}
 use Rattle.arachne_machine.specs.declared.state.Stop.{Stop}
 use Rattle.arachne_machine.specs.declared.state.Stop.TheVariants as stop
@@ -131,6 +132,17 @@ pub record GoesWithin (least most : ℕ) (old new : State) : Type 0 where
   pub at_least : least ≤ made
   pub at_most : made ≤ most
   pub goes : Goes made [] old new
+
+-- it has not begun, and has these as its own
+pub record IsRenewed (program : Bor Program) (own : Own) (sums : List ℕ) (control : Control) (environment : Environment) (t : State) : Type 0 where
+  pub program_is : t.program ≡ program
+  pub own_is : t.own ≡ own
+  pub below : t.below.items ≡ []
+  pub sums_are : t.sums.items ≡ sums
+  pub forks : t.forks ≡ 0
+  pub environment_is : t.environment.items ≡ environment
+  pub frames : t.frames.items ≡ []
+  pub control_is : t.control ≡ control
 
 -- a thread of a task that has not begun
 pub record IsNew (program : Program) (name : List ℕ) (tag : ℕ) (task : Task) (t : State) : Type 0 where

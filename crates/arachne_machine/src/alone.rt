@@ -7,6 +7,7 @@ ghost use Rattle.arachne_machine.specs.Alone.{Rests, key, turns_left};
 use crate::line::ThreadLine;
 use crate::outcome::Outcome;
 use crate::pause::NotJoined;
+use crate::spares::Spares;
 use crate::strand::{Halt, Strand};
 use arachne_lang::{Line, Meaning, Program, Sequence};
 use std::alloc::{AllocError, Global};
@@ -20,9 +21,10 @@ pub fn run_alone(alloc: Global, program: &Program, budget: u32) -> Result<Meanin
     let budget = budget.max(1);
     let mut threads = Vec::new(alloc);
     let mut outcomes: Vec<Outcome> = Vec::new(alloc);
+    let mut spares = Spares::new(alloc);
     threads.push(Strand::start(alloc, program, 0)?)?;
     while let Some(thread) = threads.pop() {
-        take_turn(&mut threads, &mut outcomes, thread, budget)?;
+        take_turn(&mut threads, &mut outcomes, &mut spares, thread, budget)?;
     }
     meaning(alloc, outcomes.pop().unwrap())
 }
@@ -32,6 +34,7 @@ pub fn run_alone(alloc: Global, program: &Program, budget: u32) -> Result<Meanin
 fn take_turn<'p>(
     threads: &mut Vec<Strand<'p>>,
     outcomes: &mut Vec<Outcome<'p>>,
+    spares: &mut Spares<'p>,
     mut thread: Strand<'p>,
     budget: u32,
 ) -> Result<(), AllocError>
@@ -41,7 +44,7 @@ fn take_turn<'p>(
     ensures falls { OnOk result (sum_by turns_left threads.new.items < sum_by turns_left threads.old.items + turns_left thread.entry) }
 {
     let mut left = budget;
-    match thread.advance(&mut left)? {
+    match thread.advance(&mut left, spares)? {
         Halt::Budget => threads.push(thread)?,
         Halt::Forks(_, child) => {
             thread.forked();
@@ -68,7 +71,7 @@ fn take_turn<'p>(
             thread.tallied();
             threads.push(thread)?;
         }
-        Halt::Ended => outcomes.push(thread.finish())?,
+        Halt::Ended => outcomes.push(thread.finish(spares))?,
     }
     Ok(())
 }

@@ -1,4 +1,5 @@
 use crate::frame::{Control, Frame};
+use crate::spares::Spares;
 use crate::state::{Progress, State, Stop};
 use arachne_lang::Expr;
 use std::alloc::AllocError;
@@ -14,7 +15,11 @@ impl<'p> State<'p> {
 
     /// Begins this expression. Where its value is known at once nothing else has changed.
     #[inline(always)]
-    pub fn begin(&mut self, expr: &'p Expr) -> Result<Progress<'p>, AllocError>
+    pub fn begin(
+        &mut self,
+        expr: &'p Expr,
+        spares: &mut Spares<'p>,
+    ) -> Result<Progress<'p>, AllocError>
         requires begins { self.old.control ≡ control.Begin expr }
         requires numbered { IsNumbered self.old }
         ensures ok { IfOk result (λ progress. Progresses self.old progress self.new) }
@@ -45,7 +50,7 @@ impl<'p> State<'p> {
                 return Ok(Progress::Made(Some(Stop::Asks(*lock))));
             }
             Expr::Fork(class, child, during, after) => {
-                let child = self.fork(child, during, after)?;
+                let child = self.fork(child, during, after, spares)?;
                 return Ok(Progress::Made(Some(Stop::Forks(*class, child))));
             }
         }

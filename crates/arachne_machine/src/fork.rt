@@ -1,6 +1,6 @@
 use crate::frame::{Control, Frame, Stretch};
+use crate::spares::Spares;
 use crate::state::{State, Stop};
-use crate::tables::copied;
 use arachne_lang::{Class, Expr};
 use std::alloc::AllocError;
 
@@ -17,6 +17,7 @@ impl<'p> State<'p> {
         child: &'p Expr,
         during: &'p Expr,
         after: &'p Expr,
+        spares: &mut Spares<'p>,
     ) -> Result<Box<State<'p>>, AllocError>
         requires { self.old.forks + 1 < 2 ^ 64 }
         ensures ok { IfOk result (λ t. PushesFork self.old self.new t.value (control.Begin child.entry)
@@ -28,6 +29,7 @@ impl<'p> State<'p> {
             Control::Begin(child),
             Frame::Join { number, after },
             Control::Forked(during),
+            spares,
         )
     }
 
@@ -37,6 +39,7 @@ impl<'p> State<'p> {
         begins: Control<'p>,
         frame: Frame<'p>,
         next: Control<'p>,
+        spares: &mut Spares<'p>,
     ) -> Result<Box<State<'p>>, AllocError>
         requires number { self.old.forks + 1 < 2 ^ 64 }
         requires begins { IsBeginning begins }
@@ -44,8 +47,16 @@ impl<'p> State<'p> {
         ensures err { OnErr result (IsUnchanged self.old self.new) }
     {
         let name = self.own.name.child(self.alloc, self.forks)?;
-        let environment = copied(self.alloc, &self.environment)?;
-        let state = State::new(self.alloc, self.program, name, 0, begins, environment)?;
+        let environment = self.environment.as_slice();
+        let state = State::new(
+            self.alloc,
+            self.program,
+            name,
+            0,
+            begins,
+            environment,
+            spares,
+        )?;
         self.frames.push(frame)?;
         self.forks += 1;
         self.control = next;
@@ -53,7 +64,11 @@ impl<'p> State<'p> {
     }
 
     /// Begins a part of a sweep: where it is longer than the grain, its left half is forked.
-    pub fn cover(&mut self, stretch: Stretch<'p>) -> Result<Option<Stop<'p>>, AllocError>
+    pub fn cover(
+        &mut self,
+        stretch: Stretch<'p>,
+        spares: &mut Spares<'p>,
+    ) -> Result<Option<Stop<'p>>, AllocError>
         requires covers { self.old.control ≡ control.Cover stretch }
         requires numbered { IsNumbered self.old }
         ensures ok { IfOk result (λ stop. AfterSteps 1 self.old stop self.new) }
@@ -61,7 +76,7 @@ impl<'p> State<'p> {
     {
         let count = stretch.end.saturating_sub(stretch.first);
         if count > stretch.grain.max(1) {
-            let child = self.halve(stretch, stretch.first + count / 2)?;
+            let child = self.halve(stretch, stretch.first + count / 2, spares)?;
             return Ok(Some(Stop::Forks(Class::Normal, child)));
         }
         self.reserve_turn()?;
@@ -77,7 +92,12 @@ impl<'p> State<'p> {
     }
 
     /// A new child for what is left of this middle. The own thread goes on with what is right of it.
-    fn halve(&mut self, stretch: Stretch<'p>, middle: u64) -> Result<Box<State<'p>>, AllocError>
+    fn halve(
+        &mut self,
+        stretch: Stretch<'p>,
+        middle: u64,
+        spares: &mut Spares<'p>,
+    ) -> Result<Box<State<'p>>, AllocError>
         requires { self.old.forks + 1 < 2 ^ 64 }
         ensures ok { IfOk result (λ t. PushesFork self.old self.new t.value (control.Cover (record stretch.entry { end = middle }))
             (frames.Merge self.old.forks stretch.entry.reduction) (control.Halved (record stretch.entry { first = middle }))) }
@@ -95,6 +115,6 @@ impl<'p> State<'p> {
             number: self.forks,
             reduction: stretch.reduction,
         };
-        self.spawn(Control::Cover(left), frame, Control::Halved(right))
+        self.spawn(Control::Cover(left), frame, Control::Halved(right), spares)
     }
 }

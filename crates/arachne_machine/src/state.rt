@@ -3,9 +3,11 @@ use crate::frame::{Control, Frame};
 use crate::line::{Label, ThreadLine};
 use crate::outcome::Outcome;
 use crate::pause::Pending;
+use crate::spares::Spares;
 use crate::tables::zeros;
 use arachne_lang::{Class, Name, Program, Sequence};
 use std::alloc::{AllocError, Global};
+use std::mem::replace;
 
 /// What becomes a thread's own line.
 #[derive(Drop)]
@@ -14,6 +16,20 @@ pub struct Own {
     pub label: Label,
     /// For each lock how often it held it, modulo 2^64.
     pub holds: Vec<u64>,
+}
+
+impl Own {
+    /// That of no thread. It allocates nothing.
+    fn vacant(alloc: Global) -> Own {
+        Own {
+            name: Name::root(alloc),
+            label: Label {
+                tag: 0,
+                in_place: false,
+            },
+            holds: Vec::new(alloc),
+        }
+    }
 }
 
 /// What a thread is between two steps.
@@ -61,27 +77,28 @@ pub enum Progress<'p> {
 }
 
 impl<'p> State<'p> {
-    ghost use Rattle.std.specs.Prelude.{◌≡◌, ◌-◌, ◌∷◌, IfOk, OnErr, None, Some, false};
+    ghost use Rattle.std.specs.Prelude.{◌≡◌, ◌-◌, ◌∷◌, IfOk, OnErr, OnOk, None, Some, false};
     ghost use Rattle.arachne_lang.specs.Program.{source_of};
     ghost use Rattle.arachne_machine.specs.Sound.{IsSound};
     ghost use Rattle.arachne_machine.specs.Ending.{locks_of};
     ghost use Rattle.arachne_machine.specs.Suspended.{own_line_of};
     ghost use Rattle.arachne_machine.specs.Faultless.{IsFaultlessNext, IsWithoutFault};
-    ghost use Rattle.arachne_machine.specs.Steps.{pending_of, suspended, task_begun, IsBeginning, IsNumbered, IsUnchanged, GoesWithin, IsNew, AfterSteps, IsSpent, TakesAll};
+    ghost use Rattle.arachne_machine.specs.Steps.{pending_of, suspended, task_begun, IsBeginning, IsNumbered, IsRenewed, IsUnchanged, GoesWithin, IsNew, AfterSteps, IsSpent, TakesAll};
     ghost use Rattle.arachne_machine.specs.declared.pause.Pending.TheVariants as pause;
 
-    /// A thread that begins like this.
+    /// A thread that begins like this, with a copy of the environment.
     pub fn new(
         alloc: Global,
         program: &'p Program,
         name: Name,
         tag: u64,
         control: Control<'p>,
-        environment: Vec<u64>,
+        environment: &[u64],
+        spares: &mut Spares<'p>,
     ) -> Result<Box<State<'p>>, AllocError>
         requires { IsBeginning control }
-        ensures fresh { IfOk result (λ t. IsNew program.now name tag (task_begun control.entry environment.items) t.value) }
-        ensures begins { IfOk result (λ t. task_begun t.value.control t.value.environment.items ≡ task_begun control.entry environment.items) }
+        ensures fresh { IfOk result (λ t. IsNew program.now name tag (task_begun control.entry environment.now) t.value) }
+        ensures begins { IfOk result (λ t. task_begun t.value.control t.value.environment.items ≡ task_begun control.entry environment.now) }
         ensures same { IfOk result (λ t. t.value.program ≡ program.entry) }
         ensures faultless { IfOk result (λ t. IsFaultlessNext (source_of program.now) false control.entry → IsWithoutFault t.value) }
     {
@@ -91,22 +108,58 @@ impl<'p> State<'p> {
         };
         let holds = zeros(alloc, program.locks)?;
         let sums = zeros(alloc, program.ledgers)?;
-        let state = State {
+        let own = Own { name, label, holds };
+        let mut state = spares.take(alloc, program)?;
+        state.renew(program, own, sums, control, environment)?;
+        Ok(state)
+    }
+
+    /// A thread of the program that does nothing.
+    pub fn vacant(alloc: Global, program: &'p Program) -> State<'p> {
+        State {
             program,
             alloc,
-            own: Own { name, label, holds },
+            own: Own::vacant(alloc),
             below: Vec::new(alloc),
-            sums,
+            sums: Vec::new(alloc),
             forks: 0,
-            environment,
+            environment: Vec::new(alloc),
             frames: Vec::new(alloc),
-            control,
-        };
-        Ok(Box::new(alloc, state)?)
+            control: Control::Ended(0),
+        }
+    }
+
+    /// Becomes a thread that has not begun, with the room that it had. The environment gets room for three more: a
+    /// number of a sweep, and the two that may come with a value.
+    fn renew(
+        &mut self,
+        program: &'p Program,
+        own: Own,
+        sums: Vec<u64>,
+        control: Control<'p>,
+        environment: &[u64],
+    ) -> Result<(), AllocError>
+        ensures { OnOk result (IsRenewed program.entry own sums.items control.entry environment.now self.new) }
+    {
+        self.environment.clear();
+        self.environment.try_reserve(environment.len() + 3)?;
+        self.environment.extend_from_slice(environment)?;
+        self.frames.clear();
+        self.below.clear();
+        self.program = program;
+        self.own = own;
+        self.sums = sums;
+        self.forks = 0;
+        self.control = control;
+        Ok(())
     }
 
     /// So many steps, if it does not stop before. Where memory is refused it stands before the refused step.
-    pub fn advance(&mut self, left: &mut u32) -> Result<Option<Stop<'p>>, AllocError>
+    pub fn advance(
+        &mut self,
+        left: &mut u32,
+        spares: &mut Spares<'p>,
+    ) -> Result<Option<Stop<'p>>, AllocError>
         requires running { pending_of self.old.control ≡ None }
         requires numbered { IsNumbered self.old }
         ensures ok { IfOk result (λ stop. AfterSteps left.old self.old stop self.new) }
@@ -118,7 +171,7 @@ impl<'p> State<'p> {
     {
         let budget = *left;
         for counter in 0..budget {
-            if let Some(stop) = self.step()? {
+            if let Some(stop) = self.step(spares)? {
                 *left = budget - counter - 1;
                 return Ok(Some(stop));
             }
@@ -130,19 +183,19 @@ impl<'p> State<'p> {
     /// One step: it begins an expression and hands on its value where that is known at once, or begins a part of a sweep, or hands on a
     /// value that was left over.
     #[inline(always)]
-    fn step(&mut self) -> Result<Option<Stop<'p>>, AllocError>
+    fn step(&mut self, spares: &mut Spares<'p>) -> Result<Option<Stop<'p>>, AllocError>
         requires running { pending_of self.old.control ≡ None }
         requires numbered { IsNumbered self.old }
         ensures ok { IfOk result (λ stop. AfterSteps 1 self.old stop self.new) }
         ensures err { OnErr result (IsUnchanged self.old self.new) }
     {
         let value = match self.control {
-            Control::Begin(expr) => match self.begin(expr)? {
+            Control::Begin(expr) => match self.begin(expr, spares)? {
                 Progress::Value(value) => value,
                 Progress::Made(stop) => return Ok(stop),
             },
             Control::Give(value) => value,
-            Control::Cover(stretch) => return self.cover(stretch),
+            Control::Cover(stretch) => return self.cover(stretch, spares),
             _ => unreachable!(),
         };
         let stop = self.give(value)?;
@@ -165,40 +218,30 @@ impl<'p> State<'p> {
     }
 
     /// The outcome of a thread that has ended.
-    pub fn finish(self) -> Outcome<'p>
-        requires ended { pending_of self.control ≡ Some pause.Ended }
-        requires sound { IsSound self }
-        ensures program { result.program ≡ self.entry.program.now }
-        ensures name { result.name ≡ self.entry.own.name }
-        ensures sums { result.sums ≡ self.entry.sums.items }
-        ensures lines { result.lines ≡ own_line_of (suspended self.entry) ∷ (suspended self.entry).below }
+    pub fn finish(&mut self) -> Outcome<'p>
+        requires ended { pending_of self.old.control ≡ Some pause.Ended }
+        requires sound { IsSound self.old }
+        ensures program { result.program ≡ self.old.program.now }
+        ensures name { result.name ≡ self.old.own.name }
+        ensures sums { result.sums ≡ self.old.sums.items }
+        ensures lines { result.lines ≡ own_line_of (suspended self.old) ∷ (suspended self.old).below }
     {
         let Control::Ended(value) = self.control else {
             unreachable!()
         };
-        let State {
-            program,
-            alloc: _,
-            own,
-            below,
-            sums,
-            forks: _,
-            environment: _,
-            frames: _,
-            control: _,
-        } = self;
-        let Own { name, label, holds } = own;
+        let alloc = self.alloc;
+        let Own { name, label, holds } = replace(&mut self.own, Own::vacant(alloc));
         Outcome {
-            program,
+            program: self.program,
             value,
-            sums,
+            sums: replace(&mut self.sums, Vec::new(alloc)),
             own: ThreadLine {
                 name,
                 tag: label.tag,
                 holds: Sequence::from(holds),
                 in_place: label.in_place,
             },
-            below,
+            below: replace(&mut self.below, Vec::new(alloc)),
         }
     }
 }

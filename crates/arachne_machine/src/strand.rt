@@ -14,6 +14,7 @@ ghost use Rattle.arachne_machine.specs.declared.pause.Pending.TheVariants as pau
 use crate::frame::Control;
 use crate::outcome::Outcome;
 use crate::pause::{NotJoined, Pending};
+use crate::spares::Spares;
 use crate::state::{State, Stop};
 use arachne_lang::{Class, Name, Program};
 use std::alloc::{AllocError, Global};
@@ -70,8 +71,8 @@ impl<'p> Strand<'p> {
     {
         let root = Name::root(alloc);
         let begins = Control::Begin(&program.root);
-        let environment = Vec::new(alloc);
-        let state = State::new(alloc, program, root, tag, begins, environment)?;
+        let mut spares = Spares::none(alloc);
+        let state = State::new(alloc, program, root, tag, begins, &[], &mut spares)?;
         Ok(Strand { state })
     }
 
@@ -101,7 +102,11 @@ impl<'p> Strand<'p> {
 
     /// Goes on for at most so many steps, and tells how many are left. Where memory is refused the thread stands
     /// before the refused step, and what is left is as it was.
-    pub fn advance(&mut self, left: &mut u32) -> Result<Halt<'p>, AllocError>
+    pub fn advance(
+        &mut self,
+        left: &mut u32,
+        spares: &mut Spares<'p>,
+    ) -> Result<Halt<'p>, AllocError>
         requires not_paused { self.old.pending ≡ None }
         requires some { 1 ≤ left.old }
         ensures ok { IfOk result (λ halt. Advanced left.old self.old (shown halt) self.new) }
@@ -117,7 +122,7 @@ impl<'p> Strand<'p> {
         ensures err_work { OnErr result (MakesSteps 0 (left.old - 1) self.old self.new) }
         ensures err_pending { OnErr result (self.new.pending ≡ None) }
     {
-        let stop = self.state.advance(left)?;
+        let stop = self.state.advance(left, spares)?;
         Ok(halt_at(stop))
     }
 
@@ -198,7 +203,11 @@ impl<'p> Strand<'p> {
 
     /// Joins the child that it awaits and that has ended. Where memory is refused nothing has changed, and the
     /// child comes back.
-    pub fn join_ended(&mut self, child: Strand<'p>) -> Result<(), Strand<'p>>
+    pub fn join_ended(
+        &mut self,
+        child: Strand<'p>,
+        spares: &mut Spares<'p>,
+    ) -> Result<(), Strand<'p>>
         requires pending { self.old.pending ≡ Some pause.Joins }
         requires program { source_of child.program ≡ source_of self.old.program }
         requires ended { child.pending ≡ Some pause.Ended }
@@ -210,7 +219,7 @@ impl<'p> Strand<'p> {
         if self.state.make_room().is_err() {
             return Err(child);
         }
-        let outcome = child.finish();
+        let outcome = child.finish(spares);
         let _ = &outcome.value;
         self.state.join_with_room(outcome);
         Ok(())
@@ -246,14 +255,17 @@ impl<'p> Strand<'p> {
     }
 
     /// The outcome of a thread that has ended. It takes no memory.
-    pub fn finish(self) -> Outcome<'p>
+    pub fn finish(self, spares: &mut Spares<'p>) -> Outcome<'p>
         requires { self.pending ≡ Some pause.Ended }
         ensures program { result.program ≡ self.entry.program }
         ensures name { result.name ≡ self.entry.name }
         ensures sums { result.sums ≡ self.entry.sums }
         ensures lines { result.lines ≡ own_line_of self.entry ∷ self.entry.below }
     {
-        Box::into_inner(self.state).finish()
+        let mut state = self.state;
+        let outcome = state.finish();
+        spares.keep(state);
+        outcome
     }
 }
 

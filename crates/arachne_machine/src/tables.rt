@@ -10,15 +10,6 @@ pub fn zeros(alloc: Global, n: u8) -> Result<Vec<u64>, AllocError>
     vec![in alloc; 0u64; usize::from(n)]
 }
 
-/// A copy of these numbers, with room for three more: a number of a sweep, and the two that may come with a value.
-pub fn copied(alloc: Global, numbers: &[u64]) -> Result<Vec<u64>, AllocError>
-    ensures { IfOk result (λ v. v.items ≡ numbers.now) }
-{
-    let mut copy = Vec::with_capacity(alloc, numbers.len() + 3)?;
-    copy.extend_from_slice(numbers)?;
-    Ok(copy)
-}
-
 /// Adds number by number, modulo 2^64.
 pub fn add_each(sums: &mut [u64], more: &[u64])
     requires { length more.now ≡ length sums.old }

@@ -11,6 +11,7 @@ ghost use Rattle.arachne_machine.specs.declared.pause.Pending.TheVariants as pau
 
 use crate::outcome::Outcome;
 use crate::pause::{NotJoined, Pause, Pending};
+use crate::spares::Spares;
 use crate::strand::{Halt, Strand};
 use arachne_lang::{Name, Program};
 use std::alloc::{AllocError, Global};
@@ -137,12 +138,17 @@ impl<'p> Thread<'p> {
         ensures err_alone { OnErr result (IsAlone self.old → RefusedAlone budget self.old self.new) }
     {
         let mut left = budget;
-        self.advance_within(&mut left)
+        let mut spares = Spares::none(self.alloc);
+        self.advance_within(&mut left, &mut spares)
     }
 
     /// The same, for at most as many steps as are left. Then fewer are: none at `Budget`, and at least one fewer at
-    /// another pause.
-    pub fn advance_within(&mut self, left: &mut u32) -> Result<Pause<'p>, AllocError>
+    /// another pause. A child begins with what ended threads have left.
+    pub fn advance_within(
+        &mut self,
+        left: &mut u32,
+        spares: &mut Spares<'p>,
+    ) -> Result<Pause<'p>, AllocError>
         requires not_paused { pending_in self.old ≡ None }
         requires some { 1 ≤ left.old }
         ensures ok { IfOk result (λ pause. Moves left.old self.old pause self.new) }
@@ -155,11 +161,11 @@ impl<'p> Thread<'p> {
         ensures err_alone { OnErr result (IsAlone self.old → RefusedAlone left.old self.old self.new) }
     {
         if !self.is_alone() {
-            let (pause, rest) = self.advance_nested(*left)?;
+            let (pause, rest) = self.advance_nested(*left, spares)?;
             *left = rest;
             return Ok(pause);
         }
-        let halt = self.running.advance(left)?;
+        let halt = self.running.advance(left, spares)?;
         Ok(pause_at(self.alloc, halt))
     }
 
@@ -171,7 +177,11 @@ impl<'p> Thread<'p> {
     }
 
     /// The same for a thread with others in its place, with the steps that are left.
-    fn advance_nested(&mut self, budget: u32) -> Result<(Pause<'p>, u32), AllocError>
+    fn advance_nested(
+        &mut self,
+        budget: u32,
+        spares: &mut Spares<'p>,
+    ) -> Result<(Pause<'p>, u32), AllocError>
         requires not_paused { pending_in self.old ≡ None }
         requires some { 1 ≤ budget }
         ensures ok { IfOk result (λ gives. Moves budget self.old gives.0 self.new) }
@@ -183,8 +193,8 @@ impl<'p> Thread<'p> {
     {
         let mut left = budget;
         while left > 0 {
-            self.rejoin()?;
-            let halt = self.running.advance(&mut left)?;
+            self.rejoin(spares)?;
+            let halt = self.running.advance(&mut left, spares)?;
             if !self.goes_on(&halt) {
                 return Ok((pause_at(self.alloc, halt), left));
             }
@@ -212,7 +222,7 @@ impl<'p> Thread<'p> {
 
     /// Where the thread that goes on has ended in another's place, that one joins it and goes on. Where memory
     /// is refused nothing has changed.
-    fn rejoin(&mut self) -> Result<(), AllocError>
+    fn rejoin(&mut self, spares: &mut Spares<'p>) -> Result<(), AllocError>
         requires { pending_in self.old ≡ None }
         ensures same { SameWhole self.old self.new }
         ensures work { work_in self.new ≡ work_in self.old }
@@ -226,7 +236,7 @@ impl<'p> Thread<'p> {
             unreachable!()
         };
         let child = replace(&mut self.running, parent);
-        if let Err(child) = self.running.join_ended(child) {
+        if let Err(child) = self.running.join_ended(child, spares) {
             let parent = replace(&mut self.running, child);
             self.parents.push_reserved(parent);
             return Err(AllocError);
@@ -379,15 +389,15 @@ impl<'p> Thread<'p> {
         self.running.joined(outcome)
     }
 
-    /// The outcome of a thread that has ended. It takes no memory.
-    pub fn finish(self) -> Outcome<'p>
+    /// The outcome of a thread that has ended. What it no longer needs is left to those that begin.
+    pub fn finish(self, spares: &mut Spares<'p>) -> Outcome<'p>
         requires { pending_in self ≡ Some pause.Ended }
         ensures program { result.program ≡ (whole self.entry).program }
         ensures name { result.name ≡ (whole self.entry).name }
         ensures sums { result.sums ≡ (whole self.entry).sums }
         ensures lines { result.lines ≡ own_line_of (whole self.entry) ∷ (whole self.entry).below }
     {
-        self.into_running().finish()
+        self.into_running().finish(spares)
     }
 }
 

@@ -5,5 +5,5 @@ use Rattle.arachne_machine.proofs.strand.Strand.finish.Goals as goal
 
 pub returns-clause-lines : goal.returns-clause-lines
 returns-clause-lines c =
-    let seen : suspended c.into_inner.result ≡ c.args.self = ap suspended c.into_inner.ensures ∙ c.self.view_is in
-    c.finish.ensures.lines ∙ ap (λ v. own_line_of v ∷ v.below) seen
+    let seen : suspended c.deref_mut.result.now ≡ c.args.self = ap suspended c.deref_mut.ensures.value ∙ c.self.view_is in
+    c.finish-outcome.ensures.lines ∙ ap (λ v. own_line_of v ∷ v.below) seen

@@ -1,0 +1,58 @@
+use crate::state::State;
+use arachne_lang::Program;
+use std::alloc::{AllocError, Global};
+use std::marker::Model;
+
+/// How many states are kept at most.
+const MOST: usize = 64;
+
+/// The memory that ended threads leave for those that begin: their states, with the room of their environments and
+/// frames. It is for the threads of one core.
+#[derive(Drop)]
+pub struct Spares<'p> {
+    most: usize,
+    states: Vec<Box<State<'p>>>,
+}
+
+impl<'p> Model for Spares<'p> {
+    ghost Value = { Unit {0} };
+
+    ghost view = { λ s. tt };
+}
+
+impl<'p> Spares<'p> {
+    /// None so far. It allocates nothing.
+    pub fn new(alloc: Global) -> Spares<'p> {
+        Spares {
+            most: MOST,
+            states: Vec::new(alloc),
+        }
+    }
+
+    /// None, now and later.
+    pub(crate) fn none(alloc: Global) -> Spares<'p> {
+        Spares {
+            most: 0,
+            states: Vec::new(alloc),
+        }
+    }
+
+    /// The state of an ended thread, or a new one where there is none.
+    pub(crate) fn take(
+        &mut self,
+        alloc: Global,
+        program: &'p Program,
+    ) -> Result<Box<State<'p>>, AllocError> {
+        match self.states.pop() {
+            Some(state) => Ok(state),
+            None => Ok(Box::new(alloc, State::vacant(alloc, program))?),
+        }
+    }
+
+    /// Keeps what an ended thread leaves, unless there is enough.
+    pub(crate) fn keep(&mut self, state: Box<State<'p>>) {
+        if self.states.len() < self.most {
+            let _ = self.states.push(state);
+        }
+    }
+}
