@@ -131,14 +131,14 @@ impl<'p> RunJob for Job<'p> {
         self.thread.tallied();
     }
 
-    fn leave(self) -> Option<ThreadId> {
+    fn leave(self, spares: &mut Spares<'p>) -> Option<ThreadId> {
         let Job {
             thread,
             end,
             awaited: _,
             parent,
         } = self;
-        end.leave(thread.finish());
+        end.leave(thread.finish(&mut spares.threads));
         parent
     }
 }
@@ -192,7 +192,7 @@ impl<'p> Job<'p> {
         ensures left { IfOk result (λ slice. IsLeft (λ j child. IsForking j.thread child) (λ j. pause_of j.thread) slice self.new) }
         ensures steps { IfOk result (λ slice. UsesSteps slice left.old left.new) }
     {
-        match self.thread.advance_within(left)? {
+        match self.thread.advance_within(left, &mut spares.threads)? {
             Pause::Budget => Ok(Slice::Goes),
             Pause::Forks(class, child) => Ok(Slice::Forks(class, child)),
             Pause::Joins => {

@@ -43,7 +43,7 @@ pub trait RunJob: Tagged + Drop {
     type Child: Drop + Send;
 
     /// What a worker keeps of ended threads for those that begin.
-    type Spares: Drop;
+    type Spares: Drop + Send;
 
     /// The tag of the thread that goes on next: the job's own, or that of one that runs in its place.
     ghost running_tag_of: { Self → ℕ };
@@ -121,7 +121,7 @@ pub trait RunJob: Tagged + Drop {
         ensures answered { pause_of self.new ≡ None };
 
     /// Leaves the outcome for its parent, which is to be woken; the root has none.
-    fn leave(self) -> Option<ThreadId>
+    fn leave(self, spares: &mut Self::Spares) -> Option<ThreadId>
         requires { pause_of self ≡ Some pause.Ended }
         ensures { result ≡ parent_of self };
 }

@@ -1,12 +1,14 @@
 //! What a worker keeps of ended threads for those that begin.
 use crate::wanted::Wanted;
 use arachne_join::SpareCells;
-use arachne_machine::Outcome;
+use arachne_machine::{Outcome, Spares as SpareThreads};
 use std::alloc::Global;
 
-/// The join cells that nobody uses. Each worker has its own, so that a fork takes no memory for its cell.
+/// The memory of threads that have ended, and the join cells that nobody uses. Each worker has its own, so that most forks
+/// take memory for a name alone.
 #[derive(Drop)]
 pub struct Spares<'p> {
+    pub(crate) threads: SpareThreads<'p>,
     pub(crate) cells: SpareCells<Outcome<'p>, Wanted>,
 }
 
@@ -14,6 +16,7 @@ impl<'p> Spares<'p> {
     /// Nothing yet. It takes no memory.
     pub(crate) fn new(alloc: Global) -> Spares<'p> {
         Spares {
+            threads: SpareThreads::new(alloc),
             cells: SpareCells::new(alloc),
         }
     }

@@ -259,7 +259,7 @@ impl<'a, H: Wait, T: RunJob, C: Contexts<T>, R: Rng, G: Gate> Worker<'a, H, T, C
         ensures { OnOk result (AreIdle C.sits C.idle self.now.machine.now kit.new.tokens) }
     {
         let job = self.end(kit, held)?;
-        match job.leave() {
+        match job.leave(&mut kit.spares) {
             Some(parent) => self.wake(kit, parent),
             None => self.machine.shared.stop(),
         }
