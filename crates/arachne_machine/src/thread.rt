@@ -389,8 +389,20 @@ impl<'p> Thread<'p> {
         self.running.joined(outcome)
     }
 
-    /// The outcome of a thread that has ended. What it no longer needs is left to those that begin.
-    pub fn finish(self, spares: &mut Spares<'p>) -> Outcome<'p>
+    /// The outcome of a thread that has ended. It takes no memory.
+    pub fn finish(self) -> Outcome<'p>
+        requires { pending_in self ≡ Some pause.Ended }
+        ensures program { result.program ≡ (whole self.entry).program }
+        ensures name { result.name ≡ (whole self.entry).name }
+        ensures sums { result.sums ≡ (whole self.entry).sums }
+        ensures lines { result.lines ≡ own_line_of (whole self.entry) ∷ (whole self.entry).below }
+    {
+        let mut spares = Spares::none(self.alloc);
+        self.finish_into(&mut spares)
+    }
+
+    /// The same. What the thread no longer needs is left to those that begin.
+    pub fn finish_into(self, spares: &mut Spares<'p>) -> Outcome<'p>
         requires { pending_in self ≡ Some pause.Ended }
         ensures program { result.program ≡ (whole self.entry).program }
         ensures name { result.name ≡ (whole self.entry).name }

@@ -138,7 +138,7 @@ impl<'p> RunJob for Job<'p> {
             awaited: _,
             parent,
         } = self;
-        end.leave(thread.finish(&mut spares.threads));
+        end.leave(thread.finish_into(&mut spares.threads));
         parent
     }
 }
