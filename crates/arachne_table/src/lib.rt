@@ -1,8 +1,8 @@
 //! Context tables: the trait that all forms meet, and the forms.
 //!
 //! This crate has nothing of its own. It names in one place what stands in the crates below it: the trait
-//! `Contexts` with its seats and answers (`arachne_contexts`), the form behind a lock (`arachne_locked`), and the
-//! form on atomic words (`arachne_words`).
+//! `Contexts` with its seats and answers (`arachne_contexts`), the form behind a lock (`arachne_locked`), the form on
+//! atomic words (`arachne_words`), and a law for each kind of atomic step of that form (`arachne_rule`).
 #![tactic(auto)]
 
 #[cfg(test)]
@@ -12,4 +12,5 @@ pub use arachne_contexts::{
     Claimed, Contexts, Held, Identified, Moved, Placed, Rested, Seats, Tagged, Taken, Woken,
 };
 pub use arachne_locked::{LockedClaim, LockedContexts, LockedHold, LockedSeat};
+pub use arachne_rule::laws;
 pub use arachne_words::{WordClaim, WordContexts, WordHold, WordSeat};

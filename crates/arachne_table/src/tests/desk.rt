@@ -152,18 +152,24 @@ impl<C: Contexts<Job> + Drop> Desk<C> {
         self.claim(rt, core)?.post(rt, tag)
     }
 
-    /// Takes the thread at a place and ends it.
-    pub(super) fn end<R: Wait>(self, rt: &R, core: u8, index: u8) -> Result<(Self, u64), Fail>
+    /// Takes the thread at a place and ends it. Its id and its tag.
+    pub(super) fn end<R: Wait>(
+        self,
+        rt: &R,
+        core: u8,
+        index: u8,
+    ) -> Result<(Self, ThreadId, u64), Fail>
         requires { (core < 2) × (index < SLOTS) }
     {
         let Desk { table, mut seat } = self;
         let Taken::Run(held) = table.take(rt, &mut seat, core, index) else {
             return Err("not ready".into());
         };
+        let id = held.id();
         let Ok(job) = table.finish(rt, &mut seat, held) else {
             return Err("not ended".into());
         };
-        Ok((Desk { table, seat }, job.0))
+        Ok((Desk { table, seat }, id, job.0))
     }
 
     /// Takes the thread at a place and puts it back as blocked.

@@ -46,7 +46,7 @@ pub(super) fn lowest_free_index<C: Contexts<Job> + Drop, R: Wait>(
     let (desk, _) = claiming.post(rt, 5)?;
     let (desk, _) = desk.post(rt, 0, 6)?;
     let (desk, _) = desk.post(rt, 0, 7)?;
-    let (mut desk, tag) = desk.end(rt, 0, 1)?;
+    let (mut desk, _, tag) = desk.end(rt, 0, 1)?;
     same(tag, 6)?;
     same(desk.look(rt, 0), 0x0200000000000005)?;
     let mut claiming = desk.claim(rt, 0)?;
@@ -117,7 +117,7 @@ pub(super) fn gone_once_it_has_ended<C: Contexts<Job> + Drop, R: Wait>(
 ) -> Result<(), Fail> {
     let desk: Desk<C> = Desk::new(alloc, 0)?;
     let (desk, first) = desk.post(rt, 0, 3)?;
-    let (mut desk, tag) = desk.end(rt, 0, 0)?;
+    let (mut desk, _, tag) = desk.end(rt, 0, 0)?;
     same(tag, 3)?;
     same(desk.mark(rt, 0), 0x4000)?;
     same(desk.look(rt, 0), 0)?;
@@ -136,7 +136,7 @@ pub(super) fn last_generation<C: Contexts<Job> + Drop, R: Wait>(
     let desk: Desk<C> = Desk::new(alloc, 1125899906842623)?;
     let (mut desk, last) = desk.post(rt, 0, 3)?;
     same(desk.mark(rt, 0), 0xFFFFFFFFFFFFC001)?;
-    let (mut desk, _) = desk.end(rt, 0, 0)?;
+    let (mut desk, _, _) = desk.end(rt, 0, 0)?;
     same(desk.mark(rt, 0), 0xFFFFFFFFFFFFC005)?;
     same(desk.look(rt, 0), 0x0100000000000001)?;
     holds(desk.wake(rt, last) == Woken::Gone, "gone")?;
@@ -212,7 +212,8 @@ pub(super) fn there_and_back<C: Contexts<Job> + Drop, R: Wait>(
     same(desk.close_core(rt, 0), 0)?;
     let closed = desk.move_one(rt, at(1, 0), 0);
     holds(closed == Moved::NoRoom(0x4000000000000000), "no room")?;
-    let (_, tag) = desk.end(rt, 1, 0)?;
+    let (_, taken, tag) = desk.end(rt, 1, 0)?;
+    holds(taken == id(56, 0), "the id that was taken")?;
     same(tag, 5)
 }
 
@@ -233,7 +234,7 @@ pub(super) fn left_at_the_end<C: Contexts<Job> + Drop, R: Wait>(
     let (desk, _) = desk.post(rt, 1, 5)?;
     let (desk, _) = desk.post(rt, 0, 6)?;
     let (desk, _) = desk.post(rt, 1, 7)?;
-    let (desk, _) = desk.end(rt, 1, 0)?;
+    let (desk, _, _) = desk.end(rt, 1, 0)?;
     let left = desk.close(rt, alloc)?;
     let [(a, one), (b, other)] = left.as_slice() else {
         return Err("two are left".into());
