@@ -1,5 +1,5 @@
 -- Each step on a block of cells keeps its rule, and tells what it says.
-use Rattle.std.proofs.Common.{◌≡◌, ℕ, zero, suc, ◌+◌, ◌%◌, ◌<◌, ◌≤◌, ◌≢◌, ◌⊎◌, inl, inr, ⊎_elim, List, [], ◌∷◌, ◌++◌, map, length, replicate, get_or, set, sym, refl, ap, ◌∙◌, subst, arith, length-set, get_or-set_same, get_or-set_other}
+use Rattle.std.proofs.Common.{◌≡◌, ℕ, zero, suc, ◌+◌, ◌<◌, ◌≢◌, ◌⊎◌, inl, inr, ⊎_elim, List, [], ◌∷◌, ◌++◌, map, length, replicate, get_or, set, sym, refl, ap, ◌∙◌, subst, arith, length-set, get_or-set_same, get_or-set_other}
 use Rattle.std.proofs.lemmas.List.{set-get_or}
 use mathlib.Core.Option.{some, none, some-injective, some-ne-none}
 use mathlib.Core.Option as maybe
@@ -9,15 +9,15 @@ use lib.ListN.{get_elem?}
 use Rattle.std.specs.declared.snapshot.Snapshot.{Snapshot}
 use Rattle.atomic_table.specs.Table as table
 use Rattle.atomic_table.specs.Table.{Me, rest, keeps, takes, gives, opening, Allows, Splits}
-use Rattle.atomic_table.proofs.Lists.{at_set, set_here, set_else, at_longer, set_again}
+use Rattle.atomic_table.proofs.Lists.{at_set, set_here, set_else}
 use Rattle.arachne_join.specs.declared.part.Content.{Content}
 use Rattle.arachne_join.specs.declared.part.Content.TheVariants.{Empty, For, Value}
 use Rattle.arachne_join.specs.declared.part.Part.{Part}
 use Rattle.arachne_join.specs.declared.part.Part.TheVariants.{Rest, Fresh, Unused, Opened, Sending, Receiving, Spent}
 use Rattle.arachne_join.specs.declared.part.PartView.{PartView}
-use Rattle.arachne_join.specs.Parts.{word_after, part_view, as_part, MaySend, MayReceive, IsSendingFor, IsReceivingFor, AreApart, IsFresh, HasCome, Knows}
+use Rattle.arachne_join.specs.Parts.{word_after, part_view, MaySend, MayReceive, IsSendingFor, IsReceivingFor, AreApart, HasCome, Knows}
 use Rattle.arachne_join.specs.BlockRule.{IsShared, all_cells}
-use Rattle.arachne_join.specs.BlockSteps.{without_first, the_first, sending_end, receiving_end, missed_once, emptied, with_slot, IsSendingAt, IsReceivingAt, Starts, Opens, Fetches}
+use Rattle.arachne_join.specs.BlockSteps.{without_first, the_first, sending_end, receiving_end, missed_once, with_slot, IsSendingAt, IsReceivingAt, Starts, Opens, Fetches}
 
 -- one more value flips the word
 flips : (k : ℕ) → word_after k ≡ word_after (k + 1) → ⊥

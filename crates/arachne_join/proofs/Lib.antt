@@ -1,2 +1,3 @@
 mod BlockLaws
 mod CellSteps
+pub mod Crossing

@@ -1,9 +1,6 @@
 -- What clauses see of a cell of a block between its uses, and of the two ends of an opening.
-use Rattle.std.specs.Prelude.{◌≡◌, ℕ, ◌+◌, ◌<◌, [], ◌∷◌}
+use Rattle.std.specs.Prelude.{◌≡◌, ℕ, ◌+◌, ◌<◌}
 use Rattle.atomic_table.specs.Seated.{TableId}
-use Rattle.atomic_table.specs.Table.{Me}
-use Rattle.arachne_join.specs.declared.part.Content.{Content}
-use Rattle.arachne_join.specs.declared.part.PartView.{PartView}
 use Rattle.arachne_join.specs.Parts.{word_after}
 
 -- a cell: its block's table, its index there, and how many values have passed through it

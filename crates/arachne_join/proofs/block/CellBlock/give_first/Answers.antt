@@ -1,4 +1,4 @@
-use Rattle.std.proofs.Common.{rules, ◌∙◌, ap, sym, arith}
+use Rattle.std.proofs.Common.{rules, ap}
 use Rattle.arachne_join.proofs.BlockLaws.{gives_first, starts}
 use Rattle.arachne_join.proofs.block.CellBlock.give_first.Goals as goal
 
