@@ -18,6 +18,7 @@ mod setup;
 mod shared;
 mod slice;
 mod tokens;
+mod waking;
 mod wanted;
 mod worker;
 
