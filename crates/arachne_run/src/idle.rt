@@ -8,7 +8,7 @@ use std::time::Duration;
 // Up to this round a worker spins, and yields from then on up to the next; after that it sleeps.
 const LAST_SPIN: u32 = 6;
 
-const LAST_YIELD: u32 = 20;
+const LAST_YIELD: u32 = 8;
 
 /// How long the first sleep in turn takes, in microseconds. Each further one takes twice as long, up to a longest.
 const FIRST_SLEEP: u64 = 64;

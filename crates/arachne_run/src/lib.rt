@@ -19,6 +19,7 @@ mod shared;
 mod slice;
 mod spares;
 mod tokens;
+mod waking;
 mod wanted;
 mod worker;
 

@@ -7,6 +7,7 @@ ghost use Rattle.arachne_run.specs.Tokens.{AreWith, thread_in};
 use crate::fault::RunFault;
 use crate::gate::Gate;
 use crate::slice::RunJob;
+use crate::waking::Cause;
 use crate::worker::{Kit, Worker};
 use arachne_contexts::{Contexts, Held, Identified};
 use arachne_core::ThreadId;
@@ -85,7 +86,7 @@ impl<'a, H: Wait, T: RunJob, C: Contexts<T>, R: Rng, G: Gate> Worker<'a, H, T, C
     {
         let number = self.lock_of(lock)?;
         if let Some(id) = self.try_free(kit, held, number)? {
-            self.wake(kit, id);
+            self.wake(kit, id, Cause::HoldsLock);
         }
         held.value.freed();
         Ok(())

@@ -102,6 +102,14 @@ impl Readiness {
         }
     }
 
+    /// Whether the core's worker sleeps.
+    pub(crate) fn is_asleep(&self, core: u8) -> bool {
+        match self.words.get(usize::from(core)) {
+            Some(word) => word.load(Ordering::SeqCst) & SLEEPS != 0,
+            None => false,
+        }
+    }
+
     /// The core's worker is about to sleep. Whether no hint was there, so that the next one wakes it.
     pub(crate) fn is_about_to_sleep(&self, core: u8) -> bool {
         match self.words.get(usize::from(core)) {

@@ -9,8 +9,8 @@ use crate::gate::Gate;
 use crate::readiness::bit_of;
 use crate::slice::RunJob;
 use crate::worker::{Kit, Worker};
-use arachne_contexts::{Claimed, Contexts, Held, Placed, Rested, Taken, Woken};
-use arachne_core::{MarkWord, Place, Rest, SLOTS, ThreadId};
+use arachne_contexts::{Claimed, Contexts, Held, Placed, Rested, Taken};
+use arachne_core::{Rest, SLOTS};
 use rand_core::Rng;
 use std::sync::Wait;
 
@@ -84,52 +84,6 @@ impl<'a, H: Wait, T: RunJob, C: Contexts<T>, R: Rng, G: Gate> Worker<'a, H, T, C
         match table.finish(self.rt, &mut kit.tokens.seat, held) {
             Ok(job) => Ok(job),
             Err(_) => Err(RunFault::Token),
-        }
-    }
-
-    /// Wakes the thread of this id, if it has not ended.
-    pub(crate) fn wake(&self, kit: &mut Kit<C::Seat, R, T::Spares>, id: ThreadId)
-        requires { AreOf C.sits self.now.machine.now kit.old.tokens }
-        ensures tokens { AreOf C.sits self.now.machine.now kit.new.tokens }
-        ensures out { KeepsOut (C.has self.now.machine.now.table) kit.old.tokens.seat kit.new.tokens.seat }
-    {
-        for _ in self.rt.forever() {
-            let table = &self.machine.table;
-            match table.wake(self.rt, &mut kit.tokens.seat, id) {
-                Woken::Lost(_) => {}
-                Woken::Woken => {
-                    self.hint_at_context(kit, id.context);
-                    break;
-                }
-                Woken::Already(_) | Woken::Gone => break,
-            }
-        }
-    }
-
-    /// Says that a thread may be ready where a context is. If that is moved meanwhile, the arbiter says so of its new core.
-    fn hint_at_context(&self, kit: &mut Kit<C::Seat, R, T::Spares>, context: u32)
-        requires { AreOf C.sits self.now.machine.now kit.old.tokens }
-        ensures tokens { AreOf C.sits self.now.machine.now kit.new.tokens }
-        ensures out { KeepsOut (C.has self.now.machine.now.table) kit.old.tokens.seat kit.new.tokens.seat }
-    {
-        if context >= u32::from(self.machine.cores) * u32::from(SLOTS) {
-            return;
-        }
-        let table = &self.machine.table;
-        let word = table.look_mark(self.rt, &mut kit.tokens.seat, context);
-        if let Some(mark) = MarkWord::from_word(word) {
-            self.hint(kit, mark.place());
-        }
-    }
-
-    /// Says that a thread may be ready at a place: to the worker of its core, or to itself.
-    fn hint(&self, kit: &mut Kit<C::Seat, R, T::Spares>, place: Place)
-        ensures { kit.new.tokens ≡ kit.old.tokens }
-    {
-        if place.core == self.core {
-            kit.ready |= bit_of(place.index);
-        } else {
-            self.machine.shared.readiness().hint(place);
         }
     }
 

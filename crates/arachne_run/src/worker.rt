@@ -13,6 +13,7 @@ use crate::machine::Machine;
 use crate::readiness::bit_of;
 use crate::slice::{RunJob, Slice};
 use crate::tokens::Tokens;
+use crate::waking::Cause;
 use arachne_arbiter::Cores;
 use arachne_contexts::{Contexts, Held, Seats};
 use arachne_core::{OccWord, Rest, SLOTS};
@@ -260,7 +261,7 @@ impl<'a, H: Wait, T: RunJob, C: Contexts<T>, R: Rng, G: Gate> Worker<'a, H, T, C
     {
         let job = self.end(kit, held)?;
         match job.leave(&mut kit.spares) {
-            Some(parent) => self.wake(kit, parent),
+            Some(parent) => self.wake(kit, parent, Cause::ChildEnded),
             None => self.machine.shared.stop(),
         }
         Ok(())

@@ -1,0 +1,107 @@
+//! Threads that a worker wakes, and how their core's workers learn of them.
+ghost use Rattle.std.specs.Prelude.{◌≡◌, ◌<◌, IfSome};
+ghost use Rattle.arachne_contexts.specs.Out.{KeepsOut};
+ghost use Rattle.arachne_core.specs.declared.layout.TheConstants.{SLOTS as slots};
+ghost use Rattle.arachne_run.specs.Tokens.{AreOf};
+
+use crate::gate::Gate;
+use crate::readiness::bit_of;
+use crate::slice::RunJob;
+use crate::worker::{Kit, Worker};
+use arachne_contexts::{Contexts, Moved, Woken};
+use arachne_core::{MarkWord, Place, SLOTS, ThreadId};
+use rand_core::Rng;
+use std::sync::Wait;
+
+/// Why a thread is woken.
+#[derive(Clone, Copy, Debug, PartialEq, Eq)]
+pub(crate) enum Cause {
+    /// A child of it has ended.
+    ChildEnded,
+    /// It holds the lock now for which it has waited, and for which others may wait.
+    HoldsLock,
+}
+
+impl<'a, H: Wait, T: RunJob, C: Contexts<T>, R: Rng, G: Gate> Worker<'a, H, T, C, R, G> {
+    /// Wakes the thread of this id, if it has not ended.
+    pub(crate) fn wake(&self, kit: &mut Kit<C::Seat, R, T::Spares>, id: ThreadId, cause: Cause)
+        requires { AreOf C.sits self.now.machine.now kit.old.tokens }
+        ensures tokens { AreOf C.sits self.now.machine.now kit.new.tokens }
+        ensures out { KeepsOut (C.has self.now.machine.now.table) kit.old.tokens.seat kit.new.tokens.seat }
+    {
+        for _ in self.rt.forever() {
+            let table = &self.machine.table;
+            match table.wake(self.rt, &mut kit.tokens.seat, id) {
+                Woken::Lost(_) => {}
+                Woken::Woken => {
+                    self.call(kit, id.context, cause);
+                    break;
+                }
+                Woken::Already(_) | Woken::Gone => break,
+            }
+        }
+    }
+
+    /// Has the thread in a context, which was woken, go on. One that holds a lock goes on here, as others may wait for it;
+    /// another one too where its core's worker sleeps: moving it takes less than waking a kernel thread.
+    fn call(&self, kit: &mut Kit<C::Seat, R, T::Spares>, context: u32, cause: Cause)
+        requires { AreOf C.sits self.now.machine.now kit.old.tokens }
+        ensures tokens { AreOf C.sits self.now.machine.now kit.new.tokens }
+        ensures out { KeepsOut (C.has self.now.machine.now.table) kit.old.tokens.seat kit.new.tokens.seat }
+    {
+        let Some(mut place) = self.place_of(kit, context) else {
+            return;
+        };
+        let is_pulled = cause == Cause::HoldsLock
+            || self.machine.shared.readiness().is_asleep(place.core);
+        if is_pulled
+            && self.pull(kit, place)
+            && let Some(here) = self.place_of(kit, context)
+        {
+            place = here;
+        }
+        self.hint(kit, place);
+    }
+
+    /// Where a context is. If its thread is moved meanwhile, the arbiter says so of its new core.
+    fn place_of(&self, kit: &mut Kit<C::Seat, R, T::Spares>, context: u32) -> Option<Place>
+        requires { AreOf C.sits self.now.machine.now kit.old.tokens }
+        ensures tokens { AreOf C.sits self.now.machine.now kit.new.tokens }
+        ensures out { KeepsOut (C.has self.now.machine.now.table) kit.old.tokens.seat kit.new.tokens.seat }
+        ensures index { IfSome result (λ place. place.index < slots) }
+    {
+        if context >= u32::from(self.machine.cores) * u32::from(SLOTS) {
+            return None;
+        }
+        let table = &self.machine.table;
+        let word = table.look_mark(self.rt, &mut kit.tokens.seat, context);
+        let mark = MarkWord::from_word(word)?;
+        Some(mark.place())
+    }
+
+    /// Moves the thread at a place of another core to this one, if it is at rest and there is room. Whether it was moved.
+    fn pull(&self, kit: &mut Kit<C::Seat, R, T::Spares>, place: Place) -> bool
+        requires tokens { AreOf C.sits self.now.machine.now kit.old.tokens }
+        requires index { place.index < slots }
+        ensures tokens { AreOf C.sits self.now.machine.now kit.new.tokens }
+        ensures out { KeepsOut (C.has self.now.machine.now.table) kit.old.tokens.seat kit.new.tokens.seat }
+    {
+        if place.core == self.core || place.core >= self.machine.cores {
+            return false;
+        }
+        let table = &self.machine.table;
+        let moved = table.move_one(self.rt, &mut kit.tokens.seat, place, self.core);
+        matches!(moved, Moved::Moved)
+    }
+
+    /// Says that a thread may be ready at a place: to the worker of its core, or to itself.
+    pub(crate) fn hint(&self, kit: &mut Kit<C::Seat, R, T::Spares>, place: Place)
+        ensures { kit.new.tokens ≡ kit.old.tokens }
+    {
+        if place.core == self.core {
+            kit.ready |= bit_of(place.index);
+        } else {
+            self.machine.shared.readiness().hint(place);
+        }
+    }
+}
