@@ -58,7 +58,7 @@ module _ {T : Type 0} (tag_in : T → ℕ) (bits : ℕ) (shape : Shape) where
       let shows : Shows tag_in bits (after hs.world e) d b' =
       subst (λ (q : ℕ). Shows tag_in bits (after hs.world e) d (record b { mark = with_at b.mark x q; home = home; views = set s.views id (held weight k') })) (sym new_is) r.1 in
       let word : IsMarkOf bits (after hs.world e) x new = is-mark-of tag_in bits (after hs.world e) d b' shows b.mark x new refl x_is
-          (ap (λ (u : Phase). u.shown) (with_at-same hs.phase x (record (hs.phase x) { away = false })) ∙ held-shown (hs.world.state x) (hs.world.at x) (hs.phase x) id (hs.shows.contexts x x_is).coherent (r.0).held) in (
+      (ap (λ (u : Phase). u.shown) (with_at-same hs.phase x (record (hs.phase x) { away = false })) ∙ held-shown (hs.world.state x) (hs.world.at x) (hs.phase x) id (hs.shows.contexts x x_is).coherent (r.0).held) in (
         held weight (noted kind.RestReady x (b.mark x) new k'),
         gives,
         tt,
@@ -99,7 +99,7 @@ module _ {T : Type 0} (tag_in : T → ℕ) (bits : ℕ) (shape : Shape) where
       let shows : Shows tag_in bits (after hs.world e) d b' =
       subst (λ (q : ℕ). Shows tag_in bits (after hs.world e) d (record b { mark = with_at b.mark x q; home = home; views = set s.views id (held weight k') })) (sym new_is) r.1 in
       let word : IsMarkOf bits (after hs.world e) x new = is-mark-of tag_in bits (after hs.world e) d b' shows b.mark x new refl x_is
-          (ap (λ (u : Phase). u.shown) (with_at-same hs.phase x (record (hs.phase x) { away = false })) ∙ held-shown (hs.world.state x) (hs.world.at x) (hs.phase x) id (hs.shows.contexts x x_is).coherent (r.0).held) in (
+      (ap (λ (u : Phase). u.shown) (with_at-same hs.phase x (record (hs.phase x) { away = false })) ∙ held-shown (hs.world.state x) (hs.world.at x) (hs.phase x) id (hs.shows.contexts x x_is).coherent (r.0).held) in (
         held weight (noted kind.RestBlocked x (b.mark x) new k'),
         gives,
         tt,

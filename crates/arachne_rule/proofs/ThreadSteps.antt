@@ -80,7 +80,7 @@ module _ {T : Type 0} (tag_in : T → ℕ) (bits : ℕ) (shape : Shape) where
       let shows : Shows tag_in bits (after hs.world e) d b' =
       subst (λ (q : ℕ). Shows tag_in bits (after hs.world e) d (record b { mark = with_at b.mark x q; home = home; views = set s.views id (held weight k') })) (sym new_is) r.1 in
       let word : IsMarkOf bits (after hs.world e) x new = is-mark-of tag_in bits (after hs.world e) d b' shows b.mark x new refl x_is
-          (named-shown ((after hs.world e).state x) (hs.world.at x) (d x) (shows.contexts x x_is).coherent (ap (λ (u : Phase). u.named) (with_at-same hs.phase x (settled c.place)))) in (
+      (named-shown ((after hs.world e).state x) (hs.world.at x) (d x) (shows.contexts x x_is).coherent (ap (λ (u : Phase). u.named) (with_at-same hs.phase x (settled c.place)))) in (
         held weight (noted kind.Post x (b.mark x) new k'),
         gives,
         tt,
@@ -124,7 +124,7 @@ module _ {T : Type 0} (tag_in : T → ℕ) (bits : ℕ) (shape : Shape) where
       subst (λ (q : ℕ). Shows tag_in bits (after w e) d (record b { mark = with_at b.mark x q; home = home; views = set s.views id (held weight k') })) (sym new_is) r.3 in
       let now : IsHeldBy id ((after w e).state x) = subst (IsHeldBy id) (sym (with_at-same w.state x (taken id (w.state x)))) (taken-held id (w.state x) (r.2).ready) in
       let word : IsMarkOf bits (after w e) x new = is-mark-of tag_in bits (after w e) d b' shows b.mark x new refl x_is
-          (held-shown ((after w e).state x) (w.at x) (d x) id (shows.contexts x x_is).coherent now) in (
+      (held-shown ((after w e).state x) (w.at x) (d x) id (shows.contexts x x_is).coherent now) in (
         held weight (noted kind.Take x (b.mark x) new k'),
         takes x (Some v),
         r.1,
@@ -201,7 +201,7 @@ module _ {T : Type 0} (tag_in : T → ℕ) (bits : ℕ) (shape : Shape) where
       let shows : Shows tag_in bits (after hs.world e) d b' =
       subst (λ (q : ℕ). Shows tag_in bits (after hs.world e) d (record b { mark = with_at b.mark x q; home = homes; views = set s.views id (held weight k') })) (sym new_is) r.1 in
       let word : IsMarkOf bits (after hs.world e) x new = is-mark-of tag_in bits (after hs.world e) d b' shows b.mark x new refl x_is
-          (named-shown ((after hs.world e).state x) (hs.world.at x) (d x) (shows.contexts x x_is).coherent (ap (λ (u : Phase). u.named) (with_at-same hs.phase x (settled c.place)))) in (
+      (named-shown ((after hs.world e).state x) (hs.world.at x) (d x) (shows.contexts x x_is).coherent (ap (λ (u : Phase). u.named) (with_at-same hs.phase x (settled c.place)))) in (
         held weight (noted kind.Retire x (b.mark x) new k'),
         keeps,
         tt,
@@ -234,7 +234,7 @@ module _ {T : Type 0} (tag_in : T → ℕ) (bits : ℕ) (shape : Shape) where
       let shows : Shows tag_in bits (after hs.world e) d b' =
       subst (λ (q : ℕ). Shows tag_in bits (after hs.world e) d (record b { mark = with_at b.mark x q; home = homes; views = set s.views id (held weight k') })) (sym new_is) r.1 in
       let word : IsMarkOf bits (after hs.world e) x new = is-mark-of tag_in bits (after hs.world e) d b' shows b.mark x new refl x_is
-          (ap (λ (u : Phase). u.shown) (with_at-same hs.phase x (record (hs.phase x) { away = false })) ∙ held-shown (hs.world.state x) (hs.world.at x) (hs.phase x) id (hs.shows.contexts x x_is).coherent (r.0).held) in (
+      (ap (λ (u : Phase). u.shown) (with_at-same hs.phase x (record (hs.phase x) { away = false })) ∙ held-shown (hs.world.state x) (hs.world.at x) (hs.phase x) id (hs.shows.contexts x x_is).coherent (r.0).held) in (
         held weight (noted kind.Retire x (b.mark x) new k'),
         keeps,
         tt,
