@@ -3,7 +3,8 @@ use std::cell::UnsafeCell;
 use std::sync::atomic::{AtomicU64, Ordering::SeqCst};
 use std::time::Instant;
 
-const ROUNDS: u64 = 1_000_000;
+const ROUNDS: u64 = 20_000;
+const PASSES: u32 = 400;
 const SLOTS: usize = 56;
 const READY: u64 = 1;
 const BLOCKED: u64 = 2;
@@ -163,7 +164,7 @@ fn time(run: impl FnOnce(), rounds: u64) -> u128 {
 
 fn main() {
     let mut least = [u128::MAX; 4];
-    for _ in 0..10 {
+    for _ in 0..PASSES {
         let table = Table::new(4);
         let one = time(|| rounds(&table, 0), ROUNDS);
         let wake = time(|| wakes(&table), ROUNDS);

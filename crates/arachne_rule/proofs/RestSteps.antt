@@ -10,7 +10,8 @@ use Rattle.arachne_core.specs.declared.state.Rest.TheVariants as put
 use Rattle.arachne_core.specs.declared.event.Event.TheVariants as event
 use Rattle.arachne_core.specs.declared.mark.Mark.TheVariants as mark
 use Rattle.arachne_core.specs.Marked.{Marked, mark_word, marked_of}
-use Rattle.arachne_core.specs.World.{with_at, after, Allowed}
+use Rattle.arachne_core.specs.World.{IsContext, with_at, after, Allowed}
+use Rattle.arachne_core.proofs.Changes.{with_at-same}
 use Rattle.arachne_core.specs.declared.event.Event.{Event}
 use Rattle.arachne_weights.specs.declared.token.Token.{Token}
 use Rattle.arachne_weights.specs.Tokens.{held}
@@ -23,12 +24,13 @@ use Rattle.arachne_rule.specs.Views.{without_context, noted}
 use Rattle.arachne_rule.specs.Rule.{Board, Phase, Shows}
 use Rattle.arachne_rule.specs.Changes.{marked_as}
 use Rattle.arachne_rule.specs.Layout.{contexts_in, board_of}
-use Rattle.arachne_rule.specs.History.{IsExchange, EventOf}
+use Rattle.arachne_rule.specs.History.{IsExchange, IsMarkOf, EventOf}
 use Rattle.arachne_rule.specs.Table.{Table, Mine, Holds}
 use Rattle.arachne_rule.specs.Plays.{Carries, IsLive, RestsReady, RestsBlocked, Wakes}
 use Rattle.arachne_rule.proofs.LookSteps.{mark-packed}
 use Rattle.arachne_rule.proofs.Resting.{rest_ready, rest_blocked}
 use Rattle.arachne_rule.proofs.Waking.{wake_blocked, wake_held}
+use Rattle.arachne_rule.proofs.Seen.{held-shown, is-mark-of}
 use Rattle.arachne_rule.proofs.Boards.{home-set}
 use Rattle.arachne_rule.proofs.Stepping.{sees, mark-made, for-seat}
 use Rattle.arachne_rule.proofs.OwnWords.{same-carried, says-carried}
@@ -46,17 +48,22 @@ module _ {T : Type 0} (tag_in : T → ℕ) (bits : ℕ) (shape : Shape) where
   rests-ready id weight k l c v new c_in has holds tagged new_is s hs long mine small =
       let x : ℕ = c.context in
       let b : Board T = board_of n s in
-      let r = rest_ready tag_in bits hs.world hs.phase b hs.shows id weight k mine x c v (is-context tag_in bits shape s hs x c_in) has refl holds tagged in
+      let x_is : IsContext hs.world x = is-context tag_in bits shape s hs x c_in in
+      let r = rest_ready tag_in bits hs.world hs.phase b hs.shows id weight k mine x c v x_is has refl holds tagged in
       let k' : Known = without_context k c in
       let d : ℕ → Phase = with_at hs.phase x (record (hs.phase x) { away = false }) in
       let home : ℕ → opt.Option (opt.Option (Option T)) = with_at b.home x (opt.some (opt.some (Some v))) in
-      let e : Event = event.Rest id x put.Ready in (
+      let e : Event = event.Rest id x put.Ready in
+      let b' : Board T = record b { mark = with_at b.mark x new; home = home; views = set s.views id (held weight k') } in
+      let shows : Shows tag_in bits (after hs.world e) d b' =
+      subst (λ (q : ℕ). Shows tag_in bits (after hs.world e) d (record b { mark = with_at b.mark x q; home = home; views = set s.views id (held weight k') })) (sym new_is) r.1 in
+      let word : IsMarkOf bits (after hs.world e) x new = is-mark-of tag_in bits (after hs.world e) d b' shows b.mark x new refl x_is
+      (ap (λ (u : Phase). u.shown) (with_at-same hs.phase x (record (hs.phase x) { away = false })) ∙ held-shown (hs.world.state x) (hs.world.at x) (hs.phase x) id (hs.shows.contexts x x_is).coherent (r.0).held) in (
         held weight (noted kind.RestReady x (b.mark x) new k'),
         gives,
         tt,
-        mark-made tag_in bits shape s hs id weight k mine kind.RestReady x new ((x, Some v) ∷ l) gives e d k' home c_in refl r.0 (inr refl)
-            (length-set s.homes x (opt.some (Some v))) (λ y _. home-set s.homes x (opt.some (Some v)) (omega (arith, c_in, hs.fits.homes)) y)
-            (subst (λ (q : ℕ). Shows tag_in bits (after hs.world e) d (record b { mark = with_at b.mark x q; home = home; views = set s.views id (held weight k') })) (sym new_is) r.1),
+        mark-made tag_in bits shape s hs id weight k mine kind.RestReady x new ((x, Some v) ∷ l) gives e d k' home c_in refl r.0 (inr (refl, word))
+            (length-set s.homes x (opt.some (Some v))) (λ y _. home-set s.homes x (opt.some (Some v)) (omega (arith, c_in, hs.fits.homes)) y) shows,
         λ f f_at f_has. let one : c ≡ f = same-carried k c f has f_has (sym f_at) in (b.mark x, λ j. (held weight (noted kind.RestReady x (b.mark x) new (without_context k (one j))), l)),
       )
 
@@ -85,14 +92,19 @@ module _ {T : Type 0} (tag_in : T → ℕ) (bits : ℕ) (shape : Shape) where
       × RestsBlocked bits (step n x old new none) me (get_or s.words x 0) (u, carried_after out a) in
       exchanged (get_or s.words x 0) old new F
       (λ hit.
-      let r = rest_blocked tag_in bits hs.world hs.phase b hs.shows id weight k mine x c v (marked_of bits old) (is-context tag_in bits shape s hs x c_in) has refl holds tagged (ap (marked_of bits) hit) is_held in
-      let k' : Known = without_context k c in (
+      let x_is : IsContext hs.world x = is-context tag_in bits shape s hs x c_in in
+      let r = rest_blocked tag_in bits hs.world hs.phase b hs.shows id weight k mine x c v (marked_of bits old) x_is has refl holds tagged (ap (marked_of bits) hit) is_held in
+      let k' : Known = without_context k c in
+      let b' : Board T = record b { mark = with_at b.mark x new; home = home; views = set s.views id (held weight k') } in
+      let shows : Shows tag_in bits (after hs.world e) d b' =
+      subst (λ (q : ℕ). Shows tag_in bits (after hs.world e) d (record b { mark = with_at b.mark x q; home = home; views = set s.views id (held weight k') })) (sym new_is) r.1 in
+      let word : IsMarkOf bits (after hs.world e) x new = is-mark-of tag_in bits (after hs.world e) d b' shows b.mark x new refl x_is
+      (ap (λ (u : Phase). u.shown) (with_at-same hs.phase x (record (hs.phase x) { away = false })) ∙ held-shown (hs.world.state x) (hs.world.at x) (hs.phase x) id (hs.shows.contexts x x_is).coherent (r.0).held) in (
         held weight (noted kind.RestBlocked x (b.mark x) new k'),
         gives,
         tt,
-        mark-made tag_in bits shape s hs id weight k mine kind.RestBlocked x new out gives e d k' home c_in refl r.0 (inr refl)
-            (length-set s.homes x (opt.some (Some v))) (λ y _. home-set s.homes x (opt.some (Some v)) (omega (arith, c_in, hs.fits.homes)) y)
-            (subst (λ (q : ℕ). Shows tag_in bits (after hs.world e) d (record b { mark = with_at b.mark x q; home = home; views = set s.views id (held weight k') })) (sym new_is) r.1),
+        mark-made tag_in bits shape s hs id weight k mine kind.RestBlocked x new out gives e d k' home c_in refl r.0 (inr (refl, word))
+            (length-set s.homes x (opt.some (Some v))) (λ y _. home-set s.homes x (opt.some (Some v)) (omega (arith, c_in, hs.fits.homes)) y) shows,
         λ f f_at f_has. let one : c ≡ f = same-carried k c f has f_has (sym f_at) in
             ((λ _. λ j. (held weight (noted kind.RestBlocked x (b.mark x) new (without_context k (one j))), l)), (λ miss. absurd (miss hit))),
       ))

@@ -1,14 +1,16 @@
 -- What a mark word that was seen says of the World.
-use Rattle.std.proofs.Common.{◌≡◌, ℕ, true, false, refl, ap, ◌∙◌, arith}
+use Rattle.std.proofs.Common.{◌≡◌, ℕ, true, false, refl, sym, ap, ◌∙◌, arith}
 use Rattle.arachne_core.specs.declared.place.Place.{Place}
 use Rattle.arachne_core.specs.declared.state.State.{State}
 use Rattle.arachne_core.specs.declared.state.State.TheVariants.{Free, Claimed, Ready, Blocked, Held, Spent}
 use Rattle.arachne_core.specs.declared.mark.Mark.TheVariants as mark
-use Rattle.arachne_core.specs.Marked.{marked_of}
-use Rattle.arachne_core.specs.World.{World, IsContext, IsAtRest}
+use Rattle.arachne_core.specs.Marked.{mark_word, marked_of}
+use Rattle.arachne_core.specs.World.{World, IsContext, IsAtRest, IsReady, IsHeldBy, with_at, taken}
 use Rattle.arachne_core.specs.ContextTable.{mark_of, is_live_state, marked}
+use Rattle.arachne_core.proofs.Changes.{with_at-same}
 use Rattle.arachne_core.proofs.MarkWords.{marked_of-mark_word}
 use Rattle.arachne_rule.specs.Rule.{Coherent, Board, Phase, Shows}
+use Rattle.arachne_rule.specs.History.{IsMarkOf}
 use Rattle.arachne_rule.specs.Plays.{IsRestMark}
 
 pub ready-mark : (s : State) → mark_of s ≡ mark.Ready → (t : ℕ) × (s ≡ Ready t)
@@ -45,7 +47,28 @@ coherent-rest (Ready t) p a r c = c
 coherent-rest (Blocked t) p a r c = c
 coherent-rest s p a r c = absurd r
 
+-- a context that its place names, or that isn't claimed, stands where its mark word says
+pub named-shown : (s : State) (p : Place) (a : Phase) → Coherent s p a → a.named ≡ true → a.shown ≡ p
+named-shown Free p a c n = c.2
+named-shown (Claimed h) p a c n = c n
+named-shown (Ready t) p a c n = c.1
+named-shown (Blocked t) p a c n = c.1
+named-shown (Held h w t) p a c n = c
+named-shown Spent p a c n = c.1
+
+pub held-shown : (s : State) (p : Place) (a : Phase) (h : ℕ) → Coherent s p a → IsHeldBy h s → a.shown ≡ p
+held-shown (Held k w t) p a h c e = c
+held-shown s p a h c e = absurd e
+
+pub taken-held : (h : ℕ) (s : State) → IsReady s → IsHeldBy h (taken h s)
+taken-held h (Ready t) r = refl
+taken-held h s r = absurd r
+
 module _ {T : Type 0} (tag_in : T → ℕ) (bits : ℕ) (w : World) (d : ℕ → Phase) (b : Board T) (s : Shows tag_in bits w d b) where
   pub seen : (x : ℕ) → IsContext w x → marked_of bits (b.mark x) ≡ record (marked w x) { place = (d x).shown }
   seen x x_in = let p_in = (s.contexts x x_in).within in ap (marked_of bits) (s.contexts x x_in).mark
       ∙ marked_of-mark_word bits (record (marked w x) { place = (d x).shown }) (omega (arith, p_in.1, s.fits.1)) (omega (arith, p_in.0, s.fits.0))
+
+  -- a mark word that was written is that of its context, where it says the place at which the context stands
+  pub is-mark-of : (mark : ℕ → ℕ) (x new : ℕ) → b.mark x ≡ with_at mark x new x → IsContext w x → (d x).shown ≡ w.at x → IsMarkOf bits w x new
+  is-mark-of mark x new is x_in at = sym (is ∙ with_at-same mark x new) ∙ (s.contexts x x_in).mark ∙ ap (λ (p : Place). mark_word bits (record (marked w x) { place = p })) at

@@ -6,10 +6,11 @@ use mathlib.Core.Option as opt
 use prog.Atomic.{either}
 use Rattle.atomic_table.specs.Table.{Act, keeps, takes, gives, step, stepped, Allows, Valid, carried_after, rest}
 use Rattle.atomic_table.proofs.Lists.{exchanged}
+use Rattle.arachne_core.specs.declared.event.Event.{Event}
 use Rattle.arachne_core.specs.declared.event.Event.TheVariants as event
 use Rattle.arachne_core.specs.declared.mark.Mark.TheVariants as mark
 use Rattle.arachne_core.specs.Marked.{Marked, mark_word, marked_of}
-use Rattle.arachne_core.specs.World.{World, IsContext, with_at, after}
+use Rattle.arachne_core.specs.World.{World, IsContext, IsHeldBy, with_at, taken, after}
 use Rattle.arachne_core.proofs.Changes.{with_at-same, with_at-other}
 use Rattle.arachne_weights.specs.declared.token.Token.{Token}
 use Rattle.arachne_weights.specs.Tokens.{held}
@@ -21,6 +22,7 @@ use Rattle.arachne_rule.specs.Views.{with_context, noted}
 use Rattle.arachne_rule.specs.Rule.{settled, Board, Phase, Shows}
 use Rattle.arachne_rule.specs.Changes.{taken_context, claimed_again, posted, retired, spent_known, marked_as, marked_free, marked_spent, taken_phase}
 use Rattle.arachne_rule.specs.Layout.{contexts_in, name_index, board_of}
+use Rattle.arachne_rule.specs.History.{IsMarkOf}
 use Rattle.arachne_rule.specs.Table.{Table, Mine, Holds}
 use Rattle.arachne_rule.specs.Plays.{Carries, IsLive, Posts, Takes, KeepsName, Retires, Spends}
 use Rattle.arachne_rule.proofs.Post.{post}
@@ -28,6 +30,7 @@ use Rattle.arachne_rule.proofs.Take.{take}
 use Rattle.arachne_rule.proofs.Retire.{retire}
 use Rattle.arachne_rule.proofs.Spending.{spend}
 use Rattle.arachne_rule.proofs.Naming.{keep_name}
+use Rattle.arachne_rule.proofs.Seen.{named-shown, held-shown, taken-held, is-mark-of}
 use Rattle.arachne_rule.proofs.Boards.{IsIn, home-set}
 use Rattle.arachne_rule.proofs.Stepping.{sees, mark-made, name-made, for-seat}
 use Rattle.arachne_rule.proofs.OwnWords.{same-carried, placed-in, home-empty, not-mine, ready-nobody}
@@ -66,17 +69,23 @@ module _ {T : Type 0} (tag_in : T → ℕ) (bits : ℕ) (shape : Shape) where
   posts id weight k l c v new c_in has free named new_is s hs long mine small =
       let x : ℕ = c.context in
       let b : Board T = board_of n s in
-      let r = post tag_in bits hs.world hs.phase b hs.shows id weight k mine x c v (is-context s hs x c_in) has refl free named in
+      let x_is : IsContext hs.world x = is-context s hs x c_in in
+      let r = post tag_in bits hs.world hs.phase b hs.shows id weight k mine x c v x_is has refl free named in
       let k' : Known = posted k c (tag_in v) in
       let out : List (ℕ × Option T) = (x, Some v) ∷ l in
       let home : ℕ → opt.Option (opt.Option (Option T)) = with_at b.home x (opt.some (opt.some (Some v))) in
-      let d : ℕ → Phase = with_at hs.phase x (settled c.place) in (
+      let d : ℕ → Phase = with_at hs.phase x (settled c.place) in
+      let e : Event = event.Post id x (tag_in v) in
+      let b' : Board T = record b { mark = with_at b.mark x new; home = home; views = set s.views id (held weight k') } in
+      let shows : Shows tag_in bits (after hs.world e) d b' =
+      subst (λ (q : ℕ). Shows tag_in bits (after hs.world e) d (record b { mark = with_at b.mark x q; home = home; views = set s.views id (held weight k') })) (sym new_is) r.1 in
+      let word : IsMarkOf bits (after hs.world e) x new = is-mark-of tag_in bits (after hs.world e) d b' shows b.mark x new refl x_is
+      (named-shown ((after hs.world e).state x) (hs.world.at x) (d x) (shows.contexts x x_is).coherent (ap (λ (u : Phase). u.named) (with_at-same hs.phase x (settled c.place)))) in (
         held weight (noted kind.Post x (b.mark x) new k'),
         gives,
         tt,
-        mark-made tag_in bits shape s hs id weight k mine kind.Post x new out gives (event.Post id x (tag_in v)) d k' home c_in refl r.0 (inr (tag_in v, refl))
-            (length-set s.homes x (opt.some (Some v))) (λ y _. home-set s.homes x (opt.some (Some v)) (omega (arith, c_in, hs.fits.homes)) y)
-            (subst (λ (q : ℕ). Shows tag_in bits (after hs.world (event.Post id x (tag_in v))) d (record b { mark = with_at b.mark x q; home = home; views = set s.views id (held weight k') })) (sym new_is) r.1),
+        mark-made tag_in bits shape s hs id weight k mine kind.Post x new out gives e d k' home c_in refl r.0 (inr (tag_in v, refl, word))
+            (length-set s.homes x (opt.some (Some v))) (λ y _. home-set s.homes x (opt.some (Some v)) (omega (arith, c_in, hs.fits.homes)) y) shows,
         λ f u f_at f_has slot.
             let one : c ≡ f = same-carried k c f has f_has (sym f_at) in
             let value : v ≡ u = same-value x f.context v u l l slot in
@@ -103,18 +112,25 @@ module _ {T : Type 0} (tag_in : T → ℕ) (bits : ℕ) (shape : Shape) where
       × Takes tag_in bits (step n x old new none) (held weight k, l) (get_or s.words x 0) (u, carried_after l a) in
       exchanged (get_or s.words x 0) old new F
       (λ hit.
-      let r = take tag_in bits w hs.phase b hs.shows id weight k mine x m (is-context s hs x x_in) (ap (marked_of bits) hit) is_ready in
+      let x_is : IsContext w x = is-context s hs x x_in in
+      let r = take tag_in bits w hs.phase b hs.shows id weight k mine x m x_is (ap (marked_of bits) hit) is_ready in
       let v : T = r.0 in
       let k' : Known = with_context k (taken_context x m (tag_in v)) in
       let d : ℕ → Phase = with_at hs.phase x (taken_phase m.place) in
-      let home : ℕ → opt.Option (opt.Option (Option T)) = with_at b.home x (opt.some opt.none) in (
+      let home : ℕ → opt.Option (opt.Option (Option T)) = with_at b.home x (opt.some opt.none) in
+      let e : Event = event.Take id x in
+      let b' : Board T = record b { mark = with_at b.mark x new; home = home; views = set s.views id (held weight k') } in
+      let shows : Shows tag_in bits (after w e) d b' =
+      subst (λ (q : ℕ). Shows tag_in bits (after w e) d (record b { mark = with_at b.mark x q; home = home; views = set s.views id (held weight k') })) (sym new_is) r.3 in
+      let now : IsHeldBy id ((after w e).state x) = subst (IsHeldBy id) (sym (with_at-same w.state x (taken id (w.state x)))) (taken-held id (w.state x) (r.2).ready) in
+      let word : IsMarkOf bits (after w e) x new = is-mark-of tag_in bits (after w e) d b' shows b.mark x new refl x_is
+      (held-shown ((after w e).state x) (w.at x) (d x) id (shows.contexts x x_is).coherent now) in (
         held weight (noted kind.Take x (b.mark x) new k'),
         takes x (Some v),
         r.1,
-        mark-made tag_in bits shape s hs id weight k mine kind.Take x new l (takes x (Some v)) (event.Take id x) d k' home x_in refl r.2 (inr refl)
-            (length-set s.homes x opt.none) (λ y _. home-set s.homes x opt.none (omega (arith, x_in, hs.fits.homes)) y)
-            (subst (λ (q : ℕ). Shows tag_in bits (after w (event.Take id x)) d (record b { mark = with_at b.mark x q; home = home; views = set s.views id (held weight k') })) (sym new_is) r.3),
-        ((λ _. (v, not-mine tag_in bits w hs.phase b hs.shows id weight k mine x (is-context s hs x x_in) (ready-nobody (w.state x) (r.2).ready id), refl)), (λ miss. absurd (miss hit))),
+        mark-made tag_in bits shape s hs id weight k mine kind.Take x new l (takes x (Some v)) e d k' home x_in refl r.2 (inr (refl, word))
+            (length-set s.homes x opt.none) (λ y _. home-set s.homes x opt.none (omega (arith, x_in, hs.fits.homes)) y) shows,
+        ((λ _. (v, not-mine tag_in bits w hs.phase b hs.shows id weight k mine x x_is (ready-nobody (w.state x) (r.2).ready id), refl)), (λ miss. absurd (miss hit))),
       ))
       (λ miss. (
         held weight (noted kind.Take x (get_or s.words x 0) (get_or s.words x 0) k),
@@ -179,13 +195,18 @@ module _ {T : Type 0} (tag_in : T → ℕ) (bits : ℕ) (shape : Shape) where
       let k' : Known = retired k c in
       let d : ℕ → Phase = with_at hs.phase x (settled c.place) in
       let homes : ℕ → opt.Option (opt.Option (Option T)) = with_at b.home x (opt.some (opt.some None)) in
-      let empty = home-empty tag_in bits hs.world hs.phase b hs.shows id weight k mine c x_is has home in (
+      let empty = home-empty tag_in bits hs.world hs.phase b hs.shows id weight k mine c x_is has home in
+      let e : Event = event.Retire id x in
+      let b' : Board T = record b { mark = with_at b.mark x new; home = homes; views = set s.views id (held weight k') } in
+      let shows : Shows tag_in bits (after hs.world e) d b' =
+      subst (λ (q : ℕ). Shows tag_in bits (after hs.world e) d (record b { mark = with_at b.mark x q; home = homes; views = set s.views id (held weight k') })) (sym new_is) r.1 in
+      let word : IsMarkOf bits (after hs.world e) x new = is-mark-of tag_in bits (after hs.world e) d b' shows b.mark x new refl x_is
+      (named-shown ((after hs.world e).state x) (hs.world.at x) (d x) (shows.contexts x x_is).coherent (ap (λ (u : Phase). u.named) (with_at-same hs.phase x (settled c.place)))) in (
         held weight (noted kind.Retire x (b.mark x) new k'),
         keeps,
         tt,
-        mark-made tag_in bits shape s hs id weight k mine kind.Retire x new l keeps (event.Retire id x) d k' homes c_in refl r.0 (inr refl) refl
-            (λ y _. same-at b.home x (opt.some (opt.some None)) empty y)
-            (subst (λ (q : ℕ). Shows tag_in bits (after hs.world (event.Retire id x)) d (record b { mark = with_at b.mark x q; home = homes; views = set s.views id (held weight k') })) (sym new_is) r.1),
+        mark-made tag_in bits shape s hs id weight k mine kind.Retire x new l keeps e d k' homes c_in refl r.0 (inr (refl, word)) refl
+            (λ y _. same-at b.home x (opt.some (opt.some None)) empty y) shows,
         λ f f_at f_has. let one : c ≡ f = same-carried k c f has f_has (sym f_at) in λ j. (held weight (noted kind.Retire x (b.mark x) new (retired k (one j))), l),
       )
 
@@ -207,13 +228,18 @@ module _ {T : Type 0} (tag_in : T → ℕ) (bits : ℕ) (shape : Shape) where
       let k' : Known = spent_known k c in
       let d : ℕ → Phase = with_at hs.phase x (record (hs.phase x) { away = false }) in
       let homes : ℕ → opt.Option (opt.Option (Option T)) = with_at b.home x (opt.some (opt.some None)) in
-      let empty = home-empty tag_in bits hs.world hs.phase b hs.shows id weight k mine c x_is has home in (
+      let empty = home-empty tag_in bits hs.world hs.phase b hs.shows id weight k mine c x_is has home in
+      let e : Event = event.Retire id x in
+      let b' : Board T = record b { mark = with_at b.mark x new; home = homes; views = set s.views id (held weight k') } in
+      let shows : Shows tag_in bits (after hs.world e) d b' =
+      subst (λ (q : ℕ). Shows tag_in bits (after hs.world e) d (record b { mark = with_at b.mark x q; home = homes; views = set s.views id (held weight k') })) (sym new_is) r.1 in
+      let word : IsMarkOf bits (after hs.world e) x new = is-mark-of tag_in bits (after hs.world e) d b' shows b.mark x new refl x_is
+      (ap (λ (u : Phase). u.shown) (with_at-same hs.phase x (record (hs.phase x) { away = false })) ∙ held-shown (hs.world.state x) (hs.world.at x) (hs.phase x) id (hs.shows.contexts x x_is).coherent (r.0).held) in (
         held weight (noted kind.Retire x (b.mark x) new k'),
         keeps,
         tt,
-        mark-made tag_in bits shape s hs id weight k mine kind.Retire x new l keeps (event.Retire id x) d k' homes c_in refl r.0 (inr refl) refl
-            (λ y _. same-at b.home x (opt.some (opt.some None)) empty y)
-            (subst (λ (q : ℕ). Shows tag_in bits (after hs.world (event.Retire id x)) d (record b { mark = with_at b.mark x q; home = homes; views = set s.views id (held weight k') })) (sym new_is) r.1),
+        mark-made tag_in bits shape s hs id weight k mine kind.Retire x new l keeps e d k' homes c_in refl r.0 (inr (refl, word)) refl
+            (λ y _. same-at b.home x (opt.some (opt.some None)) empty y) shows,
         λ f f_at f_has. let one : c ≡ f = same-carried k c f has f_has (sym f_at) in λ j. (held weight (noted kind.Retire x (b.mark x) new (spent_known k (one j))), l),
       )
 

@@ -5,7 +5,8 @@ use Rattle.arachne_core.specs.declared.state.Rest.TheVariants as rest
 use Rattle.arachne_core.specs.declared.event.Event.{Event}
 use Rattle.arachne_core.specs.declared.event.Event.TheVariants as event
 use Rattle.arachne_core.specs.Place.{first_place}
-use Rattle.arachne_core.specs.Marked.{marked_of}
+use Rattle.arachne_core.specs.ContextTable.{marked}
+use Rattle.arachne_core.specs.Marked.{mark_word, marked_of}
 use Rattle.arachne_core.specs.World.{World, core_of, Allowed, after}
 use Rattle.arachne_rule.specs.declared.view.Kind.{Kind}
 use Rattle.arachne_rule.specs.declared.view.Kind.TheVariants as kind
@@ -34,20 +35,24 @@ IsExchange kind.Move = Unit {0}
 IsExchange kind.NameTarget = Unit {0}
 IsExchange k = ⊥
 
+-- the word is the mark word of context x, which says its place and its generation
+abbrev pub IsMarkOf : ℕ → World → ℕ → ℕ → Type 0
+IsMarkOf bits w x word = word ≡ mark_word bits (marked w x)
+
 -- The event of a step of seat h on word i, which was b and is a: at the place, core or context whose word it is. The World is the one before.
 abbrev pub EventOf : ℕ → World → ℕ → Kind → ℕ → ℕ → ℕ → Event → Type 0
 EventOf bits w h kind.Look i b a e = (a ≡ b) × (e ≡ event.Still)
 EventOf bits w h kind.Learn i b a e = (a ≡ b) × (e ≡ event.Still)
 EventOf bits w h kind.Claim i b a e = (x : ℕ) × (i ≡ occ_index (w.cores * w.slots) (core_of w x)) × (a ≡ b + index_sum (w.at x).index) × (e ≡ event.Claim h x)
 EventOf bits w h kind.Alone i b a e = (x : ℕ) × (i ≡ occ_index (w.cores * w.slots) (core_of w x)) × (b ≡ 0) × (a ≡ 2 ^ 63 + index_sum 0) × (e ≡ event.Alone h x)
-EventOf bits w h kind.Post i b a e = (tag : ℕ) × (e ≡ event.Post h i tag)
-EventOf bits w h kind.Take i b a e = e ≡ event.Take h i
+EventOf bits w h kind.Post i b a e = (tag : ℕ) × (e ≡ event.Post h i tag) × IsMarkOf bits (after w e) i a
+EventOf bits w h kind.Take i b a e = (e ≡ event.Take h i) × IsMarkOf bits (after w e) i a
 EventOf bits w h kind.KeepName i b a e = e ≡ event.Still
-EventOf bits w h kind.Retire i b a e = e ≡ event.Retire h i
+EventOf bits w h kind.Retire i b a e = (e ≡ event.Retire h i) × IsMarkOf bits (after w e) i a
 EventOf bits w h kind.Release i b a e = (x : ℕ) × (i ≡ occ_index (w.cores * w.slots) (core_of w x))
     × (a ≡ b - (if w.alone (core_of w x) then 2 ^ 63 + index_sum (w.at x).index else index_sum (w.at x).index)) × (e ≡ event.Release h x)
-EventOf bits w h kind.RestReady i b a e = e ≡ event.Rest h i rest.Ready
-EventOf bits w h kind.RestBlocked i b a e = e ≡ event.Rest h i rest.Blocked
+EventOf bits w h kind.RestReady i b a e = (e ≡ event.Rest h i rest.Ready) × IsMarkOf bits (after w e) i a
+EventOf bits w h kind.RestBlocked i b a e = (e ≡ event.Rest h i rest.Blocked) × IsMarkOf bits (after w e) i a
 EventOf bits w h kind.Wake i b a e = e ≡ event.Wake (record { context = i; generation = (marked_of bits b).generation })
 EventOf bits w h kind.MarkWoken i b a e = e ≡ event.Wake (record { context = i; generation = (marked_of bits b).generation })
 EventOf bits w h kind.Close i b a e = (c : ℕ) × (i ≡ occ_index (w.cores * w.slots) c) × (a ≡ bit_or b (2 ^ 62)) × (e ≡ event.CloseCore c)

@@ -106,11 +106,6 @@ ClaimAloneAnswer c core k (claimed.Full word) after = ((occupancy_of word).close
 ClaimAloneAnswer c core k (claimed.Closed word) after = ((occupancy_of word).closed ≡ true) × (after ≡ looked (occ_index c.table.slots core) word k)
 ClaimAloneAnswer c core k (claimed.Lost word) after = (word ≢ 0) × (after ≡ noted kind.Alone (occ_index c.table.slots core) word word (looked (occ_index c.table.slots core) 0 k))
 
--- The place of a claim is free again, by what its core's word says less this number
-pub record HasReleased (c : Contexts) (k : Known) (claim : ClaimView) (context generation : ℕ) (after : Known) : Type 0 where
-  pub found : ℕ
-  pub steps : after ≡ released (occ_index c.table.slots claim.place.core) found (release_sum (claimed_by claim context generation)) (claimed_by claim context generation) k
-
 -- ---- posts
 
 -- a thread with this tag is ready in the context of a claim, in its generation
