@@ -47,15 +47,6 @@ fn program_ends_with_the_status(rt: HostRuntime) {
     );
 }
 
-/// Commands with expressions, and the exit codes.
-const ENDS: &[(&str, &str, u8)] = &[
-    ("eval", "(num 7)", 0),
-    ("check", "(num 7)", 0),
-    ("eval", "(num 00)", 1),
-    ("check", "(var 0)", 1),
-    ("walk", "(num 7)", 2),
-];
-
 /// The run ends with this code. Only where it ends well is there an output, and no fault.
 fn assert_code<R: Abort + Eprint + Threads + Wait + Sync>(
     rt: &R,
@@ -217,17 +208,6 @@ fn texts_at_fault(rt: HostRuntime) {
     for &(text, line) in TEXTS {
         assert_fault(&rt, rt.alloc(), text.as_bytes(), line);
     }
-}
-
-#[test]
-fn many_brackets_are_refused_at_their_byte(rt: HostRuntime) -> Result<(), Fail> {
-    let alloc = rt.alloc();
-    let mut text = String::from_str(alloc, "arachne 1\nledgers 0\nlocks 0\n")?;
-    for _ in 0..1_000_000u32 {
-        text.push_str("(add ")?;
-    }
-    assert_fault(&rt, alloc, text.as_bytes(), "fault 4 at 348\n");
-    Ok(())
 }
 
 const WORDS: &[&[&str]] = &[

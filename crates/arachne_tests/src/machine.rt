@@ -52,7 +52,10 @@ fn digits(pause: &Pause) -> (u64, u64) {
         Pause::Frees(lock) => (100, lock.wrapping_add(40)),
         Pause::Tallies(ledger, amount) => (
             1000,
-            ledger.wrapping_mul(10).wrapping_add(*amount).wrapping_add(500),
+            ledger
+                .wrapping_mul(10)
+                .wrapping_add(*amount)
+                .wrapping_add(500),
         ),
         Pause::Ended => (10, 6),
         Pause::Joins => (10, 7),
@@ -154,7 +157,12 @@ fn told(alloc: Global, parts: &OutcomeParts) -> Result<String, Fail> {
     let mut text = format!(in alloc; "{} {:?}", parts.value, parts.sums.as_slice())?;
     for line in parts.lines.as_slice() {
         let (name, holds) = (line.name.forks(), line.holds.as_slice());
-        write!(text, " {name:?}{}{}{holds:?}", line.tag, if line.in_place { '+' } else { '-' })?;
+        write!(
+            text,
+            " {name:?}{}{}{holds:?}",
+            line.tag,
+            if line.in_place { '+' } else { '-' }
+        )?;
     }
     Ok(text)
 }
@@ -225,7 +233,13 @@ const BUDGETS: &[(&str, u32, u32, u64, u64)] = &[
     (FOLD, 10_000, 10_000, 16, 12_497_500),
     (FOLD, 15_004, 1, 16, 12_497_500),
     (FOLD, u32::MAX, 1, 6, 12_497_500),
-    ("(hold 0 (tally 0 (num 5) (num 1)))", 100, 100, 30_505_406, 1),
+    (
+        "(hold 0 (tally 0 (num 5) (num 1)))",
+        100,
+        100,
+        30_505_406,
+        1,
+    ),
 ];
 
 /// What was heard of a program by these budgets, and its value.
@@ -251,15 +265,9 @@ fn budgets_up_to_the_greatest(rt: HostRuntime) -> Result<(), Fail> {
 
 /// Sixty forks within one another.
 fn chain(alloc: Global) -> Result<String, Fail> {
-    let mut expression = String::new(alloc);
-    for _ in 0..60 {
-        expression.push_str("(fork n ")?;
-    }
-    expression.push_str("(num 1)")?;
-    for _ in 0..60 {
-        expression.push_str(" (num 1) (add (var 0) (var 1)))")?;
-    }
-    Ok(expression)
+    let fronts = "(fork n ".repeat(alloc, 60)?;
+    let ends = " (num 1) (add (var 0) (var 1)))".repeat(alloc, 60)?;
+    Ok(format!(in alloc; "{fronts}(num 1){ends}")?)
 }
 
 /// Whether the lines' tags count from 9 to 69, and all but the first ran in place.
@@ -407,11 +415,17 @@ fn refused<'p>(thread: &mut Thread<'p>, outcome: Outcome<'p>) -> Option<Outcome<
 }
 
 /// A thread with the tag 2 that awaits its child refuses the outcome of the root with the tag 1, and then joins its child's.
-fn joined_second<'p>(rt: &impl Abort, alloc: Global, program: &'p Program) -> Result<Outcome<'p>, Fail> {
+fn joined_second<'p>(
+    rt: &impl Abort,
+    alloc: Global,
+    program: &'p Program,
+) -> Result<Outcome<'p>, Fail> {
     let foreign = root_outcome(alloc, program, 1)?;
     let mut thread = start(alloc, program, 2)?;
     let child = awaited(&mut thread)?;
-    let back = refused(&mut thread, foreign).ok_or("the root's outcome was not refused as foreign")?;
+    let back = refused(&mut thread, foreign).ok_or(
+        "the root's outcome was not refused as foreign",
+    )?;
     assert_eq!(rt; (back.value(), thread.pending()), (5, Some(Pending::Joins)));
     let _ = join(&mut thread, child);
     ended(thread)

@@ -183,7 +183,12 @@ fn shape(machine: &str) -> Option<(u8, u64, u8, u8)> {
     let mut words = machine.split(' ');
     let cores = small(&mut words)?;
     let first_generation = generation(words.next()?)?;
-    Some((cores, first_generation, small(&mut words)?, small(&mut words)?))
+    Some((
+        cores,
+        first_generation,
+        small(&mut words)?,
+        small(&mut words)?,
+    ))
 }
 
 /// The World of such a line.
