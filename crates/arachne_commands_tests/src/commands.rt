@@ -1,7 +1,7 @@
 //! What the program does, over words, readers and writers.
 use arachne_commands::{drive, refuse_words, run as run_process, run_on, run_without_words};
 use std::alloc::Global;
-use std::io::{self, Eprint, ErrorKind};
+use std::io::{self, Eprint, ErrorKind, Read, Write};
 use std::process::{Abort, ExitCode, Termination};
 use std::sync::Wait;
 use std::test::Fail;
@@ -14,6 +14,18 @@ mod running;
 mod samples;
 mod streams;
 
+/// The status with which the program ends. It says nothing of what is read and written, which makes the proofs of the tests short.
+fn status_of<R: Threads + Wait + Sync, I: Read, W: Write, E: Write>(
+    rt: &R,
+    alloc: Global,
+    words: &[&str],
+    input: &mut I,
+    output: &mut W,
+    faults: &mut E,
+) -> u8 {
+    drive(rt, alloc, words, input, output, faults)
+}
+
 /// What a run of the program left: its status, its output and its faults.
 #[derive(Drop)]
 struct Ended {
@@ -25,7 +37,7 @@ struct Ended {
 fn run<R: Threads + Wait + Sync>(rt: &R, alloc: Global, words: &[&str], mut input: &[u8]) -> Ended {
     let mut output = Vec::new(alloc);
     let mut faults = Vec::new(alloc);
-    let status = drive(rt, alloc, words, &mut input, &mut output, &mut faults);
+    let status = status_of(rt, alloc, words, &mut input, &mut output, &mut faults);
     Ended {
         status,
         output,

@@ -5,7 +5,9 @@ ghost use Rattle.arachne_machine.specs.declared.pause.Pending.TheVariants as pau
 ghost use Rattle.arachne_machine.specs.Nested.{Nested, IsChildOf, SameWhole, pending_in, whole};
 
 use arachne_lang::{Class, Program, TextFault, parse};
-use arachne_machine::{NotJoined, Outcome, OutcomeParts, Pause, Pending, Thread, run_alone};
+use arachne_machine::{
+    NotJoined, Outcome, OutcomeParts, Pause, Pending, Thread, ThreadLine, run_alone,
+};
 use std::alloc::Global;
 use std::process::Abort;
 use std::test::Fail;
@@ -152,17 +154,18 @@ fn parts(outcome: Outcome) -> Result<OutcomeParts, Fail> {
     }
 }
 
-/// An outcome's value and sums, and each thread's name, tag, whether it ran in place, and its holds.
+/// A thread's name, its tag, whether it ran in place, and its holds.
+fn told_line(alloc: Global, line: &ThreadLine) -> Result<String, Fail> {
+    let mark = if line.in_place { "+" } else { "-" };
+    let (name, holds) = (line.name.forks(), line.holds.as_slice());
+    Ok(format!(in alloc; " {name:?}{}{mark}{holds:?}", line.tag)?)
+}
+
+/// An outcome's value and sums, and what is told of each thread.
 fn told(alloc: Global, parts: &OutcomeParts) -> Result<String, Fail> {
     let mut text = format!(in alloc; "{} {:?}", parts.value, parts.sums.as_slice())?;
     for line in parts.lines.as_slice() {
-        let (name, holds) = (line.name.forks(), line.holds.as_slice());
-        write!(
-            text,
-            " {name:?}{}{}{holds:?}",
-            line.tag,
-            if line.in_place { '+' } else { '-' }
-        )?;
+        text.push_str(told_line(alloc, line)?.as_str())?;
     }
     Ok(text)
 }
@@ -366,17 +369,19 @@ fn awaited<'p>(thread: &mut Thread<'p>) -> Result<Outcome<'p>, Fail> {
     ended(child)
 }
 
-/// Whether the thread awaits an outcome, and this one is of its program.
-fn may_join(thread: &Thread, outcome: &Outcome) -> bool
-    ensures pending { IsTrue result → pending_in thread.now ≡ Some pause.Joins }
-    ensures program { IsTrue result → source_of outcome.now.program ≡ source_of (whole thread.now).program }
+/// Whether the two are the same program.
+fn are_same(some: &Program, other: &Program) -> bool
+    ensures { IsTrue result → source_of some.now ≡ source_of other.now }
 {
-    matches!(thread.pending(), Some(Pending::Joins)) && *outcome.program() == *thread.program()
+    *some == *other
 }
 
-/// Hands an outcome to a thread that awaits one, which is told in the other way where it does not.
+/// Hands an outcome of its program to a thread that awaits one. Where it is not that, nothing is told.
 fn join<'p>(thread: &mut Thread<'p>, outcome: Outcome<'p>) -> Result<(), Option<NotJoined<'p>>> {
-    if !may_join(thread, &outcome) {
+    let Some(Pending::Joins) = thread.pending() else {
+        return Err(None);
+    };
+    if !are_same(outcome.program(), thread.program()) {
         return Err(None);
     }
     match thread.joined(outcome) {

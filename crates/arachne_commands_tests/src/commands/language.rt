@@ -400,15 +400,27 @@ fn chain(alloc: Global) -> Result<String, Fail> {
 
 /// Sweeps of many threads, and what is printed of them.
 const SWEEPS: &[(&str, &str)] = &[
-    ("(sweep add 1 (num 0) (num 901) (var 0))", "value 405450\nthreads 901\n"),
-    ("(sweep add 1 (num 0) (num 100000) (var 0))", "value 4999950000\nthreads 100000\n"),
+    (
+        "(sweep add 1 (num 0) (num 901) (var 0))",
+        "value 405450\nthreads 901\n",
+    ),
+    (
+        "(sweep add 1 (num 0) (num 100000) (var 0))",
+        "value 4999950000\nthreads 100000\n",
+    ),
 ];
 
 #[test]
 fn many_threads_are_evaluated(rt: HostRuntime) -> Result<(), Fail> {
     for &(sweep, output) in SWEEPS {
         let text = text_of(rt.alloc(), sweep)?;
-        assert_output(&rt, rt.alloc(), &["arachne", "eval"], text.as_bytes(), output);
+        assert_output(
+            &rt,
+            rt.alloc(),
+            &["arachne", "eval"],
+            text.as_bytes(),
+            output,
+        );
     }
     Ok(())
 }
@@ -416,7 +428,9 @@ fn many_threads_are_evaluated(rt: HostRuntime) -> Result<(), Fail> {
 /// An array line of 80,000 bytes, with what is evaluated behind it.
 fn long_array(alloc: Global) -> Result<String, Fail> {
     let items = " 1".repeat(alloc, 39_999)?;
-    Ok(format!(in alloc; "arachne 1\narray{items} 5\nledgers 0\nlocks 0\n(mul (len 0) (item 0 (num 39999)))\n")?)
+    Ok(format!(in alloc;
+        "arachne 1\narray{items} 5\nledgers 0\nlocks 0\n(mul (len 0) (item 0 (num 39999)))\n"
+    )?)
 }
 
 /// Nesting at its limit, and a long array.
@@ -424,9 +438,21 @@ fn long_array(alloc: Global) -> Result<String, Fail> {
 fn long_texts_are_evaluated(rt: HostRuntime) -> Result<(), Fail> {
     let words = ["arachne", "eval"];
     let text = chain(rt.alloc())?;
-    assert_output(&rt, rt.alloc(), &words, text.as_bytes(), "value 61\nthreads 61\n");
+    assert_output(
+        &rt,
+        rt.alloc(),
+        &words,
+        text.as_bytes(),
+        "value 61\nthreads 61\n",
+    );
     let text = long_array(rt.alloc())?;
-    assert_output(&rt, rt.alloc(), &words, text.as_bytes(), "value 200000\nthreads 1\n");
+    assert_output(
+        &rt,
+        rt.alloc(),
+        &words,
+        text.as_bytes(),
+        "value 200000\nthreads 1\n",
+    );
     Ok(())
 }
 
@@ -456,19 +482,63 @@ const FAULTS: &[(&str, &str, &str)] = &[
     (PLAIN, "(num 18446744073709551616)", "fault 3 at 52\n"),
     (PLAIN, "(num 00)", "fault 2 at 34\n"),
     (PLAIN, "(add  (num 1) (num 1))", "fault 2 at 33\n"),
-    (PLAIN, "(fork n (num 1) (num 2) (add (var 1) (var 2)))", "fault 8 node 5\n"),
-    (PLAIN, "(fork n (num 1) (var 0) (num 2))", "fault 8 node 2\n"),
+    (
+        PLAIN,
+        "(fork n (num 1) (num 2) (add (var 1) (var 2)))",
+        "fault 8 node 5\n",
+    ),
+    (
+        PLAIN,
+        "(fork n (num 1) (var 0) (num 2))",
+        "fault 8 node 2\n",
+    ),
     ("ledgers 17\nlocks 0\n", "(num 7)", "fault 10\n"),
-    ("array 3 1 4\nledgers 0\nlocks 0\n", "(len 1)", "fault 5 node 0\n"),
-    ("array 3 1 4\nledgers 0\nlocks 0\n", "(item 1 (num 0))", "fault 5 node 0\n"),
-    ("array 3 1 4\nledgers 0\nlocks 0\n", "(add (var 0) (len 1))", "fault 8 node 1\n"),
-    ("ledgers 0\nlocks 1\n", "(hold 0 (hold 5 (num 1)))", "fault 9 node 1\n"),
-    ("ledgers 0\nlocks 1\n", "(hold 0 (fork n (num 1) (num 2) (num 3)))", "fault 9 node 1\n"),
-    ("ledgers 0\nlocks 1\n", "(hold 0 (add (num 1) (sweep add 0 (num 0) (num 1) (num 2))))", "fault 9 node 3\n"),
+    (
+        "array 3 1 4\nledgers 0\nlocks 0\n",
+        "(len 1)",
+        "fault 5 node 0\n",
+    ),
+    (
+        "array 3 1 4\nledgers 0\nlocks 0\n",
+        "(item 1 (num 0))",
+        "fault 5 node 0\n",
+    ),
+    (
+        "array 3 1 4\nledgers 0\nlocks 0\n",
+        "(add (var 0) (len 1))",
+        "fault 8 node 1\n",
+    ),
+    (
+        "ledgers 0\nlocks 1\n",
+        "(hold 0 (hold 5 (num 1)))",
+        "fault 9 node 1\n",
+    ),
+    (
+        "ledgers 0\nlocks 1\n",
+        "(hold 0 (fork n (num 1) (num 2) (num 3)))",
+        "fault 9 node 1\n",
+    ),
+    (
+        "ledgers 0\nlocks 1\n",
+        "(hold 0 (add (num 1) (sweep add 0 (num 0) (num 1) (num 2))))",
+        "fault 9 node 3\n",
+    ),
     (PLAIN, "(let (num 1) (var 1))", "fault 8 node 2\n"),
-    (PLAIN, "(fold (num 0) (num 1) (num 0) (var 2))", "fault 8 node 4\n"),
-    (PLAIN, "(fold (num 0) (num 1) (var 0) (num 0))", "fault 8 node 3\n"),
-    (PLAIN, "(sweep add 1 (num 0) (num 1) (var 1))", "fault 8 node 3\n"),
+    (
+        PLAIN,
+        "(fold (num 0) (num 1) (num 0) (var 2))",
+        "fault 8 node 4\n",
+    ),
+    (
+        PLAIN,
+        "(fold (num 0) (num 1) (var 0) (num 0))",
+        "fault 8 node 3\n",
+    ),
+    (
+        PLAIN,
+        "(sweep add 1 (num 0) (num 1) (var 1))",
+        "fault 8 node 3\n",
+    ),
 ];
 
 #[test]
@@ -482,7 +552,8 @@ fn programs_at_fault(rt: HostRuntime) -> Result<(), Fail> {
 }
 
 /// A text of 93 bytes.
-const WHOLE: &str = "arachne 1\nledgers 1\nlocks 1\n(sweep add 1 (num 0) (num 8) (hold 0 (tally 0 (num 5) (num 1))))\n";
+const WHOLE: &str =
+    "arachne 1\nledgers 1\nlocks 1\n(sweep add 1 (num 0) (num 8) (hold 0 (tally 0 (num 5) (num 1))))\n";
 
 /// The fault of the first bytes of that text.
 fn fault_of_front(alloc: Global, bytes: usize) -> Result<String, Fail> {
