@@ -1,5 +1,7 @@
 //! What the program does, over words, readers and writers.
-use arachne_commands::{drive, refuse_words, run as run_process, run_on, run_without_words};
+use arachne_commands::{
+    Status, drive, refuse_words, run as run_process, run_on, run_without_words,
+};
 use std::alloc::Global;
 use std::io::{self, Eprint, ErrorKind, Read, Write};
 use std::process::{Abort, ExitCode, Termination};
@@ -24,6 +26,18 @@ fn status_of<R: Threads + Wait + Sync, I: Read, W: Write, E: Write>(
     faults: &mut E,
 ) -> u8 {
     drive(rt, alloc, words, input, output, faults)
+}
+
+/// The status that a process of the program ends with, in the same way.
+fn process_status_of<R: Threads + Wait + Sync, I: Read, W: Write, E: Write>(
+    rt: &R,
+    alloc: Global,
+    words: &[&str],
+    input: &mut I,
+    output: &mut W,
+    faults: &mut E,
+) -> Status {
+    run_on(rt, alloc, words, input, output, faults)
 }
 
 /// What a run of the program left: its status, its output and its faults.
@@ -69,7 +83,7 @@ fn assert_code<R: Abort + Eprint + Threads + Wait + Sync>(
 ) {
     let mut output = Vec::new(alloc);
     let mut faults = Vec::new(alloc);
-    let status = run_on(rt, alloc, words, &mut input, &mut output, &mut faults);
+    let status = process_status_of(rt, alloc, words, &mut input, &mut output, &mut faults);
     assert_eq!(rt; status.report(rt), ExitCode::from(code), "{words:?}");
     assert_eq!(rt; output.is_empty(), code != 0, "{words:?}");
     assert_eq!(rt; faults.is_empty(), code == 0, "{words:?}");
