@@ -1,14 +1,15 @@
 //! A run of a program.
-ghost use Rattle.std.specs.Prelude.{◌≡◌, ◌≤◌, [], All, IfOk, Some, Err, length, vec_len};
+ghost use Rattle.std.specs.Prelude.{◌≡◌, ◌≤◌, [], All, IfErr, IfOk, IsOk, None, Some, Err, length, vec_len};
 ghost use Rattle.arachne_lang.specs.Program.{source_of};
 ghost use Rattle.arachne_lang.specs.Meaning.{meaning_of};
 ghost use Rattle.arachne_lang.specs.Checked.{IsChecked};
+ghost use Rattle.arachne_policy.specs.Orders.{AreInOrder};
 ghost use Rattle.arachne_sleep.specs.History.{IsSound};
 ghost use Rattle.arachne_sleep.specs.OneHolder.{HasOneHolderAtATime};
 ghost use Rattle.arachne_run.specs.Distinct.{AreDistinct};
 ghost use Rattle.arachne_run.specs.Histories.{GrantsAreHolds};
 ghost use Rattle.arachne_run.specs.Reports.{histories_in, meaning_in, tags_of};
-ghost use Rattle.arachne_run.specs.Setups.{refusal_of};
+ghost use Rattle.arachne_run.specs.Setups.{IsFirstOrderFault, refusal_of};
 ghost use Rattle.arachne_run.specs.declared.fault.RunFault.{RunFault};
 
 use crate::crew::work_all;
@@ -53,6 +54,8 @@ pub fn run<
     ensures grants { IfOk result (λ report. GrantsAreHolds report.threads (histories_in report)) }
     ensures applied { IfOk result (λ report. report.applied ≤ length setup.orders.items) }
     ensures refused { (fault : RunFault) → refusal_of setup.cores setup.quantum (vec_len choosers) ≡ Some fault → result ≡ Err fault }
+    ensures in_order { IsOk result → AreInOrder setup.cores setup.orders.items }
+    ensures order_refused { refusal_of setup.cores setup.quantum (vec_len choosers) ≡ None → (AreInOrder setup.cores setup.orders.items → ⊥) → IfErr result (IsFirstOrderFault setup.cores setup.orders.items) }
 {
     setup.check(choosers.len())?;
     let mut choosers = choosers;
