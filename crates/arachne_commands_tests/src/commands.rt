@@ -1,7 +1,7 @@
 //! What the program does, over words, readers and writers.
 use arachne_commands::{drive, refuse_words, run as run_process, run_on, run_without_words};
 use std::alloc::Global;
-use std::io::{self, Eprint, ErrorKind};
+use std::io::{self, Eprint, ErrorKind, Read, Write};
 use std::process::{Abort, ExitCode, Termination};
 use std::sync::Wait;
 use std::test::Fail;
@@ -14,6 +14,18 @@ mod running;
 mod samples;
 mod streams;
 
+/// The status with which the program ends. It says nothing of what is read and written, which makes the proofs of the tests short.
+fn status_of<R: Threads + Wait + Sync, I: Read, W: Write, E: Write>(
+    rt: &R,
+    alloc: Global,
+    words: &[&str],
+    input: &mut I,
+    output: &mut W,
+    faults: &mut E,
+) -> u8 {
+    drive(rt, alloc, words, input, output, faults)
+}
+
 /// What a run of the program left: its status, its output and its faults.
 #[derive(Drop)]
 struct Ended {
@@ -25,7 +37,7 @@ struct Ended {
 fn run<R: Threads + Wait + Sync>(rt: &R, alloc: Global, words: &[&str], mut input: &[u8]) -> Ended {
     let mut output = Vec::new(alloc);
     let mut faults = Vec::new(alloc);
-    let status = drive(rt, alloc, words, &mut input, &mut output, &mut faults);
+    let status = status_of(rt, alloc, words, &mut input, &mut output, &mut faults);
     Ended {
         status,
         output,
@@ -46,15 +58,6 @@ fn program_ends_with_the_status(rt: HostRuntime) {
         ExitCode::from(2)
     );
 }
-
-/// Commands with expressions, and the exit codes.
-const ENDS: &[(&str, &str, u8)] = &[
-    ("eval", "(num 7)", 0),
-    ("check", "(num 7)", 0),
-    ("eval", "(num 00)", 1),
-    ("check", "(var 0)", 1),
-    ("walk", "(num 7)", 2),
-];
 
 /// The run ends with this code. Only where it ends well is there an output, and no fault.
 fn assert_code<R: Abort + Eprint + Threads + Wait + Sync>(
@@ -217,17 +220,6 @@ fn texts_at_fault(rt: HostRuntime) {
     for &(text, line) in TEXTS {
         assert_fault(&rt, rt.alloc(), text.as_bytes(), line);
     }
-}
-
-#[test]
-fn many_brackets_are_refused_at_their_byte(rt: HostRuntime) -> Result<(), Fail> {
-    let alloc = rt.alloc();
-    let mut text = String::from_str(alloc, "arachne 1\nledgers 0\nlocks 0\n")?;
-    for _ in 0..1_000_000u32 {
-        text.push_str("(add ")?;
-    }
-    assert_fault(&rt, alloc, text.as_bytes(), "fault 4 at 348\n");
-    Ok(())
 }
 
 const WORDS: &[&[&str]] = &[

@@ -62,11 +62,9 @@ fn text_of(alloc: Global, ledgers: u8, locks: u8, expr: &str) -> Result<String, 
 
 /// 60 forks within one another, of which the innermost one's child is this.
 fn nested(alloc: Global, innermost: &str) -> Result<String, Fail> {
-    let mut expr = String::from_str(alloc, innermost)?;
-    for _ in 0..60u32 {
-        expr = format!(in alloc; "(fork n {expr} (num 1) (add (var 0) (var 1)))")?;
-    }
-    Ok(expr)
+    let fronts = "(fork n ".repeat(alloc, 60)?;
+    let ends = " (num 1) (add (var 0) (var 1)))".repeat(alloc, 60)?;
+    Ok(format!(in alloc; "{fronts}{innermost}{ends}")?)
 }
 
 /// The program of a text, which may run.
@@ -164,8 +162,10 @@ fn altered<R: Threads + Wait + Sync, G: Gate + Sync, const FINISHES: bool, const
     Ok(run_altered::<R, G, FINISHES, SHARES>(rt, alloc, &program, setup, choosers, gate))
 }
 
-/// How many threads ran in the place of their parents.
-fn in_place(report: &Report) -> usize {
+/// What a report says: the value, how many threads there were and how many of them ran in the place of their parents, and how many
+/// orders were applied.
+fn told(report: &Report) -> (u64, usize, usize, usize) {
     let lines = report.threads.as_slice();
-    lines.iter().filter(|line| line.in_place).count()
+    let in_place = lines.iter().filter(|line| line.in_place).count();
+    (report.value, lines.len(), in_place, report.applied)
 }

@@ -1,297 +1,311 @@
+//! What no clause says of threads that are cut anywhere: worked values, refused memory, and outcomes of other threads.
 ghost use Rattle.std.specs.Prelude.{◌≡◌, ◌≤◌, [], false, None, Some, IfOk, OnOk, IsTrue};
 ghost use Rattle.arachne_lang.specs.Program.{source_of};
 ghost use Rattle.arachne_machine.specs.declared.pause.Pending.TheVariants as pause;
 ghost use Rattle.arachne_machine.specs.Nested.{Nested, IsChildOf, SameWhole, pending_in, whole};
-ghost use Rattle.arachne_machine.specs.Advance.{Moves};
 
-use crate::lang::shown;
 use arachne_lang::{Class, Program, TextFault, parse};
-use arachne_machine::{NotJoined, Outcome, OutcomeParts, Pause, Pending, Thread, run_alone};
-use std::alloc::{AllocError, Global};
+use arachne_machine::{
+    NotJoined, Outcome, OutcomeParts, Pause, Pending, Thread, ThreadLine, run_alone,
+};
+use std::alloc::Global;
 use std::process::Abort;
 use std::test::Fail;
 
-/// The program of an expression, over one array of three items, with so many ledgers and locks.
-fn program(alloc: Global, count: u8, expression: &str) -> Result<Program, Fail> {
-    let text = format!(in alloc;
-        "arachne 1\narray 10 20 30\nledgers {count}\nlocks {count}\n{expression}\n"
-    )?;
-    Ok(parse(alloc, text.as_bytes())?)
-}
-
 /// The program of a text. Where memory is refused it is read once more.
-fn read_again(alloc: Global, text: &[u8]) -> Result<Program, Fail> {
+fn read(alloc: Global, text: &[u8]) -> Result<Program, Fail> {
     match parse(alloc, text) {
         Ok(program) => Ok(program),
         Err(_) => Ok(parse(alloc, text)?),
     }
 }
 
+/// The program of an expression, with so many ledgers and locks.
+fn program(alloc: Global, count: u8, expression: &str) -> Result<Program, Fail> {
+    let text = format!(in alloc; "arachne 1\nledgers {count}\nlocks {count}\n{expression}\n")?;
+    read(alloc, text.as_bytes())
+}
+
+/// The root thread of a program. Where memory is refused it is asked for once more.
+fn start<'p>(alloc: Global, program: &'p Program, tag: u64) -> Result<Thread<'p>, Fail>
+    ensures { IfOk result (λ thread. pending_in thread ≡ None) }
+{
+    match Thread::start(alloc, program, tag) {
+        Ok(thread) => Ok(thread),
+        Err(_) => Ok(Thread::start(alloc, program, tag)?),
+    }
+}
+
+/// What was heard of threads in one place: their pauses, the sum of the tags that asked for a lock, and the tag of the next child.
+#[derive(Clone, Copy)]
+struct Heard {
+    pauses: u64,
+    asked: u64,
+    next: u64,
+}
+
+/// A pause as decimal digits: 1 for a used budget, 2 for a fork, 3 and the lock that is asked for, 4 and the lock that is freed, 5 with the
+/// ledger and the amount of a tally, 6 for the end.
+fn digits(pause: &Pause) -> (u64, u64) {
+    match pause {
+        Pause::Budget => (10, 1),
+        Pause::Forks(_, _) => (10, 2),
+        Pause::Asks(lock) => (100, lock.wrapping_add(30)),
+        Pause::Frees(lock) => (100, lock.wrapping_add(40)),
+        Pause::Tallies(ledger, amount) => (
+            1000,
+            ledger
+                .wrapping_mul(10)
+                .wrapping_add(*amount)
+                .wrapping_add(500),
+        ),
+        Pause::Ended => (10, 6),
+        Pause::Joins => (10, 7),
+    }
+}
+
+impl Heard {
+    /// Writes down a pause of a thread with this tag.
+    fn hear(&mut self, pause: &Pause, tag: u64) {
+        let (places, number) = digits(pause);
+        self.pauses = self.pauses.wrapping_mul(places).wrapping_add(number);
+        if let Pause::Asks(_) = pause {
+            self.asked = self.asked.wrapping_add(tag);
+        }
+    }
+}
+
+/// Puts a child in its parent's place with the next tag. A call that is refused memory is made once more.
+fn place<'p>(thread: &mut Thread<'p>, mut child: Thread<'p>, heard: &mut Heard) -> Result<(), Fail>
+    requires forks { pending_in thread.old ≡ Some pause.Forks }
+    requires alone { child.parents ≡ [] }
+    requires child { IsChildOf thread.old child }
+    ensures { OnOk result (pending_in thread.new ≡ None) }
+{
+    child.set_tag(heard.next);
+    heard.next = heard.next.wrapping_add(1);
+    let Err(child) = thread.in_place(child) else {
+        return Ok(());
+    };
+    if thread.in_place(child).is_err() {
+        return Err("memory was refused twice")?;
+    }
+    Ok(())
+}
+
+/// Goes on to the next pause and answers it, with each child in place. It tells whether the thread has ended.
+fn turn(thread: &mut Thread, budget: u32, heard: &mut Heard) -> Result<bool, Fail>
+    requires { pending_in thread.old ≡ None }
+    ensures goes_on { IfOk result (λ ended. ended ≡ false → pending_in thread.new ≡ None) }
+    ensures ended { IfOk result (λ ended. IsTrue ended → pending_in thread.new ≡ Some pause.Ended) }
+{
+    if budget == 0 {
+        return Err("no budget")?;
+    }
+    let pause = match thread.advance(budget) {
+        Ok(pause) => pause,
+        Err(_) => thread.advance(budget)?,
+    };
+    heard.hear(&pause, thread.running_tag());
+    match pause {
+        Pause::Budget => {}
+        Pause::Forks(_, child) => place(thread, child, heard)?,
+        Pause::Asks(_) => thread.granted(),
+        Pause::Frees(_) => thread.freed(),
+        Pause::Tallies(_, _) => thread.tallied(),
+        Pause::Joins => return Err("awaits a child that is in place")?,
+        Pause::Ended => return Ok(true),
+    }
+    Ok(false)
+}
+
+/// What a program's threads bring that all run in the root's place, whose tag is 9, and what was heard of them. The first
+/// call has one budget, and all others have another.
+fn all_in_place(
+    alloc: Global,
+    program: &Program,
+    first: u32,
+    then: u32,
+) -> Result<(OutcomeParts, Heard), Fail> {
+    let mut thread = start(alloc, program, 9)?;
+    let mut heard = Heard {
+        pauses: 0,
+        asked: 0,
+        next: 10,
+    };
+    let mut budget = first;
+    for _ in 0..10000 {
+        if turn(&mut thread, budget, &mut heard)? {
+            return Ok((parts(thread.finish())?, heard));
+        }
+        budget = then;
+    }
+    Err("no end")?
+}
+
+/// An outcome taken apart. A call that is refused memory is made once more.
+fn parts(outcome: Outcome) -> Result<OutcomeParts, Fail> {
+    match outcome.into_parts() {
+        Ok(parts) => Ok(parts),
+        Err(outcome) => match outcome.into_parts() {
+            Ok(parts) => Ok(parts),
+            Err(_) => Err("memory was refused twice")?,
+        },
+    }
+}
+
+/// A thread's name, its tag, whether it ran in place, and its holds.
+fn told_line(alloc: Global, line: &ThreadLine) -> Result<String, Fail> {
+    let mark = if line.in_place { "+" } else { "-" };
+    let (name, holds) = (line.name.forks(), line.holds.as_slice());
+    Ok(format!(in alloc; " {name:?}{}{mark}{holds:?}", line.tag)?)
+}
+
+/// An outcome's value and sums, and what is told of each thread.
+fn told(alloc: Global, parts: &OutcomeParts) -> Result<String, Fail> {
+    let mut text = format!(in alloc; "{} {:?}", parts.value, parts.sums.as_slice())?;
+    for line in parts.lines.as_slice() {
+        text.push_str(told_line(alloc, line)?.as_str())?;
+    }
+    Ok(text)
+}
+
 const ONE_FORK: &str = "(fork x (num 2) (num 3) (add (var 0) (var 1)))";
-
-/// Expressions, and what their programs mean, as `shown` writes it.
-const ROWS: &str = "\
-(num 7) => 7 [] [][]
-(add (num 18446744073709551615) (num 1)) => 0 [] [][]
-(fork x (num 2) (num 3) (add (var 0) (var 1))) => 5 [] [][] [0][]
-(fork x (num 2) (num 3) (sub (var 0) (var 1))) => 18446744073709551615 [] [][] [0][]
-(fork x (fork x (num 1) (num 10) (var 0)) (fork x (num 100) (num 5) (var 0)) (add (var 0) (var 1))) => 101 [] [][] [1][] [0][] [0, 0][]
-(fold (num 1) (num 4) (num 0) (add (var 0) (var 1))) => 6 [] [][]
-(sweep add 2 (num 0) (num 8) (var 0)) => 28 [] [][] [1][] [0][] [0, 0][]
-(sweep min 1 (num 5) (num 5) (var 0)) => 18446744073709551615 [] [][]
-(sweep mul 1 (num 1) (num 6) (var 0)) => 120 [] [][] [2][] [1][] [0][] [0, 0][]
-(let (len 0) (if (eq (var 0) (num 3)) (item 0 (num 2)) (num 1))) => 30 [] [][]
-(if (num 0) (num 1) (item 0 (num 3))) => 0 [] [][]
-(item 0 (num 18446744073709551615)) => 0 [] [][]";
-
-/// Each budget gives this meaning.
-fn expect(rt: &impl Abort, alloc: Global, program: &Program, expected: &str) -> Result<(), Fail> {
-    for budget in [0, 1, 7, 100, 10_000, u32::MAX] {
-        let meaning = run_alone(alloc, program, budget)?;
-        assert_eq!(rt; shown(alloc, &meaning)?.as_str(), expected, "{budget}");
-    }
-    Ok(())
-}
-
-#[test]
-fn worked_rows(rt: HostRuntime) -> Result<(), Fail> {
-    let alloc = rt.alloc();
-    for row in ROWS.lines() {
-        let (expression, expected) = row.split_once(" => ").unwrap_or((row, ""));
-        expect(&rt, alloc, &program(alloc, 0, expression)?, expected)?;
-    }
-    Ok(())
-}
 
 const COUNTING: &str = "(sweep add 1 (num 0) (num 8) (hold 0 (tally 0 (num 5) (num 1))))";
 
-#[test]
-fn sums_and_holds(rt: HostRuntime) -> Result<(), Fail> {
-    let alloc = rt.alloc();
-    let expected = "8 [40] [][1] [2][1] [1][1] [1, 0][1] [0][1] [0, 1][1] [0, 0][1] [0, 0, 0][1]";
-    expect(&rt, alloc, &program(alloc, 1, COUNTING)?, expected)
-}
+/// How many ledgers and locks there are, expressions, and what is told of their threads, all of which run in one place.
+const IN_PLACE: &[(u8, &str, u64, &str)] = &[
+    (0, "(num 7)", 0, "7 [] []9-[]"),
+    (0, ONE_FORK, 0, "5 [] []9-[] [0]10+[]"),
+    (1, "(hold 0 (tally 0 (num 5) (num 1)))", 9, "1 [5] []9-[1]"),
+    (
+        0,
+        "(fork x (fork x (num 1) (num 10) (var 0)) (fork x (num 100) (num 5) (var 0)) (add (var 0) (var 1)))",
+        0,
+        "101 [] []9-[] [1]11+[] [0]10+[] [0, 0]12+[]",
+    ),
+    (
+        0,
+        "(sweep add 2 (num 0) (num 8) (var 0))",
+        0,
+        "28 [] []9-[] [1]11+[] [0]10+[] [0, 0]12+[]",
+    ),
+    (
+        1,
+        COUNTING,
+        100,
+        "8 [40] []9-[1] [2]12+[1] [1]11+[1] [1, 0]13+[1] [0]10+[1] [0, 1]15+[1] [0, 0]14+[1] [0, 0, 0]16+[1]",
+    ),
+];
 
-/// Goes on to the next pause of a thread whose last pause is answered. A call that is refused memory is made once more.
-fn go_on<'p>(thread: &mut Thread<'p>, budget: u32) -> Result<Pause<'p>, Fail> {
-    if thread.pending().is_some() || budget == 0 {
-        return Err("a pause is not answered")?;
-    }
-    match thread.advance(budget) {
-        Ok(pause) => Ok(pause),
-        Err(_) => Ok(thread.advance(budget)?),
-    }
-}
-
-/// Answers the thread's pause; a child that it forks is given away.
-fn answer(thread: &mut Thread) -> Result<(), Fail> {
-    match thread.pending() {
-        Some(Pending::Forks) => thread.forked(),
-        Some(Pending::Asks(_)) => thread.granted(),
-        Some(Pending::Frees(_)) => thread.freed(),
-        Some(Pending::Tallies(_, _)) => thread.tallied(),
-        Some(Pending::Joins | Pending::Ended) | None => return Err("no pause to answer so")?,
-    }
-    Ok(())
-}
-
-/// The outcome of a thread that has ended.
-fn finish<'p>(thread: Thread<'p>) -> Result<Outcome<'p>, Fail> {
-    let Some(Pending::Ended) = thread.pending() else {
-        return Err("not ended")?;
-    };
-    Ok(thread.finish())
-}
-
-/// Hands an outcome of its own program to a thread that awaits one.
-fn join<'p>(
-    thread: &mut Thread<'p>,
-    outcome: Outcome<'p>,
-) -> Result<Result<(), NotJoined<'p>>, Fail> {
-    let Some(Pending::Joins) = thread.pending() else {
-        return Err("awaits no outcome")?;
-    };
-    if !(*outcome.program() == *thread.program()) {
-        return Err("an outcome of another program")?;
-    }
-    Ok(thread.joined(outcome))
-}
-
-/// The child that the thread forks next. It is given away.
-fn next_child<'p>(thread: &mut Thread<'p>) -> Result<Thread<'p>, Fail> {
-    let Pause::Forks(Class::Exclusive, child) = go_on(thread, 100)? else {
-        return Err("no exclusive fork")?;
-    };
-    answer(thread)?;
-    Ok(child)
-}
-
-/// The outcome of a thread that ends within so many steps, with no further fork or join.
-fn ended<'p>(mut thread: Thread<'p>, budget: u32) -> Result<Outcome<'p>, Fail> {
-    let Pause::Ended = go_on(&mut thread, budget)? else {
-        return Err("not ended")?;
-    };
-    finish(thread)
-}
-
-/// The outcome of the child that a thread forks first, which the thread then awaits.
-fn awaited<'p>(thread: &mut Thread<'p>) -> Result<Outcome<'p>, Fail> {
-    let child = next_child(thread)?;
-    let Pause::Joins = go_on(thread, 100)? else {
-        return Err("no join")?;
-    };
-    ended(child, 100)
-}
-
-/// The outcome of the root of a program with one fork. An outcome that was refused for memory is joined once more.
-fn root_outcome<'p>(alloc: Global, program: &'p Program, tag: u64) -> Result<Outcome<'p>, Fail> {
-    let mut thread = match Thread::start(alloc, program, tag) {
-        Ok(thread) => thread,
-        Err(_) => Thread::start(alloc, program, tag)?,
-    };
-    let outcome = awaited(&mut thread)?;
-    if let Err(NotJoined::Memory(outcome)) = join(&mut thread, outcome)? {
-        join(&mut thread, outcome)??;
-    }
-    ended(thread, 100)
-}
-
-/// A thread that awaits its child refuses this outcome as foreign, and then joins its child's.
-fn refuses<'p>(
+/// Each budget gives what is expected.
+fn expect_in_place(
     rt: &impl Abort,
-    thread: &mut Thread<'p>,
-    foreign: Outcome<'p>,
-    child: Outcome<'p>,
+    alloc: Global,
+    program: &Program,
+    asked: u64,
+    expected: &str,
 ) -> Result<(), Fail> {
-    let Err(NotJoined::Foreign(foreign)) = join(thread, foreign)? else {
-        return Err("the root's outcome was not refused as foreign")?;
-    };
-    assert_eq!(rt; foreign.value(), 5);
-    assert_eq!(rt; thread.pending(), Some(Pending::Joins));
-    join(thread, child)??;
-    Ok(())
-}
-
-#[test]
-fn foreign_outcome_comes_back(rt: HostRuntime) -> Result<(), Fail> {
-    let alloc = rt.alloc();
-    let program = program(alloc, 0, ONE_FORK)?;
-    let foreign = root_outcome(alloc, &program, 1)?;
-    let mut thread = Thread::start(alloc, &program, 2)?;
-    let outcome = awaited(&mut thread)?;
-    refuses(&rt, &mut thread, foreign, outcome)?;
-    let parts = parts(ended(thread, 100)?)?;
-    assert_eq!(rt; parts.value, 5);
-    assert_eq!(rt;
-        marks(alloc, &parts)?.as_slice(),
-        [0, 2, 0, 1, 0, 0, 0].as_slice()
-    );
-    Ok(())
-}
-
-/// Run with each allocation refused in turn (`rt try --test --fail-alloc N`) this gives the same value.
-#[test]
-fn refused_calls_go_on(rt: HostRuntime) -> Result<(), Fail> {
-    let alloc = rt.alloc();
-    let text = b"arachne 1\nledgers 0\nlocks 0\n(fork x (num 2) (num 3) (add (var 0) (var 1)))\n";
-    let forks = read_again(alloc, text)?;
-    assert_eq!(rt; root_outcome(alloc, &forks, 0)?.value(), 5);
-    Ok(())
-}
-
-/// The value of a program whose only thread is advanced by these budgets: it ends in the last of them and in none before.
-fn value_within(alloc: Global, program: &Program, budgets: &[u32]) -> Result<u64, Fail> {
-    let mut thread = Thread::start(alloc, program, 0)?;
-    for &budget in budgets {
-        match go_on(&mut thread, budget)? {
-            Pause::Budget | Pause::Ended => {}
-            _ => return Err("a pause before its time")?,
-        }
-    }
-    Ok(finish(thread)?.value())
-}
-
-/// A sum and its two numbers are begun by three steps; the last adds the numbers and ends.
-#[test]
-fn a_sum_has_three_steps(rt: HostRuntime) -> Result<(), Fail> {
-    let alloc = rt.alloc();
-    let program = program(alloc, 0, "(add (num 1) (num 2))")?;
-    for budgets in [[1, 1, 1].as_slice(), [2, 1].as_slice()] {
-        assert_eq!(rt; value_within(alloc, &program, budgets)?, 3);
+    for budget in [1, 2, 3, 7, 100, 1000] {
+        let (parts, heard) = all_in_place(alloc, program, budget, budget)?;
+        assert_eq!(rt; told(alloc, &parts)?.as_str(), expected);
+        assert_eq!(rt; heard.asked, asked);
     }
     Ok(())
 }
 
-/// A fold takes two steps beside those of its bounds, of its start and of its 5,000 turns, each a sum of two variables: 15,005 in all.
+/// The threads with the tags 9 to 16 of the last of these programs hold the lock once each, and are told as the ones that ask for it.
+#[test]
+fn children_run_in_place(rt: HostRuntime) -> Result<(), Fail> {
+    for &(count, expression, asked, expected) in IN_PLACE {
+        let program = program(rt.alloc(), count, expression)?;
+        expect_in_place(&rt, rt.alloc(), &program, asked, expected)?;
+    }
+    Ok(())
+}
+
+const FOLD: &str = "(fold (num 0) (num 5000) (num 0) (add (var 0) (var 1)))";
+
+/// Expressions, the budgets of the first call and of the others, the pauses, and the value.
+/// A sum and its two numbers are begun by three steps; the last adds the numbers and ends. A fold takes two steps beside those of its
+/// bounds, of its start and of its 5,000 turns, each a sum of two variables: 15,005 in all.
+const BUDGETS: &[(&str, u32, u32, u64, u64)] = &[
+    ("(add (num 1) (num 2))", 1, 1, 116, 3),
+    ("(add (num 1) (num 2))", 2, 1, 16, 3),
+    (FOLD, 10_000, 10_000, 16, 12_497_500),
+    (FOLD, 15_004, 1, 16, 12_497_500),
+    (FOLD, u32::MAX, 1, 6, 12_497_500),
+    (
+        "(hold 0 (tally 0 (num 5) (num 1)))",
+        100,
+        100,
+        30_505_406,
+        1,
+    ),
+];
+
+/// What was heard of a program by these budgets, and its value.
+fn heard_within(
+    alloc: Global,
+    expression: &str,
+    first: u32,
+    then: u32,
+) -> Result<(u64, u64), Fail> {
+    let program = program(alloc, 1, expression)?;
+    let (parts, heard) = all_in_place(alloc, &program, first, then)?;
+    Ok((heard.pauses, parts.value))
+}
+
 #[test]
 fn budgets_up_to_the_greatest(rt: HostRuntime) -> Result<(), Fail> {
-    let alloc = rt.alloc();
-    let fold = "(fold (num 0) (num 5000) (num 0) (add (var 0) (var 1)))";
-    let program = program(alloc, 0, fold)?;
-    for budgets in [
-        [10_000, 10_000].as_slice(),
-        [15_004, 1].as_slice(),
-        [u32::MAX].as_slice(),
-    ] {
-        assert_eq!(rt; value_within(alloc, &program, budgets)?, 12_497_500);
+    for &(expression, first, then, pauses, value) in BUDGETS {
+        let heard = heard_within(rt.alloc(), expression, first, then)?;
+        assert_eq!(rt; heard, (pauses, value), "{expression} {first} {then}");
     }
     Ok(())
 }
 
-/// What is pending at a pause.
-fn pending_at(pause: &Pause) -> Option<Pending> {
-    match pause {
-        Pause::Budget => None,
-        Pause::Forks(_, _) => Some(Pending::Forks),
-        Pause::Joins => Some(Pending::Joins),
-        Pause::Asks(lock) => Some(Pending::Asks(*lock)),
-        Pause::Frees(lock) => Some(Pending::Frees(*lock)),
-        Pause::Tallies(ledger, amount) => Some(Pending::Tallies(*ledger, *amount)),
-        Pause::Ended => Some(Pending::Ended),
+/// Sixty forks within one another.
+fn chain(alloc: Global) -> Result<String, Fail> {
+    let fronts = "(fork n ".repeat(alloc, 60)?;
+    let ends = " (num 1) (add (var 0) (var 1)))".repeat(alloc, 60)?;
+    Ok(format!(in alloc; "{fronts}(num 1){ends}")?)
+}
+
+/// Whether the lines' tags count from 9 to 69, and all but the first ran in place.
+fn counts_on(parts: &OutcomeParts) -> bool {
+    let mut tag = 9u64;
+    for line in parts.lines.as_slice() {
+        if line.tag != tag || line.in_place != (tag > 9) {
+            return false;
+        }
+        tag = tag.wrapping_add(1);
     }
+    tag == 70
 }
 
-/// Goes on to this pause and answers it.
-fn pass(rt: &impl Abort, thread: &mut Thread, expected: Pending) -> Result<(), Fail> {
-    let pending = pending_at(&go_on(thread, 100)?);
-    assert_eq!(rt; pending, Some(expected));
-    assert_eq!(rt; thread.pending(), pending);
-    answer(thread)?;
-    assert_eq!(rt; thread.pending(), None);
-    Ok(())
-}
-
-/// Goes on through the pauses of a hold with a tally in it, and answers them.
-fn held_and_tallied(rt: &impl Abort, thread: &mut Thread) -> Result<(), Fail> {
-    for expected in [Pending::Asks(0), Pending::Tallies(0, 5), Pending::Frees(0)] {
-        pass(rt, thread, expected)?;
-    }
-    Ok(())
-}
-
-/// A thread with the tag 9 of a program with a hold and a tally, at its end.
-fn counted<'p>(rt: &impl Abort, alloc: Global, program: &'p Program) -> Result<Outcome<'p>, Fail> {
-    let mut thread = Thread::start(alloc, program, 9)?;
-    assert_eq!(rt; thread.tag(), 9);
-    assert!(rt; thread.program().root == program.root);
-    held_and_tallied(rt, &mut thread)?;
-    ended(thread, 1)
-}
-
-/// A thread and its outcome tell their name, tag and program, and what was counted.
+/// Sixty threads, each forked by the one before it.
 #[test]
-fn hold_with_a_tally(rt: HostRuntime) -> Result<(), Fail> {
-    let alloc = rt.alloc();
-    let program = program(alloc, 1, "(hold 0 (tally 0 (num 5) (num 1)))")?;
-    let outcome = counted(&rt, alloc, &program)?;
-    assert!(rt; outcome.name().forks().is_empty());
-    assert_eq!(rt; outcome.program().locks, 1);
-    assert_eq!(rt; counts(alloc, &parts(outcome)?)?.as_str(), "1 [5] [1]");
+fn a_chain_in_place(rt: HostRuntime) -> Result<(), Fail> {
+    let program = program(rt.alloc(), 0, chain(rt.alloc())?.as_str())?;
+    let (parts, _) = all_in_place(rt.alloc(), &program, 3, 3)?;
+    assert!(rt; parts.value == 61 && counts_on(&parts));
     Ok(())
 }
 
 const FORKED_COUNTING: &[u8] = b"arachne 1\nledgers 1\nlocks 1\n\
 (fork n (sweep add 1 (num 0) (num 8) (hold 0 (tally 0 (num 5) (num 1)))) (num 3) (add (var 0) (var 1)))\n";
+
+/// Run with each allocation refused in turn (`rt try --test --fail-alloc N`) this gives the same outcome.
+#[test]
+fn refused_calls_in_place_go_on(rt: HostRuntime) -> Result<(), Fail> {
+    let program = read(rt.alloc(), FORKED_COUNTING)?;
+    let (parts, heard) = all_in_place(rt.alloc(), &program, 5, 5)?;
+    assert!(rt; parts.value == 11 && heard.asked == 108);
+    assert!(rt; parts.sums.as_slice() == [40].as_slice() && parts.lines.as_slice().len() == 9);
+    Ok(())
+}
 
 /// Whether what `run_alone` answers is right, or memory was refused.
 fn is_right_or_refused(alloc: Global, budget: u32) -> bool {
@@ -316,207 +330,126 @@ fn refused_memory_changes_no_answer(rt: HostRuntime) -> Result<(), Fail> {
     Ok(())
 }
 
-/// The next tag, and the sum of the tags that asked for a lock.
-#[derive(Drop)]
-struct Tags {
-    next: u64,
-    asked: u64,
+/// Goes on to the next pause of a thread whose last pause is answered. A call that is refused memory is made once more.
+fn go_on<'p>(thread: &mut Thread<'p>) -> Result<Pause<'p>, Fail> {
+    if thread.pending().is_some() {
+        return Err("a pause is not answered")?;
+    }
+    match thread.advance(100) {
+        Ok(pause) => Ok(pause),
+        Err(_) => Ok(thread.advance(100)?),
+    }
 }
 
-/// Puts a child in its parent's place with the next tag. A call that is refused memory is made once more.
-fn place<'p>(thread: &mut Thread<'p>, mut child: Thread<'p>, tags: &mut Tags) -> Result<(), Fail>
-    requires forks { pending_in thread.old ≡ Some pause.Forks }
-    requires alone { child.parents ≡ [] }
-    requires child { IsChildOf thread.old child }
-    ensures { OnOk result (pending_in thread.new ≡ None) }
-{
-    child.set_tag(tags.next);
-    tags.next = tags.next.wrapping_add(1);
-    let Err(child) = thread.in_place(child) else {
-        return Ok(());
+/// The outcome of a thread that ends within so many steps, with no further fork or join.
+fn ended<'p>(mut thread: Thread<'p>) -> Result<Outcome<'p>, Fail> {
+    go_on(&mut thread)?;
+    let Some(Pending::Ended) = thread.pending() else {
+        return Err("not ended")?;
     };
-    if thread.in_place(child).is_err() {
-        return Err("memory was refused twice")?;
-    }
+    Ok(thread.finish())
+}
+
+/// Says that the child of the thread's fork was given away, and goes on until it is awaited.
+fn await_child(thread: &mut Thread) -> Result<(), Fail> {
+    let Some(Pending::Forks) = thread.pending() else {
+        return Err("no fork")?;
+    };
+    thread.forked();
+    go_on(thread)?;
     Ok(())
 }
 
-/// Goes on to the next pause and answers it, with each child in place. It tells whether the thread has ended.
-fn turn_in_place(thread: &mut Thread, budget: u32, tags: &mut Tags) -> Result<bool, Fail>
-    requires running { pending_in thread.old ≡ None }
-    requires some { 1 ≤ budget }
-    ensures goes_on { IfOk result (λ ended. ended ≡ false → pending_in thread.new ≡ None) }
-    ensures ended { IfOk result (λ ended. IsTrue ended → pending_in thread.new ≡ Some pause.Ended) }
-{
-    let pause = match thread.advance(budget) {
-        Ok(pause) => pause,
-        Err(_) => thread.advance(budget)?,
+/// The outcome of the child that a thread forks first, which the thread then awaits.
+fn awaited<'p>(thread: &mut Thread<'p>) -> Result<Outcome<'p>, Fail> {
+    let Pause::Forks(Class::Exclusive, child) = go_on(thread)? else {
+        return Err("no exclusive fork")?;
     };
-    match pause {
-        Pause::Budget => {}
-        Pause::Forks(_, child) => place(thread, child, tags)?,
-        Pause::Asks(_) => {
-            tags.asked = tags.asked.wrapping_add(thread.running_tag());
-            thread.granted();
-        }
-        Pause::Frees(_) => thread.freed(),
-        Pause::Tallies(_, _) => thread.tallied(),
-        Pause::Joins => return Err("awaits a child that is in place")?,
-        Pause::Ended => return Ok(true),
-    }
-    Ok(false)
+    await_child(thread)?;
+    ended(child)
 }
 
-/// What a program's threads bring that all run in the root's place, whose tag is 9, and the sum of the tags that
-/// asked for a lock.
-fn all_in_place(alloc: Global, program: &Program, budget: u32) -> Result<(OutcomeParts, u64), Fail>
-    requires { 1 ≤ budget }
+/// Whether the two are the same program.
+fn are_same(some: &Program, other: &Program) -> bool
+    ensures { IsTrue result → source_of some.now ≡ source_of other.now }
 {
-    let mut thread = match Thread::start(alloc, program, 9) {
-        Ok(thread) => thread,
-        Err(_) => Thread::start(alloc, program, 9)?,
+    *some == *other
+}
+
+/// Hands an outcome of its program to a thread that awaits one. Where it is not that, nothing is told.
+fn join<'p>(thread: &mut Thread<'p>, outcome: Outcome<'p>) -> Result<(), Option<NotJoined<'p>>> {
+    let Some(Pending::Joins) = thread.pending() else {
+        return Err(None);
     };
-    let mut tags = Tags { next: 10, asked: 0 };
-    for _ in 0..10000 {
-        if turn_in_place(&mut thread, budget, &mut tags)? {
-            return Ok((parts(thread.finish())?, tags.asked));
-        }
+    if !are_same(outcome.program(), thread.program()) {
+        return Err(None);
     }
-    Err("no end")?
-}
-
-/// An outcome taken apart. A call that is refused memory is made once more.
-fn parts(outcome: Outcome) -> Result<OutcomeParts, Fail> {
-    match outcome.into_parts() {
-        Ok(parts) => Ok(parts),
-        Err(outcome) => match outcome.into_parts() {
-            Ok(parts) => Ok(parts),
-            Err(_) => Err("memory was refused twice")?,
-        },
+    match thread.joined(outcome) {
+        Ok(()) => Ok(()),
+        Err(not_joined) => Err(Some(not_joined)),
     }
 }
 
-/// Of each line the name's length, the name, the tag, and 1 where it ran in place.
-fn marks(alloc: Global, parts: &OutcomeParts) -> Result<Vec<u64>, AllocError> {
-    let mut marks = Vec::new(alloc);
-    for line in parts.lines.as_slice() {
-        let forks = line.name.forks();
-        marks.push(forks.len() as u64)?;
-        marks.extend_from_slice(forks)?;
-        marks.push(line.tag)?;
-        marks.push(u64::from(line.in_place))?;
+/// The outcome of the root of a program with one fork. An outcome that was refused for memory is joined once more.
+fn root_outcome<'p>(alloc: Global, program: &'p Program, tag: u64) -> Result<Outcome<'p>, Fail> {
+    let mut thread = start(alloc, program, tag)?;
+    let outcome = awaited(&mut thread)?;
+    if let Err(Some(NotJoined::Memory(outcome))) = join(&mut thread, outcome) {
+        let _ = join(&mut thread, outcome);
     }
-    Ok(marks)
+    ended(thread)
 }
 
-/// Expressions, their values, and the marks of their threads, all of which run in one place.
-const IN_PLACE: &[(&str, u64, &[u64])] = &[
-    ("(num 7)", 7, &[0, 9, 0]),
-    (ONE_FORK, 5, &[0, 9, 0, 1, 0, 10, 1]),
-    (
-        "(fork x (fork x (num 1) (num 10) (var 0)) (fork x (num 100) (num 5) (var 0)) (add (var 0) (var 1)))",
-        101,
-        &[0, 9, 0, 1, 1, 11, 1, 1, 0, 10, 1, 2, 0, 0, 12, 1],
-    ),
-    (
-        "(sweep add 2 (num 0) (num 8) (var 0))",
-        28,
-        &[0, 9, 0, 1, 1, 11, 1, 1, 0, 10, 1, 2, 0, 0, 12, 1],
-    ),
-];
+/// Run with each allocation refused in turn (`rt try --test --fail-alloc N`) this gives the same value.
+#[test]
+fn refused_calls_go_on(rt: HostRuntime) -> Result<(), Fail> {
+    let text = b"arachne 1\nledgers 0\nlocks 1\n(fork x (num 2) (num 3) (add (var 0) (var 1)))\n";
+    let program = read(rt.alloc(), text)?;
+    let outcome = root_outcome(rt.alloc(), &program, 0)?;
+    assert!(rt; outcome.value() == 5 && outcome.program().locks == 1);
+    assert!(rt; outcome.name().forks().is_empty());
+    Ok(())
+}
 
-/// Each budget gives this value and these marks.
-fn expect_in_place(
+/// The outcome that a thread that awaits its child refuses as foreign.
+fn refused<'p>(thread: &mut Thread<'p>, outcome: Outcome<'p>) -> Option<Outcome<'p>> {
+    match join(thread, outcome) {
+        Err(Some(NotJoined::Foreign(outcome))) => Some(outcome),
+        _ => None,
+    }
+}
+
+/// A thread with the tag 2 that awaits its child refuses the outcome of the root with the tag 1, and then joins its child's.
+fn joined_second<'p>(
     rt: &impl Abort,
     alloc: Global,
-    program: &Program,
-    value: u64,
-    lines: &[u64],
-) -> Result<(), Fail> {
-    for budget in [1, 2, 3, 7, 1000] {
-        let (parts, _) = all_in_place(alloc, program, budget)?;
-        assert_eq!(rt; parts.value, value);
-        assert_eq!(rt; marks(alloc, &parts)?.as_slice(), lines);
-    }
-    Ok(())
+    program: &'p Program,
+) -> Result<Outcome<'p>, Fail> {
+    let foreign = root_outcome(alloc, program, 1)?;
+    let mut thread = start(alloc, program, 2)?;
+    let child = awaited(&mut thread)?;
+    let back = refused(&mut thread, foreign).ok_or(
+        "the root's outcome was not refused as foreign",
+    )?;
+    assert_eq!(rt; (back.value(), thread.pending()), (5, Some(Pending::Joins)));
+    let _ = join(&mut thread, child);
+    ended(thread)
 }
 
 #[test]
-fn children_run_in_place(rt: HostRuntime) -> Result<(), Fail> {
-    let alloc = rt.alloc();
-    for &(expression, value, lines) in IN_PLACE {
-        expect_in_place(&rt, alloc, &program(alloc, 0, expression)?, value, lines)?;
-    }
+fn foreign_outcome_comes_back(rt: HostRuntime) -> Result<(), Fail> {
+    let program = program(rt.alloc(), 0, ONE_FORK)?;
+    let outcome = joined_second(&rt, rt.alloc(), &program)?;
+    let parts = parts(outcome)?;
+    assert_eq!(rt; told(rt.alloc(), &parts)?.as_str(), "5 [] []2-[] [0]0-[]");
     Ok(())
 }
 
-/// An outcome's value and sums, and the holds of each of its threads.
-fn counts(alloc: Global, parts: &OutcomeParts) -> Result<String, Fail> {
-    let mut text = format!(in alloc; "{} {:?}", parts.value, parts.sums.as_slice())?;
-    for line in parts.lines.as_slice() {
-        write!(text, " {:?}", line.holds.as_slice())?;
-    }
-    Ok(text)
-}
-
-/// The threads with the tags 9 to 16 hold the lock once each, and are told as the ones that ask for it.
+/// A thread tells its tag and its program.
 #[test]
-fn locks_and_ledgers_in_place(rt: HostRuntime) -> Result<(), Fail> {
-    let alloc = rt.alloc();
-    let program = program(alloc, 1, COUNTING)?;
-    for budget in [1, 7, 100] {
-        let (parts, asked) = all_in_place(alloc, &program, budget)?;
-        assert_eq!(rt; asked, 100);
-        assert_eq!(rt;
-            counts(alloc, &parts)?.as_str(),
-            "8 [40] [1] [1] [1] [1] [1] [1] [1] [1]"
-        );
-    }
-    Ok(())
-}
-
-/// Sixty forks within one another.
-fn chain(alloc: Global) -> Result<String, Fail> {
-    let mut expression = String::new(alloc);
-    for _ in 0..60 {
-        expression.push_str("(fork n ")?;
-    }
-    expression.push_str("(num 1)")?;
-    for _ in 0..60 {
-        expression.push_str(" (num 1) (add (var 0) (var 1)))")?;
-    }
-    Ok(expression)
-}
-
-/// The lines' tags count from 9, and all but the first ran in place.
-fn assert_tags(rt: &impl Abort, parts: &OutcomeParts) {
-    let mut tag = 9u64;
-    for line in parts.lines.as_slice() {
-        assert_eq!(rt; (line.tag, line.in_place), (tag, tag > 9));
-        tag = tag.wrapping_add(1);
-    }
-    assert_eq!(rt; tag, 70);
-}
-
-/// Sixty threads, each forked by the one before it.
-#[test]
-fn a_chain_in_place(rt: HostRuntime) -> Result<(), Fail> {
-    let alloc = rt.alloc();
-    let program = program(alloc, 0, &chain(alloc)?)?;
-    let (parts, _) = all_in_place(alloc, &program, 3)?;
-    assert_eq!(rt; parts.value, 61);
-    assert_tags(&rt, &parts);
-    Ok(())
-}
-
-/// Run with each allocation refused in turn (`rt try --test --fail-alloc N`) this gives the same outcome.
-#[test]
-fn refused_calls_in_place_go_on(rt: HostRuntime) -> Result<(), Fail> {
-    let alloc = rt.alloc();
-    let program = read_again(alloc, FORKED_COUNTING)?;
-    let (parts, asked) = all_in_place(alloc, &program, 5)?;
-    assert_eq!(rt; (parts.value, asked), (11, 108));
-    assert_eq!(rt; parts.sums.as_slice(), [40].as_slice());
-    assert_eq!(rt; parts.lines.as_slice().len(), 9);
+fn a_thread_tells_what_it_is(rt: HostRuntime) -> Result<(), Fail> {
+    let program = program(rt.alloc(), 0, ONE_FORK)?;
+    let thread = start(rt.alloc(), &program, 9)?;
+    assert!(rt; thread.tag() == 9 && thread.program().root == program.root);
     Ok(())
 }

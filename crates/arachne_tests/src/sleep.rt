@@ -32,52 +32,65 @@ fn ask(lock: &mut LockState, who: Who, rt: &impl Abort) -> Result<Asked, AskFaul
     }
 }
 
+/// The answer to a free.
+fn free(lock: &mut LockState, who: Who) -> Result<Freed, NotHolder> {
+    lock.free(who)
+}
+
+/// The pass that a look gives.
+fn check(lock: &LockState, who: Who) -> Option<Pass> {
+    lock.check(who)
+}
+
+/// Whether the thread holds the lock, and whether it waits for it.
+fn stands(lock: &LockState, who: Who) -> (bool, bool) {
+    (lock.holds(who), lock.waits(who))
+}
+
+/// The pass of lock 5 for this thread.
+fn pass(who: Who, at: usize) -> Pass {
+    Pass { lock: 5, who, at }
+}
+
+/// Three threads ask for lock 5: one is let in, and two wait.
+fn ask_in_turn(rt: &impl Abort, lock: &mut LockState, [a, b, c]: [Who; 3]) -> Result<(), AskFault> {
+    same(rt, ask(lock, a, rt)?, Asked::Granted(pass(a, 1)));
+    same(rt, ask(lock, b, rt)?, Asked::Queued { at: 2 });
+    same(rt, ask(lock, c, rt)?, Asked::Queued { at: 3 });
+    for who in [a, b] {
+        same(rt, ask(lock, who, rt), Err(AskFault::AlreadyIn));
+    }
+    same(rt, free(lock, c), Err(NotHolder));
+    same(rt, lock.history().len(), 4);
+    Ok(())
+}
+
+/// The first of two threads holds lock 5, and the other waits.
+fn look_at_two(rt: &impl Abort, lock: &LockState, a: Who, b: Who) {
+    same(rt, stands(lock, a), (true, false));
+    same(rt, stands(lock, b), (false, true));
+    same(rt, check(lock, a), Some(pass(a, 1)));
+    same(rt, check(lock, b), None);
+}
+
+/// The three free the lock, each once it has it.
+fn free_in_turn(rt: &impl Abort, lock: &mut LockState, [a, b, c]: [Who; 3]) {
+    for (who, granted, next, at) in [(a, 1, Some(b), 4), (b, 5, Some(c), 6), (c, 7, None, 8)] {
+        same(rt, stands(lock, who), (true, false));
+        same(rt, check(lock, who), Some(pass(who, granted)));
+        same(rt, free(lock, who), Ok(Freed { next, at }));
+    }
+    same(rt, check(lock, c), None);
+}
+
 #[test]
 fn three_threads_in_turn(rt: HostRuntime) -> Result<(), Fail> {
     let (a, b, c) = (thread(0, 3), thread(1, 3), thread(1, 4));
     let mut lock = LockState::new(rt.alloc(), 5);
     same(&rt, lock.history().len(), 0);
-
-    let first = Pass {
-        lock: 5,
-        who: a,
-        at: 1,
-    };
-    same(&rt, ask(&mut lock, a, &rt)?, Asked::Granted(first));
-    same(&rt, ask(&mut lock, b, &rt)?, Asked::Queued { at: 2 });
-    same(&rt, ask(&mut lock, c, &rt)?, Asked::Queued { at: 3 });
-    same(&rt, lock.ask(a), Err(AskFault::AlreadyIn));
-    same(&rt, lock.ask(b), Err(AskFault::AlreadyIn));
-    same(&rt, lock.free(c), Err(NotHolder));
-    same(&rt, lock.history().len(), 4);
-
-    same(&rt, lock.holds(a), true);
-    same(&rt, lock.holds(b), false);
-    same(&rt, lock.waits(b), true);
-    same(&rt, lock.waits(a), false);
-    same(&rt, lock.check(a), Some(first));
-    same(&rt, lock.check(b), None);
-
-    let freed = Freed {
-        next: Some(b),
-        at: 4,
-    };
-    same(&rt, lock.free(a), Ok(freed));
-    let second = Pass {
-        lock: 5,
-        who: b,
-        at: 5,
-    };
-    same(&rt, lock.check(b), Some(second));
-    let freed = Freed {
-        next: Some(c),
-        at: 6,
-    };
-    same(&rt, lock.free(b), Ok(freed));
-    same(&rt, lock.waits(c), false);
-    same(&rt, lock.free(c), Ok(Freed { next: None, at: 8 }));
-    same(&rt, lock.check(c), None);
-
+    ask_in_turn(&rt, &mut lock, [a, b, c])?;
+    look_at_two(&rt, &lock, a, b);
+    free_in_turn(&rt, &mut lock, [a, b, c]);
     let whole = [
         LockEvent::Ask(a),
         LockEvent::Grant(a),

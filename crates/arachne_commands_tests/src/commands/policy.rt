@@ -1,4 +1,4 @@
-use arachne_commands::drive;
+use super::status_of;
 use std::alloc::Global;
 use std::io;
 use std::io::Read;
@@ -18,7 +18,7 @@ fn assert_run<R: Abort + Threads + Wait + Sync>(
 ) {
     let mut output = Vec::new(alloc);
     let mut faults = Vec::new(alloc);
-    let ended = drive(rt, alloc, words, &mut input, &mut output, &mut faults);
+    let ended = status_of(rt, alloc, words, &mut input, &mut output, &mut faults);
     assert_eq!(rt; ended, status, "{words:?}");
     let (written, empty) = if status == 0 {
         (&output, &faults)
@@ -145,7 +145,7 @@ fn options_that_are_not_understood(rt: HostRuntime) {
         let mut input = b"1 1 1 1 1\n".as_slice();
         let mut output = Vec::new(alloc);
         let mut faults = Vec::new(alloc);
-        let status = drive(&rt, alloc, words, &mut input, &mut output, &mut faults);
+        let status = status_of(&rt, alloc, words, &mut input, &mut output, &mut faults);
         assert_eq!(rt; status, 2, "{words:?}");
         assert!(rt; output.is_empty(), "{words:?}");
         assert!(rt; !faults.is_empty(), "{words:?}");
@@ -195,7 +195,7 @@ fn the_limit_of_the_input_comes_first(rt: HostRuntime) {
     };
     let mut output = Vec::new(alloc);
     let mut faults = Vec::new(alloc);
-    let status = drive(
+    let status = status_of(
         &rt,
         alloc,
         &["arachne", "policy"],

@@ -1,6 +1,5 @@
 //! Programs that are run: their output on machines of several sizes, and what is refused.
-use super::{Ended, assert_output, run, text_of};
-use arachne_commands::drive;
+use super::{Ended, assert_output, run, status_of, text_of};
 use std::alloc::Global;
 use std::io::{self, ErrorKind, Read};
 use std::process::Abort;
@@ -81,35 +80,40 @@ fn rows_are_run_on_every_machine(rt: HostRuntime) {
     }
 }
 
-/// 60 forks within one another, and 901 threads of one sweep: more than a core has places.
-#[test]
-fn more_threads_than_places_are_run(rt: HostRuntime) -> Result<(), Fail> {
-    let alloc = rt.alloc();
-    let mut nested = String::from_str(alloc, "(num 1)")?;
-    for _ in 0..60u32 {
-        nested = format!(in alloc; "(fork n {nested} (num 1) (add (var 0) (var 1)))")?;
-    }
-    let nested = text_of(alloc, nested.as_str())?;
-    let sums = text_of(alloc, SUMS)?;
+/// 60 forks within one another.
+fn nested(alloc: Global) -> Result<String, Fail> {
+    let fronts = "(fork n ".repeat(alloc, 60)?;
+    let ends = " (num 1) (add (var 0) (var 1)))".repeat(alloc, 60)?;
+    Ok(format!(in alloc; "arachne 1\nledgers 0\nlocks 0\n{fronts}(num 1){ends}\n")?)
+}
+
+/// The text is run on every machine, with this output.
+fn assert_run_on_machines<R: Abort + Threads + Wait + Sync>(
+    rt: &R,
+    alloc: Global,
+    text: &[u8],
+    output: &str,
+) {
     for cores in CORES {
         for quantum in QUANTA {
             let words = ["arachne", "run", "--cores", cores, "--quantum", quantum];
-            assert_output(
-                &rt,
-                alloc,
-                &words,
-                nested.as_bytes(),
-                "value 61\nthreads 61\n",
-            );
-            assert_output(
-                &rt,
-                alloc,
-                &words,
-                sums.as_bytes(),
-                "value 405450\nthreads 901\n",
-            );
+            assert_output(rt, alloc, &words, text, output);
         }
     }
+}
+
+/// More threads than a core has places: 60 forks within one another, and 901 threads of one sweep.
+#[test]
+fn more_threads_than_places_are_run(rt: HostRuntime) -> Result<(), Fail> {
+    let text = nested(rt.alloc())?;
+    assert_run_on_machines(&rt, rt.alloc(), text.as_bytes(), "value 61\nthreads 61\n");
+    let text = text_of(rt.alloc(), SUMS)?;
+    assert_run_on_machines(
+        &rt,
+        rt.alloc(),
+        text.as_bytes(),
+        "value 405450\nthreads 901\n",
+    );
     Ok(())
 }
 
@@ -360,7 +364,7 @@ fn words_that_are_no_orders(rt: HostRuntime) {
         let mut input = Watched { is_read: false };
         let mut output = Vec::new(alloc);
         let mut faults = Vec::new(alloc);
-        let status = drive(&rt, alloc, &words, &mut input, &mut output, &mut faults);
+        let status = status_of(&rt, alloc, &words, &mut input, &mut output, &mut faults);
         assert!(rt; !input.is_read, "{words:?}");
         let ended = Ended {
             status,

@@ -1,6 +1,6 @@
 //! Streams that fail, that give or take little at a time, and that never end.
-use super::text_of;
-use arachne_commands::{Fault, INPUT_LIMIT, drive, refuse};
+use super::{status_of, text_of};
+use arachne_commands::{Fault, INPUT_LIMIT, refuse};
 use arachne_lang::{CheckFault, TextFault};
 use std::alloc::Global;
 use std::io::{self, ErrorKind, Read, Write};
@@ -60,7 +60,7 @@ fn assert_unread<R: Abort + Threads + Wait + Sync>(
 ) {
     let mut output = Vec::new(alloc);
     let mut faults = Vec::new(alloc);
-    let status = drive(rt, alloc, &WORDS, input, &mut output, &mut faults);
+    let status = status_of(rt, alloc, &WORDS, input, &mut output, &mut faults);
     assert_eq!(rt; status, 1, "{case}");
     assert!(rt; output.is_empty(), "{case}");
     assert_eq!(rt; faults.as_slice(), line.as_bytes(), "{case}");
@@ -162,7 +162,7 @@ fn writers_that_fail(rt: HostRuntime) -> Result<(), Fail> {
                 fails,
                 fails_to_flush,
             };
-            let status = drive(&rt, alloc, &WORDS, &mut input, &mut output, &mut faults);
+            let status = status_of(&rt, alloc, &WORDS, &mut input, &mut output, &mut faults);
             assert_eq!(rt; output.kept.as_slice(), &whole[..room.min(whole.len())]);
             let is_whole = room >= whole.len() && !fails_to_flush;
             assert_eq!(rt; status, if is_whole { 0 } else { 1 }, "{room}");
@@ -219,7 +219,7 @@ fn assert_unwritten<R: Abort + Threads + Wait + Sync>(
     let text = text_of(alloc, "(num 7)")?;
     let mut input = text.as_bytes();
     let mut faults = Vec::new(alloc);
-    let status = drive(rt, alloc, &WORDS, &mut input, &mut output, &mut faults);
+    let status = status_of(rt, alloc, &WORDS, &mut input, &mut output, &mut faults);
     assert_eq!(rt; status, 1, "{case}");
     assert_eq!(rt; faults.as_slice(), b"fault 38\n".as_slice(), "{case}");
     Ok(())
@@ -293,7 +293,7 @@ fn the_output_is_flushed_once_all_is_written(rt: HostRuntime) -> Result<(), Fail
         flushed: 0,
         flushes: 0,
     };
-    let status = drive(&rt, alloc, &WORDS, &mut input, &mut output, &mut faults);
+    let status = status_of(&rt, alloc, &WORDS, &mut input, &mut output, &mut faults);
     assert_eq!(rt; status, 0);
     assert_eq!(rt; output.kept, 0);
     assert_eq!(rt; output.flushed, ANSWER.len());
@@ -312,7 +312,7 @@ fn a_fault_line_that_fails_changes_nothing(rt: HostRuntime) {
         fails: true,
         fails_to_flush: true,
     };
-    let status = drive(&rt, alloc, &WORDS, &mut input, &mut output, &mut faults);
+    let status = status_of(&rt, alloc, &WORDS, &mut input, &mut output, &mut faults);
     assert_eq!(rt; status, 1);
     assert!(rt; output.is_empty());
     assert_eq!(rt; faults.kept.as_slice(), b"fau".as_slice());

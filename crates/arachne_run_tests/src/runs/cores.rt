@@ -1,5 +1,5 @@
 //! Which cores run threads: choices, threads that have a core alone, and core orders.
-use super::{FORK, FORMS, Trial, always, in_place, report, spread, text_of};
+use super::{FORK, FORMS, Trial, always, report, spread, text_of, told};
 use crate::gates::{Meeting, Noting};
 use arachne_policy::{CoreOrder, OrderKind};
 use arachne_run::OpenGate;
@@ -39,9 +39,8 @@ fn a_fork_goes_where_its_choices_say(rt: HostRuntime) -> Result<(), Fail> {
         for (orders, entered) in [([].as_slice(), 0b1001), (closing.as_slice(), 0b0001)] {
             let gate = Noting::new();
             let report = report(&rt, alloc, text.as_bytes(), machine, orders, &gate)?;
-            assert_eq!(rt; report.value, 5, "{form:?} {orders:?}");
-            assert_eq!(rt; gate.entered(), entered, "{form:?} {orders:?}");
-            assert_eq!(rt; report.applied, orders.len(), "{form:?} {orders:?}");
+            let seen = (report.value, gate.entered(), report.applied);
+            assert_eq!(rt; seen, (5, entered, orders.len()), "{form:?}");
         }
     }
     Ok(())
@@ -67,11 +66,8 @@ fn a_thread_that_has_a_core_alone_runs_beside_its_parent(rt: HostRuntime) -> Res
         for orders in [[].as_slice(), closing.as_slice()] {
             let gate = Meeting::new();
             let report = report(&rt, alloc, text.as_bytes(), machine, orders, &gate)?;
-            assert!(rt; gate.is_met(), "{form:?} {orders:?}");
-            assert_eq!(rt; report.value, 1, "{form:?} {orders:?}");
-            assert_eq!(rt; report.threads.as_slice().len(), 2, "{form:?} {orders:?}");
-            assert_eq!(rt; in_place(&report), 0, "{form:?} {orders:?}");
-            assert_eq!(rt; report.applied, orders.len(), "{form:?} {orders:?}");
+            assert!(rt; gate.is_met(), "{form:?}");
+            assert_eq!(rt; told(&report), (1, 2, 0, orders.len()), "{form:?}");
         }
     }
     Ok(())
@@ -97,9 +93,8 @@ fn orders_are_counted(rt: HostRuntime) -> Result<(), Fail> {
         };
         for orders in [&orders[..3], &orders[..]] {
             let report = report(&rt, alloc, text.as_bytes(), machine, orders, &OpenGate)?;
-            assert_eq!(rt; report.value, 28, "{form:?} {orders:?}");
-            assert_eq!(rt; report.threads.as_slice().len(), 4, "{form:?} {orders:?}");
-            assert_eq!(rt; report.applied, 3, "{form:?} {orders:?}");
+            let (value, threads, _, applied) = told(&report);
+            assert_eq!(rt; (value, threads, applied), (28, 4, 3), "{form:?}");
         }
     }
     Ok(())
@@ -143,9 +138,12 @@ fn cores_come_and_go(rt: HostRuntime) -> Result<(), Fail> {
             &OpenGate,
         )?;
         let elapsed = start.elapsed(&rt)?;
-        assert_eq!(rt; report.value, 405_450, "{form:?}");
-        assert_eq!(rt; report.threads.as_slice().len(), 901, "{form:?}");
-        assert!(rt; report.applied <= 1000, "{form:?}");
+        let (value, threads, _, applied) = told(&report);
+        assert_eq!(rt;
+            (value, threads, applied <= 1000),
+            (405_450, 901, true),
+            "{form:?}"
+        );
         assert!(rt; elapsed < Duration::from_secs(5), "{form:?}: {elapsed:?}");
     }
     Ok(())

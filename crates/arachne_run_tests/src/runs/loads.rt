@@ -7,9 +7,7 @@ use std::sync::Wait;
 use std::test::Fail;
 use std::thread::Threads;
 
-const THREADS: u64 = 10_000;
-
-/// Each of the threads holds the lock once and tallies.
+/// Each of 10,000 threads holds the lock once and tallies.
 const SUMS: &str = "(sweep add 1 (num 0) (num 10000) (hold 0 (tally 0 (num 5) (num 1))))";
 
 /// Runs the threads ten times on 16 cores.
@@ -27,9 +25,9 @@ fn run_ten_times<R: Abort + Threads + Wait + Sync>(
             chooser: spread(),
         };
         let report = report(rt, alloc, text.as_bytes(), machine, &[], &OpenGate)?;
-        assert_eq!(rt; report.value, THREADS);
-        assert_eq!(rt; report.totals.as_slice(), [5 * THREADS].as_slice());
-        assert_eq!(rt; report.threads.as_slice().len() as u64, THREADS);
+        let threads = report.threads.as_slice().len();
+        assert_eq!(rt; (report.value, threads), (10_000, 10_000));
+        assert_eq!(rt; report.totals.as_slice(), [50_000].as_slice());
     }
     Ok(())
 }

@@ -46,6 +46,13 @@ fn holders(alloc: Global, report: &Report) -> Result<Vec<u64>, AllocError> {
     Ok(tags)
 }
 
+/// How long the history of the first lock is, how many were granted it, and whether they are those that have held it once.
+fn told_of_lock(alloc: Global, report: &Report) -> Result<(usize, usize, bool), Fail> {
+    let grants = grants(alloc, report)?;
+    let are_holders = grants == holders(alloc, report)?;
+    Ok((history(report).len(), grants.len(), are_holders))
+}
+
 /// Eight threads hold the lock once each.
 #[test]
 fn each_hold_is_asked_for_and_granted_and_freed(rt: HostRuntime) -> Result<(), Fail> {
@@ -62,10 +69,8 @@ fn each_hold_is_asked_for_and_granted_and_freed(rt: HostRuntime) -> Result<(), F
             };
             let report = report(&rt, alloc, text.as_bytes(), machine, &[], &OpenGate)?;
             assert_eq!(rt; report.totals.as_slice(), [40].as_slice(), "{machine:?}");
-            assert_eq!(rt; history(&report).len(), 24, "{machine:?}");
-            let grants = grants(alloc, &report)?;
-            assert_eq!(rt; grants.len(), 8, "{machine:?}");
-            assert_eq!(rt; grants, holders(alloc, &report)?, "{machine:?}");
+            let told = told_of_lock(alloc, &report)?;
+            assert_eq!(rt; told, (24, 8, true), "{machine:?}");
         }
     }
     Ok(())
@@ -86,9 +91,8 @@ fn a_thread_in_place_holds_by_its_own_tag(rt: HostRuntime) -> Result<(), Fail> {
         };
         let report = report(&rt, alloc, text.as_bytes(), machine, &[], &OpenGate)?;
         assert_eq!(rt; report.value, 61, "{form:?}");
-        let grants = grants(alloc, &report)?;
-        assert_eq!(rt; grants.len(), 1, "{form:?}");
-        assert_eq!(rt; grants, holders(alloc, &report)?, "{form:?}");
+        let told = told_of_lock(alloc, &report)?;
+        assert_eq!(rt; told, (3, 1, true), "{form:?}");
     }
     Ok(())
 }

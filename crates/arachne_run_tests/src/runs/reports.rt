@@ -1,5 +1,5 @@
 //! What the reports of runs say of their threads.
-use super::{FORMS, Trial, always, in_place, nested, report, spread, text_of};
+use super::{FORMS, Trial, always, nested, report, spread, text_of, told};
 use arachne_run::OpenGate;
 use std::test::Fail;
 
@@ -18,9 +18,7 @@ fn threads_that_find_no_place_run_in_their_parents(rt: HostRuntime) -> Result<()
                 chooser: always(0),
             };
             let report = report(&rt, alloc, text.as_bytes(), machine, &[], &OpenGate)?;
-            assert_eq!(rt; report.value, 61, "{machine:?}");
-            assert_eq!(rt; report.threads.as_slice().len(), 61, "{machine:?}");
-            assert_eq!(rt; in_place(&report), 5, "{machine:?}");
+            assert_eq!(rt; told(&report), (61, 61, 5, 0), "{machine:?}");
         }
     }
     Ok(())
@@ -38,8 +36,8 @@ fn one_core_runs_more_threads_than_it_has_places(rt: HostRuntime) -> Result<(), 
             chooser: spread(),
         };
         let report = report(&rt, alloc, text.as_bytes(), machine, &[], &OpenGate)?;
-        assert_eq!(rt; report.value, 405_450, "{form:?}");
-        assert_eq!(rt; report.threads.as_slice().len(), 901, "{form:?}");
+        let (value, threads, _, _) = told(&report);
+        assert_eq!(rt; (value, threads), (405_450, 901), "{form:?}");
     }
     Ok(())
 }

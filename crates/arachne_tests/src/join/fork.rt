@@ -111,6 +111,18 @@ impl<'p> Join<'p> {
     }
 }
 
+// A cell that parent and child share, and its sending end.
+fn shared_cell<'p>(
+    alloc: Global,
+    wanted: &Wanted,
+) -> Result<(Arc<Joint<'p>>, SendingEnd<Outcome<'p>, Wanted>), AllocError>
+    ensures key { IfOk result (λ made. (arc_value made.0).key ≡ wanted.now) }
+    ensures end { IfOk result (λ made. made.1 ≡ (arc_value made.0).table) }
+{
+    let (cell, end) = JoinCell::new(alloc, wanted)?;
+    Ok((Arc::new(alloc, cell)?, end))
+}
+
 fn fork<'p>(
     alloc: Global,
     program: &'p Program,
@@ -122,11 +134,11 @@ fn fork<'p>(
         program: Snapshot::of(program),
         name: Snapshot::of(&name),
     };
-    let (cell, end) = JoinCell::new(alloc, &wanted)?;
-    let cell = Arc::new(alloc, cell)?;
+    let child = name.clone()?;
+    let (cell, end) = shared_cell(alloc, &wanted)?;
     let join = Join {
         program,
-        child: name.clone()?,
+        child,
         cell: Arc::try_clone(&cell)?,
     };
     let job = Job {

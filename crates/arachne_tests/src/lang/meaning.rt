@@ -1,78 +1,31 @@
-use super::shown;
 use arachne_lang::{
     CheckFault, Expr, Meaning, Name, Operation, Program, Sequence, check, eval, parse,
 };
 use std::alloc::{AllocError, Global};
+use std::string::ToString;
 use std::test::Fail;
 
-/// So many ledgers and locks, an expression, and what is answered: the value, the totals, and the name and the holds
-/// of each thread; or the fault. Each program has the array 3 1 4.
-const ROWS: &str = "\
-0 0 (num 7) => 7 [] [][]
-0 0 (add (num 18446744073709551615) (num 1)) => 0 [] [][]
-3 2 (fork n (num 2) (num 3) (add (var 0) (var 1))) => 5 [0, 0, 0] [][0, 0] [0][0, 0]
-0 0 (fork n (fork n (num 1) (num 2) (add (var 0) (var 1))) (fork n (num 4) (num 5) (var 1)) (fork n (num 10) (num 20) (add (var 0) (add (var 0) (add (var 2) (var 3)))))) => 36 [] [][] [1][] [0][] [0, 0][] [2][]
-0 0 (fork x (num 2) (num 3) (sub (var 0) (var 1))) => 18446744073709551615 [] [][] [0][]
-16 16 (num 7) => 7 [0, 0, 0, 0, 0, 0, 0, 0, 0, 0, 0, 0, 0, 0, 0, 0] [][0, 0, 0, 0, 0, 0, 0, 0, 0, 0, 0, 0, 0, 0, 0, 0]
-0 0 (add (num 18446744073709551615) (num 2)) => 1 [] [][]
-0 0 (sub (num 2) (num 3)) => 18446744073709551615 [] [][]
-0 0 (mul (num 9223372036854775808) (num 3)) => 9223372036854775808 [] [][]
-0 0 (min (num 5) (num 18446744073709551615)) => 5 [] [][]
-0 0 (max (num 5) (num 18446744073709551615)) => 18446744073709551615 [] [][]
-0 0 (xor (num 12) (num 10)) => 6 [] [][]
-0 0 (lt (num 5) (num 18446744073709551615)) => 1 [] [][]
-0 0 (lt (num 5) (num 5)) => 0 [] [][]
-0 0 (eq (num 5) (num 5)) => 1 [] [][]
-0 0 (eq (num 5) (num 6)) => 0 [] [][]
-0 0 (add (item 0 (num 2)) (add (item 0 (num 9)) (len 0))) => 7 [] [][]
-2 0 (if (num 0) (tally 0 (num 5) (num 10)) (tally 1 (num 6) (num 20))) => 20 [0, 6] [][]
-2 0 (if (num 1) (tally 0 (num 5) (num 10)) (tally 1 (num 6) (num 20))) => 10 [5, 0] [][]
-2 0 (if (num 7) (tally 0 (num 5) (num 10)) (tally 1 (num 6) (num 20))) => 10 [5, 0] [][]
-0 0 (let (num 5) (add (let (add (var 0) (num 1)) (var 1)) (let (num 100) (add (var 0) (var 1))))) => 111 [] [][]
-1 2 (fork n (hold 1 (tally 0 (num 7) (num 1))) (tally 0 (num 18446744073709551615) (num 2)) (hold 0 (var 0))) => 1 [6] [][1, 0] [0][0, 1]
-0 0 (fold (num 1) (num 4) (num 0) (add (var 0) (var 1))) => 6 [] [][]
-0 0 (fold (num 4) (num 4) (num 0) (add (var 0) (var 1))) => 0 [] [][]
-0 0 (fold (num 5) (num 4) (num 0) (add (var 0) (var 1))) => 0 [] [][]
-0 0 (fold (num 18446744073709551613) (num 18446744073709551615) (num 0) (add (var 0) (var 1))) => 18446744073709551611 [] [][]
-0 0 (fold (num 4) (num 6) (num 0) (fold (num 0) (num 3) (var 1) (add (var 3) (var 0)))) => 27 [] [][]
-3 0 (fold (tally 0 (num 1) (num 3)) (tally 1 (num 2) (num 2)) (fork n (num 8) (num 9) (tally 2 (num 3) (var 0))) (tally 0 (num 100) (num 0))) => 8 [1, 2, 3] [][] [0][]
-0 0 (sweep add 2 (num 0) (num 8) (var 0)) => 28 [] [][] [1][] [0][] [0, 0][]
-0 0 (sweep mul 1 (num 1) (num 6) (var 0)) => 120 [] [][] [2][] [1][] [0][] [0, 0][]
-0 0 (sweep add 8 (num 0) (num 8) (var 0)) => 28 [] [][]
-0 0 (sweep add 1 (num 5) (num 5) (var 0)) => 0 [] [][]
-0 0 (sweep add 1 (num 6) (num 5) (var 0)) => 0 [] [][]
-0 0 (sweep add 1 (num 5) (num 9) (var 0)) => 26 [] [][] [1][] [0][] [0, 0][]
-0 0 (sweep mul 1 (num 5) (num 5) (var 0)) => 1 [] [][]
-0 0 (sweep mul 1 (num 6) (num 5) (var 0)) => 1 [] [][]
-0 0 (sweep mul 1 (num 5) (num 9) (var 0)) => 1680 [] [][] [1][] [0][] [0, 0][]
-0 0 (sweep xor 1 (num 5) (num 5) (var 0)) => 0 [] [][]
-0 0 (sweep xor 1 (num 6) (num 5) (var 0)) => 0 [] [][]
-0 0 (sweep xor 1 (num 5) (num 9) (var 0)) => 12 [] [][] [1][] [0][] [0, 0][]
-0 0 (sweep min 1 (num 5) (num 5) (var 0)) => 18446744073709551615 [] [][]
-0 0 (sweep min 1 (num 6) (num 5) (var 0)) => 18446744073709551615 [] [][]
-0 0 (sweep min 1 (num 5) (num 9) (var 0)) => 5 [] [][] [1][] [0][] [0, 0][]
-0 0 (sweep max 1 (num 5) (num 5) (var 0)) => 0 [] [][]
-0 0 (sweep max 1 (num 6) (num 5) (var 0)) => 0 [] [][]
-0 0 (sweep max 1 (num 5) (num 9) (var 0)) => 8 [] [][] [1][] [0][] [0, 0][]
-1 1 (sweep add 1 (num 0) (num 8) (hold 0 (tally 0 (num 5) (num 1)))) => 8 [40] [][1] [2][1] [1][1] [1, 0][1] [0][1] [0, 1][1] [0, 0][1] [0, 0, 0][1]
-0 1 (add (hold 0 (num 1)) (hold 0 (num 2))) => 3 [] [][2]
-0 0 (add (var 0) (num 1)) => node 1: the variable is not bound
-0 0 (fork n (num 1) (num 2) (add (var 1) (var 2))) => node 5: the variable is not bound
-0 0 (fork n (num 1) (var 0) (num 2)) => node 2: the variable is not bound
-17 0 (num 7) => the program is over a limit
-0 0 (len 1) => node 0: there is no such array
-0 0 (item 1 (num 0)) => node 0: there is no such array
-0 0 (tally 0 (num 1) (num 1)) => node 0: there is no such ledger
-0 0 (hold 0 (num 1)) => node 0: there is no such lock
-0 0 (sweep add 0 (num 0) (num 1) (num 2)) => node 0: the grain is 0
-0 0 (add (var 0) (len 1)) => node 1: the variable is not bound
-0 1 (hold 0 (hold 5 (num 1))) => node 1: a fork, a sweep or a hold within a hold
-0 1 (hold 0 (fork n (num 1) (num 2) (num 3))) => node 1: a fork, a sweep or a hold within a hold
-0 1 (hold 0 (add (num 1) (sweep add 0 (num 0) (num 1) (num 2)))) => node 3: a fork, a sweep or a hold within a hold
-0 0 (let (num 1) (var 1)) => node 2: the variable is not bound
-0 0 (fold (num 0) (num 1) (num 0) (var 2)) => node 4: the variable is not bound
-0 0 (fold (num 0) (num 1) (var 0) (num 0)) => node 3: the variable is not bound
-0 0 (sweep add 1 (num 0) (num 1) (var 1)) => node 3: the variable is not bound";
+/// Faults of programs, and their texts.
+const FAULTS: &[(CheckFault, &str)] = &[
+    (CheckFault::OverLimit, "the program is over a limit"),
+    (CheckFault::NoArray(0), "node 0: there is no such array"),
+    (CheckFault::NoLedger(0), "node 0: there is no such ledger"),
+    (CheckFault::NoLock(0), "node 0: there is no such lock"),
+    (CheckFault::Unbound(5), "node 5: the variable is not bound"),
+    (
+        CheckFault::WithinHold(3),
+        "node 3: a fork, a sweep or a hold within a hold",
+    ),
+    (CheckFault::NoGrain(0), "node 0: the grain is 0"),
+];
+
+#[test]
+fn faults_are_written(rt: HostRuntime) -> Result<(), Fail> {
+    for &(fault, text) in FAULTS {
+        assert_eq!(rt; fault.to_string(rt.alloc())?.as_str(), text);
+    }
+    Ok(())
+}
 
 fn program_of(alloc: Global, ledgers: &str, locks: &str, expr: &str) -> Result<Program, Fail> {
     let text = format!(in alloc;
@@ -81,35 +34,17 @@ fn program_of(alloc: Global, ledgers: &str, locks: &str, expr: &str) -> Result<P
     Ok(parse(alloc, text.as_bytes())?)
 }
 
-/// The program of a row, and what stands behind it.
-fn row_of<'a>(alloc: Global, row: &'a str) -> Result<(Program, &'a str), Fail> {
+/// The program of a row: its ledgers, its locks and its expression.
+fn row_of(alloc: Global, row: &str) -> Result<Program, Fail> {
     let (ledgers, rest) = row.split_once(' ').unwrap_or((row, ""));
-    let (locks, rest) = rest.split_once(' ').unwrap_or((rest, ""));
-    let (expr, expected) = rest.split_once(" => ").unwrap_or((rest, ""));
-    Ok((program_of(alloc, ledgers, locks, expr)?, expected))
+    let (locks, expr) = rest.split_once(' ').unwrap_or((rest, ""));
+    program_of(alloc, ledgers, locks, expr)
 }
 
 /// The meaning of a program that is checked.
 fn meaning_of(alloc: Global, program: &Program) -> Result<Meaning, Fail> {
     check(program)?;
     Ok(eval(alloc, program)?)
-}
-
-fn answer(alloc: Global, program: &Program) -> Result<String, Fail> {
-    match check(program) {
-        Ok(()) => shown(alloc, &eval(alloc, program)?),
-        Err(fault) => Ok(format!(in alloc; "{fault}")?),
-    }
-}
-
-#[test]
-fn rows_are_checked_and_evaluated(rt: HostRuntime) -> Result<(), Fail> {
-    let alloc = rt.alloc();
-    for row in ROWS.lines() {
-        let (program, expected) = row_of(alloc, row)?;
-        assert_eq!(rt; answer(alloc, &program)?.as_str(), expected, "{row}");
-    }
-    Ok(())
 }
 
 /// A thread for each of 901 numbers. The child of each fork has the left half, so the last line's name is of the halves 450, 225, 112, 56, 28, 14, 7, 3, 1.
@@ -130,37 +65,54 @@ fn many_threads_have_a_line_each(rt: HostRuntime) -> Result<(), Fail> {
     Ok(())
 }
 
-#[test]
-fn limits_on_arrays(rt: HostRuntime) -> Result<(), Fail> {
-    let alloc = rt.alloc();
+/// What is judged of a program with 63 arrays of 15,625 items, and one more of so many.
+fn judged_with_arrays(alloc: Global, items: usize) -> Result<Result<(), CheckFault>, Fail> {
     let mut program = program_of(alloc, "0", "0", "(num 7)")?;
     program.arrays.pop();
-    for _ in 0..64 {
+    for _ in 0..63 {
         program.arrays.push(vec![in alloc; 1; 15_625]?)?;
     }
-    assert_eq!(rt; check(&program), Ok(()));
-    program.arrays.pop();
-    program.arrays.push(vec![in alloc; 1; 15_626]?)?;
-    assert_eq!(rt; check(&program), Err(CheckFault::OverLimit));
-    Ok(())
+    program.arrays.push(vec![in alloc; 1; items]?)?;
+    Ok(check(&program))
 }
 
 #[test]
-fn limits_on_nodes(rt: HostRuntime) -> Result<(), Fail> {
-    let alloc = rt.alloc();
-    // 2,048 numbers and the 2,047 sums over them
+fn limits_on_arrays(rt: HostRuntime) -> Result<(), Fail> {
+    for (items, verdict) in [(15_625, Ok(())), (15_626, Err(CheckFault::OverLimit))] {
+        assert_eq!(rt; judged_with_arrays(rt.alloc(), items)?, verdict);
+    }
+    Ok(())
+}
+
+/// 2,048 numbers and the 2,047 sums over them.
+fn sums(alloc: Global) -> Result<String, Fail> {
     let mut sums = format!(in alloc; "(num 1)")?;
     for _ in 0..11 {
         sums = format!(in alloc; "(add {sums} {sums})")?;
     }
+    Ok(sums)
+}
+
+/// What is judged of a program with so many nodes more.
+fn judged(
+    alloc: Global,
+    front: &str,
+    sums: &str,
+    end: &str,
+) -> Result<Result<(), CheckFault>, Fail> {
+    let expr = format!(in alloc; "{front}{sums}{end}")?;
+    Ok(check(&program_of(alloc, "0", "0", expr.as_str())?))
+}
+
+#[test]
+fn limits_on_nodes(rt: HostRuntime) -> Result<(), Fail> {
+    let sums = sums(rt.alloc())?;
     for (front, end, verdict) in [
         ("", "", Ok(())),
         ("(item 0 ", ")", Ok(())),
         ("(add (num 0) ", ")", Err(CheckFault::OverLimit)),
     ] {
-        let expr = format!(in alloc; "{front}{sums}{end}")?;
-        let program = program_of(alloc, "0", "0", expr.as_str())?;
-        assert_eq!(rt; check(&program), verdict);
+        assert_eq!(rt; judged(rt.alloc(), front, sums.as_str(), end)?, verdict);
     }
     Ok(())
 }
@@ -183,23 +135,33 @@ fn take_apart(mut expr: Expr) {
     }
 }
 
+/// What is judged of a program of so many ledgers and of so many sums.
+fn judged_when_nested(
+    alloc: Global,
+    ledgers: u8,
+    sums: u64,
+) -> Result<Result<(), CheckFault>, Fail> {
+    let program = Program {
+        arrays: Vec::new(alloc),
+        ledgers,
+        locks: 0,
+        root: nested(alloc, sums)?,
+    };
+    let verdict = check(&program);
+    take_apart(program.root);
+    Ok(verdict)
+}
+
 #[test]
 fn nesting_is_judged_before_all_else(rt: HostRuntime) -> Result<(), Fail> {
-    let alloc = rt.alloc();
     for (ledgers, sums, verdict) in [
         (0, 63, Ok(())),
         (17, 63, Err(CheckFault::OverLimit)),
         (17, 64, Err(CheckFault::Nesting)),
         (0, 100_000, Err(CheckFault::Nesting)),
     ] {
-        let program = Program {
-            arrays: Vec::new(alloc),
-            ledgers,
-            locks: 0,
-            root: nested(alloc, sums)?,
-        };
-        assert_eq!(rt; check(&program), verdict, "{sums}");
-        take_apart(program.root);
+        let judged = judged_when_nested(rt.alloc(), ledgers, sums)?;
+        assert_eq!(rt; judged, verdict, "{sums}");
     }
     Ok(())
 }
@@ -218,28 +180,32 @@ const PROGRAMS: &str = "\
 0 0 (len 1)";
 
 fn are_same(alloc: Global, some: &str, other: &str) -> Result<bool, Fail> {
-    Ok(row_of(alloc, some)?.0 == row_of(alloc, other)?.0)
+    Ok(row_of(alloc, some)? == row_of(alloc, other)?)
 }
+
+/// The program that each of the rows is compared with too.
+const FORKED: &str = "1 0 (fork n (num 2) (num 3) (add (var 0) (var 1)))";
 
 #[test]
 fn equality_is_that_of_the_trees(rt: HostRuntime) -> Result<(), Fail> {
-    let alloc = rt.alloc();
     for row in PROGRAMS.lines() {
-        assert!(rt; are_same(alloc, row, row)?, "{row}");
-        assert!(rt; !are_same(alloc, row, "0 0 (num 1)")?, "{row}");
-        assert!(rt;
-            !are_same(
-                alloc,
-                row,
-                "1 0 (fork n (num 2) (num 3) (add (var 0) (var 1)))"
-            )?,
-            "{row}"
-        );
+        for (other, expected) in [(row, true), ("0 0 (num 1)", false), (FORKED, false)] {
+            assert_eq!(rt;
+                are_same(rt.alloc(), row, other)?,
+                expected,
+                "{row} {other}"
+            );
+        }
     }
-    let mut program = program_of(alloc, "0", "0", "(num 1)")?;
-    let other = program_of(alloc, "0", "0", "(num 1)")?;
+    Ok(())
+}
+
+/// A program is not the same as one with no array.
+#[test]
+fn equality_is_that_of_the_arrays(rt: HostRuntime) -> Result<(), Fail> {
+    let mut program = row_of(rt.alloc(), "0 0 (num 1)")?;
     program.arrays.pop();
-    assert!(rt; program != other);
+    assert!(rt; program != row_of(rt.alloc(), "0 0 (num 1)")?);
     Ok(())
 }
 
@@ -254,33 +220,45 @@ fn name_of(alloc: Global, forks: &[u64]) -> Result<Name, AllocError> {
 /// No two of these are the same.
 const NUMBERS: &[&[u64]] = &[&[], &[3], &[4], &[3, 0], &[1, 2], &[2, 1]];
 
+/// Whether the names of these numbers are the same, and whether their sequences are.
+fn compared(alloc: Global, some: &[u64], others: &[u64]) -> Result<(bool, bool), Fail> {
+    let are_same = name_of(alloc, some)? == name_of(alloc, others)?;
+    let sequence = Sequence::from(some.to_vec(alloc)?);
+    Ok((are_same, sequence == Sequence::from(others.to_vec(alloc)?)))
+}
+
 #[test]
 fn names_and_sequences_are_compared(rt: HostRuntime) -> Result<(), Fail> {
-    let alloc = rt.alloc();
-    for (i, &some) in NUMBERS.iter().enumerate() {
-        let name = name_of(alloc, some)?;
-        assert_eq!(rt; name.forks(), some);
-        let sequence = Sequence::from(some.to_vec(alloc)?);
-        for (j, &others) in NUMBERS.iter().enumerate() {
-            assert_eq!(rt; name == name_of(alloc, others)?, i == j, "{i} {j}");
-            let other = Sequence::from(others.to_vec(alloc)?);
-            assert_eq!(rt; sequence == other, i == j, "{i} {j}");
+    for &some in NUMBERS {
+        assert_eq!(rt; name_of(rt.alloc(), some)?.forks(), some);
+        for &others in NUMBERS {
+            let is_same = some == others;
+            let compared = compared(rt.alloc(), some, others)?;
+            assert_eq!(rt; compared, (is_same, is_same), "{some:?} {others:?}");
         }
     }
     Ok(())
 }
 
+const SWEEP: &str = "0 0 (sweep add 2 (num 0) (num 8) (var 0))";
+
+/// Whether two programs have the same meaning.
+fn mean_the_same(alloc: Global, some: &str, other: &str) -> Result<bool, Fail> {
+    let meaning = meaning_of(alloc, &row_of(alloc, some)?)?;
+    Ok(meaning == meaning_of(alloc, &row_of(alloc, other)?)?)
+}
+
 #[test]
 fn meanings_are_compared(rt: HostRuntime) -> Result<(), Fail> {
-    let alloc = rt.alloc();
-    let program = program_of(alloc, "0", "0", "(sweep add 2 (num 0) (num 8) (var 0))")?;
-    let meaning = meaning_of(alloc, &program)?;
-    for (expr, are_same) in [
-        ("(sweep add 2 (num 0) (num 8) (var 0))", true),
-        ("(sweep add 1 (num 0) (num 8) (var 0))", false),
+    for (other, expected) in [
+        (SWEEP, true),
+        ("0 0 (sweep add 1 (num 0) (num 8) (var 0))", false),
     ] {
-        let other = program_of(alloc, "0", "0", expr)?;
-        assert_eq!(rt; meaning == meaning_of(alloc, &other)?, are_same, "{expr}");
+        assert_eq!(rt;
+            mean_the_same(rt.alloc(), SWEEP, other)?,
+            expected,
+            "{other}"
+        );
     }
     Ok(())
 }

@@ -1,5 +1,5 @@
 use arachne_lang::{Program, TextFault, parse, print};
-use std::alloc::Global;
+use std::alloc::{AllocError, Global};
 use std::test::Fail;
 
 /// The lines of a program with no ledgers and no locks.
@@ -17,56 +17,135 @@ locks 10\n\
 (fold (num 0) (num 10) (fork x (num 1) (num 2) (num 3)) \
 (add (sweep add 1 (num 0) (num 1) (var 0)) (add (sweep mul 2 (num 0) (num 1) (var 0)) (add (sweep xor 3 (num 0) (num 1) (var 0)) (add (sweep min 4 (num 0) (num 1) (var 0)) (sweep max 50 (num 0) (num 1) (var 0))))))))\n";
 
-/// Expressions, and what `Debug` shows of them.
-const FORMS: &[(&str, &str)] = &[
-    ("(num 18446744073709551615)", "Num(18446744073709551615)"),
-    ("(var 0)", "Var(0)"),
-    ("(len 10)", "Len(10)"),
-    ("(item 2 (num 1))", "Item(2, Num(1))"),
-    ("(add (num 1) (var 2))", "Binary(Add, Num(1), Var(2))"),
-    ("(sub (num 1) (var 2))", "Binary(Sub, Num(1), Var(2))"),
-    ("(mul (num 1) (var 2))", "Binary(Mul, Num(1), Var(2))"),
-    ("(min (num 1) (var 2))", "Binary(Min, Num(1), Var(2))"),
-    ("(max (num 1) (var 2))", "Binary(Max, Num(1), Var(2))"),
-    ("(xor (num 1) (var 2))", "Binary(Xor, Num(1), Var(2))"),
-    ("(lt (num 1) (var 2))", "Binary(Lt, Num(1), Var(2))"),
-    ("(eq (num 1) (var 2))", "Binary(Eq, Num(1), Var(2))"),
-    ("(if (num 1) (num 2) (num 3))", "If(Num(1), Num(2), Num(3))"),
-    ("(let (num 1) (num 4))", "Let(Num(1), Num(4))"),
-    ("(tally 7 (num 1) (num 2))", "Tally(7, Num(1), Num(2))"),
-    ("(hold 15 (num 1))", "Hold(15, Num(1))"),
+/// The lines of a program with no ledgers and no locks behind its header.
+const PLAIN: &str = "ledgers 0\nlocks 0";
+
+/// Lines, expressions, and what `Debug` shows of the arrays, the ledgers, the locks and the expression.
+const READ: &[(&str, &str, &str)] = &[
     (
+        PLAIN,
+        "(num 18446744073709551615)",
+        "[] 0 0 Num(18446744073709551615)",
+    ),
+    (PLAIN, "(var 0)", "[] 0 0 Var(0)"),
+    (PLAIN, "(len 10)", "[] 0 0 Len(10)"),
+    (PLAIN, "(item 2 (num 1))", "[] 0 0 Item(2, Num(1))"),
+    (
+        PLAIN,
+        "(add (num 1) (var 2))",
+        "[] 0 0 Binary(Add, Num(1), Var(2))",
+    ),
+    (
+        PLAIN,
+        "(sub (num 1) (var 2))",
+        "[] 0 0 Binary(Sub, Num(1), Var(2))",
+    ),
+    (
+        PLAIN,
+        "(mul (num 1) (var 2))",
+        "[] 0 0 Binary(Mul, Num(1), Var(2))",
+    ),
+    (
+        PLAIN,
+        "(min (num 1) (var 2))",
+        "[] 0 0 Binary(Min, Num(1), Var(2))",
+    ),
+    (
+        PLAIN,
+        "(max (num 1) (var 2))",
+        "[] 0 0 Binary(Max, Num(1), Var(2))",
+    ),
+    (
+        PLAIN,
+        "(xor (num 1) (var 2))",
+        "[] 0 0 Binary(Xor, Num(1), Var(2))",
+    ),
+    (
+        PLAIN,
+        "(lt (num 1) (var 2))",
+        "[] 0 0 Binary(Lt, Num(1), Var(2))",
+    ),
+    (
+        PLAIN,
+        "(eq (num 1) (var 2))",
+        "[] 0 0 Binary(Eq, Num(1), Var(2))",
+    ),
+    (
+        PLAIN,
+        "(if (num 1) (num 2) (num 3))",
+        "[] 0 0 If(Num(1), Num(2), Num(3))",
+    ),
+    (PLAIN, "(let (num 1) (num 4))", "[] 0 0 Let(Num(1), Num(4))"),
+    (
+        PLAIN,
+        "(tally 7 (num 1) (num 2))",
+        "[] 0 0 Tally(7, Num(1), Num(2))",
+    ),
+    (PLAIN, "(hold 15 (num 1))", "[] 0 0 Hold(15, Num(1))"),
+    (
+        PLAIN,
         "(fork n (num 1) (num 2) (num 3))",
-        "Fork(Normal, Num(1), Num(2), Num(3))",
+        "[] 0 0 Fork(Normal, Num(1), Num(2), Num(3))",
     ),
     (
+        PLAIN,
         "(fork x (num 1) (num 2) (num 3))",
-        "Fork(Exclusive, Num(1), Num(2), Num(3))",
+        "[] 0 0 Fork(Exclusive, Num(1), Num(2), Num(3))",
     ),
     (
+        PLAIN,
         "(fold (num 1) (num 2) (num 3) (num 4))",
-        "Fold(Num(1), Num(2), Num(3), Num(4))",
+        "[] 0 0 Fold(Num(1), Num(2), Num(3), Num(4))",
     ),
     (
+        PLAIN,
         "(sweep add 12 (num 1) (num 2) (num 4))",
-        "Sweep(Sum, 12, Num(1), Num(2), Num(4))",
+        "[] 0 0 Sweep(Sum, 12, Num(1), Num(2), Num(4))",
     ),
     (
+        PLAIN,
         "(sweep mul 12 (num 1) (num 2) (num 4))",
-        "Sweep(Product, 12, Num(1), Num(2), Num(4))",
+        "[] 0 0 Sweep(Product, 12, Num(1), Num(2), Num(4))",
     ),
     (
+        PLAIN,
         "(sweep xor 12 (num 1) (num 2) (num 4))",
-        "Sweep(Parity, 12, Num(1), Num(2), Num(4))",
+        "[] 0 0 Sweep(Parity, 12, Num(1), Num(2), Num(4))",
     ),
     (
+        PLAIN,
         "(sweep min 12 (num 1) (num 2) (num 4))",
-        "Sweep(Least, 12, Num(1), Num(2), Num(4))",
+        "[] 0 0 Sweep(Least, 12, Num(1), Num(2), Num(4))",
     ),
     (
+        PLAIN,
         "(sweep max 12 (num 1) (num 2) (num 4))",
-        "Sweep(Greatest, 12, Num(1), Num(2), Num(4))",
+        "[] 0 0 Sweep(Greatest, 12, Num(1), Num(2), Num(4))",
     ),
+    (
+        "ledgers 1\nlocks 1",
+        "(sweep add 1 (num 0) (num 8) (hold 0 (tally 0 (num 5) (num 1))))",
+        "[] 1 1 Sweep(Sum, 1, Num(0), Num(8), Hold(0, Tally(0, Num(5), Num(1))))",
+    ),
+    (
+        "array 3 1 4\nledgers 0\nlocks 0",
+        "(add (item 0 (num 2)) (add (item 0 (num 9)) (len 0)))",
+        "[[3, 1, 4]] 0 0 Binary(Add, Item(0, Num(2)), Binary(Add, Item(0, Num(9)), Len(0)))",
+    ),
+    (
+        "array 3 1 4\narray\narray 18446744073709551615 0\nledgers 255\nlocks 16",
+        "(len 2)",
+        "[[3, 1, 4], [], [18446744073709551615, 0]] 255 16 Len(2)",
+    ),
+    (
+        "array\narray 0 18446744073709551615 7\nledgers 255\nlocks 10",
+        "(num 0)",
+        "[[], [0, 18446744073709551615, 7]] 255 10 Num(0)",
+    ),
+    (PLAIN, "(num 10)", "[] 0 0 Num(10)"),
+    (PLAIN, "(num 4096)", "[] 0 0 Num(4096)"),
+    (PLAIN, "(num 0)", "[] 0 0 Num(0)"),
+    (PLAIN, "(var 907)", "[] 0 0 Var(907)"),
 ];
 
 /// Texts, and the fault of each.
@@ -252,38 +331,25 @@ fn fault_of(alloc: Global, text: &[u8]) -> Option<TextFault> {
     parse(alloc, text).err()
 }
 
-#[test]
-fn each_form_is_read_and_printed(rt: HostRuntime) -> Result<(), Fail> {
-    let alloc = rt.alloc();
-    for &(expr, shown) in FORMS {
-        let text = format!(in alloc; "{LINES}{expr}\n")?;
-        let program = parse(alloc, text.as_bytes())?;
-        assert_eq!(rt; format!(in alloc; "{:?}", program.root)?.as_str(), shown);
-        assert_eq!(rt; print(alloc, &program)?.as_slice(), text.as_bytes());
-    }
-    Ok(())
+/// What `Debug` shows of a program's parts.
+fn shown(alloc: Global, program: &Program) -> Result<String, Fail> {
+    let Program {
+        arrays,
+        ledgers,
+        locks,
+        root,
+    } = program;
+    Ok(format!(in alloc; "{arrays:?} {ledgers} {locks} {root:?}")?)
 }
 
 #[test]
-fn the_lines_are_read(rt: HostRuntime) -> Result<(), Fail> {
-    let alloc = rt.alloc();
-    let text =
-        b"arachne 1\narray 3 1 4\nledgers 0\nlocks 0\n(add (item 0 (num 2)) (add (item 0 (num 9)) (len 0)))\n";
-    for (text, lines) in [
-        (text.as_slice(), "[[3, 1, 4]] 0 0"),
-        (WHOLE, "[[], [0, 18446744073709551615, 7]] 255 10"),
-    ] {
-        let program = parse(alloc, text)?;
-        let Program {
-            arrays,
-            ledgers,
-            locks,
-            ..
-        } = &program;
-        assert_eq!(rt;
-            format!(in alloc; "{arrays:?} {ledgers} {locks}")?.as_str(),
-            lines
-        );
+fn texts_are_read_and_printed(rt: HostRuntime) -> Result<(), Fail> {
+    for &(lines, expr, expected) in READ {
+        let text = format!(in rt.alloc(); "arachne 1\n{lines}\n{expr}\n")?;
+        let program = parse(rt.alloc(), text.as_bytes())?;
+        assert_eq!(rt; shown(rt.alloc(), &program)?.as_str(), expected);
+        let printed = print(rt.alloc(), &program)?;
+        assert!(rt; printed.as_slice() == text.as_bytes(), "{expr}");
     }
     Ok(())
 }
@@ -300,20 +366,25 @@ fn each_front_of_a_text_is_cut_short(rt: HostRuntime) {
     }
 }
 
+/// The fault of the plain lines with these bytes behind them, if there is one.
+fn fault_behind_lines(alloc: Global, expression: &[u8]) -> Result<Option<TextFault>, AllocError> {
+    let mut text = LINES.as_bytes().to_vec(alloc)?;
+    text.extend_from_slice(expression)?;
+    Ok(fault_of(alloc, text.as_slice()))
+}
+
 #[test]
-fn faults_stand_at_their_bytes(rt: HostRuntime) -> Result<(), Fail> {
-    let alloc = rt.alloc();
+fn faults_stand_at_their_bytes(rt: HostRuntime) {
     for &(text, fault) in FAULTS {
-        assert_eq!(rt; fault_of(alloc, text), Some(fault), "{text:?}");
+        assert_eq!(rt; fault_of(rt.alloc(), text), Some(fault), "{text:?}");
     }
-    for &(expression, fault) in FAULTS_OF_EXPRESSIONS {
-        let mut text = LINES.as_bytes().to_vec(alloc)?;
-        text.extend_from_slice(expression)?;
-        assert_eq!(rt;
-            fault_of(alloc, text.as_slice()),
-            Some(fault),
-            "{expression:?}"
-        );
+}
+
+#[test]
+fn faults_of_expressions_stand_at_their_bytes(rt: HostRuntime) -> Result<(), Fail> {
+    for &(text, fault) in FAULTS_OF_EXPRESSIONS {
+        let found = fault_behind_lines(rt.alloc(), text)?;
+        assert_eq!(rt; found, Some(fault), "{text:?}");
     }
     Ok(())
 }
@@ -333,83 +404,77 @@ fn numbers_up_to_their_limit_are_read(rt: HostRuntime) {
 fn repeated(
     alloc: Global,
     front: &str,
-    opening: &str,
-    times: u32,
+    opening: (&str, usize),
     middle: &str,
     closing: &str,
 ) -> Result<String, Fail> {
-    let mut text = format!(in alloc; "{front}")?;
-    for _ in 0..times {
-        text.push_str(opening)?;
-    }
-    text.push_str(middle)?;
-    for _ in 0..times {
-        text.push_str(closing)?;
-    }
-    text.push_str("\n")?;
-    Ok(text)
+    let (opening, times) = opening;
+    let openings = opening.repeat(alloc, times)?;
+    let closings = closing.repeat(alloc, times)?;
+    Ok(format!(in alloc; "{front}{openings}{middle}{closings}\n")?)
 }
 
 /// Fronts, openings, how often each opening stands, middles, closings, and the faults of these texts.
-const LONG: &[(&str, &str, u32, &str, &str, Option<TextFault>)] = &[
-    (LINES, "(let (num 0) ", 63, "(num 0)", ")", None),
-    (LINES, "(let ", 63, "(num 0)", " (num 1))", None),
+const LONG: &[(&str, (&str, usize), &str, &str, Option<TextFault>)] = &[
+    (LINES, ("(let (num 0) ", 63), "(num 0)", ")", None),
+    (LINES, ("(let ", 63), "(num 0)", " (num 1))", None),
     (
         LINES,
-        "(let (num 0) ",
-        64,
+        ("(let (num 0) ", 64),
         "(num 0)",
         ")",
         Some(TextFault::Nesting { at: 852 }),
     ),
     (
         LINES,
-        "(let (num 0) ",
-        63,
+        ("(let (num 0) ", 63),
         "(let x",
         "",
         Some(TextFault::Syntax { at: 852 }),
     ),
     (
         LINES,
-        "(add ",
-        1_000_000,
+        ("(add ", 1_000_000),
         "",
         "",
         Some(TextFault::Nesting { at: 348 }),
     ),
     (
         "arachne 1\nledgers 0\nlocks 0\n(num ",
-        "9",
-        1_000_000,
+        ("9", 1_000_000),
         "",
         "",
         Some(TextFault::Number { at: 52 }),
     ),
     (
         "arachne 1\narray",
-        " 12345678901234567890",
-        100_000,
+        (" 12345678901234567890", 100_000),
         "\nledgers 0\nlocks 0\n(len 0)",
         "",
         None,
     ),
 ];
 
+/// The fault of a text, where it is not printed as it was read.
+fn fault_or_printed(alloc: Global, text: &str) -> Result<Option<TextFault>, Fail> {
+    match parse(alloc, text.as_bytes()) {
+        Ok(program) => {
+            if print(alloc, &program)?.as_slice() != text.as_bytes() {
+                return Err("printed as another text")?;
+            }
+            Ok(None)
+        }
+        Err(fault) => Ok(Some(fault)),
+    }
+}
+
 #[test]
 fn long_texts_are_read_and_printed_or_end_at_their_first_fault(
     rt: HostRuntime,
 ) -> Result<(), Fail> {
-    let alloc = rt.alloc();
-    for &(front, opening, times, middle, closing, fault) in LONG {
-        let text = repeated(alloc, front, opening, times, middle, closing)?;
-        match parse(alloc, text.as_bytes()) {
-            Ok(program) => {
-                assert_eq!(rt; fault, None);
-                assert!(rt; print(alloc, &program)?.as_slice() == text.as_bytes());
-            }
-            Err(other) => assert_eq!(rt; Some(other), fault),
-        }
+    for &(front, opening, middle, closing, fault) in LONG {
+        let text = repeated(rt.alloc(), front, opening, middle, closing)?;
+        assert_eq!(rt; fault_or_printed(rt.alloc(), text.as_str())?, fault);
     }
     Ok(())
 }
@@ -418,4 +483,22 @@ fn long_texts_are_read_and_printed_or_end_at_their_first_fault(
 #[test]
 fn a_refused_allocation_is_no_fault_of_the_text(rt: HostRuntime) {
     assert!(rt; matches!(parse(rt.alloc(), WHOLE), Ok(_) | Err(TextFault::Memory)));
+}
+
+/// Run with each allocation refused in turn.
+#[test]
+fn a_refused_allocation_makes_no_other_text(rt: HostRuntime) {
+    let alloc = rt.alloc();
+    let expected =
+        b"arachne 1\nledgers 3\nlocks 4\n(xor (num 18446744073709551615) (len 18446744073709551615))\n";
+    let program = match parse(alloc, expected) {
+        Ok(program) => program,
+        Err(fault) => {
+            assert_eq!(rt; fault, TextFault::Memory);
+            return;
+        }
+    };
+    if let Ok(text) = print(alloc, &program) {
+        assert_eq!(rt; text.as_slice(), expected.as_slice());
+    }
 }
