@@ -31,6 +31,12 @@ fn a_claim_takes_the_lowest_free_index(rt: HostRuntime) -> Result<(), Fail> {
 }
 
 #[test]
+fn a_place_that_is_given_back_is_free(rt: HostRuntime) -> Result<(), Fail> {
+    rows::given_back::<Locked, HostRuntime>(&rt, rt.alloc())?;
+    rows::given_back::<Words, HostRuntime>(&rt, rt.alloc())
+}
+
+#[test]
 fn a_closed_core_and_a_full_one(rt: HostRuntime) -> Result<(), Fail> {
     rows::full_or_closed::<Locked, HostRuntime>(&rt, rt.alloc())?;
     rows::full_or_closed::<Words, HostRuntime>(&rt, rt.alloc())

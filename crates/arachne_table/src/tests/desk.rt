@@ -145,6 +145,30 @@ impl<C: Contexts<Job> + Drop> Desk<C> {
         Ok(Claiming { table, seat, claim })
     }
 
+    /// Claims three places, posts a thread at the third, and gives the second back. The first claim stays out.
+    pub(super) fn free_second<R: Wait>(self, rt: &R, core: u8) -> Result<Claiming<C>, Fail>
+        requires { core < 2 }
+    {
+        let Claiming {
+            table,
+            mut seat,
+            claim,
+        } = self.claim(rt, core)?;
+        let Claimed::Place(second) = table.claim(rt, &mut seat, core)? else {
+            return Err("no second place".into());
+        };
+        let Claimed::Place(third) = table.claim(rt, &mut seat, core)? else {
+            return Err("no third place".into());
+        };
+        if table.post(rt, &mut seat, third, Job(3)).is_err() {
+            return Err("not posted".into());
+        }
+        if table.give_back(rt, &mut seat, second).is_err() {
+            return Err("not given back".into());
+        }
+        Ok(Claiming { table, seat, claim })
+    }
+
     /// Posts a thread on a core.
     pub(super) fn post<R: Wait>(self, rt: &R, core: u8, tag: u64) -> Result<(Self, ThreadId), Fail>
         requires { core < 2 }

@@ -55,6 +55,19 @@ pub(super) fn lowest_free_index<C: Contexts<Job> + Drop, R: Wait>(
     same(u64::from(claiming.out()), 1)
 }
 
+pub(super) fn given_back<C: Contexts<Job> + Drop, R: Wait>(
+    rt: &R,
+    alloc: Global,
+) -> Result<(), Fail> {
+    let desk: Desk<C> = Desk::new(alloc, 0)?;
+    let mut claiming = desk.free_second(rt, 0)?;
+    same(claiming.look(rt, 0), 0x0200000000000005)?;
+    let (desk, _) = claiming.post(rt, 5)?;
+    let mut claiming = desk.claim(rt, 0)?;
+    holds(claiming.place() == at(0, 1), "index 1")?;
+    same(claiming.look(rt, 0), 0x0300000000000007)
+}
+
 pub(super) fn full_or_closed<C: Contexts<Job> + Drop, R: Wait>(
     rt: &R,
     alloc: Global,
@@ -161,7 +174,8 @@ pub(super) fn drained<C: Contexts<Job> + Drop, R: Wait>(rt: &R, alloc: Global) -
     let desk: Desk<C> = Desk::new(alloc, 0)?;
     let (desk, _) = desk.post(rt, 1, 5)?;
     let (desk, _) = desk.post(rt, 1, 6)?;
-    let (desk, _) = desk.block(rt, 1, 1)?;
+    let (desk, rested) = desk.block(rt, 1, 1)?;
+    holds(rested == Rested::AsAsked, "as asked")?;
     let mut claiming = desk.claim(rt, 1)?;
     same(claiming.close_core(rt, 1), 0x0300000000000007)?;
     same(claiming.look(rt, 1), 0x4300000000000007)?;
