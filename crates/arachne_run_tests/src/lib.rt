@@ -3,7 +3,6 @@
 #![tactic(auto)]
 
 #[cfg(test)]
-mod altered;
 #[cfg(test)]
 mod choosers;
 #[cfg(test)]

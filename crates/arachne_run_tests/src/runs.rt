@@ -3,7 +3,6 @@ ghost use Rattle.std.specs.Prelude.{◌≡◌, IfOk};
 ghost use Rattle.arachne_lang.specs.Program.{source_of};
 ghost use Rattle.arachne_lang.specs.Checked.{IsChecked};
 
-use crate::altered::Altered;
 use crate::choosers::Progression;
 use arachne_lang::{Program, check, parse};
 use arachne_locked::LockedContexts;
@@ -78,14 +77,8 @@ fn checked(alloc: Global, text: &[u8]) -> Result<Program, Fail>
     Ok(program)
 }
 
-/// Runs a program over an altered table behind a lock.
-fn run_altered<
-    'p,
-    R: Threads + Wait + Sync,
-    G: Gate + Sync,
-    const FINISHES: bool,
-    const SHARES: bool,
->(
+/// Runs a program over a table behind a lock.
+fn run_on_lock<'p, R: Threads + Wait + Sync, G: Gate + Sync>(
     rt: &R,
     alloc: Global,
     program: &'p Program,
@@ -95,7 +88,7 @@ fn run_altered<
 ) -> Result<Report, RunFault>
     requires { IsChecked (source_of program.now) }
 {
-    run::<R, Job<'p>, Altered<LockedContexts<Job<'p>>, FINISHES, SHARES>, Progression, G>(
+    run::<R, Job<'p>, LockedContexts<Job<'p>>, Progression, G>(
         rt, alloc, program, setup, choosers, gate,
     )
 }
@@ -143,25 +136,10 @@ fn report<R: Threads + Wait + Sync, G: Gate + Sync>(
     let program = checked(alloc, text)?;
     let (setup, choosers) = setup_of(alloc, machine, orders)?;
     let report = match machine.form {
-        Form::Locked => {
-            run_altered::<R, G, true, true>(rt, alloc, &program, setup, choosers, gate)?
-        }
+        Form::Locked => { run_on_lock(rt, alloc, &program, setup, choosers, gate)? }
         Form::Words => run_on_words(rt, alloc, &program, setup, choosers, gate)?,
     };
     Ok(report)
-}
-
-/// What comes of a text's program over an altered table behind a lock.
-fn altered<R: Threads + Wait + Sync, G: Gate + Sync, const FINISHES: bool, const SHARES: bool>(
-    rt: &R,
-    alloc: Global,
-    text: &[u8],
-    machine: Trial,
-    gate: &G,
-) -> Result<Result<Report, RunFault>, Fail> {
-    let program = checked(alloc, text)?;
-    let (setup, choosers) = setup_of(alloc, machine, &[])?;
-    Ok(run_altered::<R, G, FINISHES, SHARES>(rt, alloc, &program, setup, choosers, gate))
 }
 
 /// How many threads ran in the place of their parents.

@@ -7,9 +7,8 @@ use Rattle.arachne_locked.proofs.tokens.LockedClaim.TheSendSync as claim
 use Rattle.arachne_locked.proofs.tokens.LockedHold.TheSendSync as hold
 use Rattle.arachne_machine.proofs.Crossing.{thread_send}
 use Rattle.arachne_run.proofs.Crossing.{job_send, spares_send}
-use Rattle.arachne_run_tests.proofs.altered.Altered.TheSendSync as altered
 use Rattle.arachne_run_tests.proofs.choosers.Progression.TheSendSync as chooser
-use Rattle.arachne_run_tests.proofs.runs.run_altered.Goals as goal
+use Rattle.arachne_run_tests.proofs.runs.run_on_lock.Goals as goal
 
 -- what a run sends to its kernel threads and shares with them may cross; the program is checked
 pub run-requires : goal.run-requires
@@ -30,7 +29,7 @@ run-requires g c κs = (
               (
                 search (sendable, c.type_bounds.sync-R) depth 20,
                 (
-                  search (sendable, std.crosses, altered.the_sync, locked.the_sync, job_send) depth 20,
+                  search (sendable, std.crosses, locked.the_sync, job_send) depth 20,
                   (
                     search (sendable, c.type_bounds.sync-G) depth 20,
                     ((refl, tt), c.requires),
