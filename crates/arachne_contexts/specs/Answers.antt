@@ -1,11 +1,15 @@
 -- What a table's answers say.
 use Rattle.std.specs.Prelude.{◌≡◌, ℕ, ◌<◌, List, [], ◌∷◌}
 use Rattle.arachne_core.specs.declared.place.Place.{Place}
+use Rattle.arachne_core.specs.declared.state.Rest.{Rest}
+use Rattle.arachne_core.specs.declared.state.Rest.TheVariants as rest
 use Rattle.arachne_core.specs.declared.thread_id.ThreadId.{ThreadId}
 use Rattle.arachne_contexts.specs.declared.answers.Claimed.{Claimed}
 use Rattle.arachne_contexts.specs.declared.answers.Claimed.TheVariants as claimed
 use Rattle.arachne_contexts.specs.declared.answers.Taken.{Taken}
 use Rattle.arachne_contexts.specs.declared.answers.Taken.TheVariants as taken
+use Rattle.arachne_contexts.specs.declared.answers.Rested.{Rested}
+use Rattle.arachne_contexts.specs.declared.answers.Rested.TheVariants as rested
 use Rattle.arachne_contexts.specs.declared.answers.Woken.{Woken}
 use Rattle.arachne_contexts.specs.declared.answers.Woken.TheVariants as woken
 use Rattle.arachne_contexts.specs.declared.answers.Moved.{Moved}
@@ -31,6 +35,13 @@ abbrev pub TakesAt : {T H : Type 0} → (H → Place) → Place → Taken T H �
 TakesAt place_of p (taken.Run held) = place_of held.hold ≡ p
 TakesAt place_of p (taken.NotReady word) = ShowsReadyAt p word → ⊥
 TakesAt place_of p (taken.Lost word) = Unit {0}
+
+-- a thread that is put back: a wake that came meanwhile is told only where the thread was to be blocked
+abbrev pub RestsAs : Rest → Rested → Type 0
+RestsAs rest.Ready rested.AsAsked = Unit {0}
+RestsAs rest.Ready rested.WokenMeanwhile = ⊥
+RestsAs rest.Blocked rested.AsAsked = Unit {0}
+RestsAs rest.Blocked rested.WokenMeanwhile = Unit {0}
 
 -- a wake of an id
 abbrev pub WakesAs : ThreadId → Woken → Type 0

@@ -2,7 +2,7 @@
 ghost use Rattle.std.specs.Prelude.{◌≡◌, ◌≢◌, ◌*◌, ◌<◌, List, [], ◌∷◌, IfOk, IfErr};
 ghost use Rattle.arachne_core.specs.Occupancy.{IsOccupancyWord};
 ghost use Rattle.arachne_core.specs.Marked.{IsMarkWord};
-ghost use Rattle.arachne_contexts.specs.Answers.{ClaimsOn, ClaimsWhole, TakesAt, WakesAs, MovesAs, IsByContext};
+ghost use Rattle.arachne_contexts.specs.Answers.{ClaimsOn, ClaimsWhole, TakesAt, RestsAs, WakesAs, MovesAs, IsByContext};
 ghost use Rattle.arachne_contexts.specs.Out.{Out, Claim as a_claim, Thread as a_thread, HasOut, KeepsOut, GetsClaim, GetsThread, Spends};
 ghost use Rattle.arachne_weights.specs.Weight.{whole};
 
@@ -133,6 +133,7 @@ pub trait Contexts<T: Tagged>: Seats {
         ensures seat { Self.sits self.now seat.new }
         ensures weight { Self.weight seat.new ≡ Self.weight seat.old }
         ensures out { Spends (has self.now) (a_thread held.hold (T.tag_of held.value)) seat.old seat.new result }
+        ensures answer { IfOk result (RestsAs rest) }
         ensures handed_back { IfErr result (λ back. back ≡ held) };
 
     /// Ends a thread, and frees its place unless its context has had its last generation. A thread that the table doesn't

@@ -1,9 +1,9 @@
 -- What the word 0 says, and where a core is seen to be free.
-use Rattle.std.proofs.Common.{◌≡◌, ℕ, zero, suc, ◌<◌, ◌⊎◌, inl, inr, Bool, true, false, List, [], ◌∷◌, length, get_or, replicate, refl, sym, ap, ◌∙◌, arith}
+use Rattle.std.proofs.Common.{◌≡◌, ℕ, zero, suc, ◌^◌, ◌<◌, ◌⊎◌, inl, inr, Bool, true, false, List, [], ◌∷◌, length, get_or, replicate, refl, sym, ap, ◌∙◌, arith}
 use Rattle.std.specs.Prelude.{EachIndex}
 use Rattle.std.proofs.lemmas.Bool.{true≢false}
 use Rattle.std.proofs.lemmas.List.{get_or-replicate, length-replicate}
-use Rattle.arachne_core.specs.Occupancy.{Occupancy, occupancy_of, flags}
+use Rattle.arachne_core.specs.Occupancy.{Occupancy, bit, mask_of, occupancy_of, flags}
 
 none_set : flags 56 0 ≡ replicate 56 false
 unfolding flags
@@ -16,8 +16,17 @@ in_use o word reads (inr n) none =
     let is : o.occupied ≡ replicate 56 false = sym (ap (λ (p : Occupancy). p.occupied) reads) ∙ ap (λ k. (occupancy_of k).occupied) none ∙ none_set in
     n (λ i h. ap (λ xs. get_or xs i false) is ∙ get_or-replicate 56 i false false (let l = ap length is ∙ length-replicate 56 false in omega (arith, l, h)))
 
--- no index is occupied, also none past the end
-pub each_free : (xs : List Bool) → ((i : ℕ) → i < length xs → get_or xs i false ≡ false) → (i : ℕ) → get_or xs i false ≡ false
-each_free [] h i = refl
-each_free (x ∷ xs) h zero = h 0 (omega arith)
-each_free (x ∷ xs) h (suc i) = each_free xs (λ j l. h (suc j) (omega (arith, l))) i
+-- a mask of 0 has no flag that is true
+pub none_masked : (xs : List Bool) → mask_of xs ≡ 0 → (i : ℕ) → get_or xs i false ≡ false
+none_masked [] e i = refl
+none_masked (true ∷ xs) e i = absurd (omega (arith, e))
+none_masked (false ∷ xs) e zero = refl
+none_masked (false ∷ xs) e (suc i) = none_masked xs (omega (arith, e)) i
+
+-- where none of the first n flags is true, and the mask has n bits, it is 0
+pub all_free : (n : ℕ) (xs : List Bool) → mask_of xs < 2 ^ n → ((i : ℕ) → i < n → get_or xs i false ≡ false) → mask_of xs ≡ 0
+all_free n [] short free = refl
+all_free zero (x ∷ xs) short free = omega (arith, short)
+all_free (suc n) (x ∷ xs) short free =
+    let first = ap bit (free 0 (omega arith)) in
+    let others = all_free n xs (omega (arith, short, first)) (λ i h. free (suc i) (omega (arith, h))) in omega (arith, first, others)

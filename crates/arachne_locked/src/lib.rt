@@ -4,6 +4,7 @@
 //! another, so between any two calls the World is owned once. This form is what tests compare others with.
 #![tactic(auto)]
 
+mod carriers;
 mod homes;
 mod locked;
 mod state;

@@ -2,7 +2,9 @@
 ghost use Rattle.std.specs.Prelude.{◌≡◌, ◌<◌, ◌*◌, ◌≢◌, ℕ, IfOk, IfErr};
 ghost use Rattle.arachne_core.specs.Occupancy.{IsOccupancyWord};
 ghost use Rattle.arachne_contexts.specs.Words.{HasNoFree};
+ghost use Rattle.arachne_contexts.specs.Answers.{RestsAs};
 
+use crate::carriers::Carriers;
 use crate::state::{TableState, no_core};
 use crate::tokens::{LockedClaim, LockedHold};
 use arachne_contexts::{Claimed, Contexts, Held, Moved, Rested, Seats, Tagged, Taken, Woken};
@@ -15,6 +17,7 @@ use std::sync::{Mutex, Wait};
 #[derive(Drop)]
 pub struct LockedContexts<T: Tagged> {
     state: Mutex<TableState<T>>,
+    carriers: Mutex<Carriers>,
     cores: u8,
 }
 
@@ -70,6 +73,7 @@ impl<T: Tagged + Drop> Seats for LockedContexts<T> {
         let state = TableState::new(alloc, cores, first_generation)?;
         let table = LockedContexts {
             state: Mutex::new(state),
+            carriers: Mutex::new(Carriers::new()),
             cores,
         };
         let seat = LockedSeat {
@@ -81,7 +85,7 @@ impl<T: Tagged + Drop> Seats for LockedContexts<T> {
     }
 
     fn split<R: Wait>(&self, rt: &R, seat: LockedSeat) -> (LockedSeat, LockedSeat) {
-        let carrier = self.state.lock(rt).new_carrier();
+        let carrier = self.carriers.lock(rt).next();
         let (first, second) = seat.weight.split();
         let own = LockedSeat {
             weight: first,
@@ -207,6 +211,7 @@ impl<T: Tagged + Drop> Contexts<T> for LockedContexts<T> {
     ) -> Result<Rested, Held<T, LockedHold>>
         ensures seat { Unit {0} }
         ensures weight { seat.new.weight ≡ seat.old.weight }
+        ensures answer { IfOk result (RestsAs rest) }
         ensures handed_back { IfErr result (λ back. back ≡ held) }
     {
         let rested = self.state.lock(rt).put_back(seat.carrier, held, rest)?;
@@ -261,12 +266,17 @@ impl<T: Tagged + Drop> Contexts<T> for LockedContexts<T> {
         seat: LockedSeat,
     ) -> Result<Vec<(ThreadId, T)>, (LockedContexts<T>, LockedSeat)> {
         let _ = rt;
-        let LockedContexts { state, cores } = self;
+        let LockedContexts {
+            state,
+            carriers,
+            cores,
+        } = self;
         match state.into_inner().close(alloc) {
             Ok(rest) => Ok(rest),
             Err(state) => {
                 let table = LockedContexts {
                     state: Mutex::new(state),
+                    carriers,
                     cores,
                 };
                 Err((table, seat))

@@ -25,8 +25,6 @@ use std::marker::Model;
 #[derive(Drop)]
 pub struct TableState<T: Tagged> {
     homes: Homes<T>,
-    /// The carrier of the next seat.
-    carriers: u32,
 }
 
 impl<T: Tagged> Model for TableState<T> {
@@ -63,7 +61,7 @@ impl<T: Tagged + Drop> TableState<T> {
         let mut homes = Homes::new(alloc, cores, first_generation)?;
         let contexts = homes.contexts();
         homes.reserve(contexts, contexts)?;
-        Ok(TableState { homes, carriers: 1 })
+        Ok(TableState { homes })
     }
 
     /// Tells whoever has a table that its World is owned once, and that a value is at home exactly where its context is at
@@ -73,15 +71,6 @@ impl<T: Tagged + Drop> TableState<T> {
         ensures home { IsHome T.tag_of (world_of self.now.table) self.now.values }
     {
         let _ = self.homes.world();
-    }
-
-    /// A carrier for a new seat. The numbers wrap.
-    pub fn new_carrier(&mut self) -> u32
-        ensures { self.new ≡ self.old }
-    {
-        let carrier = self.carriers;
-        self.carriers = carrier.wrapping_add(1);
-        carrier
     }
 
     // ---- looks
@@ -116,10 +105,10 @@ impl<T: Tagged + Drop> TableState<T> {
 
     /// Whether a core is closed and has no occupied place.
     pub fn is_drained(&self, core: u8) -> bool
-        ensures { IsTrue result → IsDrained (world_of self.now.table) core }
+        ensures { IsTrue result ↔ IsDrained (world_of self.now.table) core }
     {
         match self.look(core) {
-            Some(occ) => occ.is_closed() && occ.is_empty(),
+            Some(occ) => occ.is_closed() && occ.mask() == 0,
             None => false,
         }
     }
@@ -448,10 +437,10 @@ impl<T: Tagged + Drop> TableState<T> {
         ensures handed_back { IfErr result (λ back. back ≡ self) }
     {
         self.is_owned_once();
-        let TableState { homes, carriers } = self;
+        let TableState { homes } = self;
         match homes.close(alloc) {
             Ok(rest) => Ok(rest),
-            Err(homes) => Err(TableState { homes, carriers }),
+            Err(homes) => Err(TableState { homes }),
         }
     }
 }

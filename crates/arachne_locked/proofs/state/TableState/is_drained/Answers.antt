@@ -1,10 +1,15 @@
-use Rattle.std.proofs.Common.{sym, ◌∙◌}
-use Rattle.arachne_locked.proofs.Words.{each_free}
+use Rattle.std.proofs.Common.{ℕ, ◌<◌, ◌^◌, sym, subst, ◌∙◌}
+use Rattle.std.proofs.lemmas.Bool.{eq-eqb, eqb-true}
+use Rattle.arachne_locked.proofs.Words.{none_masked, all_free}
 use Rattle.arachne_locked.proofs.state.TableState.is_drained.Goals as goal
 
 pub returns-then-is_closed : goal.returns-then-is_closed
-returns-then-is_closed g c = λ t. (
-  c.in-Some.ensures.some.0,
-  sym c.in-Some.ensures.some.1.closed ∙ sym c.is_closed.ensures ∙ c.if-is_closed.true,
-  (λ i h. sym (c.in-Some.ensures.some.1.occupied i) ∙ each_free c.in-Some.occ.occupied (c.is_empty.ensures.0 t) i),
-)
+returns-then-is_closed g c =
+    let o = c.in-Some.occ in (
+      λ t. (
+        c.in-Some.ensures.some.0,
+        sym c.in-Some.ensures.some.1.closed ∙ sym c.is_closed.ensures ∙ c.if-is_closed.true,
+        (λ i h. sym (c.in-Some.ensures.some.1.occupied i) ∙ none_masked o.occupied (sym c.mask.ensures.bits ∙ eqb-true c.mask.result 0 t) i),
+      ),
+      λ d. eq-eqb c.mask.result 0 (c.mask.ensures.bits ∙ all_free 56 o.occupied (subst (λ (m : ℕ). m < 2 ^ 56) c.mask.ensures.bits c.mask.ensures.within) (λ i h. c.in-Some.ensures.some.1.occupied i ∙ d.2 i h)),
+    )

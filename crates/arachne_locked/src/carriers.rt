@@ -1,0 +1,36 @@
+//! The carriers by which a table knows its seats.
+ghost use Rattle.std.specs.Prelude.{◌≡◌, ◌≢◌, ◌<◌};
+
+use std::marker::Model;
+
+/// The carriers that were given to seats. Contracts see the one that was given last.
+#[derive(Debug, Drop)]
+pub struct Carriers {
+    last: u32,
+}
+
+impl Model for Carriers {
+    ghost use Rattle.std.specs.Prelude.{ℕ};
+
+    ghost Value = { ℕ };
+
+    ghost view = { λ c. c.last };
+}
+
+impl Carriers {
+    /// The first carrier, which is 0, is given.
+    pub fn new() -> Self
+        ensures { result ≡ 0 }
+    {
+        Carriers { last: 0 }
+    }
+
+    /// A carrier for a new seat: a greater one than all before. Once each number of 32 bits was given they begin anew.
+    pub fn next(&mut self) -> u32
+        ensures last { self.new ≡ result }
+        ensures fresh { self.old ≢ u32.MAX → self.old < result }
+    {
+        self.last = self.last.wrapping_add(1);
+        self.last
+    }
+}
