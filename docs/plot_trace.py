@@ -17,7 +17,7 @@ LEAST_BAR = 0.6
 STYLE = """
 text{font:12px sans-serif;fill:#24292f}
 .page{fill:#fff}.lane{fill:#eef1f4}.grid{stroke:#d0d7de}.tick{text-anchor:middle;fill:#57606a}.core{text-anchor:end}
-.even{fill:#2166ac}.odd{fill:#74add1}.parked{fill:url(#hatch)}.hatch{stroke:#8c959f}
+.even{fill:#2166ac}.odd{fill:#74add1}.parked{fill:url(#hatch)}.edge{fill:none;stroke:#8c959f;stroke-width:.5}.hatch{stroke:#8c959f}
 .released{stroke:#b2182b}.granted{stroke:#1b7837}.order{stroke-width:1.5;stroke-dasharray:4 3}
 .releasedword{fill:#b2182b}.grantedword{fill:#1b7837}.move{fill:#d97706}
 @media(prefers-color-scheme:dark){text{fill:#e6edf3}
@@ -103,6 +103,7 @@ def lanes(page):
         yield f'<text x="{LEFT - 8}" y="{y + LANE / 2 + 4}" class="core">core {core}</text>'
         yield f'<rect x="{LEFT}" y="{y}" width="{WIDTH - LEFT - RIGHT}" height="{LANE}" class="lane"/>'
         slices = 0
+        bars = {"even": "", "odd": "", "parked": ""}
         for span in page.trace.spans:
             if span["tid"] != core:
                 continue
@@ -110,8 +111,12 @@ def lanes(page):
             if span["name"] == "slice":
                 kind = "odd" if slices % 2 else "even"
                 slices += 1
-            width = max(LEAST_BAR, page.x(span["ts"] + span["dur"]) - page.x(span["ts"]))
-            yield f'<rect x="{page.x(span["ts"]):.1f}" y="{y}" width="{width:.1f}" height="{LANE}" class="{kind}"/>'
+            x = page.x(span["ts"])
+            width = max(LEAST_BAR, page.x(span["ts"] + span["dur"]) - x)
+            bars[kind] += f"M{x:.1f} {y}h{width:.1f}v{LANE}h-{width:.1f}z"
+        for kind, path in bars.items():
+            if path:
+                yield f'<path d="{path}" class="{kind}"/>'
 
 
 def marks(page, rows):
@@ -119,7 +124,8 @@ def marks(page, rows):
         x, y = page.x(order["ts"]), TOP + ORDER_ROW * row
         kind = order["name"]
         yield f'<line x1="{x:.1f}" y1="{y}" x2="{x:.1f}" y2="{page.bottom - GAP}" class="order {kind}"/>'
-        yield f'<text x="{x + 5:.1f}" y="{y + 11}" class="{kind}word">{word_of(order)}</text>'
+        place = f'x="{x + 5:.1f}"' if x + 120 < WIDTH else f'x="{x - 5:.1f}" style="text-anchor:end"'
+        yield f'<text {place} y="{y + 11}" class="{kind}word">{word_of(order)}</text>'
     for move in page.trace.moves:
         yield triangle(page.x(move["ts"]), page.y(move["tid"]) + LANE + 1)
 
@@ -134,9 +140,7 @@ def legend(page):
         if kind == "move":
             yield triangle(x + 8, y - 9)
         else:
-            border = ' class="lane"' if kind == "parked" else ""
-            yield f'<rect x="{x}" y="{y - 10}" width="16" height="12"{border} style="stroke:#8c959f;stroke-width:.5"/>' if border else ""
-            yield f'<rect x="{x}" y="{y - 10}" width="16" height="12" class="{kind}" style="stroke:#8c959f;stroke-width:.5"/>'
+            yield from (f'<rect x="{x}" y="{y - 10}" width="16" height="12" class="{part}"/>' for part in ("lane", kind, "edge"))
         yield f'<text x="{x + 22}" y="{y}">{word}</text>'
         x += 44 + 6.4 * len(word)
 
