@@ -23,3 +23,4 @@ pub mod ExactWords
 pub mod Forms
 pub mod HeadWords
 pub mod WordSteps
+pub mod NumberLists

@@ -12,3 +12,4 @@ pub mod Judgement
 pub mod Same
 pub mod SameDecides
 pub mod Reading
+pub mod Name

@@ -1,6 +1,7 @@
 //! The task language: its programs, their texts, and what they mean on one thread.
 #![tactic(auto)]
 
+mod byte_list;
 mod check_fault;
 mod checker;
 mod evaluator;

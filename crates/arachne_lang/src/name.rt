@@ -1,14 +1,27 @@
-ghost use Rattle.std.specs.Prelude.{◌≡◌, [], ◌∷◌, ◌++◌, ◌↔◌, IfOk, IsTrue, nat_eq};
+ghost use Rattle.std.specs.Prelude.{◌≡◌, ◌<◌, [], ◌∷◌, ◌++◌, ◌↔◌, IfOk, IsOk, IsTrue, length, slice_index, nat_eq};
 ghost use Rattle.std.specs.Cmp.{partial_equiv_from_equiv};
 ghost use Rattle.std.specs.Cmp.Lexicographic.{pointwise, nat_list_eq_equiv};
+ghost use Rattle.arachne_lang.specs.Name.{FitsInline};
 
+use crate::byte_list::ByteList;
 use std::alloc::{AllocError, Global};
 use std::marker::Model;
 
 /// A thread's name: the numbers of the forks that lead to it from the root, whose own name has none.
+///
+/// Up to 30 numbers below 256 stand in its own 32 bytes. Others are in a `Vec`.
 #[derive(Debug, Drop)]
 pub struct Name {
-    forks: Vec<u64>,
+    forks: Forks,
+}
+
+const _: () = prove!(size_of::<Name>() == 32);
+
+/// The numbers of the forks, the root's first.
+#[derive(Debug, Drop)]
+enum Forks {
+    Inline(ByteList),
+    Heap(Vec<u64>),
 }
 
 impl Model for Name {
@@ -16,34 +29,86 @@ impl Model for Name {
 
     ghost Value = { List ℕ };
 
-    ghost view = { λ name. name.forks.items };
+    ghost use Rattle.arachne_lang.specs.Name.{numbers, IsKeptShort};
+
+    ghost view = { λ name. numbers name.forks };
+
+    ghost invariant = { λ name. IsKeptShort name.forks };
 }
 
 impl Name {
     /// The name of the root thread. It takes no memory.
-    pub fn root(alloc: Global) -> Name
+    pub fn root(_alloc: Global) -> Name
         ensures { result ≡ [] }
     {
         Name {
-            forks: Vec::new(alloc),
+            forks: Forks::Inline(ByteList::empty()),
         }
     }
 
     /// The name of the thread that this one forks with this number, from 0.
     pub fn child(&self, alloc: Global, number: u64) -> Result<Name, AllocError>
-        ensures { IfOk result (λ name. name ≡ self.now ++ number ∷ []) }
+        ensures named { IfOk result (λ name. name ≡ self.now ++ number ∷ []) }
+        ensures inline { FitsInline (self.now ++ number ∷ []) → IsOk result }
     {
-        let mut forks = Vec::with_capacity(alloc, self.forks.len() + 1)?;
-        forks.extend_from_slice(self.forks.as_slice())?;
-        forks.push(number)?;
+        let forks = match &self.forks {
+            Forks::Inline(list) => match list.with(number) {
+                Some(longer) => Forks::Inline(longer),
+                None => Forks::Heap(list.widened(alloc, number)?),
+            },
+            Forks::Heap(list) => Forks::Heap(with_number(alloc, list.as_slice(), number)?),
+        };
         Ok(Name { forks })
     }
 
-    /// The numbers of the forks, the root's first.
-    pub fn forks(&self) -> &[u64]
-        ensures { result.now ≡ self.now }
+    /// How many numbers it has.
+    pub fn len(&self) -> usize
+        ensures { result ≡ length self.now }
     {
-        self.forks.as_slice()
+        match &self.forks {
+            Forks::Inline(list) => list.as_slice().len(),
+            Forks::Heap(list) => list.len(),
+        }
+    }
+
+    /// The number at this place, from 0.
+    pub fn number(&self, k: usize) -> u64
+        requires { k < length self.now }
+        ensures { result ≡ slice_index self.now k }
+    {
+        match &self.forks {
+            Forks::Inline(list) => u64::from(list.as_slice()[k]),
+            Forks::Heap(list) => list[k],
+        }
+    }
+
+    /// Whether it is the name of the child that the thread of the other name forks with this number.
+    pub fn is_child_of(&self, parent: &Name, number: u64) -> bool
+        ensures { IsTrue result ↔ (self.now ≡ parent.now ++ number ∷ []) }
+    {
+        match (&self.forks, &parent.forks) {
+            (Forks::Inline(own), Forks::Inline(front)) => own.is_longer_by(front, number),
+            (Forks::Inline(_), Forks::Heap(_)) => false,
+            (Forks::Heap(own), _) => match own.split_last() {
+                Some((last, others)) => *last == number && parent.has_numbers(others),
+                None => false,
+            },
+        }
+    }
+
+    /// Whether these are its numbers.
+    fn has_numbers(&self, numbers: &[u64]) -> bool
+        ensures { IsTrue result ↔ (self.now ≡ numbers.now) }
+    {
+        if self.len() != numbers.len() {
+            return false;
+        }
+        for (k, number) in numbers.iter().enumerate() {
+            if self.number(k) != *number {
+                return false;
+            }
+        }
+        true
     }
 }
 
@@ -56,10 +121,24 @@ impl PartialEq for Name {
         ensures eq { result ≡ pointwise nat_eq self.now other.now }
         ensures same { IsTrue result ↔ (self.now ≡ other.now) }
     {
-        self.forks() == other.forks()
+        match (&self.forks, &other.forks) {
+            (Forks::Inline(own), Forks::Inline(others)) => own.as_slice() == others.as_slice(),
+            (Forks::Heap(own), Forks::Heap(others)) => own.as_slice() == others.as_slice(),
+            _ => false,
+        }
     }
 }
 
 impl Eq for Name {
     ghost laws = { nat_list_eq_equiv };
+}
+
+/// The numbers, and this one behind them.
+fn with_number(alloc: Global, numbers: &[u64], number: u64) -> Result<Vec<u64>, AllocError>
+    ensures { IfOk result (λ longer. longer.items ≡ numbers.now ++ number ∷ []) }
+{
+    let mut longer = Vec::with_capacity(alloc, numbers.len() + 1)?;
+    longer.extend_from_slice(numbers)?;
+    longer.push(number)?;
+    Ok(longer)
 }
