@@ -1,9 +1,24 @@
 //! The table on words as a form of context table: each call of the trait is the call of the same name, which takes no
-//! memory and doesn't wait.
-ghost use Rattle.std.specs.Prelude.{◌≡◌, IfOk, IfErr};
-ghost use Rattle.arachne_contexts.specs.Out.{HasOut, Spends, Thread as a_thread};
-ghost use Rattle.arachne_words.specs.Seats.{HasNothingOut};
+//! memory and doesn't wait. It says what that call says, beside what the trait asks.
+ghost use Rattle.std.specs.Prelude.{◌≡◌, ◌≢◌, ◌*◌, ◌-◌, ◌<◌, ◌≤◌, ◌↔◌, ◌^◌, ℕ, IfOk, IfErr, IsOk, IsTrue, bit_and, bit_or, length};
+ghost use Rattle.arachne_core.specs.declared.layout.TheConstants.{CORE_BITS, CORES, LAST_GENERATION, SLOTS};
+ghost use Rattle.arachne_core.specs.Occupancy.{IsOccupancyWord};
+ghost use Rattle.arachne_core.specs.Marked.{IsMarkWord};
+ghost use Rattle.arachne_core.specs.World.{Thread};
+ghost use Rattle.arachne_weights.specs.Weight.{whole, first_part, second_part, joined};
+ghost use Rattle.arachne_contexts.specs.Answers.{ClaimsOn, ClaimsWhole, TakesAt, RestsAs, WakesAs, MovesAs, IsByContext};
+ghost use Rattle.arachne_contexts.specs.Out.{Claim as a_claim, Thread as a_thread, HasOut, KeepsOut, GetsClaim, GetsThread, Spends};
+ghost use Rattle.arachne_contexts.specs.declared.answers.Woken.TheVariants as woken;
+ghost use Rattle.arachne_rule.specs.declared.view.Kind.TheVariants as kind;
+ghost use Rattle.arachne_rule.specs.Changes.{release_sum};
+ghost use Rattle.arachne_rule.specs.Ending.{IsSettled};
+ghost use Rattle.arachne_rule.specs.Layout.{occ_index};
+ghost use Rattle.arachne_rule.specs.Plays.{Carries, HasEnded};
+ghost use Rattle.arachne_rule.specs.Views.{blank, joined_known, noted};
+ghost use Rattle.arachne_words.specs.Calls.{looked, released, ClaimAnswer, ClaimAloneAnswer, HasPosted, TakeAnswer, RestAnswer, HasFinished, WakeAnswer, DrainAnswer};
+ghost use Rattle.arachne_words.specs.Moves.{MoveAnswer};
 ghost use Rattle.arachne_words.specs.Out.{IsOutWith};
+ghost use Rattle.arachne_words.specs.Seats.{claimed_by, HasNothingOut};
 ghost use Rattle.arachne_words.specs.Swapped.{swapped-out};
 
 use crate::seat::{WordClaim, WordHold, WordSeat};
@@ -28,16 +43,33 @@ impl<T: Tagged + Drop + Send> Seats for WordContexts<T> {
         alloc: Global,
         cores: u8,
         first_generation: u64,
-    ) -> Result<(WordContexts<T>, WordSeat<T>), AllocError> {
+    ) -> Result<(WordContexts<T>, WordSeat<T>), AllocError>
+        requires some { 1 ≤ cores }
+        requires cores { cores ≤ CORES }
+        requires generation { first_generation ≤ LAST_GENERATION }
+        ensures contexts { IfOk result (λ made. made.0.shape ≡ record { cores = cores; slots = SLOTS; first = first_generation; last = LAST_GENERATION }) }
+        ensures seat { IfOk result (λ made. made.1 ≡ record { table = made.0.table; weight = whole; known = blank }) }
+    {
         WordContexts::new(alloc, cores, first_generation)
     }
 
-    fn split<R: Wait>(&self, rt: &R, seat: WordSeat<T>) -> (WordSeat<T>, WordSeat<T>) {
+    fn split<R: Wait>(&self, rt: &R, seat: WordSeat<T>) -> (WordSeat<T>, WordSeat<T>)
+        requires seat { seat.table ≡ self.now.table }
+        requires idle { HasNothingOut seat.known }
+        ensures first { result.0 ≡ record seat { weight = first_part seat.weight } }
+        ensures second { result.1 ≡ record { table = seat.table; weight = second_part seat.weight; known = blank } }
+    {
         let _ = rt;
         WordContexts::split(self, seat)
     }
 
-    fn join_seats<R: Wait>(&self, rt: &R, seat: WordSeat<T>, other: WordSeat<T>) -> WordSeat<T> {
+    fn join_seats<R: Wait>(&self, rt: &R, seat: WordSeat<T>, other: WordSeat<T>) -> WordSeat<T>
+        requires seat { seat.table ≡ self.now.table }
+        requires other { other.table ≡ self.now.table }
+        requires idle { HasNothingOut seat.known }
+        requires other_idle { HasNothingOut other.known }
+        ensures { result ≡ record seat { weight = joined seat.weight other.weight; known = joined_known seat.known other.known } }
+    {
         let _ = rt;
         WordContexts::join_seats(self, seat, other)
     }
@@ -46,7 +78,9 @@ impl<T: Tagged + Drop + Send> Seats for WordContexts<T> {
         WordContexts::is_whole(self, seat)
     }
 
-    fn out(&self, seat: &WordSeat<T>) -> u32 {
+    fn out(&self, seat: &WordSeat<T>) -> u32
+        ensures { result ≡ length seat.now.known.carried }
+    {
         WordContexts::out(self, seat)
     }
 }
@@ -58,12 +92,28 @@ impl<T: Tagged + Drop + Send> Contexts<T> for WordContexts<T> {
 
     ghost has = { IsOutWith };
 
-    fn look<R: Wait>(&self, rt: &R, seat: &mut WordSeat<T>, core: u8) -> u64 {
+    fn look<R: Wait>(&self, rt: &R, seat: &mut WordSeat<T>, core: u8) -> u64
+        requires seat { seat.old.table ≡ self.now.table }
+        requires core { core < self.now.shape.cores }
+        ensures seat { seat.new.table ≡ self.now.table }
+        ensures weight { seat.new.weight ≡ seat.old.weight }
+        ensures out { KeepsOut (IsOutWith self.now) seat.old seat.new }
+        ensures word { IsOccupancyWord result }
+        ensures steps { seat.new ≡ record seat.old { known = looked (occ_index self.now.table.slots core) result seat.old.known } }
+    {
         let _ = rt;
         WordContexts::look(self, seat, core)
     }
 
-    fn look_mark<R: Wait>(&self, rt: &R, seat: &mut WordSeat<T>, context: u32) -> u64 {
+    fn look_mark<R: Wait>(&self, rt: &R, seat: &mut WordSeat<T>, context: u32) -> u64
+        requires seat { seat.old.table ≡ self.now.table }
+        requires context { context < self.now.shape.cores * SLOTS }
+        ensures seat { seat.new.table ≡ self.now.table }
+        ensures weight { seat.new.weight ≡ seat.old.weight }
+        ensures out { KeepsOut (IsOutWith self.now) seat.old seat.new }
+        ensures word { IsMarkWord CORE_BITS result }
+        ensures steps { seat.new ≡ record seat.old { known = looked context result seat.old.known } }
+    {
         let _ = rt;
         let _ = &self.slots;
         WordContexts::look_mark(self, seat, context)
@@ -74,7 +124,16 @@ impl<T: Tagged + Drop + Send> Contexts<T> for WordContexts<T> {
         rt: &R,
         seat: &mut WordSeat<T>,
         core: u8,
-    ) -> Result<Claimed<WordClaim>, AllocError> {
+    ) -> Result<Claimed<WordClaim>, AllocError>
+        requires seat { seat.old.table ≡ self.now.table }
+        requires core { core < self.now.shape.cores }
+        ensures seat { seat.new.table ≡ self.now.table }
+        ensures weight { seat.new.weight ≡ seat.old.weight }
+        ensures out { GetsClaim (IsOutWith self.now) seat.old seat.new result }
+        ensures answer { IfOk result (ClaimsOn (λ claim. claim.place) core) }
+        ensures ok { IsOk result }
+        ensures steps { IfOk result (λ claimed. ClaimAnswer self.now core seat.old.known claimed seat.new.known) }
+    {
         let _ = rt;
         let _ = &self.slots;
         Ok(WordContexts::claim(self, seat, core))
@@ -85,7 +144,16 @@ impl<T: Tagged + Drop + Send> Contexts<T> for WordContexts<T> {
         rt: &R,
         seat: &mut WordSeat<T>,
         core: u8,
-    ) -> Result<Claimed<WordClaim>, AllocError> {
+    ) -> Result<Claimed<WordClaim>, AllocError>
+        requires seat { seat.old.table ≡ self.now.table }
+        requires core { core < self.now.shape.cores }
+        ensures seat { seat.new.table ≡ self.now.table }
+        ensures weight { seat.new.weight ≡ seat.old.weight }
+        ensures out { GetsClaim (IsOutWith self.now) seat.old seat.new result }
+        ensures answer { IfOk result (ClaimsWhole (λ claim. claim.place) core) }
+        ensures ok { IsOk result }
+        ensures steps { IfOk result (λ claimed. ClaimAloneAnswer self.now core seat.old.known claimed seat.new.known) }
+    {
         let _ = rt;
         let _ = &self.slots;
         Ok(WordContexts::claim_alone(self, seat, core))
@@ -96,7 +164,16 @@ impl<T: Tagged + Drop + Send> Contexts<T> for WordContexts<T> {
         rt: &R,
         seat: &mut WordSeat<T>,
         claim: WordClaim,
-    ) -> Result<(), WordClaim> {
+    ) -> Result<(), WordClaim>
+        requires seat { seat.old.table ≡ self.now.table }
+        requires out { HasOut (IsOutWith self.now) (a_claim claim) seat.old }
+        ensures seat { seat.new.table ≡ self.now.table }
+        ensures weight { seat.new.weight ≡ seat.old.weight }
+        ensures out { Spends (IsOutWith self.now) (a_claim claim) seat.old seat.new result }
+        ensures ok { IsOk result }
+        ensures steps { (x g : ℕ) → x < self.now.table.slots → Carries seat.old.known (claimed_by claim x g)
+            → (found : ℕ) × (seat.new.known ≡ released (occ_index self.now.table.slots claim.place.core) found (release_sum (claimed_by claim x g)) (claimed_by claim x g) seat.old.known) }
+    {
         let _ = rt;
         WordContexts::give_back(self, seat, claim);
         Ok(())
@@ -108,7 +185,16 @@ impl<T: Tagged + Drop + Send> Contexts<T> for WordContexts<T> {
         seat: &mut WordSeat<T>,
         claim: WordClaim,
         value: T,
-    ) -> Result<ThreadId, (WordClaim, T)> {
+    ) -> Result<ThreadId, (WordClaim, T)>
+        requires seat { seat.old.table ≡ self.now.table }
+        requires out { HasOut (IsOutWith self.now) (a_claim claim) seat.old }
+        ensures seat { seat.new.table ≡ self.now.table }
+        ensures weight { seat.new.weight ≡ seat.old.weight }
+        ensures out { Spends (IsOutWith self.now) (a_claim claim) seat.old seat.new result }
+        ensures ok { IsOk result }
+        ensures posted { IfOk result (λ id. (x g : ℕ) → x < self.now.table.slots → Carries seat.old.known (claimed_by claim x g)
+            → (id ≡ record { context = x; generation = g }) × HasPosted self.now seat.old.known claim (T.tag_of value) id seat.new.known) }
+    {
         let _ = rt;
         Ok(WordContexts::post(self, seat, claim, value))
     }
@@ -119,7 +205,16 @@ impl<T: Tagged + Drop + Send> Contexts<T> for WordContexts<T> {
         seat: &mut WordSeat<T>,
         core: u8,
         index: u8,
-    ) -> Taken<T, WordHold> {
+    ) -> Taken<T, WordHold>
+        requires seat { seat.old.table ≡ self.now.table }
+        requires core { core < self.now.shape.cores }
+        requires index { index < SLOTS }
+        ensures seat { seat.new.table ≡ self.now.table }
+        ensures weight { seat.new.weight ≡ seat.old.weight }
+        ensures out { GetsThread (IsOutWith self.now) T.tag_of seat.old seat.new result }
+        ensures answer { TakesAt (λ hold. hold.place) (record { core = core; index = index }) result }
+        ensures steps { TakeAnswer T.tag_of self.now (record { core = core; index = index }) seat.old.known result seat.new.known }
+    {
         let _ = rt;
         let _ = &self.slots;
         WordContexts::take(self, seat, core, index)
@@ -137,7 +232,9 @@ impl<T: Tagged + Drop + Send> Contexts<T> for WordContexts<T> {
         ensures seat { seat.new.table ≡ self.now.table }
         ensures weight { seat.new.weight ≡ seat.old.weight }
         ensures out { Spends (IsOutWith self.now) (a_thread held.hold (T.tag_of held.value)) seat.old seat.new result }
-        ensures handed_back { IfErr result (λ back. back ≡ held) }
+        ensures answer { IfOk result (RestsAs rest) }
+        ensures ok { IsOk result }
+        ensures steps { IfOk result (λ rested. RestAnswer self.now held.hold (T.tag_of held.value) seat.old.known rest rested seat.new.known) }
     {
         let _ = rt;
         Ok(WordContexts::put_back(self, seat, held, rest))
@@ -155,33 +252,77 @@ impl<T: Tagged + Drop + Send> Contexts<T> for WordContexts<T> {
         ensures weight { seat.new.weight ≡ seat.old.weight }
         ensures out { Spends (IsOutWith self.now) (a_thread held.hold (T.tag_of held.value)) seat.old seat.new result }
         ensures value { IfOk result (λ value. value ≡ held.value) }
-        ensures handed_back { IfErr result (λ back. back ≡ held) }
+        ensures ok { IsOk result }
+        ensures finished { HasFinished self.now seat.old.known held.hold (T.tag_of held.value) seat.new.known }
     {
         let _ = rt;
         Ok(WordContexts::finish(self, seat, held))
     }
 
-    fn wake<R: Wait>(&self, rt: &R, seat: &mut WordSeat<T>, id: ThreadId) -> Woken {
+    fn wake<R: Wait>(&self, rt: &R, seat: &mut WordSeat<T>, id: ThreadId) -> Woken
+        requires seat { seat.old.table ≡ self.now.table }
+        ensures seat { seat.new.table ≡ self.now.table }
+        ensures weight { seat.new.weight ≡ seat.old.weight }
+        ensures out { KeepsOut (IsOutWith self.now) seat.old seat.new }
+        ensures answer { WakesAs id result }
+        ensures steps { WakeAnswer self.now id seat.old.known result seat.new.known }
+        ensures ended { (t : Thread) → t.0 ≡ id → HasEnded seat.old.known t → result ≡ woken.Gone }
+    {
         let _ = rt;
         WordContexts::wake(self, seat, id)
     }
 
-    fn close_core<R: Wait>(&self, rt: &R, seat: &mut WordSeat<T>, core: u8) -> u64 {
+    fn close_core<R: Wait>(&self, rt: &R, seat: &mut WordSeat<T>, core: u8) -> u64
+        requires seat { seat.old.table ≡ self.now.table }
+        requires core { core < self.now.shape.cores }
+        ensures seat { seat.new.table ≡ self.now.table }
+        ensures weight { seat.new.weight ≡ seat.old.weight }
+        ensures out { KeepsOut (IsOutWith self.now) seat.old seat.new }
+        ensures word { IsOccupancyWord result }
+        ensures steps { seat.new ≡ record seat.old { known = noted kind.Close (occ_index self.now.table.slots core) result (bit_or result (2 ^ 62)) seat.old.known } }
+    {
         let _ = rt;
         WordContexts::close_core(self, seat, core)
     }
 
-    fn open_core<R: Wait>(&self, rt: &R, seat: &mut WordSeat<T>, core: u8) -> u64 {
+    fn open_core<R: Wait>(&self, rt: &R, seat: &mut WordSeat<T>, core: u8) -> u64
+        requires seat { seat.old.table ≡ self.now.table }
+        requires core { core < self.now.shape.cores }
+        ensures seat { seat.new.table ≡ self.now.table }
+        ensures weight { seat.new.weight ≡ seat.old.weight }
+        ensures out { KeepsOut (IsOutWith self.now) seat.old seat.new }
+        ensures word { IsOccupancyWord result }
+        ensures steps { seat.new ≡ record seat.old { known = noted kind.Open (occ_index self.now.table.slots core) result (bit_and result (2 ^ 64 - 1 - 2 ^ 62)) seat.old.known } }
+    {
         let _ = rt;
         WordContexts::open_core(self, seat, core)
     }
 
-    fn is_drained<R: Wait>(&self, rt: &R, seat: &mut WordSeat<T>, core: u8) -> bool {
+    fn is_drained<R: Wait>(&self, rt: &R, seat: &mut WordSeat<T>, core: u8) -> bool
+        requires seat { seat.old.table ≡ self.now.table }
+        requires core { core < self.now.shape.cores }
+        ensures seat { seat.new.table ≡ self.now.table }
+        ensures weight { seat.new.weight ≡ seat.old.weight }
+        ensures out { KeepsOut (IsOutWith self.now) seat.old seat.new }
+        ensures steps { DrainAnswer self.now core seat.old.known result seat.new.known }
+    {
         let _ = rt;
         WordContexts::is_drained(self, seat, core)
     }
 
-    fn move_one<R: Wait>(&self, rt: &R, seat: &mut WordSeat<T>, place: Place, to: u8) -> Moved {
+    fn move_one<R: Wait>(&self, rt: &R, seat: &mut WordSeat<T>, place: Place, to: u8) -> Moved
+        requires seat { seat.old.table ≡ self.now.table }
+        requires core { place.core < self.now.shape.cores }
+        requires index { place.index < SLOTS }
+        requires target { to < self.now.shape.cores }
+        requires apart { to ≢ place.core }
+        ensures seat { seat.new.table ≡ self.now.table }
+        ensures weight { seat.new.weight ≡ seat.old.weight }
+        ensures out { KeepsOut (IsOutWith self.now) seat.old seat.new }
+        ensures answer { MovesAs result }
+        ensures carried { seat.new.known.carried ≡ seat.old.known.carried }
+        ensures steps { MoveAnswer self.now place to seat.old.known result seat.new.known }
+    {
         let _ = rt;
         let _ = &self.slots;
         WordContexts::move_one(self, seat, place, to)
@@ -192,7 +333,14 @@ impl<T: Tagged + Drop + Send> Contexts<T> for WordContexts<T> {
         rt: &R,
         alloc: Global,
         seat: WordSeat<T>,
-    ) -> Result<Vec<(ThreadId, T)>, (WordContexts<T>, WordSeat<T>)> {
+    ) -> Result<Vec<(ThreadId, T)>, (WordContexts<T>, WordSeat<T>)>
+        requires seat { seat.table ≡ self.table }
+        requires all { seat.weight ≡ whole }
+        requires idle { HasNothingOut seat.known }
+        ensures settled { IfOk result (λ rest. IsSettled T.tag_of seat.known rest.items) }
+        ensures order { IfOk result (λ rest. IsByContext rest.items) }
+        ensures handed_back { IfErr result (λ back. back ≡ (self, seat)) }
+    {
         let _ = rt;
         WordContexts::close(self, alloc, seat)
     }
