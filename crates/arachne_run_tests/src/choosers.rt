@@ -5,6 +5,45 @@ ghost use Rattle.rand_core.specs.Steps.{stream_of, steps_u64_high};
 use rand_core::Rng;
 use rand_core::utils::{NextWord, fill_bytes_via_u64};
 
+/// What the choosers of a machine draw.
+#[derive(Clone, Copy, Debug)]
+pub struct Draws {
+    /// The first word of core 0's chooser.
+    pub word: u64,
+    /// How much greater each word is than the chooser's word before it, modulo 2^64.
+    pub step: u64,
+    /// How much greater the first word of each core's chooser is than that of the core before it, modulo 2^64.
+    pub apart: u64,
+}
+
+impl Draws {
+    /// All choosers always draw this word.
+    pub fn always(word: u64) -> Draws {
+        Draws {
+            word,
+            step: 0,
+            apart: 0,
+        }
+    }
+
+    /// The choosers spread over the cores.
+    pub fn spread() -> Draws {
+        Draws {
+            word: 0x9E37_79B9_7F4A_7C15,
+            step: 0xBF58_476D_1CE4_E5B9,
+            apart: 0x94D0_49BB_1331_11EB,
+        }
+    }
+
+    /// The chooser of a core.
+    pub fn of(self, core: u64) -> Progression {
+        Progression {
+            word: self.word.wrapping_add(self.apart.wrapping_mul(core)),
+            step: self.step,
+        }
+    }
+}
+
 /// Each word is greater by the same step, modulo 2^64.
 #[derive(Clone, Copy, Debug, Drop)]
 pub struct Progression {

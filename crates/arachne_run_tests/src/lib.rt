@@ -3,6 +3,7 @@
 #![tactic(auto)]
 
 #[cfg(test)]
+mod altered;
 #[cfg(test)]
 mod choosers;
 #[cfg(test)]

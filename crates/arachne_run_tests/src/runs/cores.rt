@@ -1,152 +1,142 @@
-//! Which cores run threads: choices, threads that have a core alone, and core orders.
-use super::{FORK, FORMS, Trial, always, in_place, report, spread, text_of};
+//! Which cores run threads, and for how long.
+use super::{FORK, FORMS, Trial, in_place, nested, report, text_of};
+use crate::choosers::Draws;
 use crate::gates::{Meeting, Noting};
-use arachne_policy::{CoreOrder, OrderKind};
 use arachne_run::OpenGate;
-use std::alloc::{AllocError, Global};
 use std::test::Fail;
-use std::time::{Duration, Instant};
 
-fn release(after: u64, core: u64) -> CoreOrder {
-    CoreOrder {
-        after,
-        kind: OrderKind::Release,
-        core,
-    }
-}
+/// A fork's first choice is the low half of a drawn word, its second the high half.
+const STEP: u64 = 0x0000_0001_0000_0001;
 
-fn grant(after: u64, core: u64) -> CoreOrder {
-    CoreOrder {
-        after,
-        kind: OrderKind::Grant,
-        core,
-    }
-}
-
-/// With these words both choices of a fork are core 3, unless that is closed.
+/// With these words both choices of a fork are core 3.
 #[test]
 fn a_fork_goes_where_its_choices_say(rt: HostRuntime) -> Result<(), Fail> {
     let alloc = rt.alloc();
     let text = text_of(alloc, 0, 0, FORK)?;
-    let closing = [release(0, 3)];
     for form in FORMS {
-        let machine = Trial {
-            form,
-            cores: 4,
-            quantum: 1,
-            chooser: always(0x0000_0003_0000_0003),
-        };
-        for (orders, entered) in [([].as_slice(), 0b1001), (closing.as_slice(), 0b0001)] {
+        for quantum in [1, 100] {
+            let machine = Trial {
+                form,
+                cores: 4,
+                quantum,
+                draws: Draws::always(3 * STEP),
+            };
             let gate = Noting::new();
-            let report = report(&rt, alloc, text.as_bytes(), machine, orders, &gate)?;
-            assert_eq!(rt; report.value, 5, "{form:?} {orders:?}");
-            assert_eq!(rt; gate.entered(), entered, "{form:?} {orders:?}");
-            assert_eq!(rt; report.applied, orders.len(), "{form:?} {orders:?}");
+            let report = report(&rt, alloc, text.as_bytes(), machine, &[], &gate)?;
+            assert_eq!(rt; (report.value, gate.entered()), (5, 0b1001), "{machine:?}");
+        }
+    }
+    Ok(())
+}
+
+/// Core k's chooser draws core k + 1, so of threads that fork one another each is on the core behind its parent's.
+#[test]
+fn each_core_has_its_own_chooser(rt: HostRuntime) -> Result<(), Fail> {
+    let alloc = rt.alloc();
+    for form in FORMS {
+        for (forks, entered) in [(1, 0b0011), (2, 0b0111), (3, 0b1111)] {
+            let expr = nested(alloc, forks, "(num 1)")?;
+            let text = text_of(alloc, 0, 0, expr.as_str())?;
+            for quantum in [1, 100] {
+                let machine = Trial {
+                    form,
+                    cores: 4,
+                    quantum,
+                    draws: Draws {
+                        word: STEP,
+                        step: 0,
+                        apart: STEP,
+                    },
+                };
+                let gate = Noting::new();
+                let report = report(&rt, alloc, text.as_bytes(), machine, &[], &gate)?;
+                let seen = (report.value, gate.entered());
+                assert_eq!(rt; seen, (forks + 1, entered), "{machine:?}");
+            }
+        }
+    }
+    Ok(())
+}
+
+/// The root forks three threads before it joins any.
+const THREE: &str =
+    "(fork n (num 1) (fork n (num 2) (fork n (num 3) (num 4) (var 1)) (var 1)) (var 1))";
+
+/// Core 0's chooser draws cores 1, 2 and 3 in turn.
+#[test]
+fn each_fork_draws_a_word(rt: HostRuntime) -> Result<(), Fail> {
+    let alloc = rt.alloc();
+    let text = text_of(alloc, 0, 0, THREE)?;
+    for form in FORMS {
+        for quantum in [1, 100] {
+            let machine = Trial {
+                form,
+                cores: 4,
+                quantum,
+                draws: Draws {
+                    word: STEP,
+                    step: STEP,
+                    apart: 0,
+                },
+            };
+            let gate = Noting::new();
+            let report = report(&rt, alloc, text.as_bytes(), machine, &[], &gate)?;
+            assert_eq!(rt; (report.value, gate.entered()), (4, 0b1111), "{machine:?}");
         }
     }
     Ok(())
 }
 
 /// The root counts to 1,000 while its child has another core alone.
-const ALONE: &str =
+pub(super) const ALONE: &str =
     "(fork x (num 1) (fold (num 0) (num 1000) (num 0) (var 1)) (add (var 0) (var 1)))";
 
-/// The child runs while the root does, also where its core is released meanwhile.
+/// The child runs while the root does.
 #[test]
 fn a_thread_that_has_a_core_alone_runs_beside_its_parent(rt: HostRuntime) -> Result<(), Fail> {
     let alloc = rt.alloc();
     let text = text_of(alloc, 0, 0, ALONE)?;
-    let closing = [release(400, 1)];
     for form in FORMS {
         let machine = Trial {
             form,
             cores: 2,
             quantum: 1,
-            chooser: always(0),
+            draws: Draws::always(0),
         };
-        for orders in [[].as_slice(), closing.as_slice()] {
-            let gate = Meeting::new();
-            let report = report(&rt, alloc, text.as_bytes(), machine, orders, &gate)?;
-            assert!(rt; gate.is_met(), "{form:?} {orders:?}");
-            assert_eq!(rt; report.value, 1, "{form:?} {orders:?}");
-            assert_eq!(rt; report.threads.as_slice().len(), 2, "{form:?} {orders:?}");
-            assert_eq!(rt; in_place(&report), 0, "{form:?} {orders:?}");
-            assert_eq!(rt; report.applied, orders.len(), "{form:?} {orders:?}");
-        }
+        let gate = Meeting::new();
+        let report = report(&rt, alloc, text.as_bytes(), machine, &[], &gate)?;
+        let counts = (
+            report.value,
+            report.threads.as_slice().len(),
+            in_place(&report),
+        );
+        assert_eq!(rt; counts, (1, 2, 0), "{form:?}");
+        assert!(rt; gate.is_met(), "{form:?}");
     }
     Ok(())
 }
 
-/// A report tells how many orders were applied: one that is never due was not.
+/// A thread that begins at least 1,004 nodes.
+const LONG: &str = "(fold (num 0) (num 1000) (num 0) (var 1))";
+
+/// A slice has no more steps than the quantum, and each beginning of a node is a step.
 #[test]
-fn orders_are_counted(rt: HostRuntime) -> Result<(), Fail> {
+fn a_slice_ends_by_its_quantum(rt: HostRuntime) -> Result<(), Fail> {
     let alloc = rt.alloc();
-    let text = text_of(alloc, 0, 0, "(sweep add 2 (num 0) (num 8) (var 0))")?;
-    let orders = [
-        release(0, 1),
-        release(1, 2),
-        grant(2, 1),
-        grant(u64::MAX, 2),
-    ];
+    let text = text_of(alloc, 0, 0, LONG)?;
     for form in FORMS {
-        let machine = Trial {
-            form,
-            cores: 4,
-            quantum: 1,
-            chooser: spread(),
-        };
-        for orders in [&orders[..3], &orders[..]] {
-            let report = report(&rt, alloc, text.as_bytes(), machine, orders, &OpenGate)?;
-            assert_eq!(rt; report.value, 28, "{form:?} {orders:?}");
-            assert_eq!(rt; report.threads.as_slice().len(), 4, "{form:?} {orders:?}");
-            assert_eq!(rt; report.applied, 3, "{form:?} {orders:?}");
+        for (quantum, least) in [(1, 1004), (2, 502), (7, 144), (100, 11), (1003, 2)] {
+            let machine = Trial {
+                form,
+                cores: 2,
+                quantum,
+                draws: Draws::always(0),
+            };
+            let gate = Noting::new();
+            let report = report(&rt, alloc, text.as_bytes(), machine, &[], &gate)?;
+            assert_eq!(rt; (report.value, gate.entered()), (0, 0b01), "{machine:?}");
+            assert!(rt; gate.slices() >= least, "{machine:?}: {}", gate.slices());
         }
-    }
-    Ok(())
-}
-
-/// So many orders, each due a slice after the one before: releases and grants of cores 1 to 3 in turn.
-fn orders(alloc: Global, count: u64) -> Result<Vec<CoreOrder>, AllocError> {
-    let mut orders = Vec::new(alloc);
-    for after in 0..count {
-        let core = 1 + after / 2 % 3;
-        let order = if after % 2 == 0 {
-            release(after, core)
-        } else {
-            grant(after, core)
-        };
-        orders.push(order)?;
-    }
-    Ok(orders)
-}
-
-/// A thousand orders close and open three of four cores while 901 threads run.
-#[test]
-fn cores_come_and_go(rt: HostRuntime) -> Result<(), Fail> {
-    let alloc = rt.alloc();
-    let text = text_of(alloc, 0, 0, "(sweep add 1 (num 0) (num 901) (var 0))")?;
-    let orders = orders(alloc, 1000)?;
-    for form in FORMS {
-        let machine = Trial {
-            form,
-            cores: 4,
-            quantum: 1,
-            chooser: spread(),
-        };
-        let start = Instant::now(&rt)?;
-        let report = report(
-            &rt,
-            alloc,
-            text.as_bytes(),
-            machine,
-            orders.as_slice(),
-            &OpenGate,
-        )?;
-        let elapsed = start.elapsed(&rt)?;
-        assert_eq!(rt; report.value, 405_450, "{form:?}");
-        assert_eq!(rt; report.threads.as_slice().len(), 901, "{form:?}");
-        assert!(rt; report.applied <= 1000, "{form:?}");
-        assert!(rt; elapsed < Duration::from_secs(5), "{form:?}: {elapsed:?}");
     }
     Ok(())
 }

@@ -1,5 +1,6 @@
 //! Who had a lock, and in which order.
-use super::{FORMS, Trial, always, nested, report, spread, text_of};
+use super::{FORMS, MACHINES, Trial, nested, report, text_of};
+use crate::choosers::Draws;
 use arachne_core::ThreadId;
 use arachne_machine::ThreadLine;
 use arachne_run::{OpenGate, Report};
@@ -53,18 +54,17 @@ fn each_hold_is_asked_for_and_granted_and_freed(rt: HostRuntime) -> Result<(), F
     let expr = "(sweep add 1 (num 0) (num 8) (hold 0 (tally 0 (num 5) (num 1))))";
     let text = text_of(alloc, 1, 1, expr)?;
     for form in FORMS {
-        for (cores, quantum) in [(1, 1), (2, 1), (4, 1), (16, 1), (4, 100)] {
+        for (cores, quantum) in MACHINES {
             let machine = Trial {
                 form,
                 cores,
                 quantum,
-                chooser: spread(),
+                draws: Draws::spread(),
             };
             let report = report(&rt, alloc, text.as_bytes(), machine, &[], &OpenGate)?;
-            assert_eq!(rt; report.totals.as_slice(), [40].as_slice(), "{machine:?}");
-            assert_eq!(rt; history(&report).len(), 24, "{machine:?}");
             let grants = grants(alloc, &report)?;
-            assert_eq!(rt; grants.len(), 8, "{machine:?}");
+            let counts = (history(&report).len(), grants.len());
+            assert_eq!(rt; counts, (24, 8), "{machine:?}");
             assert_eq!(rt; grants, holders(alloc, &report)?, "{machine:?}");
         }
     }
@@ -75,20 +75,21 @@ fn each_hold_is_asked_for_and_granted_and_freed(rt: HostRuntime) -> Result<(), F
 #[test]
 fn a_thread_in_place_holds_by_its_own_tag(rt: HostRuntime) -> Result<(), Fail> {
     let alloc = rt.alloc();
-    let expr = nested(alloc, "(hold 0 (num 1))")?;
+    let expr = nested(alloc, 60, "(hold 0 (num 1))")?;
     let text = text_of(alloc, 0, 1, expr.as_str())?;
     for form in FORMS {
-        let machine = Trial {
-            form,
-            cores: 1,
-            quantum: 100,
-            chooser: always(0),
-        };
-        let report = report(&rt, alloc, text.as_bytes(), machine, &[], &OpenGate)?;
-        assert_eq!(rt; report.value, 61, "{form:?}");
-        let grants = grants(alloc, &report)?;
-        assert_eq!(rt; grants.len(), 1, "{form:?}");
-        assert_eq!(rt; grants, holders(alloc, &report)?, "{form:?}");
+        for quantum in [1, 100] {
+            let machine = Trial {
+                form,
+                cores: 1,
+                quantum,
+                draws: Draws::always(0),
+            };
+            let report = report(&rt, alloc, text.as_bytes(), machine, &[], &OpenGate)?;
+            let grants = grants(alloc, &report)?;
+            assert_eq!(rt; (report.value, grants.len()), (61, 1), "{machine:?}");
+            assert_eq!(rt; grants, holders(alloc, &report)?, "{machine:?}");
+        }
     }
     Ok(())
 }
@@ -97,7 +98,7 @@ fn a_thread_in_place_holds_by_its_own_tag(rt: HostRuntime) -> Result<(), Fail> {
 const WAITING: &str =
     "(fork n (let (fold (num 0) (num 100) (num 0) (var 1)) (hold 0 (num 1))) (hold 0 (fold (num 0) (num 10000) (num 0) (var 1))) (num 2))";
 
-/// A thread that asks for a lock that another has gets it once that is freed.
+/// A thread that asks for a lock that another has gets it once that is freed. Both are on core 0.
 #[test]
 fn a_thread_that_waits_is_next(rt: HostRuntime) -> Result<(), Fail> {
     let alloc = rt.alloc();
@@ -118,15 +119,17 @@ fn a_thread_that_waits_is_next(rt: HostRuntime) -> Result<(), Fail> {
         LockEvent::Free(child),
     ];
     for form in FORMS {
-        let machine = Trial {
-            form,
-            cores: 1,
-            quantum: 1,
-            chooser: always(0),
-        };
-        let report = report(&rt, alloc, text.as_bytes(), machine, &[], &OpenGate)?;
-        assert_eq!(rt; report.value, 2, "{form:?}");
-        assert_eq!(rt; history(&report), events.as_slice(), "{form:?}");
+        for (cores, quantum) in MACHINES {
+            let machine = Trial {
+                form,
+                cores,
+                quantum,
+                draws: Draws::always(0),
+            };
+            let report = report(&rt, alloc, text.as_bytes(), machine, &[], &OpenGate)?;
+            assert_eq!(rt; report.value, 2, "{machine:?}");
+            assert_eq!(rt; history(&report), events.as_slice(), "{machine:?}");
+        }
     }
     Ok(())
 }

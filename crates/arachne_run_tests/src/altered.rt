@@ -1,0 +1,210 @@
+//! A form of table that answers one call by itself.
+ghost use Rattle.std.specs.Prelude.{◌≡◌, IfOk, IfErr};
+
+use arachne_contexts::{Claimed, Contexts, Held, Moved, Rested, Seats, Tagged, Taken, Woken};
+use arachne_core::{Place, Rest, ThreadId};
+use arachne_locked::{LockedClaim, LockedContexts, LockedHold, LockedSeat};
+use std::alloc::{AllocError, Global};
+use std::sync::Wait;
+
+/// The word of an open core that is full.
+const FULL: u64 = 0x38FF_FFFF_FFFF_FFFF;
+
+/// What a table answers by itself.
+#[derive(Clone, Copy, Debug, PartialEq, Eq)]
+enum Alteration {
+    /// A thread that is to be finished comes back.
+    HandsBack,
+    /// A claim on a core that is in use is refused its memory.
+    RefusesMemory,
+    /// A claim on another core than 0 finds it full.
+    IsFull,
+}
+
+/// A table behind a lock that hands on all calls but one. A run makes its table itself, so the number of cores says which:
+/// of one core it hands back each thread that is to be finished, of two it refuses memory to a claim on a core that is in
+/// use, and of more all cores but 0 are full.
+#[derive(Drop)]
+pub struct Altered<T: Tagged> {
+    inner: LockedContexts<T>,
+    alteration: Alteration,
+}
+
+impl<T: Tagged + Drop> Seats for Altered<T> {
+    type Seat = LockedSeat;
+
+    ghost sits = { λ table seat. Unit {0} };
+
+    ghost idle = { λ table seat. Unit {0} };
+
+    ghost weight = { λ seat. seat.weight };
+
+    ghost core_count = { λ table. table.inner.cores };
+
+    fn new(
+        alloc: Global,
+        cores: u8,
+        first_generation: u64,
+    ) -> Result<(Altered<T>, LockedSeat), AllocError> {
+        let (inner, seat) = LockedContexts::new(alloc, cores, first_generation)?;
+        let alteration = match cores {
+            1 => Alteration::HandsBack,
+            2 => Alteration::RefusesMemory,
+            _ => Alteration::IsFull,
+        };
+        Ok((Altered { inner, alteration }, seat))
+    }
+
+    fn split<R: Wait>(&self, rt: &R, seat: LockedSeat) -> (LockedSeat, LockedSeat) {
+        self.inner.split(rt, seat)
+    }
+
+    fn join_seats<R: Wait>(&self, rt: &R, seat: LockedSeat, other: LockedSeat) -> LockedSeat {
+        self.inner.join_seats(rt, seat, other)
+    }
+
+    fn is_whole(&self, seat: &LockedSeat) -> bool {
+        self.inner.is_whole(seat)
+    }
+
+    fn out(&self, seat: &LockedSeat) -> u32 {
+        self.inner.out(seat)
+    }
+}
+
+impl<T: Tagged + Drop> Contexts<T> for Altered<T> {
+    type Claim = LockedClaim;
+
+    type Hold = LockedHold;
+
+    ghost has = { λ table seat outs. Unit {0} };
+
+    fn look<R: Wait>(&self, rt: &R, seat: &mut LockedSeat, core: u8) -> u64 {
+        self.inner.look(rt, seat, core)
+    }
+
+    fn look_mark<R: Wait>(&self, rt: &R, seat: &mut LockedSeat, context: u32) -> u64 {
+        self.inner.look_mark(rt, seat, context)
+    }
+
+    fn claim<R: Wait>(
+        &self,
+        rt: &R,
+        seat: &mut LockedSeat,
+        core: u8,
+    ) -> Result<Claimed<LockedClaim>, AllocError> {
+        match self.alteration {
+            Alteration::IsFull if core > 0 => Ok(Claimed::Full(FULL)),
+            Alteration::RefusesMemory if self.inner.look(rt, seat, core) != 0 => Err(AllocError),
+            _ => self.inner.claim(rt, seat, core),
+        }
+    }
+
+    fn claim_alone<R: Wait>(
+        &self,
+        rt: &R,
+        seat: &mut LockedSeat,
+        core: u8,
+    ) -> Result<Claimed<LockedClaim>, AllocError> {
+        self.inner.claim_alone(rt, seat, core)
+    }
+
+    fn give_back<R: Wait>(
+        &self,
+        rt: &R,
+        seat: &mut LockedSeat,
+        claim: LockedClaim,
+    ) -> Result<(), LockedClaim> {
+        self.inner.give_back(rt, seat, claim)
+    }
+
+    fn post<R: Wait>(
+        &self,
+        rt: &R,
+        seat: &mut LockedSeat,
+        claim: LockedClaim,
+        value: T,
+    ) -> Result<ThreadId, (LockedClaim, T)> {
+        self.inner.post(rt, seat, claim, value)
+    }
+
+    fn take<R: Wait>(
+        &self,
+        rt: &R,
+        seat: &mut LockedSeat,
+        core: u8,
+        index: u8,
+    ) -> Taken<T, LockedHold> {
+        self.inner.take(rt, seat, core, index)
+    }
+
+    fn put_back<R: Wait>(
+        &self,
+        rt: &R,
+        seat: &mut LockedSeat,
+        held: Held<T, LockedHold>,
+        rest: Rest,
+    ) -> Result<Rested, Held<T, LockedHold>>
+        ensures seat { Unit {0} }
+        ensures weight { seat.new.weight ≡ seat.old.weight }
+        ensures handed_back { IfErr result (λ back. back ≡ held) }
+    {
+        self.inner.put_back(rt, seat, held, rest)
+    }
+
+    fn finish<R: Wait>(
+        &self,
+        rt: &R,
+        seat: &mut LockedSeat,
+        held: Held<T, LockedHold>,
+    ) -> Result<T, Held<T, LockedHold>>
+        ensures seat { Unit {0} }
+        ensures weight { seat.new.weight ≡ seat.old.weight }
+        ensures value { IfOk result (λ value. value ≡ held.value) }
+        ensures handed_back { IfErr result (λ back. back ≡ held) }
+    {
+        match self.alteration {
+            Alteration::HandsBack => Err(held),
+            _ => self.inner.finish(rt, seat, held),
+        }
+    }
+
+    fn wake<R: Wait>(&self, rt: &R, seat: &mut LockedSeat, id: ThreadId) -> Woken {
+        self.inner.wake(rt, seat, id)
+    }
+
+    fn close_core<R: Wait>(&self, rt: &R, seat: &mut LockedSeat, core: u8) -> u64 {
+        self.inner.close_core(rt, seat, core)
+    }
+
+    fn open_core<R: Wait>(&self, rt: &R, seat: &mut LockedSeat, core: u8) -> u64 {
+        self.inner.open_core(rt, seat, core)
+    }
+
+    fn is_drained<R: Wait>(&self, rt: &R, seat: &mut LockedSeat, core: u8) -> bool {
+        self.inner.is_drained(rt, seat, core)
+    }
+
+    fn move_one<R: Wait>(&self, rt: &R, seat: &mut LockedSeat, place: Place, to: u8) -> Moved {
+        self.inner.move_one(rt, seat, place, to)
+    }
+
+    fn close<R: Wait>(
+        self,
+        rt: &R,
+        alloc: Global,
+        seat: LockedSeat,
+    ) -> Result<Vec<(ThreadId, T)>, (Altered<T>, LockedSeat)> {
+        let Altered { inner, alteration } = self;
+        match inner.close(rt, alloc, seat) {
+            Ok(rest) => Ok(rest),
+            Err((inner, seat)) => Err((Altered { inner, alteration }, seat)),
+        }
+    }
+
+    ghost nothing_out = { λ table seat idle. tt };
+
+    ghost is_idle = { λ table seat none. tt };
+
+    ghost swapped = { λ table seat first second outs has. tt };
+}
