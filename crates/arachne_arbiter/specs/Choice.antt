@@ -1,12 +1,17 @@
 -- The core that a new thread is offered first.
-use Rattle.std.specs.Prelude.{ℕ, zero, suc, List, [], ◌∷◌, ◌++◌, Bool, not, ◌||◌, if◌then◌else◌, slice_index_or, Option, Some, None}
+use Rattle.std.specs.Prelude.{◌≡◌, ℕ, zero, suc, List, [], ◌∷◌, ◌++◌, Bool, false, not, ◌||◌, if◌then◌else◌, slice_index_or, Option, Some, None}
 use Rattle.arachne_core.specs.Occupancy.{Occupancy, count_of, vacant}
+use Rattle.arachne_contexts.specs.Words.{HasNoPlace}
 use Rattle.arachne_policy.specs.declared.choices.CoreLoad.{CoreLoad}
 use Rattle.arachne_policy.specs.Choice.{chosen_core}
 
 -- the core is open, and no thread has it alone
 abbrev pub is_candidate_at : Occupancy → Bool
 is_candidate_at occupancy = not (occupancy.closed || occupancy.exclusive)
+
+-- the core is open, and has a place for a thread that shares it
+abbrev pub HasPlace : Occupancy → Type 0
+HasPlace occupancy = (occupancy.closed ≡ false) × (HasNoPlace occupancy → ⊥)
 
 -- a core with its number of threads, if it is a candidate
 abbrev pub load_of : ℕ → Occupancy → List CoreLoad

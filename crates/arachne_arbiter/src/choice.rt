@@ -1,6 +1,6 @@
 //! The core that a new thread is offered first.
-ghost use Rattle.std.specs.Prelude.{◌≡◌, ◌<◌, ◌≤◌, length, IfSome};
-ghost use Rattle.arachne_arbiter.specs.Choice.{core_chosen, is_candidate_at, loads_of};
+ghost use Rattle.std.specs.Prelude.{◌≡◌, ◌<◌, ◌≤◌, ◌↔◌, length, IfSome, IsTrue};
+ghost use Rattle.arachne_arbiter.specs.Choice.{core_chosen, HasPlace, is_candidate_at, loads_of};
 
 use arachne_core::{CORES, OccWord};
 use arachne_policy::{CoreLoad, two_choices};
@@ -10,6 +10,13 @@ fn is_candidate(occupancy: OccWord) -> bool
     ensures { result ≡ is_candidate_at occupancy }
 {
     !occupancy.is_closed() && !occupancy.is_exclusive()
+}
+
+/// Whether the core has a place for a thread that shares it: it is open, no thread has it alone, and an index is free.
+pub fn has_place(occupancy: OccWord) -> bool
+    ensures { IsTrue result ↔ HasPlace occupancy }
+{
+    is_candidate(occupancy) && occupancy.lowest_free().is_some()
 }
 
 /// Of the cores whose occupancies these are, from core 0 on, the one that two random choices among the open cores that

@@ -4,7 +4,7 @@ ghost use Rattle.rand_core.specs.Stream.{next_u64};
 ghost use Rattle.arachne_contexts.specs.Out.{KeepsOut};
 ghost use Rattle.arachne_arbiter.specs.Placed.{GetsPlace, IsOnCore, IsOnSomeCore, IsAtStartOf, IsAtStartOfSome};
 
-use crate::choice::first_core;
+use crate::choice::{first_core, has_place};
 use crate::cores::Cores;
 use arachne_contexts::{Claimed, Contexts, Tagged};
 use arachne_core::{CORES, OccWord};
@@ -35,7 +35,7 @@ impl<'a, H: Wait, T: Tagged, C: Contexts<T>> Cores<'a, H, T, C> {
         };
         match self.claim_on(seat, first)? {
             Some(claim) => Ok(Some(claim)),
-            None => self.claim_on_another(seat, first),
+            None => self.claim_on_another(seat, first, &occupancies),
         }
     }
 
@@ -70,11 +70,12 @@ impl<'a, H: Wait, T: Tagged, C: Contexts<T>> Cores<'a, H, T, C> {
         occupancies
     }
 
-    /// A place on the first core but this one that has one.
+    /// A place on the first core but this one that has one. A core that was seen without a place is not asked.
     fn claim_on_another(
         &self,
         seat: &mut C::Seat,
         tried: u8,
+        occupancies: &[OccWord; CORES as usize],
     ) -> Result<Option<C::Claim>, AllocError>
         requires { C.sits self.now.table.now seat.old }
         ensures seat { C.sits self.now.table.now seat.new }
@@ -84,6 +85,7 @@ impl<'a, H: Wait, T: Tagged, C: Contexts<T>> Cores<'a, H, T, C> {
     {
         for core in 0..self.count {
             if core != tried
+                && has_place(occupancies[usize::from(core)])
                 && let Some(claim) = self.claim_on(seat, core)?
             {
                 return Ok(Some(claim));
