@@ -1,11 +1,8 @@
 -- The tasks that names lead to.
-use Rattle.std.proofs.Common.{◌≡◌, ℕ, List, [], ◌∷◌, ◌++◌, Option, None, Some, refl, ap, sym, ◌∙◌, Bool, true, false, rules, length, reverse, arith, length-append}
+use Rattle.std.proofs.Common.{◌≡◌, ℕ, List, [], ◌∷◌, ◌++◌, Option, None, Some, refl, ap, ◌∙◌, length, arith, length-append}
 use Rattle.std.proofs.lemmas.Option.{slice_get-get_or}
 use Rattle.std.proofs.Math.Seq.{get_or-append_seam}
-use lib.Pointwise.{pointwise}
-use Rattle.std.proofs.lemmas.List.{reverse-append, reverse-reverse}
-use Rattle.std.specs.Prelude.{option_and_then, option_map, slice_get, IsTrue, nat_eq}
-use Rattle.std.specs.Cmp.Lexicographic.{same_text, other_text}
+use Rattle.std.specs.Prelude.{option_and_then, option_map, slice_get}
 use Rattle.arachne_lang.specs.Effects.{Task, Child, task_effects, task_below}
 
 then_some : (o : Option Child) → option_and_then (λ child. Some child.task) o ≡ option_map (λ child. child.task) o
@@ -31,21 +28,6 @@ task_below-child arrays locks from (j ∷ name) k task h =
       | Some child ↦ λ e. task_below-child arrays locks child.task name k task e
     ] h
 
--- what two lists with a last item each have in common
-pub same_parts : (xs ys : List ℕ) (x y : ℕ) → xs ++ x ∷ [] ≡ ys ++ y ∷ [] → (xs ≡ ys) × (x ≡ y)
-same_parts xs ys x y e =
-    let r : x ∷ reverse xs ≡ y ∷ reverse ys = sym (reverse-append xs (x ∷ [])) ∙ ap reverse e ∙ reverse-append ys (y ∷ []) in
-    let t : reverse xs ≡ reverse ys = cc in
-    (sym (reverse-reverse xs) ∙ ap reverse t ∙ reverse-reverse ys, cc)
-
 pub slice_get-seam : (xs : List Child) (y : Child) (ys : List Child) → slice_get (xs ++ y ∷ ys) (length xs) ≡ Some y
 slice_get-seam xs y ys =
     slice_get-get_or (xs ++ y ∷ ys) (length xs) y (omega (arith, length-append xs (y ∷ ys))) ∙ ap (λ t. Some t) (get_or-append_seam xs y ys y)
-
--- what the comparison of a name with a parent's and a number says
-pub decides_child : (r : Bool) (name others parent : List ℕ) (last number : ℕ) → name ≡ others ++ last ∷ [] → last ≡ number → r ≡ pointwise nat_eq others parent →
-    (IsTrue r → name ≡ parent ++ number ∷ []) × (name ≡ parent ++ number ∷ [] → IsTrue r)
-decides_child true name others parent last number e l h =
-    (λ t. e ∙ ap (λ xs. xs ++ last ∷ []) (same_text others parent h) ∙ ap (λ k. parent ++ k ∷ []) l, λ q. search rules)
-decides_child false name others parent last number e l h =
-    (λ t. absurd (search rules), λ q. absurd (other_text others parent h (same_parts others parent last number (sym e ∙ q)).0))

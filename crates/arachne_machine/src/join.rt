@@ -1,5 +1,3 @@
-ghost use Rattle.std.specs.Prelude.{◌≡◌, ◌∷◌, [], ◌++◌, ◌↔◌, IsTrue};
-
 use crate::branch::{Branch, reserve_branch};
 use crate::frame::{Control, Frame};
 use crate::outcome::Outcome;
@@ -22,7 +20,7 @@ impl<'p> State<'p> {
     {
         match self.control {
             Control::Awaits { number, .. } | Control::AwaitsHalf { number, .. } => {
-                is_child(self.own.name.forks(), number, name.forks())
+                name.is_child_of(&self.own.name, number)
             }
             _ => unreachable!(),
         }
@@ -103,15 +101,5 @@ impl<'p> State<'p> {
         add_each(&mut self.sums, &sums);
         self.below.push_reserved(Branch { own, below });
         value
-    }
-}
-
-/// Whether a name is that of the child of this number.
-fn is_child(parent: &[u64], number: u64, name: &[u64]) -> bool
-    ensures { IsTrue result ↔ (name.now ≡ parent.now ++ number ∷ []) }
-{
-    match name.split_last() {
-        Some((last, others)) => *last == number && others == parent,
-        None => false,
     }
 }
