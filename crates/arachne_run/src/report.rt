@@ -1,5 +1,5 @@
 //! What a run brings.
-ghost use Rattle.std.specs.Prelude.{◌≡◌, [], All, IfOk, length};
+ghost use Rattle.std.specs.Prelude.{◌≡◌, [], All, IfOk, length, map};
 ghost use Rattle.arachne_lang.specs.Program.{source_of};
 ghost use Rattle.arachne_lang.specs.Meaning.{meaning_of};
 ghost use Rattle.arachne_run.specs.Distinct.{AreDistinct};
@@ -12,7 +12,7 @@ use crate::machine::Remains;
 use arachne_lang::Sequence;
 use arachne_machine::{Outcome, ThreadLine};
 use arachne_sleep::LockEvent;
-use std::alloc::Global;
+use std::alloc::{AllocError, Global};
 
 /// What a run brings.
 #[derive(Debug, Drop)]
@@ -52,7 +52,7 @@ impl Report {
             return Err(RunFault::Ledgers);
         }
         let lines = parts.lines.as_slice();
-        let tags: Vec<u64> = lines.iter().map(|line| line.tag).collect(alloc)?;
+        let tags = tags_in(alloc, lines)?;
         let Some(marks) = marks_of(alloc, tags.as_slice())? else {
             return Err(RunFault::Threads);
         };
@@ -67,4 +67,11 @@ impl Report {
             applied,
         })
     }
+}
+
+/// The tags of these lines, in their order.
+fn tags_in(alloc: Global, lines: &[ThreadLine]) -> Result<Vec<u64>, AllocError>
+    ensures { IfOk result (λ tags. tags.items ≡ map (λ line. line.tag) lines.now) }
+{
+    lines.iter().map(|line| line.tag).collect(alloc)
 }
