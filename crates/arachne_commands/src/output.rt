@@ -93,7 +93,7 @@ fn write_thread<T: PrintedThread>(text: &mut String, thread: &T) -> Result<(), A
     ensures { OnOk result (string_bytes text.new ≡ string_bytes text.old ++ thread_line (T.shown thread.now)) }
 {
     text.push_str("thread ")?;
-    write_name(text, thread.name().forks())?;
+    write_name(text, thread.name())?;
     for hold in thread.holds() {
         write!(text, " {hold}")?;
     }
@@ -102,13 +102,14 @@ fn write_thread<T: PrintedThread>(text: &mut String, thread: &T) -> Result<(), A
 }
 
 /// Writes a thread's name.
-fn write_name(text: &mut String, forks: &[u64]) -> Result<(), AllocError>
-    ensures { OnOk result (string_bytes text.new ≡ string_bytes text.old ++ name_text forks.now) }
+fn write_name(text: &mut String, name: &Name) -> Result<(), AllocError>
+    ensures { OnOk result (string_bytes text.new ≡ string_bytes text.old ++ name_text name.now) }
 {
-    if forks.is_empty() {
+    if name.len() == 0 {
         text.push_str("/")?;
     }
-    for fork in forks {
+    for k in 0..name.len() {
+        let fork = name.number(k);
         write!(text, "/{fork}")?;
     }
     Ok(())
