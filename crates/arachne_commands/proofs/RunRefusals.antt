@@ -1,5 +1,5 @@
 -- Why a run is refused, by the choosers that it is given.
-use Rattle.std.proofs.Common.{◌≡◌, ◌≤◌, ℕ, Bool, true, false, ⊥, Option, None, Some, Result, Ok, Err, refl, ap, ◌∙◌, inl, length}
+use Rattle.std.proofs.Common.{◌≡◌, ◌≤◌, ℕ, Bool, true, false, Option, None, Some, Result, Ok, Err, refl, ap, ◌∙◌, inl, length}
 use Rattle.std.specs.Prelude.{◌&&◌, nat_le, IfErr}
 use Rattle.std.proofs.lemmas.Bool.{leb-true}
 use Rattle.std.proofs.lemmas.List.FromFn.{length-map-range_with_len}
