@@ -4,7 +4,7 @@ ghost use Rattle.arachne_lang.specs.Program.{source_of};
 ghost use Rattle.arachne_machine.specs.declared.pause.Pending.TheVariants as pause;
 ghost use Rattle.arachne_machine.specs.Nested.{Nested, IsChildOf, SameWhole, pending_in, whole};
 
-use arachne_lang::{Class, Program, TextFault, parse};
+use arachne_lang::{Class, Name, Program, TextFault, parse};
 use arachne_machine::{
     NotJoined, Outcome, OutcomeParts, Pause, Pending, Thread, ThreadLine, run_alone,
 };
@@ -154,10 +154,19 @@ fn parts(outcome: Outcome) -> Result<OutcomeParts, Fail> {
     }
 }
 
+/// The numbers of a name.
+fn numbers(alloc: Global, name: &Name) -> Result<Vec<u64>, Fail> {
+    let mut numbers = Vec::new(alloc);
+    for k in 0..name.len() {
+        numbers.push(name.number(k))?;
+    }
+    Ok(numbers)
+}
+
 /// A thread's name, its tag, whether it ran in place, and its holds.
 fn told_line(alloc: Global, line: &ThreadLine) -> Result<String, Fail> {
     let mark = if line.in_place { "+" } else { "-" };
-    let (name, holds) = (line.name.forks(), line.holds.as_slice());
+    let (name, holds) = (numbers(alloc, &line.name)?, line.holds.as_slice());
     Ok(format!(in alloc; " {name:?}{}{mark}{holds:?}", line.tag)?)
 }
 
@@ -407,7 +416,7 @@ fn refused_calls_go_on(rt: HostRuntime) -> Result<(), Fail> {
     let program = read(rt.alloc(), text)?;
     let outcome = root_outcome(rt.alloc(), &program, 0)?;
     assert!(rt; outcome.value() == 5 && outcome.program().locks == 1);
-    assert!(rt; outcome.name().forks().is_empty());
+    assert!(rt; outcome.name().len() == 0);
     Ok(())
 }
 

@@ -60,8 +60,8 @@ fn many_threads_have_a_line_each(rt: HostRuntime) -> Result<(), Fail> {
     for line in lines {
         assert_eq!(rt; line.holds.as_slice(), [1].as_slice());
     }
-    assert!(rt; lines[0].name.forks().is_empty());
-    assert_eq!(rt; lines[900].name.forks(), [0; 9].as_slice());
+    assert!(rt; lines[0].name.len() == 0);
+    assert!(rt; lines[900].name == name_of(alloc, &[0; 9])?);
     Ok(())
 }
 
@@ -218,7 +218,19 @@ fn name_of(alloc: Global, forks: &[u64]) -> Result<Name, AllocError> {
 }
 
 /// No two of these are the same.
-const NUMBERS: &[&[u64]] = &[&[], &[3], &[4], &[3, 0], &[1, 2], &[2, 1]];
+const NUMBERS: &[&[u64]] = &[
+    &[],
+    &[3],
+    &[4],
+    &[3, 0],
+    &[1, 2],
+    &[2, 1],
+    &[255],
+    &[256],
+    &[3; 29],
+    &[3; 30],
+    &[3; 31],
+];
 
 /// Whether the names of these numbers are the same, and whether their sequences are.
 fn compared(alloc: Global, some: &[u64], others: &[u64]) -> Result<(bool, bool), Fail> {
@@ -230,11 +242,30 @@ fn compared(alloc: Global, some: &[u64], others: &[u64]) -> Result<(bool, bool),
 #[test]
 fn names_and_sequences_are_compared(rt: HostRuntime) -> Result<(), Fail> {
     for &some in NUMBERS {
-        assert_eq!(rt; name_of(rt.alloc(), some)?.forks(), some);
+        let name = name_of(rt.alloc(), some)?;
+        assert_eq!(rt; name.len(), some.len());
+        for k in 0..name.len() {
+            assert_eq!(rt; Some(&name.number(k)), some.get(k));
+        }
         for &others in NUMBERS {
             let is_same = some == others;
             let compared = compared(rt.alloc(), some, others)?;
             assert_eq!(rt; compared, (is_same, is_same), "{some:?} {others:?}");
+        }
+    }
+    Ok(())
+}
+
+/// A parent of 30 numbers has a child that is longer than what stands inline, and 256 is no byte.
+#[test]
+fn children_are_known_by_their_names(rt: HostRuntime) -> Result<(), Fail> {
+    for &numbers in NUMBERS {
+        let parent = name_of(rt.alloc(), numbers)?;
+        for number in [0, 255, 256] {
+            let child = parent.child(rt.alloc(), number)?;
+            assert!(rt; child.is_child_of(&parent, number) && !parent.is_child_of(&child, number));
+            assert!(rt; !child.is_child_of(&parent, number + 256));
+            assert!(rt; !child.is_child_of(&child, number) && child != parent);
         }
     }
     Ok(())
