@@ -1,11 +1,12 @@
 -- Why a run is refused, by the choosers that it is given.
-use Rattle.std.proofs.Common.{◌≡◌, ◌≤◌, ℕ, Bool, true, false, Option, None, Some, Result, Ok, Err, refl, ap, ◌∙◌, inl, length}
+use Rattle.std.proofs.Common.{◌≡◌, ◌≤◌, ℕ, Bool, true, false, List, Option, None, Some, Result, Ok, Err, refl, sym, ap, ◌∙◌, inl, length}
 use Rattle.std.specs.Prelude.{◌&&◌, nat_le, IfErr}
 use Rattle.std.proofs.lemmas.Bool.{leb-true}
 use Rattle.std.proofs.lemmas.List.FromFn.{length-map-range_with_len}
 use Rattle.arachne_core.specs.declared.layout.TheConstants.{CORES}
 use Rattle.arachne_run.specs.declared.fault.RunFault.{RunFault}
 use Rattle.arachne_run.specs.declared.report.Report.{Report}
+use Rattle.arachne_policy.specs.declared.orders.CoreOrder.{CoreOrder}
 use Rattle.arachne_policy.specs.Orders.{AreInOrder}
 use Rattle.arachne_run.specs.Setups.{IsFirstOrderFault, is_within, refusal_of}
 use Rattle.arachne_commands.specs.declared.command_line.RunSettings.{RunSettings}
@@ -28,14 +29,15 @@ same_refusal cores quantum served same = by_most (nat_le cores CORES) refl
         let over : is_within 1 CORES cores ≡ false = rw (m) (and_false (nat_le 1 cores)) in
         rw (over) refl
 
-pub refused_by_run : (settings : RunSettings) (served : ℕ) (result : Result Report RunFault)
+pub refused_by_run : (settings : RunSettings) (served : ℕ) (orders : List CoreOrder) (result : Result Report RunFault)
     → (settings.cores ≤ CORES → served ≡ settings.cores)
+    → orders ≡ settings.orders
     → ((fault : RunFault) → refusal_of settings.cores settings.quantum served ≡ Some fault → result ≡ Err fault)
-    → (refusal_of settings.cores settings.quantum served ≡ None → (AreInOrder settings.cores settings.orders → ⊥) → IfErr result (IsFirstOrderFault settings.cores settings.orders))
+    → (refusal_of settings.cores settings.quantum served ≡ None → (AreInOrder settings.cores orders → ⊥) → IfErr result (IsFirstOrderFault settings.cores orders))
     → IfErr result (IsRefusal settings)
-refused_by_run settings served (Ok report) serves refused misordered = tt
-refused_by_run settings served (Err fault) serves refused misordered = record {
+refused_by_run settings served orders (Ok report) serves same refused misordered = tt
+refused_by_run settings served orders (Err fault) serves same refused misordered = record {
     of_settings = λ first is.
-        let same = refused first (same_refusal settings.cores settings.quantum served serves ∙ is) in
+        let found = refused first (same_refusal settings.cores settings.quantum served serves ∙ is) in
         inl (cc);
-    of_orders = λ none out. inl (misordered (same_refusal settings.cores settings.quantum served serves ∙ none) out) }
+    of_orders = λ none out. inl (rw (sym same) (misordered (same_refusal settings.cores settings.quantum served serves ∙ none) (λ ordered. out (rw (sym same) ordered)))) }
