@@ -19,4 +19,4 @@ pub job_send : (κ : NamedLft) → IsSend (job.the_row κ)
 job_send κ = search (sendable, std.crosses, thread_field_send, sender_send, receiver_send, outcome_send, id.the_field_send) depth 30
 
 pub spares_send : (κ : NamedLft) → IsSend (spares.the_row κ)
-spares_send κ = search (sendable, std.crosses, spares_field_send, unused_send, outcome_send) depth 30
+spares_send κ = search (sendable, std.crosses, spares_field_send, unused_send, receiver_send, outcome_send) depth 30

@@ -135,9 +135,10 @@ impl<'p> RunJob for Job<'p> {
         let Job {
             thread,
             end,
-            awaited: _,
+            awaited,
             parent,
         } = self;
+        spares.keep_awaited(awaited);
         end.leave(thread.finish_into(&mut spares.threads));
         parent
     }
@@ -173,7 +174,7 @@ impl<'p> Job<'p> {
         let job = Job {
             thread,
             end,
-            awaited: Vec::new(alloc),
+            awaited: spares.take_awaited(alloc),
             parent,
         };
         Ok((job, receiver))
