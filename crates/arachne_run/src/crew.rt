@@ -173,7 +173,7 @@ fn work_from_root<H: Wait, T: RunJob, C: Contexts<T>, R: Rng + Drop, G: Gate>(
         machine.shared.fail(rt, RunFault::Choosers);
         return None;
     };
-    let mut kit = Kit::new(tokens, chooser, T::spares(alloc));
+    let mut kit = Kit::new(alloc, tokens, chooser, T::spares(alloc));
     let worker: Worker<'_, H, T, C, R, G> = Worker {
         rt,
         alloc,
@@ -205,7 +205,7 @@ fn work_on<H: Wait, T: RunJob, C: Contexts<T>, R: Rng + Drop, G: Gate>(
     requires core { core < machine.now.cores }
     ensures { IfSome result (AreIdle C.sits C.idle machine.now) }
 {
-    let mut kit = Kit::new(tokens, chooser, T::spares(alloc));
+    let mut kit = Kit::new(alloc, tokens, chooser, T::spares(alloc));
     let worker: Worker<'_, H, T, C, R, G> = Worker {
         rt,
         alloc,

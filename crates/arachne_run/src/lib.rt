@@ -3,6 +3,7 @@
 
 mod audit;
 mod crew;
+mod deferred;
 mod fault;
 mod gate;
 mod idle;

@@ -4,6 +4,7 @@ ghost use Rattle.arachne_contexts.specs.Out.{KeepsOut, Claim as a_claim};
 ghost use Rattle.arachne_run.specs.Slices.{MayRest};
 ghost use Rattle.arachne_run.specs.Tokens.{AreIdle, AreOf, AreWith, thread_in};
 
+use crate::deferred::Post;
 use crate::fault::RunFault;
 use crate::gate::Gate;
 use crate::readiness::bit_of;
@@ -102,8 +103,14 @@ impl<'a, H: Wait, T: RunJob, C: Contexts<T>, R: Rng, G: Gate> Worker<'a, H, T, C
         let place = claim.place();
         let table = &self.machine.table;
         match table.post(self.rt, &mut kit.tokens.seat, claim, job) {
-            Ok(_) => {
-                self.hint(kit, place);
+            Ok(id) => {
+                self.defer(
+                    kit,
+                    Post {
+                        context: id.context,
+                        place,
+                    },
+                );
                 Ok(())
             }
             Err(_) => Err(RunFault::Token),

@@ -1,9 +1,10 @@
 //! Threads that a worker wakes, and how their core's workers learn of them.
-ghost use Rattle.std.specs.Prelude.{◌≡◌, ◌<◌, IfSome};
+ghost use Rattle.std.specs.Prelude.{◌≡◌, ◌<◌, [], None, IfSome};
 ghost use Rattle.arachne_contexts.specs.Out.{KeepsOut};
 ghost use Rattle.arachne_core.specs.declared.layout.TheConstants.{SLOTS as slots};
 ghost use Rattle.arachne_run.specs.Tokens.{AreOf};
 
+use crate::deferred::{MOST, Post};
 use crate::gate::Gate;
 use crate::readiness::bit_of;
 use crate::slice::RunJob;
@@ -60,7 +61,11 @@ impl<'a, H: Wait, T: RunJob, C: Contexts<T>, R: Rng, G: Gate> Worker<'a, H, T, C
         {
             place = here;
         }
-        self.hint(kit, place);
+        if cause == Cause::HoldsLock && place.core == self.core && kit.next.is_none() {
+            kit.next = Some(place.index);
+        } else {
+            self.hint(kit, place);
+        }
     }
 
     /// Where a context is. If its thread is moved meanwhile, the arbiter says so of its new core.
@@ -94,9 +99,75 @@ impl<'a, H: Wait, T: RunJob, C: Contexts<T>, R: Rng, G: Gate> Worker<'a, H, T, C
         matches!(moved, Moved::Moved)
     }
 
+    /// A thread was posted. The worker of its core is told of it later, unless it is taken back until then.
+    pub(crate) fn defer(&self, kit: &mut Kit<C::Seat, R, T::Spares>, post: Post)
+        ensures { kit.new.tokens ≡ kit.old.tokens }
+    {
+        if post.place.core == self.core {
+            self.hint(kit, post.place);
+        } else if let Some(oldest) = kit.deferred.keep(post) {
+            self.hint(kit, oldest.place);
+        }
+    }
+
+    /// Tells of all that was kept back.
+    pub(crate) fn tell(&self, kit: &mut Kit<C::Seat, R, T::Spares>)
+        ensures tokens { kit.new.tokens ≡ kit.old.tokens }
+        ensures all { kit.new.deferred ≡ [] }
+    {
+        while let Some(post) = kit.deferred.take_newest() {
+            self.hint(kit, post.place);
+        }
+    }
+
+    /// The index of the core at which a thread is to go on next: one that holds a lock now, or the newest that the worker has
+    /// posted and not told of. Those that can't be taken back are told of.
+    pub(crate) fn next(&self, kit: &mut Kit<C::Seat, R, T::Spares>) -> Option<u8>
+        requires { AreOf C.sits self.now.machine.now kit.old.tokens }
+        ensures tokens { AreOf C.sits self.now.machine.now kit.new.tokens }
+        ensures out { KeepsOut (C.has self.now.machine.now.table) kit.old.tokens.seat kit.new.tokens.seat }
+        ensures index { IfSome result (λ index. index < slots) }
+        ensures all { result ≡ None → kit.new.deferred ≡ [] }
+    {
+        if let Some(index) = kit.next.take()
+            && index < SLOTS
+        {
+            return Some(index);
+        }
+        for _ in 0..MOST {
+            let post = kit.deferred.take_newest()?;
+            if let Some(index) = self.take_back(kit, post) {
+                return Some(index);
+            }
+            self.hint(kit, post.place);
+        }
+        self.tell(kit);
+        None
+    }
+
+    /// Moves a thread that was posted to this core, if it is at rest and there is room. Its index then.
+    fn take_back(&self, kit: &mut Kit<C::Seat, R, T::Spares>, post: Post) -> Option<u8>
+        requires { AreOf C.sits self.now.machine.now kit.old.tokens }
+        ensures tokens { AreOf C.sits self.now.machine.now kit.new.tokens }
+        ensures out { KeepsOut (C.has self.now.machine.now.table) kit.old.tokens.seat kit.new.tokens.seat }
+        ensures index { IfSome result (λ index. index < slots) }
+    {
+        let place = self.place_of(kit, post.context)?;
+        if !self.pull(kit, place) {
+            return None;
+        }
+        let here = self.place_of(kit, post.context)?;
+        if here.core == self.core {
+            Some(here.index)
+        } else {
+            None
+        }
+    }
+
     /// Says that a thread may be ready at a place: to the worker of its core, or to itself.
     pub(crate) fn hint(&self, kit: &mut Kit<C::Seat, R, T::Spares>, place: Place)
-        ensures { kit.new.tokens ≡ kit.old.tokens }
+        ensures tokens { kit.new.tokens ≡ kit.old.tokens }
+        ensures deferred { kit.new.deferred ≡ kit.old.deferred }
     {
         if place.core == self.core {
             kit.ready |= bit_of(place.index);

@@ -6,6 +6,7 @@ ghost use Rattle.arachne_contexts.specs.Out.{KeepsOut};
 ghost use Rattle.arachne_run.specs.Slices.{MayRest};
 ghost use Rattle.arachne_run.specs.Tokens.{AreIdle, AreOf, AreWith, IsSetUp, thread_in};
 
+use crate::deferred::Deferred;
 use crate::fault::RunFault;
 use crate::gate::Gate;
 use crate::idle::{Idle, LONG_SLEEP, SHORT_SLEEP};
@@ -22,6 +23,12 @@ use std::alloc::Global;
 use std::marker::PhantomData;
 use std::sync::Wait;
 
+/// How many threads in turn may go on next before others do.
+const MOST_IN_TURN: u32 = 64;
+
+/// How many steps more a thread makes in its slice once the next holder of a lock that it freed is to go on here.
+const STEPS_PAST_FREE: u32 = 50;
+
 /// What a worker alone has.
 #[derive(Drop)]
 pub(crate) struct Kit<S, R, P> {
@@ -32,13 +39,17 @@ pub(crate) struct Kit<S, R, P> {
     pub(crate) slices: u64,
     /// The indexes of its core at which it knows of a thread that may be ready, a bit for each.
     pub(crate) ready: u64,
+    /// The index of its core at which a thread is to go on before all others.
+    pub(crate) next: Option<u8>,
+    /// What it has posted and not told of.
+    pub(crate) deferred: Deferred,
     /// What it keeps of ended threads for those that begin.
     pub(crate) spares: P,
 }
 
 impl<S, R, P> Kit<S, R, P> {
     /// What a worker begins with.
-    pub(crate) fn new(tokens: Tokens<S>, chooser: R, spares: P) -> Kit<S, R, P>
+    pub(crate) fn new(alloc: Global, tokens: Tokens<S>, chooser: R, spares: P) -> Kit<S, R, P>
         ensures { result.tokens ≡ tokens }
     {
         Kit {
@@ -46,6 +57,8 @@ impl<S, R, P> Kit<S, R, P> {
             chooser,
             slices: 0,
             ready: 0,
+            next: None,
+            deferred: Deferred::new(alloc),
             spares,
         }
     }
@@ -121,7 +134,11 @@ impl<'a, H: Wait, T: RunJob, C: Contexts<T>, R: Rng, G: Gate> Worker<'a, H, T, C
         ensures { OnOk result (AreIdle C.sits C.idle self.now.machine.now kit.new.tokens) }
     {
         let occupied = self.look(kit);
-        Ok(self.run_each(kit, occupied)? || self.park(kit))
+        if self.run_each(kit, occupied)? {
+            return Ok(true);
+        }
+        self.tell(kit);
+        Ok(self.park(kit))
     }
 
     /// Runs each thread that is ready at one of these indexes of the core, for a turn, unless all workers stop. Whether
@@ -138,12 +155,34 @@ impl<'a, H: Wait, T: RunJob, C: Contexts<T>, R: Rng, G: Gate> Worker<'a, H, T, C
                 break;
             }
             indexes ^= 1 << u32::from(index);
+            if self.run_at(kit, index)? {
+                found = true;
+            }
+        }
+        Ok(found)
+    }
+
+    /// Runs the thread at an index of the core for a turn, if it is ready, and then each that is to go on next. Whether there
+    /// was one that was ready.
+    fn run_at(&self, kit: &mut Kit<C::Seat, R, T::Spares>, index: u8) -> Result<bool, RunFault>
+        requires tokens { AreIdle C.sits C.idle self.now.machine.now kit.old.tokens }
+        requires index { index < SLOTS }
+        ensures { OnOk result (AreIdle C.sits C.idle self.now.machine.now kit.new.tokens) }
+    {
+        let mut index = index;
+        let mut found = false;
+        for _ in 0..MOST_IN_TURN {
             self.tend(kit);
             if let Some(held) = self.take(kit, index) {
                 found = true;
                 self.turn(kit, held)?;
             }
+            match self.next(kit) {
+                Some(next) => index = next,
+                None => return Ok(found),
+            }
         }
+        kit.ready |= bit_of(index);
         Ok(found)
     }
 
@@ -201,9 +240,38 @@ impl<'a, H: Wait, T: RunJob, C: Contexts<T>, R: Rng, G: Gate> Worker<'a, H, T, C
     {
         self.gate.slice(self.core, kit.slices);
         kit.slices = kit.slices.saturating_add(1);
+        kit.deferred.begin();
         let mut left = self.machine.quantum;
         while left > 0 {
-            match held.value.slice(&mut left, &mut kit.spares)? {
+            let most = left.min(kit.deferred.most_steps());
+            let mut steps = most;
+            let rest = self.stretch(kit, held, &mut steps)?;
+            if kit.deferred.spend(most.saturating_sub(steps)) {
+                self.tell(kit);
+            }
+            match rest {
+                Some(Rest::Ready) if kit.next.is_none() => left -= most,
+                rest => return Ok(rest),
+            }
+        }
+        Ok(Some(Rest::Ready))
+    }
+
+    /// A part of a slice: the thread goes on for at most as many steps as are left, and for few more once it has freed a lock
+    /// whose next holder is to go on here.
+    fn stretch(
+        &self,
+        kit: &mut Kit<C::Seat, R, T::Spares>,
+        held: &mut Held<T, C::Hold>,
+        left: &mut u32,
+    ) -> Result<Option<Rest>, RunFault>
+        requires tokens { AreWith C.sits C.has self.now.machine.now (thread_in T.tag_of held.old ∷ []) kit.old.tokens }
+        requires some { 1 ≤ left.old }
+        ensures tokens { OnOk result (AreWith C.sits C.has self.now.machine.now (thread_in T.tag_of held.new ∷ []) kit.new.tokens) }
+        ensures rest { IfOk result (λ rest. MatchOption rest (T.pause_of held.new.value ≡ Some pause.Ended) (λ rest. MayRest rest (T.pause_of held.new.value))) }
+    {
+        while *left > 0 {
+            match held.value.slice(left, &mut kit.spares)? {
                 Slice::Goes => {}
                 Slice::Forks(class, child) => self.fork(kit, held, class, child)?,
                 Slice::Blocks => return Ok(Some(Rest::Blocked)),
@@ -217,9 +285,14 @@ impl<'a, H: Wait, T: RunJob, C: Contexts<T>, R: Rng, G: Gate> Worker<'a, H, T, C
                         return Ok(Some(Rest::Blocked));
                     }
                     // The look counts as a step.
-                    left -= 1;
+                    *left -= 1;
                 }
-                Slice::Frees(lock) => self.free(kit, held, lock)?,
+                Slice::Frees(lock) => {
+                    self.free(kit, held, lock)?;
+                    if kit.next.is_some() {
+                        *left = (*left).min(STEPS_PAST_FREE);
+                    }
+                }
                 Slice::Tallies(ledger, amount) => self.tally(kit, held, ledger, amount)?,
                 Slice::Ends => return Ok(None),
             }
