@@ -26,6 +26,9 @@ use std::sync::Wait;
 /// How many threads in turn may go on next before others do.
 const MOST_IN_TURN: u32 = 64;
 
+/// How many steps more a thread makes in its slice once the next holder of a lock that it freed is to go on here.
+const STEPS_PAST_FREE: u32 = 50;
+
 /// What a worker alone has.
 #[derive(Drop)]
 pub(crate) struct Kit<S, R, P> {
@@ -254,8 +257,8 @@ impl<'a, H: Wait, T: RunJob, C: Contexts<T>, R: Rng, G: Gate> Worker<'a, H, T, C
         Ok(Some(Rest::Ready))
     }
 
-    /// A part of a slice: the thread goes on for at most as many steps as are left, and not past the free of a lock whose next
-    /// holder is to go on here.
+    /// A part of a slice: the thread goes on for at most as many steps as are left, and for few more once it has freed a lock
+    /// whose next holder is to go on here.
     fn stretch(
         &self,
         kit: &mut Kit<C::Seat, R, T::Spares>,
@@ -287,7 +290,7 @@ impl<'a, H: Wait, T: RunJob, C: Contexts<T>, R: Rng, G: Gate> Worker<'a, H, T, C
                 Slice::Frees(lock) => {
                     self.free(kit, held, lock)?;
                     if kit.next.is_some() {
-                        return Ok(Some(Rest::Ready));
+                        *left = (*left).min(STEPS_PAST_FREE);
                     }
                 }
                 Slice::Tallies(ledger, amount) => self.tally(kit, held, ledger, amount)?,
