@@ -42,16 +42,11 @@ fn run_five_times<R: Abort + Threads + Wait + Sync>(
 
 #[test]
 fn many_threads_end_by_short_slices(rt: HostRuntime) -> Result<(), Fail> {
-    run_five_times(&rt, rt.alloc(), 10, 0)
-}
-
-#[test]
-fn many_threads_end_by_the_usual_slices(rt: HostRuntime) -> Result<(), Fail> {
     run_five_times(&rt, rt.alloc(), 100, 0)
 }
 
 #[test]
-fn many_threads_end_by_the_usual_slices_again(rt: HostRuntime) -> Result<(), Fail> {
+fn many_threads_end_by_short_slices_again(rt: HostRuntime) -> Result<(), Fail> {
     run_five_times(&rt, rt.alloc(), 100, 1)
 }
 
@@ -61,11 +56,16 @@ fn many_threads_end_by_longer_slices(rt: HostRuntime) -> Result<(), Fail> {
 }
 
 #[test]
+fn many_threads_end_by_longer_slices_again(rt: HostRuntime) -> Result<(), Fail> {
+    run_five_times(&rt, rt.alloc(), 1_000, 1)
+}
+
+#[test]
 fn many_threads_end_by_the_longest_slices(rt: HostRuntime) -> Result<(), Fail> {
     run_five_times(&rt, rt.alloc(), 10_000, 0)
 }
 
 #[test]
-fn many_threads_end_by_single_steps(rt: HostRuntime) -> Result<(), Fail> {
-    run_five_times(&rt, rt.alloc(), 1, 0)
+fn many_threads_end_by_the_longest_slices_again(rt: HostRuntime) -> Result<(), Fail> {
+    run_five_times(&rt, rt.alloc(), 10_000, 1)
 }
