@@ -1,6 +1,7 @@
 //! Programs, and what every run of them reports.
 use super::{FORMS, MACHINES, Trial, report, text_of};
 use crate::choosers::Draws;
+use arachne_lang::Name;
 use arachne_run::{OpenGate, Report};
 use std::alloc::Global;
 use std::test::Fail;
@@ -53,11 +54,20 @@ const PROGRAMS: &[(u8, u8, &str, &str)] = &[
     ),
 ];
 
+/// The numbers of a name.
+fn numbers(alloc: Global, name: &Name) -> Result<Vec<u64>, Fail> {
+    let mut numbers = Vec::new(alloc);
+    for k in 0..name.len() {
+        numbers.push(name.number(k))?;
+    }
+    Ok(numbers)
+}
+
 /// The value and the totals of a report, and the name and the holds of each thread.
 pub(super) fn told(alloc: Global, report: &Report) -> Result<String, Fail> {
     let mut text = format!(in alloc; "{} {:?}", report.value, report.totals.as_slice())?;
     for line in report.threads.as_slice() {
-        let (name, holds) = (line.name.forks(), line.holds.as_slice());
+        let (name, holds) = (numbers(alloc, &line.name)?, line.holds.as_slice());
         text.push_str(format!(in alloc; " {name:?}{holds:?}")?.as_str())?;
     }
     Ok(text)
