@@ -1,5 +1,6 @@
 //! A form of table that answers one call by itself.
 ghost use Rattle.std.specs.Prelude.{◌≡◌, IfOk, IfErr};
+ghost use Rattle.arachne_contexts.specs.Answers.{RestsAs};
 
 use arachne_contexts::{Claimed, Contexts, Held, Moved, Rested, Seats, Tagged, Taken, Woken};
 use arachne_core::{Place, Rest, ThreadId};
@@ -147,6 +148,7 @@ impl<T: Tagged + Drop> Contexts<T> for Altered<T> {
     ) -> Result<Rested, Held<T, LockedHold>>
         ensures seat { Unit {0} }
         ensures weight { seat.new.weight ≡ seat.old.weight }
+        ensures answer { IfOk result (RestsAs rest) }
         ensures handed_back { IfErr result (λ back. back ≡ held) }
     {
         self.inner.put_back(rt, seat, held, rest)
