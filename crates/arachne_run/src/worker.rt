@@ -228,7 +228,7 @@ impl<'a, H: Wait, T: RunJob, C: Contexts<T>, R: Rng, G: Gate> Worker<'a, H, T, C
     }
 
     /// One slice of a thread: it goes on for at most a quantum of steps, and what it asks for meanwhile is answered. How it
-    /// rests then; none where it has ended.
+    /// rests then; none where it has ended. Where the quantum is used up, all that the worker posted is told of.
     fn slice(
         &self,
         kit: &mut Kit<C::Seat, R, T::Spares>,
@@ -254,6 +254,7 @@ impl<'a, H: Wait, T: RunJob, C: Contexts<T>, R: Rng, G: Gate> Worker<'a, H, T, C
                 rest => return Ok(rest),
             }
         }
+        self.tell(kit);
         Ok(Some(Rest::Ready))
     }
 

@@ -1,4 +1,4 @@
-//! Which cores run threads, and for how long.
+//! Which cores run threads, and for how long. By slices of one step a posted thread is told of at once, so that the core that was drawn runs it.
 use super::{FORK, FORMS, Trial, in_place, nested, report, text_of};
 use crate::choosers::Draws;
 use crate::gates::{Meeting, Noting};
@@ -14,17 +14,15 @@ fn a_fork_goes_where_its_choices_say(rt: HostRuntime) -> Result<(), Fail> {
     let alloc = rt.alloc();
     let text = text_of(alloc, 0, 0, FORK)?;
     for form in FORMS {
-        for quantum in [1, 100] {
-            let machine = Trial {
-                form,
-                cores: 4,
-                quantum,
-                draws: Draws::always(3 * STEP),
-            };
-            let gate = Noting::new();
-            let report = report(&rt, alloc, text.as_bytes(), machine, &[], &gate)?;
-            assert_eq!(rt; (report.value, gate.entered()), (5, 0b1001), "{machine:?}");
-        }
+        let machine = Trial {
+            form,
+            cores: 4,
+            quantum: 1,
+            draws: Draws::always(3 * STEP),
+        };
+        let gate = Noting::new();
+        let report = report(&rt, alloc, text.as_bytes(), machine, &[], &gate)?;
+        assert_eq!(rt; (report.value, gate.entered()), (5, 0b1001), "{machine:?}");
     }
     Ok(())
 }
@@ -37,22 +35,20 @@ fn each_core_has_its_own_chooser(rt: HostRuntime) -> Result<(), Fail> {
         for (forks, entered) in [(1, 0b0011), (2, 0b0111), (3, 0b1111)] {
             let expr = nested(alloc, forks, "(num 1)")?;
             let text = text_of(alloc, 0, 0, expr.as_str())?;
-            for quantum in [1, 100] {
-                let machine = Trial {
-                    form,
-                    cores: 4,
-                    quantum,
-                    draws: Draws {
-                        word: STEP,
-                        step: 0,
-                        apart: STEP,
-                    },
-                };
-                let gate = Noting::new();
-                let report = report(&rt, alloc, text.as_bytes(), machine, &[], &gate)?;
-                let seen = (report.value, gate.entered());
-                assert_eq!(rt; seen, (forks + 1, entered), "{machine:?}");
-            }
+            let machine = Trial {
+                form,
+                cores: 4,
+                quantum: 1,
+                draws: Draws {
+                    word: STEP,
+                    step: 0,
+                    apart: STEP,
+                },
+            };
+            let gate = Noting::new();
+            let report = report(&rt, alloc, text.as_bytes(), machine, &[], &gate)?;
+            let seen = (report.value, gate.entered());
+            assert_eq!(rt; seen, (forks + 1, entered), "{machine:?}");
         }
     }
     Ok(())
@@ -68,21 +64,19 @@ fn each_fork_draws_a_word(rt: HostRuntime) -> Result<(), Fail> {
     let alloc = rt.alloc();
     let text = text_of(alloc, 0, 0, THREE)?;
     for form in FORMS {
-        for quantum in [1, 100] {
-            let machine = Trial {
-                form,
-                cores: 4,
-                quantum,
-                draws: Draws {
-                    word: STEP,
-                    step: STEP,
-                    apart: 0,
-                },
-            };
-            let gate = Noting::new();
-            let report = report(&rt, alloc, text.as_bytes(), machine, &[], &gate)?;
-            assert_eq!(rt; (report.value, gate.entered()), (4, 0b1111), "{machine:?}");
-        }
+        let machine = Trial {
+            form,
+            cores: 4,
+            quantum: 1,
+            draws: Draws {
+                word: STEP,
+                step: STEP,
+                apart: 0,
+            },
+        };
+        let gate = Noting::new();
+        let report = report(&rt, alloc, text.as_bytes(), machine, &[], &gate)?;
+        assert_eq!(rt; (report.value, gate.entered()), (4, 0b1111), "{machine:?}");
     }
     Ok(())
 }

@@ -90,19 +90,17 @@ fn a_granted_core_gets_threads_again(rt: HostRuntime) -> Result<(), Fail> {
     let alloc = rt.alloc();
     let text = text_of(alloc, 0, 0, LATE)?;
     for form in FORMS {
-        for quantum in [1, 100] {
-            let machine = Trial {
-                form,
-                cores: 4,
-                quantum,
-                draws: Draws::always(0x0000_0003_0000_0003),
-            };
-            let gate = Noting::new();
-            let orders = [release(0, 3), grant(10, 3)];
-            let report = report(&rt, alloc, text.as_bytes(), machine, &orders, &gate)?;
-            let seen = (report.value, report.applied, gate.entered());
-            assert_eq!(rt; seen, (5, 2, 0b1001), "{machine:?}");
-        }
+        let machine = Trial {
+            form,
+            cores: 4,
+            quantum: 1,
+            draws: Draws::always(0x0000_0003_0000_0003),
+        };
+        let gate = Noting::new();
+        let orders = [release(0, 3), grant(10, 3)];
+        let report = report(&rt, alloc, text.as_bytes(), machine, &orders, &gate)?;
+        let seen = (report.value, report.applied, gate.entered());
+        assert_eq!(rt; seen, (5, 2, 0b1001), "{machine:?}");
     }
     Ok(())
 }
