@@ -37,7 +37,8 @@ pub refused_by_run : (settings : RunSettings) (served : ℕ) (orders : List Core
     → IfErr result (IsRefusal settings)
 refused_by_run settings served orders (Ok report) serves same refused misordered = tt
 refused_by_run settings served orders (Err fault) serves same refused misordered = record {
-    of_settings = λ first is.
-        let found = refused first (same_refusal settings.cores settings.quantum served serves ∙ is) in
-        inl (cc);
-    of_orders = λ none out. inl (rw (sym same) (misordered (same_refusal settings.cores settings.quantum served serves ∙ none) (λ ordered. out (rw (sym same) ordered)))) }
+  of_settings = λ first is.
+      let found = refused first (same_refusal settings.cores settings.quantum served serves ∙ is) in
+      inl (cc);
+  of_orders = λ none out. inl (rw (sym same) (misordered (same_refusal settings.cores settings.quantum served serves ∙ none) (λ ordered. out (rw (sym same) ordered))));
+}

@@ -14,7 +14,7 @@ use Rattle.arachne_commands.specs.declared.command_line.RunSettings.{RunSettings
 pub record IsRefusal (settings : RunSettings) (fault : RunFault) : Type 0 where
   pub of_settings : (first : RunFault) → refusal_of settings.cores settings.quantum settings.cores ≡ Some first → (fault ≡ first) ⊎ (fault ≡ Memory)
   pub of_orders : refusal_of settings.cores settings.quantum settings.cores ≡ None → (AreInOrder settings.cores settings.orders → ⊥)
-    → IsFirstOrderFault settings.cores settings.orders fault ⊎ (fault ≡ Memory)
+      → IsFirstOrderFault settings.cores settings.orders fault ⊎ (fault ≡ Memory)
 
 -- the generator of a core's choices, which begins from the number `seed + core`
 abbrev pub chooser_of : ℕ → ℕ → List ℕ
