@@ -1,5 +1,5 @@
 -- Why a run is refused, by the choosers that it is given.
-use Rattle.std.proofs.Common.{◌≡◌, ◌≤◌, ℕ, Bool, true, false, List, Option, None, Some, Result, Ok, Err, refl, sym, ap, ◌∙◌, inl, length}
+use Rattle.std.proofs.Common.{◌≡◌, ◌≤◌, ℕ, Bool, true, false, List, Option, None, Some, Result, Ok, Err, refl, sym, ap, ◌∙◌, inl, inr, length}
 use Rattle.std.specs.Prelude.{◌&&◌, nat_le, IfErr}
 use Rattle.std.proofs.lemmas.Bool.{leb-true}
 use Rattle.std.proofs.lemmas.List.FromFn.{length-map-range_with_len}
@@ -8,7 +8,7 @@ use Rattle.arachne_run.specs.declared.fault.RunFault.{RunFault}
 use Rattle.arachne_run.specs.declared.report.Report.{Report}
 use Rattle.arachne_policy.specs.declared.orders.CoreOrder.{CoreOrder}
 use Rattle.arachne_policy.specs.Orders.{AreInOrder}
-use Rattle.arachne_run.specs.Setups.{IsFirstOrderFault, is_within, refusal_of}
+use Rattle.arachne_run.specs.Setups.{IsFirstOrderFault, IsSetupFault, is_of_setup, is_within, refusal_of}
 use Rattle.arachne_commands.specs.declared.command_line.RunSettings.{RunSettings}
 use Rattle.arachne_commands.specs.Running.{IsRefusal, chooser_of, choosers_of}
 
@@ -34,11 +34,20 @@ pub refused_by_run : (settings : RunSettings) (served : ℕ) (orders : List Core
     → orders ≡ settings.orders
     → ((fault : RunFault) → refusal_of settings.cores settings.quantum served ≡ Some fault → result ≡ Err fault)
     → (refusal_of settings.cores settings.quantum served ≡ None → (AreInOrder settings.cores orders → ⊥) → IfErr result (IsFirstOrderFault settings.cores orders))
+    → IfErr result (λ fault. is_of_setup fault ≡ true → IsSetupFault settings.cores settings.quantum served orders fault)
     → IfErr result (IsRefusal settings)
-refused_by_run settings served orders (Ok report) serves same refused misordered = tt
-refused_by_run settings served orders (Err fault) serves same refused misordered = record {
+refused_by_run settings served orders (Ok report) serves same refused misordered only = tt
+refused_by_run settings served orders (Err fault) serves same refused misordered only = record {
   of_settings = λ first is.
       let found = refused first (same_refusal settings.cores settings.quantum served serves ∙ is) in
       inl (cc);
   of_orders = λ none out. inl (rw (sym same) (misordered (same_refusal settings.cores settings.quantum served serves ∙ none) (λ ordered. out (rw (sym same) ordered))));
+  of_setup = λ is. as_set (only is);
 }
+  where
+    alike : refusal_of settings.cores settings.quantum served ≡ refusal_of settings.cores settings.quantum settings.cores
+    alike = same_refusal settings.cores settings.quantum served serves
+    as_set : IsSetupFault settings.cores settings.quantum served orders fault
+        → IsSetupFault settings.cores settings.quantum settings.cores settings.orders fault
+    as_set (inl is) = inl (sym alike ∙ is)
+    as_set (inr (none, of_orders)) = inr (sym alike ∙ none, rw (sym same) of_orders)

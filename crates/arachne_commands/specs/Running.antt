@@ -1,20 +1,21 @@
 -- Why a run is refused, and from what the choices of its cores begin.
-use Rattle.std.specs.Prelude.{◌≡◌, ◌⊎◌, ◌+◌, ◌%◌, ◌^◌, ℕ, List, map, None, Some}
+use Rattle.std.specs.Prelude.{◌≡◌, ◌⊎◌, true, ◌+◌, ◌%◌, ◌^◌, ℕ, List, map, None, Some}
 use Rattle.std.specs.List.{range_with_len}
 use Rattle.rand_xoshiro.specs.SplitMix64.{splitmix_seed}
 use Rattle.rand_xoshiro.specs.Xoshiro256.{of_seed}
 use Rattle.arachne_policy.specs.Orders.{AreInOrder}
-use Rattle.arachne_run.specs.Setups.{IsFirstOrderFault, refusal_of}
+use Rattle.arachne_run.specs.Setups.{IsFirstOrderFault, IsSetupFault, is_of_setup, refusal_of}
 use Rattle.arachne_run.specs.declared.fault.RunFault.{RunFault}
 use Rattle.arachne_run.specs.declared.fault.RunFault.TheVariants.{Memory}
 use Rattle.arachne_commands.specs.declared.command_line.RunSettings.{RunSettings}
 
 -- Settings that are refused are refused for the first fault that they have, and for their orders' first fault where they have no other; or for want of
--- memory. Of what a run meets on its way nothing is said.
+-- memory. A fault of settings is told of no others than those that have it. Of what a run meets on its way nothing is said.
 pub record IsRefusal (settings : RunSettings) (fault : RunFault) : Type 0 where
   pub of_settings : (first : RunFault) → refusal_of settings.cores settings.quantum settings.cores ≡ Some first → (fault ≡ first) ⊎ (fault ≡ Memory)
   pub of_orders : refusal_of settings.cores settings.quantum settings.cores ≡ None → (AreInOrder settings.cores settings.orders → ⊥)
       → IsFirstOrderFault settings.cores settings.orders fault ⊎ (fault ≡ Memory)
+  pub of_setup : is_of_setup fault ≡ true → IsSetupFault settings.cores settings.quantum settings.cores settings.orders fault
 
 -- the generator of a core's choices, which begins from the number `seed + core`
 abbrev pub chooser_of : ℕ → ℕ → List ℕ

@@ -1,8 +1,10 @@
 -- Which setups of a run are refused.
-use Rattle.std.specs.Prelude.{◌≡◌, ℕ, ◌==◌, Bool, ◌&&◌, nat_le, if◌then◌else◌, List, Option, None, Some}
+use Rattle.std.specs.Prelude.{◌≡◌, ◌⊎◌, true, false, ℕ, ◌==◌, Bool, ◌&&◌, nat_le, if◌then◌else◌, List, Option, None, Some}
 use Rattle.arachne_core.specs.declared.layout.TheConstants.{CORES}
 use Rattle.arachne_run.specs.declared.fault.RunFault.{RunFault}
-use Rattle.arachne_run.specs.declared.fault.RunFault.TheVariants.{Cores, Quantum, Choosers, Orders}
+use Rattle.arachne_run.specs.declared.fault.RunFault.TheVariants.{Cores, Quantum, Choosers, Orders, Memory, Foreign, Threads, Ledgers, Token, KernelThread}
+use Rattle.arachne_run.specs.declared.fault.WorkerFault.{WorkerFault}
+use Rattle.arachne_run.specs.declared.fault.WorkerFault.TheVariants as worker
 use Rattle.arachne_policy.specs.declared.orders.CoreOrder.{CoreOrder}
 use Rattle.arachne_policy.specs.declared.orders.OrderFault.{OrderFault}
 use Rattle.arachne_policy.specs.Orders.{IsFirstFault}
@@ -21,3 +23,31 @@ refusal_of cores quantum choosers =
 -- it is the first fault of these orders on so many cores
 abbrev pub IsFirstOrderFault : ℕ → List CoreOrder → RunFault → Type 0
 IsFirstOrderFault cores orders fault = (first : OrderFault) × IsFirstFault cores orders first × (fault ≡ Orders first)
+
+-- It is what is wrong with a setup: with its numbers, or with its orders where nothing is wrong with its numbers.
+abbrev pub IsSetupFault : ℕ → ℕ → ℕ → List CoreOrder → RunFault → Type 0
+IsSetupFault cores quantum choosers orders fault =
+    (refusal_of cores quantum choosers ≡ Some fault)
+    ⊎ ((refusal_of cores quantum choosers ≡ None) × IsFirstOrderFault cores orders fault)
+
+-- It tells of a setup, and not of what a run met on its way.
+abbrev pub is_of_setup : RunFault → Bool
+is_of_setup Cores = true
+is_of_setup Quantum = true
+is_of_setup Choosers = true
+is_of_setup (Orders first) = true
+is_of_setup Memory = false
+is_of_setup Foreign = false
+is_of_setup Threads = false
+is_of_setup Ledgers = false
+is_of_setup Token = false
+is_of_setup KernelThread = false
+
+-- what a run answers where its workers stopped for this
+abbrev pub as_run_fault : WorkerFault → RunFault
+as_run_fault worker.Memory = Memory
+as_run_fault worker.Foreign = Foreign
+as_run_fault worker.Threads = Threads
+as_run_fault worker.Ledgers = Ledgers
+as_run_fault worker.Token = Token
+as_run_fault worker.KernelThread = KernelThread

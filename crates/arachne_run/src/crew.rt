@@ -3,7 +3,7 @@ ghost use Rattle.std.specs.Prelude.{◌≡◌, ◌<◌, ◌≤◌, IfSome, vec_c
 ghost use Rattle.std.specs.Thread.{IsSync};
 ghost use Rattle.arachne_run.specs.Tokens.{AreIdle, IsSetUp};
 
-use crate::fault::RunFault;
+use crate::fault::WorkerFault;
 use crate::gate::Gate;
 use crate::machine::Machine;
 use crate::slice::RunJob;
@@ -89,7 +89,7 @@ pub(crate) fn work_all<
                     },
                 );
                 let Ok(other) = started else {
-                    machine.shared.fail(rt, RunFault::KernelThread);
+                    machine.shared.fail(rt, WorkerFault::KernelThread);
                     break;
                 };
                 others.push_reserved(other);
@@ -122,17 +122,17 @@ fn part_off<H: Wait, C: Seats, R: Drop, W>(
     ensures room { IfSome result.1 (λ part. vec_len others.new < vec_capacity others.new) }
 {
     let Some(chooser) = chooser else {
-        machine.shared.fail(rt, RunFault::Choosers);
+        machine.shared.fail(rt, WorkerFault::KernelThread);
         return (tokens, None);
     };
     if others.try_reserve(1).is_err() {
-        machine.shared.fail(rt, RunFault::Memory);
+        machine.shared.fail(rt, WorkerFault::Memory);
         return (tokens, None);
     }
     match tokens.split::<H, C>(rt, alloc, machine) {
         Ok((own, theirs)) => (own, Some((theirs, chooser))),
         Err(own) => {
-            machine.shared.fail(rt, RunFault::Memory);
+            machine.shared.fail(rt, WorkerFault::Memory);
             (own, None)
         }
     }
@@ -170,7 +170,7 @@ fn work_from_root<H: Wait, T: RunJob, C: Contexts<T>, R: Rng + Drop, G: Gate>(
     ensures { IfSome result (AreIdle C.sits C.idle machine.now) }
 {
     let Some(chooser) = chooser else {
-        machine.shared.fail(rt, RunFault::Choosers);
+        machine.shared.fail(rt, WorkerFault::KernelThread);
         return None;
     };
     let mut kit = Kit::new(alloc, tokens, chooser, T::spares(alloc));

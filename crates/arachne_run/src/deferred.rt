@@ -1,7 +1,7 @@
 //! Threads that a worker has posted and not told of.
 ghost use Rattle.std.specs.Prelude.{◌≡◌, ◌≤◌, ◌++◌, [], ◌∷◌, MatchOption};
 
-use arachne_core::Place;
+use arachne_core::{Place, ThreadId};
 use std::alloc::Global;
 use std::marker::Model;
 
@@ -11,10 +11,10 @@ pub(crate) const MOST: usize = 8;
 /// For how many steps a worker keeps something back.
 const PATIENCE: u32 = 500;
 
-/// A thread that was posted, by its context, and where it was then.
+/// A thread that was posted, and where it was then.
 #[derive(Clone, Copy, Debug, PartialEq, Eq)]
 pub(crate) struct Post {
-    pub(crate) context: u32,
+    pub(crate) id: ThreadId,
     pub(crate) place: Place,
 }
 

@@ -6,7 +6,7 @@ ghost use Rattle.arachne_run.specs.Threads.{IsForking, IsGoing, IsAwaiting, paus
 ghost use Rattle.arachne_run.specs.Cells.{IsOf, IsFor};
 ghost use Rattle.arachne_run.specs.Slices.{IsLeft, UsesSteps};
 
-use crate::fault::RunFault;
+use crate::fault::WorkerFault;
 use crate::slice::{JobOf, RunJob, Slice};
 use crate::spares::Spares;
 use crate::wanted::{OutcomeReceiver, OutcomeSender, Wanted};
@@ -80,7 +80,7 @@ impl<'p> RunJob for Job<'p> {
         &mut self,
         left: &mut u32,
         spares: &mut Spares<'p>,
-    ) -> Result<Slice<Thread<'p>>, RunFault> {
+    ) -> Result<Slice<Thread<'p>>, WorkerFault> {
         match self.thread.pending() {
             None => {}
             Some(Pending::Joins) => {
@@ -89,7 +89,7 @@ impl<'p> RunJob for Job<'p> {
                 }
             }
             Some(Pending::Asks(lock)) => return Ok(Slice::Awaits(lock)),
-            _ => return Err(RunFault::Foreign),
+            _ => return Err(WorkerFault::Foreign),
         }
         self.advance(left, spares)
     }
@@ -101,7 +101,7 @@ impl<'p> RunJob for Job<'p> {
         child: Thread<'p>,
         tag: u64,
         spares: &mut Spares<'p>,
-    ) -> Result<Job<'p>, RunFault> {
+    ) -> Result<Job<'p>, WorkerFault> {
         let mut child = child;
         child.set_tag(tag);
         let (job, receiver) = Job::of(alloc, child, Some(me), spares)?;
@@ -110,12 +110,12 @@ impl<'p> RunJob for Job<'p> {
         Ok(job)
     }
 
-    fn fork_in_place(&mut self, child: Thread<'p>, tag: u64) -> Result<(), RunFault> {
+    fn fork_in_place(&mut self, child: Thread<'p>, tag: u64) -> Result<(), WorkerFault> {
         let mut child = child;
         child.set_tag(tag);
         match self.thread.in_place(child) {
             Ok(()) => Ok(()),
-            Err(_) => Err(RunFault::Memory),
+            Err(_) => Err(WorkerFault::Memory),
         }
     }
 
@@ -185,7 +185,7 @@ impl<'p> Job<'p> {
         &mut self,
         left: &mut u32,
         spares: &mut Spares<'p>,
-    ) -> Result<Slice<Thread<'p>>, RunFault>
+    ) -> Result<Slice<Thread<'p>>, WorkerFault>
         requires some { 1 ≤ left.old }
         requires going { IsGoing self.old.thread }
         ensures tag { tag_of self.new.thread ≡ tag_of self.old.thread }
@@ -211,18 +211,18 @@ impl<'p> Job<'p> {
     }
 
     /// Expects the outcome of a child.
-    fn expect(&mut self, receiver: OutcomeReceiver<'p>) -> Result<(), RunFault>
+    fn expect(&mut self, receiver: OutcomeReceiver<'p>) -> Result<(), WorkerFault>
         requires { IsOf (program_of self.old.thread) receiver.opening.key }
         ensures { self.new ≡ self.old }
     {
         match self.awaited.push(receiver) {
             Ok(()) => Ok(()),
-            Err(_) => Err(RunFault::Memory),
+            Err(_) => Err(WorkerFault::Memory),
         }
     }
 
     /// Joins the child that it awaits, if that has ended.
-    fn join(&mut self, spares: &mut Spares<'p>) -> Result<bool, RunFault>
+    fn join(&mut self, spares: &mut Spares<'p>) -> Result<bool, WorkerFault>
         requires { IsAwaiting self.old.thread }
         ensures tag { tag_of self.new.thread ≡ tag_of self.old.thread }
         ensures parent { self.new.parent ≡ self.old.parent }
@@ -234,18 +234,18 @@ impl<'p> Job<'p> {
         };
         match self.thread.joined(outcome) {
             Ok(()) => Ok(true),
-            Err(NotJoined::Memory(_)) => Err(RunFault::Memory),
-            Err(NotJoined::Foreign(_)) => Err(RunFault::Foreign),
+            Err(NotJoined::Memory(_)) => Err(WorkerFault::Memory),
+            Err(NotJoined::Foreign(_)) => Err(WorkerFault::Foreign),
         }
     }
 
     /// The outcome of the child that it awaits, if that has ended.
-    fn fetch(&mut self, spares: &mut Spares<'p>) -> Result<Option<Outcome<'p>>, RunFault>
+    fn fetch(&mut self, spares: &mut Spares<'p>) -> Result<Option<Outcome<'p>>, WorkerFault>
         ensures same { self.new ≡ self.old }
         ensures program { IfOk result (λ found. IfSome found (λ outcome. source_of outcome.program ≡ source_of (program_of self.old.thread))) }
     {
         let Some(receiver) = self.awaited.pop() else {
-            return Err(RunFault::Foreign);
+            return Err(WorkerFault::Foreign);
         };
         match receiver.fetch() {
             Ok((outcome, cell)) => {

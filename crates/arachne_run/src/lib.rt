@@ -24,7 +24,7 @@ mod waking;
 mod wanted;
 mod worker;
 
-pub use fault::RunFault;
+pub use fault::{RunFault, WorkerFault};
 pub use gate::{Gate, OpenGate};
 pub use job::Job;
 pub use report::Report;

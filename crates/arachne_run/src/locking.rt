@@ -4,7 +4,7 @@ ghost use Rattle.arachne_machine.specs.declared.pause.Pending.TheVariants as pau
 ghost use Rattle.arachne_run.specs.Slices.{IsWait};
 ghost use Rattle.arachne_run.specs.Tokens.{AreWith, thread_in};
 
-use crate::fault::RunFault;
+use crate::fault::WorkerFault;
 use crate::gate::Gate;
 use crate::slice::RunJob;
 use crate::waking::Cause;
@@ -44,7 +44,7 @@ impl<'a, H: Wait, T: RunJob, C: Contexts<T>, R: Rng, G: Gate> Worker<'a, H, T, C
         kit: &mut Kit<C::Seat, R, T::Spares>,
         held: &mut Held<T, C::Hold>,
         lock: u64,
-    ) -> Result<bool, RunFault>
+    ) -> Result<bool, WorkerFault>
         requires tokens { AreWith C.sits C.has self.now.machine.now (thread_in T.tag_of held.old ∷ []) kit.old.tokens }
         requires asks { T.pause_of held.old.value ≡ Some (pause.Asks lock) }
         ensures tokens { OnOk result (AreWith C.sits C.has self.now.machine.now (thread_in T.tag_of held.new ∷ []) kit.new.tokens) }
@@ -61,7 +61,7 @@ impl<'a, H: Wait, T: RunJob, C: Contexts<T>, R: Rng, G: Gate> Worker<'a, H, T, C
         kit: &mut Kit<C::Seat, R, T::Spares>,
         held: &mut Held<T, C::Hold>,
         lock: u64,
-    ) -> Result<bool, RunFault>
+    ) -> Result<bool, WorkerFault>
         requires tokens { AreWith C.sits C.has self.now.machine.now (thread_in T.tag_of held.old ∷ []) kit.old.tokens }
         requires asks { T.pause_of held.old.value ≡ Some (pause.Asks lock) }
         ensures tokens { OnOk result (AreWith C.sits C.has self.now.machine.now (thread_in T.tag_of held.new ∷ []) kit.new.tokens) }
@@ -78,7 +78,7 @@ impl<'a, H: Wait, T: RunJob, C: Contexts<T>, R: Rng, G: Gate> Worker<'a, H, T, C
         kit: &mut Kit<C::Seat, R, T::Spares>,
         held: &mut Held<T, C::Hold>,
         lock: u64,
-    ) -> Result<(), RunFault>
+    ) -> Result<(), WorkerFault>
         requires tokens { AreWith C.sits C.has self.now.machine.now (thread_in T.tag_of held.old ∷ []) kit.old.tokens }
         requires frees { T.pause_of held.old.value ≡ Some (pause.Frees lock) }
         ensures tokens { OnOk result (AreWith C.sits C.has self.now.machine.now (thread_in T.tag_of held.new ∷ []) kit.new.tokens) }
@@ -93,13 +93,13 @@ impl<'a, H: Wait, T: RunJob, C: Contexts<T>, R: Rng, G: Gate> Worker<'a, H, T, C
     }
 
     /// The lock of this number. In a checked program a pause names a lock that is there.
-    fn lock_of(&self, lock: u64) -> Result<u8, RunFault>
+    fn lock_of(&self, lock: u64) -> Result<u8, WorkerFault>
         ensures { IfOk result (λ number. (number ≡ lock) × (number < length self.now.machine.now.locks)) }
     {
         if lock >= self.machine.locks.count() as u64 {
-            return Err(RunFault::Foreign);
+            return Err(WorkerFault::Foreign);
         }
-        u8::try_from(lock).map_err(|_| RunFault::Foreign)
+        u8::try_from(lock).map_err(|_| WorkerFault::Foreign)
     }
 
     /// The pass of a thread that asks and holds the lock at once.
@@ -108,7 +108,7 @@ impl<'a, H: Wait, T: RunJob, C: Contexts<T>, R: Rng, G: Gate> Worker<'a, H, T, C
         kit: &mut Kit<C::Seat, R, T::Spares>,
         held: &Held<T, C::Hold>,
         lock: u8,
-    ) -> Result<Option<Pass>, RunFault>
+    ) -> Result<Option<Pass>, WorkerFault>
         requires tokens { AreWith C.sits C.has self.now.machine.now (thread_in T.tag_of held.now ∷ []) kit.old.tokens }
         requires lock { lock < length self.now.machine.now.locks }
         ensures { AreWith C.sits C.has self.now.machine.now (thread_in T.tag_of held.now ∷ []) kit.new.tokens }
@@ -119,8 +119,8 @@ impl<'a, H: Wait, T: RunJob, C: Contexts<T>, R: Rng, G: Gate> Worker<'a, H, T, C
             match locks.ask(self.rt, &mut kit.tokens.lock_seats, lock, who) {
                 Tried::Answered(Ok(Asked::Granted(pass))) => return Ok(Some(pass)),
                 Tried::Answered(Ok(Asked::Queued { at: _ })) => return Ok(None),
-                Tried::Answered(Err(AskFault::Memory)) => return Err(RunFault::Memory),
-                Tried::Answered(Err(AskFault::AlreadyIn)) => return Err(RunFault::Threads),
+                Tried::Answered(Err(AskFault::Memory)) => return Err(WorkerFault::Memory),
+                Tried::Answered(Err(AskFault::AlreadyIn)) => return Err(WorkerFault::Threads),
                 Tried::Contended => {}
             }
         }
@@ -159,7 +159,7 @@ impl<'a, H: Wait, T: RunJob, C: Contexts<T>, R: Rng, G: Gate> Worker<'a, H, T, C
         kit: &mut Kit<C::Seat, R, T::Spares>,
         held: &Held<T, C::Hold>,
         lock: u8,
-    ) -> Result<Option<ThreadId>, RunFault>
+    ) -> Result<Option<ThreadId>, WorkerFault>
         requires tokens { AreWith C.sits C.has self.now.machine.now (thread_in T.tag_of held.now ∷ []) kit.old.tokens }
         requires lock { lock < length self.now.machine.now.locks }
         ensures { AreWith C.sits C.has self.now.machine.now (thread_in T.tag_of held.now ∷ []) kit.new.tokens }
@@ -169,7 +169,7 @@ impl<'a, H: Wait, T: RunJob, C: Contexts<T>, R: Rng, G: Gate> Worker<'a, H, T, C
             let locks = &self.machine.locks;
             match locks.free(self.rt, &mut kit.tokens.lock_seats, lock, who) {
                 Tried::Answered(Ok(freed)) => return Ok(freed.next.map(|next| next.id)),
-                Tried::Answered(Err(_)) => return Err(RunFault::Threads),
+                Tried::Answered(Err(_)) => return Err(WorkerFault::Threads),
                 Tried::Contended => {}
             }
         }

@@ -5,7 +5,7 @@ ghost use Rattle.arachne_sleep.specs.History.{IsSound};
 ghost use Rattle.arachne_sleep.specs.OneHolder.{HasOneHolderAtATime};
 ghost use Rattle.arachne_run.specs.Tokens.{AreIdle, IsSetUp};
 
-use crate::fault::RunFault;
+use crate::fault::WorkerFault;
 use crate::shared::Shared;
 use crate::tokens::Tokens;
 use arachne_arbiter::Arbiter;
@@ -88,7 +88,7 @@ impl<C: Seats + Drop> Machine<C> {
         rt: &H,
         alloc: Global,
         tokens: Option<Tokens<C::Seat>>,
-    ) -> Result<Remains, RunFault>
+    ) -> Result<Remains, WorkerFault>
     where
         T: Tagged + Drop,
         C: Contexts<T>,
@@ -102,24 +102,24 @@ impl<C: Seats + Drop> Machine<C> {
             return Err(fault);
         }
         let Some(tokens) = tokens else {
-            return Err(RunFault::Token);
+            return Err(WorkerFault::Token);
         };
         let Some(arbiter) = &tokens.arbiter else {
-            return Err(RunFault::Token);
+            return Err(WorkerFault::Token);
         };
         let applied = arbiter.applied();
         let is_all = self.table.is_whole(&tokens.seat) && self.table.out(&tokens.seat) == 0;
         if !is_all || !tokens.share.is_whole() || !self.locks.are_whole(&tokens.lock_seats) {
-            return Err(RunFault::Token);
+            return Err(WorkerFault::Token);
         }
         if self.table.close(rt, alloc, tokens.seat).is_err() {
-            return Err(RunFault::Memory);
+            return Err(WorkerFault::Memory);
         }
         let Ok(words) = self.ledgers.close(alloc, tokens.share) else {
-            return Err(RunFault::Memory);
+            return Err(WorkerFault::Memory);
         };
         let Ok(histories) = self.locks.close(alloc, tokens.lock_seats) else {
-            return Err(RunFault::Memory);
+            return Err(WorkerFault::Memory);
         };
         Ok(Remains {
             words,

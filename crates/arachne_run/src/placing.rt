@@ -3,7 +3,7 @@ ghost use Rattle.std.specs.Prelude.{◌≡◌, [], ◌∷◌, None, OnOk, IfOk, 
 ghost use Rattle.arachne_contexts.specs.Out.{Claim as a_claim};
 ghost use Rattle.arachne_run.specs.Tokens.{AreWith, thread_in};
 
-use crate::fault::RunFault;
+use crate::fault::WorkerFault;
 use crate::gate::Gate;
 use crate::slice::RunJob;
 use crate::worker::{Kit, Worker};
@@ -20,14 +20,21 @@ impl<'a, H: Wait, T: RunJob, C: Contexts<T>, R: Rng, G: Gate> Worker<'a, H, T, C
         held: &mut Held<T, C::Hold>,
         class: Class,
         child: T::Child,
-    ) -> Result<(), RunFault>
+    ) -> Result<(), WorkerFault>
         requires tokens { AreWith C.sits C.has self.now.machine.now (thread_in T.tag_of held.old ∷ []) kit.old.tokens }
         requires forks { T.forks held.old.value child }
         ensures tokens { OnOk result (AreWith C.sits C.has self.now.machine.now (thread_in T.tag_of held.new ∷ []) kit.new.tokens) }
         ensures answered { OnOk result (T.pause_of held.new.value ≡ None) }
     {
         match self.claim(kit, held, class)? {
-            Some(claim) => self.fork_off(kit, held, claim, child),
+            Some(claim) => {
+                self.fork_off(kit, held, claim, child)?;
+                // One that is to be alone on its core can't be taken back.
+                if class == Class::Exclusive {
+                    self.tell(kit);
+                }
+                Ok(())
+            }
             None => self.fork_in_place(kit, held, child),
         }
     }
@@ -39,7 +46,7 @@ impl<'a, H: Wait, T: RunJob, C: Contexts<T>, R: Rng, G: Gate> Worker<'a, H, T, C
         held: &mut Held<T, C::Hold>,
         claim: C::Claim,
         child: T::Child,
-    ) -> Result<(), RunFault>
+    ) -> Result<(), WorkerFault>
         requires tokens { AreWith C.sits C.has self.now.machine.now (a_claim claim ∷ thread_in T.tag_of held.old ∷ []) kit.old.tokens }
         requires forks { T.forks held.old.value child }
         ensures tokens { OnOk result (AreWith C.sits C.has self.now.machine.now (thread_in T.tag_of held.new ∷ []) kit.new.tokens) }
@@ -59,7 +66,7 @@ impl<'a, H: Wait, T: RunJob, C: Contexts<T>, R: Rng, G: Gate> Worker<'a, H, T, C
         kit: &mut Kit<C::Seat, R, T::Spares>,
         held: &mut Held<T, C::Hold>,
         child: T::Child,
-    ) -> Result<(), RunFault>
+    ) -> Result<(), WorkerFault>
         requires tokens { AreWith C.sits C.has self.now.machine.now (thread_in T.tag_of held.old ∷ []) kit.old.tokens }
         requires forks { T.forks held.old.value child }
         ensures tokens { AreWith C.sits C.has self.now.machine.now (thread_in T.tag_of held.new ∷ []) kit.new.tokens }
@@ -77,7 +84,7 @@ impl<'a, H: Wait, T: RunJob, C: Contexts<T>, R: Rng, G: Gate> Worker<'a, H, T, C
         kit: &mut Kit<C::Seat, R, T::Spares>,
         held: &Held<T, C::Hold>,
         class: Class,
-    ) -> Result<Option<C::Claim>, RunFault>
+    ) -> Result<Option<C::Claim>, WorkerFault>
         requires { AreWith C.sits C.has self.now.machine.now (thread_in T.tag_of held.now ∷ []) kit.old.tokens }
         ensures { IfOk result (λ place. MatchOption place (AreWith C.sits C.has self.now.machine.now (thread_in T.tag_of held.now ∷ []) kit.new.tokens) (λ claim. AreWith C.sits C.has self.now.machine.now (a_claim claim ∷ thread_in T.tag_of held.now ∷ []) kit.new.tokens)) }
     {

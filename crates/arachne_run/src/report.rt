@@ -7,7 +7,7 @@ ghost use Rattle.arachne_run.specs.Histories.{GrantsAreHolds};
 ghost use Rattle.arachne_run.specs.Reports.{histories_in, meaning_in, tags_of};
 
 use crate::audit::{are_grants_holds, marks_of};
-use crate::fault::RunFault;
+use crate::fault::WorkerFault;
 use crate::machine::Remains;
 use arachne_lang::Sequence;
 use arachne_machine::{Outcome, ThreadLine};
@@ -32,7 +32,11 @@ pub struct Report {
 impl Report {
     /// What the root's outcome brings. Its sums have to be the words of the ledgers, no two threads may have one tag, and
     /// the grants of the locks have to be the threads' holds.
-    pub(crate) fn of(alloc: Global, outcome: Outcome, remains: Remains) -> Result<Report, RunFault>
+    pub(crate) fn of(
+        alloc: Global,
+        outcome: Outcome,
+        remains: Remains,
+    ) -> Result<Report, WorkerFault>
         requires { outcome.name ≡ [] }
         ensures meaning { IfOk result (λ report. meaning_in report ≡ meaning_of (source_of outcome.entry.program)) }
         ensures tags { IfOk result (λ report. AreDistinct (tags_of report)) }
@@ -41,7 +45,7 @@ impl Report {
         ensures applied { IfOk result (λ report. report.applied ≡ remains.applied) }
     {
         let Ok(parts) = outcome.into_parts() else {
-            return Err(RunFault::Memory);
+            return Err(WorkerFault::Memory);
         };
         let Remains {
             words,
@@ -49,15 +53,15 @@ impl Report {
             applied,
         } = remains;
         if parts.sums.as_slice() != words.as_slice() {
-            return Err(RunFault::Ledgers);
+            return Err(WorkerFault::Ledgers);
         }
         let lines = parts.lines.as_slice();
         let tags = tags_in(alloc, lines)?;
         let Some(marks) = marks_of(alloc, tags.as_slice())? else {
-            return Err(RunFault::Threads);
+            return Err(WorkerFault::Threads);
         };
         if !are_grants_holds(alloc, lines, marks.as_slice(), histories.as_slice())? {
-            return Err(RunFault::Threads);
+            return Err(WorkerFault::Threads);
         }
         Ok(Report {
             value: parts.value,

@@ -1,5 +1,5 @@
 //! A run of a program.
-ghost use Rattle.std.specs.Prelude.{◌≡◌, ◌≤◌, [], All, IfErr, IfOk, IsOk, None, Some, Err, length, vec_len};
+ghost use Rattle.std.specs.Prelude.{◌≡◌, ◌≤◌, [], true, All, IfErr, IfOk, IsOk, None, Some, Err, length, vec_len};
 ghost use Rattle.arachne_lang.specs.Program.{source_of};
 ghost use Rattle.arachne_lang.specs.Meaning.{meaning_of};
 ghost use Rattle.arachne_lang.specs.Checked.{IsChecked};
@@ -9,7 +9,7 @@ ghost use Rattle.arachne_sleep.specs.OneHolder.{HasOneHolderAtATime};
 ghost use Rattle.arachne_run.specs.Distinct.{AreDistinct};
 ghost use Rattle.arachne_run.specs.Histories.{GrantsAreHolds};
 ghost use Rattle.arachne_run.specs.Reports.{histories_in, meaning_in, tags_of};
-ghost use Rattle.arachne_run.specs.Setups.{IsFirstOrderFault, refusal_of};
+ghost use Rattle.arachne_run.specs.Setups.{IsFirstOrderFault, IsSetupFault, is_of_setup, refusal_of};
 ghost use Rattle.arachne_run.specs.declared.fault.RunFault.{RunFault};
 
 use crate::crew::work_all;
@@ -54,6 +54,7 @@ pub fn run<
     ensures grants { IfOk result (λ report. GrantsAreHolds report.threads (histories_in report)) }
     ensures applied { IfOk result (λ report. report.applied ≤ length setup.orders.items) }
     ensures refused { (fault : RunFault) → refusal_of setup.cores setup.quantum (vec_len choosers) ≡ Some fault → result ≡ Err fault }
+    ensures of_setup { IfErr result (λ fault. is_of_setup fault ≡ true → IsSetupFault setup.cores setup.quantum (vec_len choosers) setup.orders.items fault) }
     ensures in_order { IsOk result → AreInOrder setup.cores setup.orders.items }
     ensures order_refused { refusal_of setup.cores setup.quantum (vec_len choosers) ≡ None → (AreInOrder setup.cores setup.orders.items → ⊥) → IfErr result (IsFirstOrderFault setup.cores setup.orders.items) }
 {
@@ -73,5 +74,6 @@ pub fn run<
     let Ok((outcome, _)) = receiver.fetch() else {
         return Err(RunFault::Foreign);
     };
-    Report::of(alloc, outcome, remains)
+    let report = Report::of(alloc, outcome, remains)?;
+    Ok(report)
 }

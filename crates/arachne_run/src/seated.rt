@@ -5,7 +5,7 @@ ghost use Rattle.arachne_run.specs.Slices.{MayRest};
 ghost use Rattle.arachne_run.specs.Tokens.{AreIdle, AreOf, AreWith, thread_in};
 
 use crate::deferred::Post;
-use crate::fault::RunFault;
+use crate::fault::WorkerFault;
 use crate::gate::Gate;
 use crate::readiness::bit_of;
 use crate::slice::RunJob;
@@ -53,7 +53,7 @@ impl<'a, H: Wait, T: RunJob, C: Contexts<T>, R: Rng, G: Gate> Worker<'a, H, T, C
         kit: &mut Kit<C::Seat, R, T::Spares>,
         held: Held<T, C::Hold>,
         rest: Rest,
-    ) -> Result<(), RunFault>
+    ) -> Result<(), WorkerFault>
         requires tokens { AreWith C.sits C.has self.now.machine.now (thread_in T.tag_of held ∷ []) kit.old.tokens }
         requires rest { MayRest rest (T.pause_of held.value) }
         ensures { OnOk result (AreIdle C.sits C.idle self.now.machine.now kit.new.tokens) }
@@ -67,7 +67,7 @@ impl<'a, H: Wait, T: RunJob, C: Contexts<T>, R: Rng, G: Gate> Worker<'a, H, T, C
                 }
                 Ok(())
             }
-            Err(_) => Err(RunFault::Token),
+            Err(_) => Err(WorkerFault::Token),
         }
     }
 
@@ -76,7 +76,7 @@ impl<'a, H: Wait, T: RunJob, C: Contexts<T>, R: Rng, G: Gate> Worker<'a, H, T, C
         &self,
         kit: &mut Kit<C::Seat, R, T::Spares>,
         held: Held<T, C::Hold>,
-    ) -> Result<T, RunFault>
+    ) -> Result<T, WorkerFault>
         requires { AreWith C.sits C.has self.now.machine.now (thread_in T.tag_of held ∷ []) kit.old.tokens }
         ensures tokens { OnOk result (AreIdle C.sits C.idle self.now.machine.now kit.new.tokens) }
         ensures job { IfOk result (λ job. job ≡ held.value) }
@@ -84,7 +84,7 @@ impl<'a, H: Wait, T: RunJob, C: Contexts<T>, R: Rng, G: Gate> Worker<'a, H, T, C
         let table = &self.machine.table;
         match table.finish(self.rt, &mut kit.tokens.seat, held) {
             Ok(job) => Ok(job),
-            Err(_) => Err(RunFault::Token),
+            Err(_) => Err(WorkerFault::Token),
         }
     }
 
@@ -95,7 +95,7 @@ impl<'a, H: Wait, T: RunJob, C: Contexts<T>, R: Rng, G: Gate> Worker<'a, H, T, C
         held: &Held<T, C::Hold>,
         claim: C::Claim,
         job: T,
-    ) -> Result<(), RunFault>
+    ) -> Result<(), WorkerFault>
         requires { AreWith C.sits C.has self.now.machine.now (a_claim claim ∷ thread_in T.tag_of held.now ∷ []) kit.old.tokens }
         ensures { OnOk result (AreWith C.sits C.has self.now.machine.now (thread_in T.tag_of held.now ∷ []) kit.new.tokens) }
     {
@@ -104,16 +104,10 @@ impl<'a, H: Wait, T: RunJob, C: Contexts<T>, R: Rng, G: Gate> Worker<'a, H, T, C
         let table = &self.machine.table;
         match table.post(self.rt, &mut kit.tokens.seat, claim, job) {
             Ok(id) => {
-                self.defer(
-                    kit,
-                    Post {
-                        context: id.context,
-                        place,
-                    },
-                );
+                self.defer(kit, Post { id, place });
                 Ok(())
             }
-            Err(_) => Err(RunFault::Token),
+            Err(_) => Err(WorkerFault::Token),
         }
     }
 
@@ -122,7 +116,7 @@ impl<'a, H: Wait, T: RunJob, C: Contexts<T>, R: Rng, G: Gate> Worker<'a, H, T, C
         &self,
         kit: &mut Kit<C::Seat, R, T::Spares>,
         root: T,
-    ) -> Result<(), RunFault>
+    ) -> Result<(), WorkerFault>
         requires { AreIdle C.sits C.idle self.now.machine.now kit.old.tokens }
         ensures { OnOk result (AreIdle C.sits C.idle self.now.machine.now kit.new.tokens) }
     {
@@ -134,12 +128,12 @@ impl<'a, H: Wait, T: RunJob, C: Contexts<T>, R: Rng, G: Gate> Worker<'a, H, T, C
                 self.hint(kit, place);
                 Ok(())
             }
-            Err(_) => Err(RunFault::Token),
+            Err(_) => Err(WorkerFault::Token),
         }
     }
 
     /// The root's place on this core, which a table on which nothing runs has.
-    fn claim_root(&self, kit: &mut Kit<C::Seat, R, T::Spares>) -> Result<C::Claim, RunFault>
+    fn claim_root(&self, kit: &mut Kit<C::Seat, R, T::Spares>) -> Result<C::Claim, WorkerFault>
         requires { AreIdle C.sits C.idle self.now.machine.now kit.old.tokens }
         ensures { IfOk result (λ claim. AreWith C.sits C.has self.now.machine.now (a_claim claim ∷ []) kit.new.tokens) }
     {
@@ -147,10 +141,10 @@ impl<'a, H: Wait, T: RunJob, C: Contexts<T>, R: Rng, G: Gate> Worker<'a, H, T, C
             let table = &self.machine.table;
             match table.claim(self.rt, &mut kit.tokens.seat, self.core) {
                 Ok(Claimed::Place(claim)) => return Ok(claim),
-                Ok(Claimed::Full(_)) => return Err(RunFault::Token),
-                Ok(Claimed::Closed(_)) => return Err(RunFault::Token),
+                Ok(Claimed::Full(_)) => return Err(WorkerFault::Token),
+                Ok(Claimed::Closed(_)) => return Err(WorkerFault::Token),
                 Ok(Claimed::Lost(_)) => {}
-                Err(_) => return Err(RunFault::Memory),
+                Err(_) => return Err(WorkerFault::Memory),
             }
         }
         unreachable!()

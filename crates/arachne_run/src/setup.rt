@@ -2,7 +2,7 @@
 ghost use Rattle.std.specs.Prelude.{◌≡◌, None, Some, Err, IfErr, IsOk, vec_len};
 ghost use Rattle.arachne_policy.specs.Orders.{AreInOrder};
 ghost use Rattle.arachne_run.specs.declared.fault.RunFault.{RunFault};
-ghost use Rattle.arachne_run.specs.Setups.{IsFirstOrderFault, refusal_of};
+ghost use Rattle.arachne_run.specs.Setups.{IsFirstOrderFault, IsSetupFault, refusal_of};
 
 use crate::fault::RunFault;
 use arachne_core::CORES;
@@ -27,6 +27,7 @@ impl Setup {
         ensures refused { (fault : RunFault) → refusal_of self.now.cores self.now.quantum choosers ≡ Some fault → result ≡ Err fault }
         ensures accepted { IsOk result → refusal_of self.now.cores self.now.quantum choosers ≡ None }
         ensures orders { IsOk result → AreInOrder self.now.cores self.now.orders.items }
+        ensures fault { IfErr result (IsSetupFault self.now.cores self.now.quantum choosers self.now.orders.items) }
         ensures order { refusal_of self.now.cores self.now.quantum choosers ≡ None → IfErr result (IsFirstOrderFault self.now.cores self.now.orders.items) }
     {
         if self.cores < 1 || self.cores > u64::from(CORES) {

@@ -2,7 +2,7 @@
 ghost use Rattle.std.specs.Prelude.{◌≡◌, IfOk};
 ghost use Rattle.arachne_arbiter.specs.KernelThreads.{counted_cores, parked_cores};
 
-use crate::fault::RunFault;
+use crate::fault::WorkerFault;
 use crate::readiness::Readiness;
 use arachne_arbiter::{Parking, SliceCounts};
 use crossbeam_utils::CachePadded;
@@ -19,7 +19,7 @@ use std::time::Duration;
 pub(crate) struct Shared {
     stop: AtomicU64,
     next_tag: CachePadded<AtomicU64>,
-    first_fault: Mutex<Option<RunFault>>,
+    first_fault: Mutex<Option<WorkerFault>>,
     readiness: Readiness,
     parking: Parking,
     slices: SliceCounts,
@@ -101,7 +101,7 @@ impl Shared {
     }
 
     /// Stops all workers for a fault, which is recorded if it is the first.
-    pub(crate) fn fail<H: Wait>(&self, rt: &H, fault: RunFault) {
+    pub(crate) fn fail<H: Wait>(&self, rt: &H, fault: WorkerFault) {
         let mut first = self.first_fault.lock(rt);
         if first.is_none() {
             *first = Some(fault);
@@ -109,7 +109,7 @@ impl Shared {
         self.stop();
     }
 
-    pub(crate) fn into_first_fault(self) -> Option<RunFault> {
+    pub(crate) fn into_first_fault(self) -> Option<WorkerFault> {
         self.first_fault.into_inner()
     }
 }

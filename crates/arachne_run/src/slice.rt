@@ -9,7 +9,7 @@ ghost use Rattle.arachne_machine.specs.declared.pause.Pending.{Pending};
 ghost use Rattle.arachne_machine.specs.declared.pause.Pending.TheVariants as pause;
 ghost use Rattle.arachne_run.specs.Slices.{IsLeft, UsesSteps};
 
-use crate::fault::RunFault;
+use crate::fault::WorkerFault;
 use crate::wanted::OutcomeReceiver;
 use arachne_contexts::Tagged;
 use arachne_core::ThreadId;
@@ -69,7 +69,7 @@ pub trait RunJob: Tagged + Drop {
         &mut self,
         left: &mut u32,
         spares: &mut Self::Spares,
-    ) -> Result<Slice<Self::Child>, RunFault>
+    ) -> Result<Slice<Self::Child>, WorkerFault>
         requires { 1 ≤ left.old }
         ensures tag { Self.tag_of self.new ≡ Self.tag_of self.old }
         ensures steps { IfOk result (λ slice. UsesSteps slice left.old left.new) }
@@ -84,7 +84,7 @@ pub trait RunJob: Tagged + Drop {
         child: Self::Child,
         tag: u64,
         spares: &mut Self::Spares,
-    ) -> Result<Self, RunFault>
+    ) -> Result<Self, WorkerFault>
         requires { forks self.old child }
         ensures tag { Self.tag_of self.new ≡ Self.tag_of self.old }
         ensures parent { parent_of self.new ≡ parent_of self.old }
@@ -93,7 +93,7 @@ pub trait RunJob: Tagged + Drop {
         ensures answered { OnOk result (pause_of self.new ≡ None) };
 
     /// The child will run in this job's place, once it is awaited.
-    fn fork_in_place(&mut self, child: Self::Child, tag: u64) -> Result<(), RunFault>
+    fn fork_in_place(&mut self, child: Self::Child, tag: u64) -> Result<(), WorkerFault>
         requires { forks self.old child }
         ensures tag { Self.tag_of self.new ≡ Self.tag_of self.old }
         ensures parent { parent_of self.new ≡ parent_of self.old }

@@ -10,7 +10,7 @@ use crate::readiness::bit_of;
 use crate::slice::RunJob;
 use crate::worker::{Kit, Worker};
 use arachne_contexts::{Contexts, Moved, Woken};
-use arachne_core::{MarkWord, Place, SLOTS, ThreadId};
+use arachne_core::{Mark, MarkWord, Place, SLOTS, ThreadId};
 use rand_core::Rng;
 use std::sync::Wait;
 
@@ -75,12 +75,35 @@ impl<'a, H: Wait, T: RunJob, C: Contexts<T>, R: Rng, G: Gate> Worker<'a, H, T, C
         ensures out { KeepsOut (C.has self.now.machine.now.table) kit.old.tokens.seat kit.new.tokens.seat }
         ensures index { IfSome result (λ place. place.index < slots) }
     {
+        let mark = self.mark_of(kit, context)?;
+        Some(mark.place())
+    }
+
+    /// What is marked of a context.
+    fn mark_of(&self, kit: &mut Kit<C::Seat, R, T::Spares>, context: u32) -> Option<MarkWord>
+        requires { AreOf C.sits self.now.machine.now kit.old.tokens }
+        ensures tokens { AreOf C.sits self.now.machine.now kit.new.tokens }
+        ensures out { KeepsOut (C.has self.now.machine.now.table) kit.old.tokens.seat kit.new.tokens.seat }
+    {
         if context >= u32::from(self.machine.cores) * u32::from(SLOTS) {
             return None;
         }
         let table = &self.machine.table;
         let word = table.look_mark(self.rt, &mut kit.tokens.seat, context);
-        let mark = MarkWord::from_word(word)?;
+        MarkWord::from_word(word)
+    }
+
+    /// Where a thread is that is ready, if it has not been taken since.
+    fn ready_at(&self, kit: &mut Kit<C::Seat, R, T::Spares>, id: ThreadId) -> Option<Place>
+        requires { AreOf C.sits self.now.machine.now kit.old.tokens }
+        ensures tokens { AreOf C.sits self.now.machine.now kit.new.tokens }
+        ensures out { KeepsOut (C.has self.now.machine.now.table) kit.old.tokens.seat kit.new.tokens.seat }
+        ensures index { IfSome result (λ place. place.index < slots) }
+    {
+        let mark = self.mark_of(kit, id.context)?;
+        if mark.mark() != Mark::Ready || mark.generation() != id.generation {
+            return None;
+        }
         Some(mark.place())
     }
 
@@ -121,7 +144,7 @@ impl<'a, H: Wait, T: RunJob, C: Contexts<T>, R: Rng, G: Gate> Worker<'a, H, T, C
     }
 
     /// The index of the core at which a thread is to go on next: one that holds a lock now, or the newest that the worker has
-    /// posted and not told of. Those that can't be taken back are told of.
+    /// posted and not told of. Those that can't be taken back are told of, and those that went on meanwhile are forgotten.
     pub(crate) fn next(&self, kit: &mut Kit<C::Seat, R, T::Spares>) -> Option<u8>
         requires { AreOf C.sits self.now.machine.now kit.old.tokens }
         ensures tokens { AreOf C.sits self.now.machine.now kit.new.tokens }
@@ -136,27 +159,35 @@ impl<'a, H: Wait, T: RunJob, C: Contexts<T>, R: Rng, G: Gate> Worker<'a, H, T, C
         }
         for _ in 0..MOST {
             let post = kit.deferred.take_newest()?;
-            if let Some(index) = self.take_back(kit, post) {
-                return Some(index);
+            if let Some(place) = self.ready_at(kit, post.id) {
+                if let Some(index) = self.take_back(kit, post.id.context, place) {
+                    return Some(index);
+                }
+                self.hint(kit, place);
             }
-            self.hint(kit, post.place);
         }
         self.tell(kit);
         None
     }
 
-    /// Moves a thread that was posted to this core, if it is at rest and there is room. Its index then.
-    fn take_back(&self, kit: &mut Kit<C::Seat, R, T::Spares>, post: Post) -> Option<u8>
-        requires { AreOf C.sits self.now.machine.now kit.old.tokens }
+    /// Moves the thread in a context, which is at this place, to this core, if it is at rest and there is room. Its index
+    /// then.
+    fn take_back(
+        &self,
+        kit: &mut Kit<C::Seat, R, T::Spares>,
+        context: u32,
+        place: Place,
+    ) -> Option<u8>
+        requires tokens { AreOf C.sits self.now.machine.now kit.old.tokens }
+        requires index { place.index < slots }
         ensures tokens { AreOf C.sits self.now.machine.now kit.new.tokens }
         ensures out { KeepsOut (C.has self.now.machine.now.table) kit.old.tokens.seat kit.new.tokens.seat }
         ensures index { IfSome result (λ index. index < slots) }
     {
-        let place = self.place_of(kit, post.context)?;
         if !self.pull(kit, place) {
             return None;
         }
-        let here = self.place_of(kit, post.context)?;
+        let here = self.place_of(kit, context)?;
         if here.core == self.core {
             Some(here.index)
         } else {

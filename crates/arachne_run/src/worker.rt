@@ -7,7 +7,7 @@ ghost use Rattle.arachne_run.specs.Slices.{MayRest};
 ghost use Rattle.arachne_run.specs.Tokens.{AreIdle, AreOf, AreWith, IsSetUp, thread_in};
 
 use crate::deferred::Deferred;
-use crate::fault::RunFault;
+use crate::fault::WorkerFault;
 use crate::gate::Gate;
 use crate::idle::{Idle, LONG_SLEEP, SHORT_SLEEP};
 use crate::machine::Machine;
@@ -83,7 +83,7 @@ impl<'a, H: Wait, T: RunJob, C: Contexts<T>, R: Rng, G: Gate> Worker<'a, H, T, C
         &self,
         kit: &mut Kit<C::Seat, R, T::Spares>,
         root: T,
-    ) -> Result<(), RunFault>
+    ) -> Result<(), WorkerFault>
         requires { AreIdle C.sits C.idle self.now.machine.now kit.old.tokens }
         ensures { OnOk result (AreIdle C.sits C.idle self.now.machine.now kit.new.tokens) }
     {
@@ -92,7 +92,7 @@ impl<'a, H: Wait, T: RunJob, C: Contexts<T>, R: Rng, G: Gate> Worker<'a, H, T, C
     }
 
     /// Runs threads until all workers stop. After an error something may be out with the seat.
-    pub(crate) fn work(&self, kit: &mut Kit<C::Seat, R, T::Spares>) -> Result<(), RunFault>
+    pub(crate) fn work(&self, kit: &mut Kit<C::Seat, R, T::Spares>) -> Result<(), WorkerFault>
         requires { AreIdle C.sits C.idle self.now.machine.now kit.old.tokens }
         ensures { OnOk result (AreIdle C.sits C.idle self.now.machine.now kit.new.tokens) }
     {
@@ -117,7 +117,7 @@ impl<'a, H: Wait, T: RunJob, C: Contexts<T>, R: Rng, G: Gate> Worker<'a, H, T, C
     }
 
     /// Runs the threads that may be ready as far as it was told. Whether there was one that was.
-    fn run_hinted(&self, kit: &mut Kit<C::Seat, R, T::Spares>) -> Result<bool, RunFault>
+    fn run_hinted(&self, kit: &mut Kit<C::Seat, R, T::Spares>) -> Result<bool, WorkerFault>
         requires { AreIdle C.sits C.idle self.now.machine.now kit.old.tokens }
         ensures { OnOk result (AreIdle C.sits C.idle self.now.machine.now kit.new.tokens) }
     {
@@ -129,7 +129,7 @@ impl<'a, H: Wait, T: RunJob, C: Contexts<T>, R: Rng, G: Gate> Worker<'a, H, T, C
 
     /// Runs the threads that are ready of all that are on the core, and parks where the core is closed and there is none.
     /// Whether there was one, or it has parked.
-    fn run_occupied(&self, kit: &mut Kit<C::Seat, R, T::Spares>) -> Result<bool, RunFault>
+    fn run_occupied(&self, kit: &mut Kit<C::Seat, R, T::Spares>) -> Result<bool, WorkerFault>
         requires { AreIdle C.sits C.idle self.now.machine.now kit.old.tokens }
         ensures { OnOk result (AreIdle C.sits C.idle self.now.machine.now kit.new.tokens) }
     {
@@ -143,7 +143,11 @@ impl<'a, H: Wait, T: RunJob, C: Contexts<T>, R: Rng, G: Gate> Worker<'a, H, T, C
 
     /// Runs each thread that is ready at one of these indexes of the core, for a turn, unless all workers stop. Whether
     /// there was one.
-    fn run_each(&self, kit: &mut Kit<C::Seat, R, T::Spares>, indexes: u64) -> Result<bool, RunFault>
+    fn run_each(
+        &self,
+        kit: &mut Kit<C::Seat, R, T::Spares>,
+        indexes: u64,
+    ) -> Result<bool, WorkerFault>
         requires { AreIdle C.sits C.idle self.now.machine.now kit.old.tokens }
         ensures { OnOk result (AreIdle C.sits C.idle self.now.machine.now kit.new.tokens) }
     {
@@ -164,7 +168,7 @@ impl<'a, H: Wait, T: RunJob, C: Contexts<T>, R: Rng, G: Gate> Worker<'a, H, T, C
 
     /// Runs the thread at an index of the core for a turn, if it is ready, and then each that is to go on next. Whether there
     /// was one that was ready.
-    fn run_at(&self, kit: &mut Kit<C::Seat, R, T::Spares>, index: u8) -> Result<bool, RunFault>
+    fn run_at(&self, kit: &mut Kit<C::Seat, R, T::Spares>, index: u8) -> Result<bool, WorkerFault>
         requires tokens { AreIdle C.sits C.idle self.now.machine.now kit.old.tokens }
         requires index { index < SLOTS }
         ensures { OnOk result (AreIdle C.sits C.idle self.now.machine.now kit.new.tokens) }
@@ -191,7 +195,7 @@ impl<'a, H: Wait, T: RunJob, C: Contexts<T>, R: Rng, G: Gate> Worker<'a, H, T, C
         &self,
         kit: &mut Kit<C::Seat, R, T::Spares>,
         held: Held<T, C::Hold>,
-    ) -> Result<(), RunFault>
+    ) -> Result<(), WorkerFault>
         requires { AreWith C.sits C.has self.now.machine.now (thread_in T.tag_of held ∷ []) kit.old.tokens }
         ensures { OnOk result (AreIdle C.sits C.idle self.now.machine.now kit.new.tokens) }
     {
@@ -233,7 +237,7 @@ impl<'a, H: Wait, T: RunJob, C: Contexts<T>, R: Rng, G: Gate> Worker<'a, H, T, C
         &self,
         kit: &mut Kit<C::Seat, R, T::Spares>,
         held: &mut Held<T, C::Hold>,
-    ) -> Result<Option<Rest>, RunFault>
+    ) -> Result<Option<Rest>, WorkerFault>
         requires { AreWith C.sits C.has self.now.machine.now (thread_in T.tag_of held.old ∷ []) kit.old.tokens }
         ensures tokens { OnOk result (AreWith C.sits C.has self.now.machine.now (thread_in T.tag_of held.new ∷ []) kit.new.tokens) }
         ensures rest { IfOk result (λ rest. MatchOption rest (T.pause_of held.new.value ≡ Some pause.Ended) (λ rest. MayRest rest (T.pause_of held.new.value))) }
@@ -265,7 +269,7 @@ impl<'a, H: Wait, T: RunJob, C: Contexts<T>, R: Rng, G: Gate> Worker<'a, H, T, C
         kit: &mut Kit<C::Seat, R, T::Spares>,
         held: &mut Held<T, C::Hold>,
         left: &mut u32,
-    ) -> Result<Option<Rest>, RunFault>
+    ) -> Result<Option<Rest>, WorkerFault>
         requires tokens { AreWith C.sits C.has self.now.machine.now (thread_in T.tag_of held.old ∷ []) kit.old.tokens }
         requires some { 1 ≤ left.old }
         ensures tokens { OnOk result (AreWith C.sits C.has self.now.machine.now (thread_in T.tag_of held.new ∷ []) kit.new.tokens) }
@@ -308,7 +312,7 @@ impl<'a, H: Wait, T: RunJob, C: Contexts<T>, R: Rng, G: Gate> Worker<'a, H, T, C
         held: &mut Held<T, C::Hold>,
         ledger: u64,
         amount: u64,
-    ) -> Result<(), RunFault>
+    ) -> Result<(), WorkerFault>
         requires tokens { AreWith C.sits C.has self.now.machine.now (thread_in T.tag_of held.old ∷ []) kit.old.tokens }
         requires tallies { IsTally (T.pause_of held.old.value) }
         ensures tokens { AreWith C.sits C.has self.now.machine.now (thread_in T.tag_of held.new ∷ []) kit.new.tokens }
@@ -316,7 +320,7 @@ impl<'a, H: Wait, T: RunJob, C: Contexts<T>, R: Rng, G: Gate> Worker<'a, H, T, C
     {
         let ledgers = &self.machine.ledgers;
         if ledger >= ledgers.count() as u64 {
-            return Err(RunFault::Foreign);
+            return Err(WorkerFault::Foreign);
         }
         ledgers.add(&mut kit.tokens.share, ledger as usize, amount);
         held.value.tallied();
@@ -328,7 +332,7 @@ impl<'a, H: Wait, T: RunJob, C: Contexts<T>, R: Rng, G: Gate> Worker<'a, H, T, C
         &self,
         kit: &mut Kit<C::Seat, R, T::Spares>,
         held: Held<T, C::Hold>,
-    ) -> Result<(), RunFault>
+    ) -> Result<(), WorkerFault>
         requires tokens { AreWith C.sits C.has self.now.machine.now (thread_in T.tag_of held ∷ []) kit.old.tokens }
         requires over { T.pause_of held.value ≡ Some pause.Ended }
         ensures { OnOk result (AreIdle C.sits C.idle self.now.machine.now kit.new.tokens) }
