@@ -61,12 +61,18 @@ struct Source {
     expr: &'static str,
 }
 
+/// So many forks within one another, of which the innermost one's child is this.
+fn nested(alloc: Global, forks: usize, innermost: &str) -> Result<String, Fail> {
+    let fronts = "(fork n ".repeat(alloc, forks)?;
+    let ends = " (num 1) (add (var 0) (var 1)))".repeat(alloc, forks)?;
+    Ok(format!(in alloc; "{fronts}{innermost}{ends}")?)
+}
+
 /// The text of a program.
 fn text_of(alloc: Global, source: &Source) -> Result<String, Fail> {
-    let fronts = "(fork n ".repeat(alloc, source.forks)?;
-    let ends = " (num 1) (add (var 0) (var 1)))".repeat(alloc, source.forks)?;
-    let (ledgers, locks, expr) = (source.ledgers, source.locks, source.expr);
-    Ok(format!(in alloc; "arachne 1\nledgers {ledgers}\nlocks {locks}\n{fronts}{expr}{ends}\n")?)
+    let expr = nested(alloc, source.forks, source.expr)?;
+    let (ledgers, locks) = (source.ledgers, source.locks);
+    Ok(format!(in alloc; "arachne 1\nledgers {ledgers}\nlocks {locks}\n{expr}\n")?)
 }
 
 /// The program of a text, which may run.

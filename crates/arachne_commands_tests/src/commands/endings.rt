@@ -28,7 +28,7 @@ pub(super) struct Ended {
 }
 
 /// Runs the program on these words and streams.
-pub(super) fn ended<R: Threads + Wait + Sync>(
+pub(super) fn outcome<R: Threads + Wait + Sync>(
     rt: &R,
     alloc: Global,
     words: &str,
@@ -53,7 +53,7 @@ fn run<R: Threads + Wait + Sync>(
     input: &[u8],
 ) -> Result<Ended, Fail> {
     let (output, faults) = (Tray::new(alloc), Tray::new(alloc));
-    ended(rt, alloc, words, &mut Script::of(input), output, faults)
+    outcome(rt, alloc, words, &mut Script::of(input), output, faults)
 }
 
 impl Ended {

@@ -1,4 +1,4 @@
-use super::endings::{all_end, each_ends, ended, none_is_understood};
+use super::endings::{all_end, each_ends, none_is_understood, outcome};
 use super::fakes::{Script, Tray};
 use std::test::Fail;
 
@@ -119,7 +119,7 @@ fn the_limit_of_the_input_comes_first(rt: HostRuntime) -> Result<(), Fail> {
     input.rest = b"0 1 1 1 1 7\n";
     input.again = b"0 1 1 1 1 7\n";
     let (output, faults) = (Tray::new(alloc), Tray::new(alloc));
-    let ended = ended(&rt, alloc, "arachne policy", &mut input, output, faults)?;
+    let ended = outcome(&rt, alloc, "arachne policy", &mut input, output, faults)?;
     assert_eq!(rt; ended.status, 1);
     assert_eq!(rt; ended.faults.kept.as_slice(), b"fault 36\n".as_slice());
     assert!(rt; ended.output.kept.is_empty());

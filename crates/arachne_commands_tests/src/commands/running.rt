@@ -1,5 +1,5 @@
 //! Programs that are run: their output on machines of several sizes, and what is refused.
-use super::endings::{all_end, each_ends, ended, none_is_understood};
+use super::endings::{all_end, each_ends, none_is_understood, outcome};
 use super::fakes::{Script, Tray};
 use std::alloc::Global;
 use std::io::ErrorKind;
@@ -257,7 +257,7 @@ fn words_that_are_no_orders(rt: HostRuntime) -> Result<(), Fail> {
         let mut input = Script::of(b"");
         input.error = Some(ErrorKind::Other);
         let (output, faults) = (Tray::new(alloc), Tray::new(alloc));
-        let ended = ended(&rt, alloc, words, &mut input, output, faults)?;
+        let ended = outcome(&rt, alloc, words, &mut input, output, faults)?;
         assert_eq!(rt; (input.reads, ended.status), (0, 2), "{words}");
         assert!(rt; ended.output.kept.is_empty(), "{words}");
         assert_eq!(rt; ended.faults.kept.as_slice(), line.as_bytes(), "{words}");

@@ -1,5 +1,5 @@
 //! Streams that fail, that give or take little at a time, and that never end.
-use super::endings::{Ended, ended};
+use super::endings::{Ended, outcome};
 use super::fakes::{Failure, Script, Tray};
 use arachne_commands::{Fault, INPUT_LIMIT, refuse};
 use arachne_lang::{CheckFault, TextFault};
@@ -31,7 +31,7 @@ fn assert_unread<R: Abort + Threads + Wait + Sync>(
     case: usize,
 ) -> Result<(), Fail> {
     let (output, faults) = (Tray::new(alloc), Tray::new(alloc));
-    let ended = ended(rt, alloc, "arachne eval", input, output, faults)?;
+    let ended = outcome(rt, alloc, "arachne eval", input, output, faults)?;
     assert_eq!(rt; ended.status, 1, "{case}");
     assert!(rt; ended.output.kept.is_empty(), "{case}");
     assert_eq!(rt; ended.faults.kept.as_slice(), line.as_bytes(), "{case}");
@@ -84,7 +84,7 @@ fn written<R: Threads + Wait + Sync>(
     output.flush_error = flush_error;
     output.fails_once = fails_once;
     let mut input = Script::of(SEVEN.as_bytes());
-    ended(
+    outcome(
         rt,
         alloc,
         "arachne eval",
@@ -187,7 +187,7 @@ fn narrow(alloc: Global, room: usize) -> Tray {
 fn a_fault_line_that_fails_changes_nothing(rt: HostRuntime) -> Result<(), Fail> {
     let alloc = rt.alloc();
     let (output, faults) = (Tray::new(alloc), narrow(alloc, 3));
-    let ended = ended(
+    let ended = outcome(
         &rt,
         alloc,
         "arachne eval",
