@@ -12,7 +12,7 @@ use std::sync::Wait;
 const FULL: u64 = 0x38FF_FFFF_FFFF_FFFF;
 
 /// What a table answers by itself.
-#[derive(Clone, Copy, Debug, PartialEq, Eq)]
+#[derive(Clone, Copy)]
 enum Alteration {
     /// A thread that is to be finished comes back.
     HandsBack,

@@ -6,7 +6,7 @@ use rand_core::Rng;
 use rand_core::utils::{NextWord, fill_bytes_via_u64};
 
 /// What the choosers of a machine draw.
-#[derive(Clone, Copy, Debug)]
+#[derive(Clone, Copy)]
 pub struct Draws {
     /// The first word of core 0's chooser.
     pub word: u64,
@@ -16,25 +16,35 @@ pub struct Draws {
     pub apart: u64,
 }
 
+/// All choosers always draw 0.
+pub const ZEROS: Draws = Draws {
+    word: 0,
+    step: 0,
+    apart: 0,
+};
+
+/// The low half of a drawn word is a fork's first choice, the high half its second: with these words both are core 1.
+pub const CORE_ONE: Draws = Draws {
+    word: 0x0000_0001_0000_0001,
+    step: 0,
+    apart: 0,
+};
+
+/// Both choices of a fork are core 3.
+pub const CORE_THREE: Draws = Draws {
+    word: 0x0000_0003_0000_0003,
+    step: 0,
+    apart: 0,
+};
+
+/// The choosers spread over the cores.
+pub const SPREAD: Draws = Draws {
+    word: 0x9E37_79B9_7F4A_7C15,
+    step: 0xBF58_476D_1CE4_E5B9,
+    apart: 0x94D0_49BB_1331_11EB,
+};
+
 impl Draws {
-    /// All choosers always draw this word.
-    pub fn always(word: u64) -> Draws {
-        Draws {
-            word,
-            step: 0,
-            apart: 0,
-        }
-    }
-
-    /// The choosers spread over the cores.
-    pub fn spread() -> Draws {
-        Draws {
-            word: 0x9E37_79B9_7F4A_7C15,
-            step: 0xBF58_476D_1CE4_E5B9,
-            apart: 0x94D0_49BB_1331_11EB,
-        }
-    }
-
     /// The chooser of a core.
     pub fn of(self, core: u64) -> Progression {
         Progression {
@@ -45,7 +55,7 @@ impl Draws {
 }
 
 /// Each word is greater by the same step, modulo 2^64.
-#[derive(Clone, Copy, Debug, Drop)]
+#[derive(Clone, Copy, Drop)]
 pub struct Progression {
     pub word: u64,
     pub step: u64,

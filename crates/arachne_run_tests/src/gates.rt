@@ -1,4 +1,4 @@
-//! Gates that note which cores run, and hold them up.
+//! A gate that notes which cores run, or holds them up.
 use arachne_core::CORES;
 use arachne_run::Gate;
 use std::sync::atomic::{AtomicU64, Ordering};
@@ -7,18 +7,42 @@ use std::thread::yield_now;
 /// How often a gate looks whether the other core has come before it gives up.
 const POLLS: u32 = 100_000_000;
 
-/// Notes which cores have entered a slice, and how many slices were entered.
-#[derive(Drop)]
-pub struct Noting {
-    entered: AtomicU64,
-    slices: AtomicU64,
+/// The slice of core 0 that core 1 waits for, and that waits for core 1.
+const MEETING: u64 = 500;
+
+/// What a gate does.
+#[derive(Clone, Copy)]
+pub enum Watching {
+    /// Nothing.
+    Nothing,
+    /// It notes which cores have entered a slice, and how many slices were entered.
+    Cores,
+    /// It holds core 1's slice 0 until core 0 has entered slice 500, and that until core 1 has entered slice 0.
+    Meeting,
+    /// It holds core 1's slice 0 until core 0 has entered so many slices.
+    Lead(u64),
 }
 
-impl Noting {
-    pub fn new() -> Noting {
-        Noting {
+/// A gate that does as it is told.
+#[derive(Drop)]
+pub struct Watch {
+    watching: Watching,
+    entered: AtomicU64,
+    slices: AtomicU64,
+    zero: AtomicU64,
+    one: AtomicU64,
+    failed: AtomicU64,
+}
+
+impl Watch {
+    pub fn new(watching: Watching) -> Watch {
+        Watch {
+            watching,
             entered: AtomicU64::new(0),
             slices: AtomicU64::new(0),
+            zero: AtomicU64::new(0),
+            one: AtomicU64::new(0),
+            failed: AtomicU64::new(0),
         }
     }
 
@@ -31,95 +55,53 @@ impl Noting {
     pub fn slices(&self) -> u64 {
         self.slices.load(Ordering::SeqCst)
     }
-}
 
-impl Gate for Noting {
-    fn slice(&self, core: u8, _nth: u64) {
+    /// Whether all came that a core was held up for, and no core has given up.
+    pub fn is_over(&self) -> bool {
+        let (zero, one) = match self.watching {
+            Watching::Meeting => (1, 1),
+            Watching::Lead(wanted) => (wanted, 0),
+            _ => (0, 0),
+        };
+        self.zero.load(Ordering::SeqCst) >= zero
+            && self.one.load(Ordering::SeqCst) >= one
+            && self.failed.load(Ordering::SeqCst) == 0
+    }
+
+    /// Notes a core's slice.
+    fn note(&self, core: u8) {
         if core < CORES {
             self.entered
                 .fetch_or(1 << u32::from(core), Ordering::SeqCst);
         }
         self.slices.fetch_add(1, Ordering::SeqCst);
     }
-}
 
-/// The slice of core 0 that core 1 waits for, and that waits for core 1.
-const MEETING: u64 = 500;
-
-/// Holds core 1's slice 0 until core 0 has entered slice 500, and that until core 1 has entered slice 0.
-#[derive(Drop)]
-pub struct Meeting {
-    zero: AtomicU64,
-    one: AtomicU64,
-    failed: AtomicU64,
-}
-
-impl Meeting {
-    pub fn new() -> Meeting {
-        Meeting {
-            zero: AtomicU64::new(0),
-            one: AtomicU64::new(0),
-            failed: AtomicU64::new(0),
+    /// Waits for the other core's word.
+    fn wait(&self, other: &AtomicU64, wanted: u64) {
+        if !reaches(other, wanted) {
+            self.failed.store(1, Ordering::SeqCst);
         }
-    }
-
-    /// Whether both cores have entered their slices and neither has given up.
-    pub fn is_met(&self) -> bool {
-        let [zero, one, failed] = [&self.zero, &self.one, &self.failed].map(|word| word.load(
-            Ordering::SeqCst,
-        ));
-        zero == 1 && one == 1 && failed == 0
     }
 
     /// Enters a slice, and waits until the other core has entered its own.
     fn meet(&self, own: &AtomicU64, other: &AtomicU64) {
         own.store(1, Ordering::SeqCst);
-        if !reaches(other, 1) {
-            self.failed.store(1, Ordering::SeqCst);
-        }
+        self.wait(other, 1);
     }
 }
 
-impl Gate for Meeting {
+impl Gate for Watch {
     fn slice(&self, core: u8, nth: u64) {
-        match (core, nth) {
-            (0, MEETING) => self.meet(&self.zero, &self.one),
-            (1, 0) => self.meet(&self.one, &self.zero),
+        match (self.watching, core, nth) {
+            (Watching::Cores, _, _) => self.note(core),
+            (Watching::Meeting, 0, MEETING) => self.meet(&self.zero, &self.one),
+            (Watching::Meeting, 1, 0) => self.meet(&self.one, &self.zero),
+            (Watching::Lead(_), 0, _) => {
+                self.zero.fetch_add(1, Ordering::SeqCst);
+            }
+            (Watching::Lead(wanted), 1, 0) => self.wait(&self.zero, wanted),
             _ => {}
-        }
-    }
-}
-
-/// Holds core 1's slice 0 until core 0 has entered so many slices.
-#[derive(Drop)]
-pub struct Holding {
-    wanted: u64,
-    entered: AtomicU64,
-    failed: AtomicU64,
-}
-
-impl Holding {
-    pub fn until(wanted: u64) -> Holding {
-        Holding {
-            wanted,
-            entered: AtomicU64::new(0),
-            failed: AtomicU64::new(0),
-        }
-    }
-
-    /// Whether core 0 has entered so many slices, and core 1 has not given up.
-    pub fn is_over(&self) -> bool {
-        self.entered.load(Ordering::SeqCst) >= self.wanted
-            && self.failed.load(Ordering::SeqCst) == 0
-    }
-}
-
-impl Gate for Holding {
-    fn slice(&self, core: u8, nth: u64) {
-        if core == 0 {
-            self.entered.fetch_add(1, Ordering::SeqCst);
-        } else if core == 1 && nth == 0 && !reaches(&self.entered, self.wanted) {
-            self.failed.store(1, Ordering::SeqCst);
         }
     }
 }

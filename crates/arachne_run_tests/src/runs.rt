@@ -16,11 +16,14 @@ use std::test::Fail;
 use std::thread::Threads;
 
 mod cores;
+mod facts;
 mod loads;
 mod locks;
 mod orders;
 mod programs;
+mod refusals;
 mod reports;
+mod rows;
 mod tables;
 
 /// A form of context table.
@@ -33,42 +36,43 @@ enum Form {
 }
 
 /// The forms of table that answer all calls.
-const FORMS: [Form; 2] = [Form::Locked, Form::Words];
+const FORMS: &[Form] = &[Form::Locked, Form::Words];
 
-/// Numbers of cores, and quanta.
-const MACHINES: [(u64, u64); 8] = [
-    (1, 1),
-    (2, 1),
-    (4, 1),
-    (16, 1),
-    (1, 100),
-    (2, 100),
-    (4, 100),
-    (16, 100),
-];
+/// The form that answers one call by itself.
+const ALTERED: &[Form] = &[Form::Altered];
 
 /// A machine, and what its choosers draw.
-#[derive(Clone, Copy, Debug)]
-struct Trial {
-    form: Form,
+#[derive(Clone, Copy)]
+struct Machine {
     cores: u64,
     quantum: u64,
+    /// How many choosers it has. A run wants one for each core.
+    choosers: u64,
     draws: Draws,
 }
 
-/// A thread that forks another and adds up what both give.
-const FORK: &str = "(fork n (num 2) (num 3) (add (var 0) (var 1)))";
-
-/// The text of a program with so many ledgers and locks.
-fn text_of(alloc: Global, ledgers: u8, locks: u8, expr: &str) -> Result<String, Fail> {
-    Ok(format!(in alloc; "arachne 1\nledgers {ledgers}\nlocks {locks}\n{expr}\n")?)
+/// A program: how many ledgers and locks it has, and so many forks within one another, of which the innermost one's child
+/// is the expression.
+#[derive(Clone, Copy)]
+struct Source {
+    ledgers: u8,
+    locks: u8,
+    forks: usize,
+    expr: &'static str,
 }
 
 /// So many forks within one another, of which the innermost one's child is this.
-fn nested(alloc: Global, forks: u64, innermost: &str) -> Result<String, Fail> {
-    let fronts = "(fork n ".repeat(alloc, forks as usize)?;
-    let ends = " (num 1) (add (var 0) (var 1)))".repeat(alloc, forks as usize)?;
+fn nested(alloc: Global, forks: usize, innermost: &str) -> Result<String, Fail> {
+    let fronts = "(fork n ".repeat(alloc, forks)?;
+    let ends = " (num 1) (add (var 0) (var 1)))".repeat(alloc, forks)?;
     Ok(format!(in alloc; "{fronts}{innermost}{ends}")?)
+}
+
+/// The text of a program.
+fn text_of(alloc: Global, source: &Source) -> Result<String, Fail> {
+    let expr = nested(alloc, source.forks, source.expr)?;
+    let (ledgers, locks) = (source.ledgers, source.locks);
+    Ok(format!(in alloc; "arachne 1\nledgers {ledgers}\nlocks {locks}\n{expr}\n")?)
 }
 
 /// The program of a text, which may run.
@@ -126,15 +130,15 @@ fn run_altered<'p, R: Threads + Wait + Sync, G: Gate + Sync>(
     run::<R, Job<'p>, Altered<Job<'p>>, Progression, G>(rt, alloc, program, setup, choosers, gate)
 }
 
-/// How a run is set up on a machine, and the chooser of each core.
+/// How a run is set up on a machine, and its choosers.
 fn setup_of(
     alloc: Global,
-    machine: Trial,
+    machine: Machine,
     orders: &[CoreOrder],
 ) -> Result<(Setup, Vec<Progression>), AllocError> {
     let mut choosers = Vec::new(alloc);
-    for core in 0..machine.cores {
-        choosers.push(machine.draws.of(core))?;
+    for nth in 0..machine.choosers {
+        choosers.push(machine.draws.of(nth))?;
     }
     let setup = Setup {
         cores: machine.cores,
@@ -144,38 +148,21 @@ fn setup_of(
     Ok((setup, choosers))
 }
 
-/// What comes of a run of a text's program.
+/// What comes of a run of a text's program. All tests run their programs here.
 fn answer<R: Threads + Wait + Sync, G: Gate + Sync>(
     rt: &R,
     alloc: Global,
     text: &[u8],
-    machine: Trial,
+    form: Form,
+    machine: Machine,
     orders: &[CoreOrder],
     gate: &G,
 ) -> Result<Result<Report, RunFault>, Fail> {
     let program = checked(alloc, text)?;
     let (setup, choosers) = setup_of(alloc, machine, orders)?;
-    Ok(match machine.form {
+    Ok(match form {
         Form::Locked => run_on_lock(rt, alloc, &program, setup, choosers, gate),
         Form::Words => run_on_words(rt, alloc, &program, setup, choosers, gate),
         Form::Altered => run_altered(rt, alloc, &program, setup, choosers, gate),
     })
-}
-
-/// The report of a text's program.
-fn report<R: Threads + Wait + Sync, G: Gate + Sync>(
-    rt: &R,
-    alloc: Global,
-    text: &[u8],
-    machine: Trial,
-    orders: &[CoreOrder],
-    gate: &G,
-) -> Result<Report, Fail> {
-    Ok(answer(rt, alloc, text, machine, orders, gate)??)
-}
-
-/// How many threads ran in the place of their parents.
-fn in_place(report: &Report) -> usize {
-    let lines = report.threads.as_slice();
-    lines.iter().filter(|line| line.in_place).count()
 }

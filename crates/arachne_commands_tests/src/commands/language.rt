@@ -3,15 +3,13 @@ ghost use Rattle.std.specs.Prelude.{◌≤◌, IfOk};
 ghost use Rattle.arachne_lang.specs.Program.{tree_of};
 ghost use Rattle.arachne_lang.specs.Text.{nesting};
 
-use super::{assert_fault, assert_output, text_of};
+use super::READING;
+use super::endings::{all_end, assert_ends};
 use arachne_commands::render;
 use arachne_lang::{Program, parse, print};
 use arachne_machine::run_alone;
 use std::alloc::Global;
 use std::test::Fail;
-
-/// The lines of a program with no array, no ledger and no lock.
-const PLAIN: &str = "ledgers 0\nlocks 0\n";
 
 /// Texts behind their headers, and what is printed of them with the names of their threads. A `|` ends a line.
 const ROWS: &str = "\
@@ -117,10 +115,9 @@ fn program_of(alloc: Global, text: &[u8]) -> Result<Program, Fail>
 fn rows_are_checked_and_evaluated(rt: HostRuntime) -> Result<(), Fail> {
     for row in ROWS.lines() {
         let Row { text, output } = Row::read(rt.alloc(), row)?;
-        let words = ["arachne", "eval", "--names"];
-        assert_output(&rt, rt.alloc(), &words, text.as_bytes(), output.as_str());
-        let words = ["arachne", "check"];
-        assert_output(&rt, rt.alloc(), &words, text.as_bytes(), "ok\n");
+        let (input, output) = (text.as_bytes(), output.as_str());
+        assert_ends(&rt, rt.alloc(), "arachne eval --names", input, 0, output)?;
+        assert_ends(&rt, rt.alloc(), "arachne check", input, 0, "ok\n")?;
     }
     Ok(())
 }
@@ -170,28 +167,18 @@ fn chain(alloc: Global) -> Result<String, Fail> {
 /// Sweeps of many threads, and what is printed of them.
 const SWEEPS: &[(&str, &str)] = &[
     (
-        "(sweep add 1 (num 0) (num 901) (var 0))",
+        "arachne 1\nledgers 0\nlocks 0\n(sweep add 1 (num 0) (num 901) (var 0))\n",
         "value 405450\nthreads 901\n",
     ),
     (
-        "(sweep add 1 (num 0) (num 100000) (var 0))",
+        "arachne 1\nledgers 0\nlocks 0\n(sweep add 1 (num 0) (num 100000) (var 0))\n",
         "value 4999950000\nthreads 100000\n",
     ),
 ];
 
 #[test]
 fn many_threads_are_evaluated(rt: HostRuntime) -> Result<(), Fail> {
-    for &(sweep, output) in SWEEPS {
-        let text = text_of(rt.alloc(), sweep)?;
-        assert_output(
-            &rt,
-            rt.alloc(),
-            &["arachne", "eval"],
-            text.as_bytes(),
-            output,
-        );
-    }
-    Ok(())
+    all_end(&rt, rt.alloc(), &["arachne eval"], 0, SWEEPS)
 }
 
 /// An array line of 80,000 bytes, with what is evaluated behind it.
@@ -205,119 +192,116 @@ fn long_array(alloc: Global) -> Result<String, Fail> {
 /// Nesting at its limit, and a long array.
 #[test]
 fn long_texts_are_evaluated(rt: HostRuntime) -> Result<(), Fail> {
-    let words = ["arachne", "eval"];
-    let text = chain(rt.alloc())?;
-    assert_output(
-        &rt,
-        rt.alloc(),
-        &words,
-        text.as_bytes(),
-        "value 61\nthreads 61\n",
-    );
-    let text = long_array(rt.alloc())?;
-    assert_output(
-        &rt,
-        rt.alloc(),
-        &words,
-        text.as_bytes(),
-        "value 200000\nthreads 1\n",
-    );
-    Ok(())
+    let chain = chain(rt.alloc())?;
+    let long = long_array(rt.alloc())?;
+    let rows = [
+        (chain.as_str(), "value 61\nthreads 61\n"),
+        (long.as_str(), "value 200000\nthreads 1\n"),
+    ];
+    all_end(&rt, rt.alloc(), &["arachne eval"], 0, &rows)
 }
 
-/// Lines and expressions, and the faults of their texts.
-const FAULTS: &[(&str, &str, &str)] = &[
+/// Texts, and their faults.
+const FAULTS: &[(&str, &str)] = &[
     (
-        "ledgers 0\nlocks 1\n",
-        "(hold 0 (fork n (num 1) (num 2) (num 3)))",
+        "arachne 1\nledgers 0\nlocks 1\n(hold 0 (fork n (num 1) (num 2) (num 3)))\n",
         "fault 9 node 1\n",
     ),
     (
-        "ledgers 0\nlocks 1\n",
-        "(hold 0 (hold 5 (num 1)))",
+        "arachne 1\nledgers 0\nlocks 1\n(hold 0 (hold 5 (num 1)))\n",
         "fault 9 node 1\n",
     ),
     (
-        PLAIN,
-        "(sweep add 0 (num 0) (num 1) (num 2))",
+        "arachne 1\nledgers 0\nlocks 0\n(sweep add 0 (num 0) (num 1) (num 2))\n",
         "fault 11 node 0\n",
     ),
-    (PLAIN, "(len 0)", "fault 5 node 0\n"),
-    (PLAIN, "(tally 0 (num 1) (num 1))", "fault 6 node 0\n"),
-    (PLAIN, "(hold 0 (num 1))", "fault 7 node 0\n"),
-    (PLAIN, "(add (var 0) (num 1))", "fault 8 node 1\n"),
-    ("ledgers 17\nlocks 0\n", "(num 7)", "fault 10\n"),
-    ("ledgers 256\nlocks 0\n", "(num 7)", "fault 3 at 20\n"),
-    (PLAIN, "(num 18446744073709551616)", "fault 3 at 52\n"),
-    (PLAIN, "(num 00)", "fault 2 at 34\n"),
-    (PLAIN, "(add  (num 1) (num 1))", "fault 2 at 33\n"),
     (
-        PLAIN,
-        "(fork n (num 1) (num 2) (add (var 1) (var 2)))",
+        "arachne 1\nledgers 0\nlocks 0\n(len 0)\n",
+        "fault 5 node 0\n",
+    ),
+    (
+        "arachne 1\nledgers 0\nlocks 0\n(tally 0 (num 1) (num 1))\n",
+        "fault 6 node 0\n",
+    ),
+    (
+        "arachne 1\nledgers 0\nlocks 0\n(hold 0 (num 1))\n",
+        "fault 7 node 0\n",
+    ),
+    (
+        "arachne 1\nledgers 0\nlocks 0\n(add (var 0) (num 1))\n",
+        "fault 8 node 1\n",
+    ),
+    ("arachne 1\nledgers 17\nlocks 0\n(num 7)\n", "fault 10\n"),
+    (
+        "arachne 1\nledgers 256\nlocks 0\n(num 7)\n",
+        "fault 3 at 20\n",
+    ),
+    (
+        "arachne 1\nledgers 0\nlocks 0\n(num 18446744073709551616)\n",
+        "fault 3 at 52\n",
+    ),
+    (
+        "arachne 1\nledgers 0\nlocks 0\n(num 00)\n",
+        "fault 2 at 34\n",
+    ),
+    (
+        "arachne 1\nledgers 0\nlocks 0\n(add  (num 1) (num 1))\n",
+        "fault 2 at 33\n",
+    ),
+    (
+        "arachne 1\nledgers 0\nlocks 0\n(fork n (num 1) (num 2) (add (var 1) (var 2)))\n",
         "fault 8 node 5\n",
     ),
     (
-        PLAIN,
-        "(fork n (num 1) (var 0) (num 2))",
+        "arachne 1\nledgers 0\nlocks 0\n(fork n (num 1) (var 0) (num 2))\n",
         "fault 8 node 2\n",
     ),
-    ("ledgers 17\nlocks 0\n", "(num 7)", "fault 10\n"),
+    ("arachne 1\nledgers 17\nlocks 0\n(num 7)\n", "fault 10\n"),
     (
-        "array 3 1 4\nledgers 0\nlocks 0\n",
-        "(len 1)",
+        "arachne 1\narray 3 1 4\nledgers 0\nlocks 0\n(len 1)\n",
         "fault 5 node 0\n",
     ),
     (
-        "array 3 1 4\nledgers 0\nlocks 0\n",
-        "(item 1 (num 0))",
+        "arachne 1\narray 3 1 4\nledgers 0\nlocks 0\n(item 1 (num 0))\n",
         "fault 5 node 0\n",
     ),
     (
-        "array 3 1 4\nledgers 0\nlocks 0\n",
-        "(add (var 0) (len 1))",
+        "arachne 1\narray 3 1 4\nledgers 0\nlocks 0\n(add (var 0) (len 1))\n",
         "fault 8 node 1\n",
     ),
     (
-        "ledgers 0\nlocks 1\n",
-        "(hold 0 (hold 5 (num 1)))",
+        "arachne 1\nledgers 0\nlocks 1\n(hold 0 (hold 5 (num 1)))\n",
         "fault 9 node 1\n",
     ),
     (
-        "ledgers 0\nlocks 1\n",
-        "(hold 0 (fork n (num 1) (num 2) (num 3)))",
+        "arachne 1\nledgers 0\nlocks 1\n(hold 0 (fork n (num 1) (num 2) (num 3)))\n",
         "fault 9 node 1\n",
     ),
     (
-        "ledgers 0\nlocks 1\n",
-        "(hold 0 (add (num 1) (sweep add 0 (num 0) (num 1) (num 2))))",
+        "arachne 1\nledgers 0\nlocks 1\n(hold 0 (add (num 1) (sweep add 0 (num 0) (num 1) (num 2))))\n",
         "fault 9 node 3\n",
     ),
-    (PLAIN, "(let (num 1) (var 1))", "fault 8 node 2\n"),
     (
-        PLAIN,
-        "(fold (num 0) (num 1) (num 0) (var 2))",
+        "arachne 1\nledgers 0\nlocks 0\n(let (num 1) (var 1))\n",
+        "fault 8 node 2\n",
+    ),
+    (
+        "arachne 1\nledgers 0\nlocks 0\n(fold (num 0) (num 1) (num 0) (var 2))\n",
         "fault 8 node 4\n",
     ),
     (
-        PLAIN,
-        "(fold (num 0) (num 1) (var 0) (num 0))",
+        "arachne 1\nledgers 0\nlocks 0\n(fold (num 0) (num 1) (var 0) (num 0))\n",
         "fault 8 node 3\n",
     ),
     (
-        PLAIN,
-        "(sweep add 1 (num 0) (num 1) (var 1))",
+        "arachne 1\nledgers 0\nlocks 0\n(sweep add 1 (num 0) (num 1) (var 1))\n",
         "fault 8 node 3\n",
     ),
 ];
 
 #[test]
 fn programs_at_fault(rt: HostRuntime) -> Result<(), Fail> {
-    let alloc = rt.alloc();
-    for &(lines, expr, line) in FAULTS {
-        let text = format!(in alloc; "arachne 1\n{lines}{expr}\n")?;
-        assert_fault(&rt, alloc, text.as_bytes(), line);
-    }
-    Ok(())
+    all_end(&rt, rt.alloc(), READING, 1, FAULTS)
 }
 
 /// A text of 93 bytes.
@@ -337,29 +321,39 @@ fn fronts_of_a_text_are_cut_short(rt: HostRuntime) -> Result<(), Fail> {
     let text = WHOLE.as_bytes();
     assert_eq!(rt; text.len(), 93);
     for n in 0..text.len() {
+        let front = &text[..n];
         let line = fault_of_front(rt.alloc(), n)?;
-        assert_fault(&rt, rt.alloc(), &text[..n], line.as_str());
+        for &words in READING {
+            assert_ends(&rt, rt.alloc(), words, front, 1, line.as_str())?;
+        }
     }
     Ok(())
 }
 
-/// A part, so many times, and an end, behind the lines.
-fn repeated(alloc: Global, part: &str, times: usize, end: &str) -> Result<String, Fail> {
+/// A front, a part so many times, and an end, behind the lines.
+fn repeated(
+    alloc: Global,
+    front: &str,
+    part: &str,
+    times: usize,
+    end: &str,
+) -> Result<String, Fail> {
     let parts = part.repeat(alloc, times)?;
-    Ok(format!(in alloc; "arachne 1\nledgers 0\nlocks 0\n{parts}{end}")?)
+    Ok(format!(in alloc; "arachne 1\nledgers 0\nlocks 0\n{front}{parts}{end}")?)
 }
+
+/// Texts that nest too deep, or have too long a number: a front, a part, how often it stands there, an end, and the fault.
+const HOSTILE: &[(&str, &str, usize, &str, &str)] = &[
+    ("", "(let (num 0) ", 64, "(num 0)", "fault 4 at 852\n"),
+    ("", "(add ", 1_000_000, "", "fault 4 at 348\n"),
+    ("(num ", "9", 1_000_000, "", "fault 3 at 52\n"),
+];
 
 #[test]
 fn hostile_texts_are_refused_at_their_byte(rt: HostRuntime) -> Result<(), Fail> {
-    for (part, times, end, line) in [
-        ("(let (num 0) ", 64, "(num 0)", "fault 4 at 852\n"),
-        ("(add ", 1_000_000, "", "fault 4 at 348\n"),
-    ] {
-        let text = repeated(rt.alloc(), part, times, end)?;
-        assert_fault(&rt, rt.alloc(), text.as_bytes(), line);
+    for &(front, part, times, end, line) in HOSTILE {
+        let text = repeated(rt.alloc(), front, part, times, end)?;
+        all_end(&rt, rt.alloc(), READING, 1, &[(text.as_str(), line)])?;
     }
-    let digits = "9".repeat(rt.alloc(), 1_000_000)?;
-    let long = repeated(rt.alloc(), "(num ", 1, digits.as_str())?;
-    assert_fault(&rt, rt.alloc(), long.as_bytes(), "fault 3 at 52\n");
     Ok(())
 }

@@ -1,17 +1,37 @@
 //! Many threads, over and over.
-use super::{Form, Trial, report, text_of};
-use crate::choosers::Draws;
-use arachne_run::OpenGate;
+use super::facts::{Fact, Telling};
+use super::rows::{Row, row_holds};
+use super::{Form, Machine, Source};
+use crate::choosers::{Draws, SPREAD};
+use crate::gates::Watching;
 use std::alloc::Global;
 use std::process::Abort;
 use std::sync::Wait;
 use std::test::Fail;
 use std::thread::Threads;
 
-const THREADS: u64 = 100_000;
-
-/// Each of the threads holds the lock once and tallies.
-const SUMS: &str = "(sweep add 1 (num 0) (num 100000) (hold 0 (tally 0 (num 5) (num 1))))";
+/// Each of 100,000 threads holds the lock once and tallies.
+const SUMS: Row = Row {
+    source: Source {
+        ledgers: 1,
+        locks: 1,
+        forks: 0,
+        expr: "(sweep add 1 (num 0) (num 100000) (hold 0 (tally 0 (num 5) (num 1))))",
+    },
+    forms: &[],
+    machines: &[],
+    draws: SPREAD,
+    orders: &[],
+    watching: Watching::Nothing,
+    facts: &[
+        (Fact::Value, 100_000),
+        (Fact::Threads, 100_000),
+        (Fact::Totals, 1),
+        (Fact::Total, 500_000),
+    ],
+    telling: Telling::Nothing,
+    told: "",
+};
 
 /// Runs the threads five times on 16 cores, with other choosers each time.
 fn run_five_times<R: Abort + Threads + Wait + Sync>(
@@ -20,22 +40,18 @@ fn run_five_times<R: Abort + Threads + Wait + Sync>(
     quantum: u64,
     seed: u64,
 ) -> Result<(), Fail> {
-    let text = text_of(alloc, 1, 1, SUMS)?;
     for nth in 0..5u64 {
-        let draws = Draws::spread();
-        let machine = Trial {
-            form: Form::Words,
+        let draws = Draws {
+            word: SPREAD.word.wrapping_add(seed).wrapping_mul(2 * nth + 1),
+            ..SPREAD
+        };
+        let machine = Machine {
             cores: 16,
             quantum,
-            draws: Draws {
-                word: draws.word.wrapping_add(seed).wrapping_mul(2 * nth + 1),
-                ..draws
-            },
+            choosers: 16,
+            draws,
         };
-        let report = report(rt, alloc, text.as_bytes(), machine, &[], &OpenGate)?;
-        let counts = (report.value, report.threads.as_slice().len() as u64);
-        assert_eq!(rt; counts, (THREADS, THREADS));
-        assert_eq!(rt; report.totals.as_slice(), [5 * THREADS].as_slice());
+        row_holds(rt, alloc, &SUMS, Form::Words, machine, &[])?;
     }
     Ok(())
 }

@@ -1,52 +1,71 @@
 //! More threads than places.
-use super::{FORMS, MACHINES, Trial, in_place, nested, report, text_of};
-use crate::choosers::Draws;
-use arachne_run::OpenGate;
+use super::facts::{Fact, Telling};
+use super::rows::{MACHINES, Row, rows_hold};
+use super::{FORMS, Source};
+use crate::choosers::{SPREAD, ZEROS};
+use crate::gates::Watching;
 use std::test::Fail;
 
-/// Of 61 threads that wait for one another one core has places for 56, and more cores have places for all.
+/// 61 threads that wait for one another.
+const CHAIN: Source = Source {
+    ledgers: 0,
+    locks: 0,
+    forks: 60,
+    expr: "(num 1)",
+};
+
+/// Of the threads one core has places for 56, and more cores have places for all.
+const CHAINS: &[Row] = &[
+    Row {
+        source: CHAIN,
+        forms: FORMS,
+        machines: &[(1, 1), (1, 100)],
+        draws: ZEROS,
+        orders: &[],
+        watching: Watching::Nothing,
+        facts: &[(Fact::Value, 61), (Fact::Threads, 61), (Fact::InPlace, 5)],
+        telling: Telling::Nothing,
+        told: "",
+    },
+    Row {
+        source: CHAIN,
+        forms: FORMS,
+        machines: &[(2, 1), (4, 1), (16, 1), (2, 100), (4, 100), (16, 100)],
+        draws: ZEROS,
+        orders: &[],
+        watching: Watching::Nothing,
+        facts: &[(Fact::Value, 61), (Fact::Threads, 61), (Fact::InPlace, 0)],
+        telling: Telling::Nothing,
+        told: "",
+    },
+];
+
 #[test]
 fn threads_that_find_no_place_run_in_their_parents(rt: HostRuntime) -> Result<(), Fail> {
-    let alloc = rt.alloc();
-    let expr = nested(alloc, 60, "(num 1)")?;
-    let text = text_of(alloc, 0, 0, expr.as_str())?;
-    for form in FORMS {
-        for (cores, quantum) in MACHINES {
-            let machine = Trial {
-                form,
-                cores,
-                quantum,
-                draws: Draws::always(0),
-            };
-            let report = report(&rt, alloc, text.as_bytes(), machine, &[], &OpenGate)?;
-            let counts = (
-                report.value,
-                report.threads.as_slice().len(),
-                in_place(&report),
-            );
-            let placeless = if cores == 1 { 5 } else { 0 };
-            assert_eq!(rt; counts, (61, 61, placeless), "{machine:?}");
-        }
-    }
-    Ok(())
+    rows_hold(&rt, rt.alloc(), CHAINS)
 }
+
+/// 901 threads.
+pub(super) const MANY: Source = Source {
+    ledgers: 0,
+    locks: 0,
+    forks: 0,
+    expr: "(sweep add 1 (num 0) (num 901) (var 0))",
+};
+
+const MANY_THREADS: &[Row] = &[Row {
+    source: MANY,
+    forms: FORMS,
+    machines: MACHINES,
+    draws: SPREAD,
+    orders: &[],
+    watching: Watching::Nothing,
+    facts: &[(Fact::Value, 405_450), (Fact::Threads, 901)],
+    telling: Telling::Nothing,
+    told: "",
+}];
 
 #[test]
 fn many_more_threads_than_places(rt: HostRuntime) -> Result<(), Fail> {
-    let alloc = rt.alloc();
-    let text = text_of(alloc, 0, 0, "(sweep add 1 (num 0) (num 901) (var 0))")?;
-    for form in FORMS {
-        for (cores, quantum) in MACHINES {
-            let machine = Trial {
-                form,
-                cores,
-                quantum,
-                draws: Draws::spread(),
-            };
-            let report = report(&rt, alloc, text.as_bytes(), machine, &[], &OpenGate)?;
-            let counts = (report.value, report.threads.as_slice().len());
-            assert_eq!(rt; counts, (405_450, 901), "{machine:?}");
-        }
-    }
-    Ok(())
+    rows_hold(&rt, rt.alloc(), MANY_THREADS)
 }
