@@ -47,6 +47,7 @@ const MACHINES: &[&str] = &[
     "arachne run --cores 1 --quantum 100",
     "arachne run --cores 2 --quantum 1",
     "arachne run --cores 2 --quantum 100",
+    "arachne run --cores 3 --quantum 1",
     "arachne run --cores 4 --quantum 1",
     "arachne run --cores 4 --quantum 100",
     "arachne run --cores 16 --quantum 1",

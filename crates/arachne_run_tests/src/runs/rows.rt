@@ -14,6 +14,7 @@ use std::thread::Threads;
 pub(super) const MACHINES: &[(u64, u64)] = &[
     (1, 1),
     (2, 1),
+    (3, 1),
     (4, 1),
     (16, 1),
     (1, 100),
