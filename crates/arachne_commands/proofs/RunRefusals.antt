@@ -47,6 +47,7 @@ refused_by_run settings served orders (Err fault) serves same refused misordered
   where
     alike : refusal_of settings.cores settings.quantum served ≡ refusal_of settings.cores settings.quantum settings.cores
     alike = same_refusal settings.cores settings.quantum served serves
+
     as_set : IsSetupFault settings.cores settings.quantum served orders fault
         → IsSetupFault settings.cores settings.quantum settings.cores settings.orders fault
     as_set (inl is) = inl (sym alike ∙ is)
