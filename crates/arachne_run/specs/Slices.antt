@@ -1,5 +1,5 @@
 -- What a slice leaves, and how a job is put back.
-use Rattle.std.specs.Prelude.{◌≡◌, ◌<◌, ℕ, Option, None, Some}
+use Rattle.std.specs.Prelude.{◌≡◌, ◌<◌, ◌≤◌, ℕ, Option, None, Some}
 use Rattle.arachne_core.specs.declared.state.Rest.{Rest}
 use Rattle.arachne_core.specs.declared.state.Rest.TheVariants as rest
 use Rattle.arachne_machine.specs.Suspended.{IsTally}
@@ -19,9 +19,9 @@ abbrev pub MayRest : Rest → Option Pending → Type 0
 MayRest rest.Ready pending = pending ≡ None
 MayRest rest.Blocked pending = IsWait pending
 
--- of the steps that a job had, fewer are left, unless it awaits a child; one that still waits for a lock has made none
+-- of the steps that a job had, fewer are left, or as many where it awaits a child; one that still waits for a lock has made none
 abbrev pub UsesSteps : {Child : Type 0} → Slice Child → ℕ → ℕ → Type 0
-UsesSteps Blocks had left = Unit {0}
+UsesSteps Blocks had left = left ≤ had
 UsesSteps (Awaits lock) had left = left ≡ had
 UsesSteps _ had left = left < had
 

@@ -1,6 +1,6 @@
 -- Whose tokens they are, and what is out with them.
-use Rattle.std.specs.Prelude.{◌≡◌, ◌≤◌, ℕ, List, Option, IfSome, length}
-use Rattle.arachne_contexts.specs.Out.{Out, Thread}
+use Rattle.std.specs.Prelude.{◌≡◌, ◌≤◌, ℕ, List, ◌∷◌, Option, IfSome, length}
+use Rattle.arachne_contexts.specs.Out.{Out, Thread, KeepsOut}
 use Rattle.arachne_contexts.specs.declared.held.Held.{Held}
 use Rattle.arachne_ledger.specs.Views.{IsShareOf}
 use Rattle.arachne_sleep.specs.SleepLocks.{AreSeatsOf}
@@ -26,9 +26,25 @@ AreIdle sits idle machine tokens = AreOf sits machine tokens × idle machine.tab
 abbrev pub AreWith : {Table Seat C H : Type 0} → (Table → Seat → Type 0) → (Table → Seat → List (Out C H) → Type 0) → Machine Table → List (Out C H) → Tokens Seat → Type 0
 AreWith sits has machine outs tokens = AreOf sits machine tokens × has machine.table tokens.seat outs
 
+-- they are still the machine's, and what was out with the seat is out
+abbrev pub AreKept : {Table Seat C H : Type 0} → (Table → Seat → Type 0) → (Table → Seat → List (Out C H) → Type 0) → Machine Table → Tokens Seat → Tokens Seat → Type 0
+AreKept sits has machine old new = AreOf sits machine new × KeepsOut (has machine.table) old.seat new.seat
+
+-- the same, and this is out besides
+abbrev pub AreMore : {Table Seat C H : Type 0} → (Table → Seat → Type 0) → (Table → Seat → List (Out C H) → Type 0) → Machine Table → Out C H → Tokens Seat → Tokens Seat → Type 0
+AreMore {Table} {Seat} {C} {H} sits has machine out old new = AreOf sits machine new × ((outs : List (Out C H)) → has machine.table old.seat outs → has machine.table new.seat (out ∷ outs))
+
+-- the same, but this is out no more
+abbrev pub AreLess : {Table Seat C H : Type 0} → (Table → Seat → Type 0) → (Table → Seat → List (Out C H) → Type 0) → Machine Table → Out C H → Tokens Seat → Tokens Seat → Type 0
+AreLess {Table} {Seat} {C} {H} sits has machine out old new = AreOf sits machine new × ((outs : List (Out C H)) → has machine.table old.seat (out ∷ outs) → has machine.table new.seat outs)
+
 -- the thread that is held, as the table knows it
 abbrev pub thread_in : {C T H : Type 0} → (T → ℕ) → Held T H → Out C H
 thread_in tag held = Thread held.hold (tag held.value)
+
+-- the same thread: the table knows it by the same, and its tag has not changed
+abbrev pub IsSameThread : {T H : Type 0} → (T → ℕ) → Held T H → Held T H → Type 0
+IsSameThread tag old new = (new.hold ≡ old.hold) × (tag new.value ≡ tag old.value)
 
 -- its table has its cores, of which there are one to sixteen, as many as the shared words are for, and a slice has a step at least
 pub record IsSetUp {Table : Type 0} (core_count : Table → ℕ) (machine : Machine Table) : Type 0 where

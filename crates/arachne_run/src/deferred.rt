@@ -16,6 +16,8 @@ const PATIENCE: u32 = 500;
 pub(crate) struct Post {
     pub(crate) id: ThreadId,
     pub(crate) place: Place,
+    /// Who forked it.
+    pub(crate) parent: ThreadId,
 }
 
 /// The threads that a worker has posted on other cores without telling the workers of those, and for how many steps more it
@@ -70,6 +72,16 @@ impl Deferred {
         ensures { MatchOption result (self.old ≡ [] × self.new ≡ []) (λ newest. self.old ≡ self.new ++ newest ∷ []) }
     {
         self.posts.pop()
+    }
+
+    /// The newest, which is kept back no longer, if this thread has forked it.
+    pub(crate) fn take_newest_of(&mut self, parent: ThreadId) -> Option<Post>
+        ensures { MatchOption result (self.new ≡ self.old) (λ newest. self.old ≡ self.new ++ newest ∷ []) }
+    {
+        match self.posts.last() {
+            Some(post) if post.parent == parent => self.posts.pop(),
+            _ => None,
+        }
     }
 
     /// A slice begins. If nothing is kept back, what is posted from now on is for as long as it may be.

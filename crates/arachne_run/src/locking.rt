@@ -1,8 +1,8 @@
 //! What a worker does for a thread at a sleep lock.
-ghost use Rattle.std.specs.Prelude.{◌≡◌, ◌<◌, [], ◌∷◌, OnOk, IfOk, None, Some, MatchBool, length};
+ghost use Rattle.std.specs.Prelude.{◌≡◌, ◌<◌, OnOk, IfOk, None, Some, MatchBool, length};
 ghost use Rattle.arachne_machine.specs.declared.pause.Pending.TheVariants as pause;
 ghost use Rattle.arachne_run.specs.Slices.{IsWait};
-ghost use Rattle.arachne_run.specs.Tokens.{AreWith, thread_in};
+ghost use Rattle.arachne_run.specs.Tokens.{AreKept, AreOf, IsSameThread};
 
 use crate::fault::WorkerFault;
 use crate::gate::Gate;
@@ -45,9 +45,10 @@ impl<'a, H: Wait, T: RunJob, C: Contexts<T>, R: Rng, G: Gate> Worker<'a, H, T, C
         held: &mut Held<T, C::Hold>,
         lock: u64,
     ) -> Result<bool, WorkerFault>
-        requires tokens { AreWith C.sits C.has self.now.machine.now (thread_in T.tag_of held.old ∷ []) kit.old.tokens }
+        requires tokens { AreOf C.sits self.now.machine.now kit.old.tokens }
         requires asks { T.pause_of held.old.value ≡ Some (pause.Asks lock) }
-        ensures tokens { OnOk result (AreWith C.sits C.has self.now.machine.now (thread_in T.tag_of held.new ∷ []) kit.new.tokens) }
+        ensures tokens { OnOk result (AreKept C.sits C.has self.now.machine.now kit.old.tokens kit.new.tokens) }
+        ensures thread { OnOk result (IsSameThread T.tag_of held.old held.new) }
         ensures goes_on { IfOk result (λ goes_on. MatchBool goes_on (T.pause_of held.new.value ≡ None) (IsWait (T.pause_of held.new.value))) }
     {
         let number = self.lock_of(lock)?;
@@ -62,9 +63,10 @@ impl<'a, H: Wait, T: RunJob, C: Contexts<T>, R: Rng, G: Gate> Worker<'a, H, T, C
         held: &mut Held<T, C::Hold>,
         lock: u64,
     ) -> Result<bool, WorkerFault>
-        requires tokens { AreWith C.sits C.has self.now.machine.now (thread_in T.tag_of held.old ∷ []) kit.old.tokens }
+        requires tokens { AreOf C.sits self.now.machine.now kit.old.tokens }
         requires asks { T.pause_of held.old.value ≡ Some (pause.Asks lock) }
-        ensures tokens { OnOk result (AreWith C.sits C.has self.now.machine.now (thread_in T.tag_of held.new ∷ []) kit.new.tokens) }
+        ensures tokens { OnOk result (AreKept C.sits C.has self.now.machine.now kit.old.tokens kit.new.tokens) }
+        ensures thread { OnOk result (IsSameThread T.tag_of held.old held.new) }
         ensures goes_on { IfOk result (λ goes_on. MatchBool goes_on (T.pause_of held.new.value ≡ None) (IsWait (T.pause_of held.new.value))) }
     {
         let number = self.lock_of(lock)?;
@@ -79,9 +81,10 @@ impl<'a, H: Wait, T: RunJob, C: Contexts<T>, R: Rng, G: Gate> Worker<'a, H, T, C
         held: &mut Held<T, C::Hold>,
         lock: u64,
     ) -> Result<(), WorkerFault>
-        requires tokens { AreWith C.sits C.has self.now.machine.now (thread_in T.tag_of held.old ∷ []) kit.old.tokens }
+        requires tokens { AreOf C.sits self.now.machine.now kit.old.tokens }
         requires frees { T.pause_of held.old.value ≡ Some (pause.Frees lock) }
-        ensures tokens { OnOk result (AreWith C.sits C.has self.now.machine.now (thread_in T.tag_of held.new ∷ []) kit.new.tokens) }
+        ensures tokens { OnOk result (AreKept C.sits C.has self.now.machine.now kit.old.tokens kit.new.tokens) }
+        ensures thread { OnOk result (IsSameThread T.tag_of held.old held.new) }
         ensures answered { OnOk result (T.pause_of held.new.value ≡ None) }
     {
         let number = self.lock_of(lock)?;
@@ -109,9 +112,9 @@ impl<'a, H: Wait, T: RunJob, C: Contexts<T>, R: Rng, G: Gate> Worker<'a, H, T, C
         held: &Held<T, C::Hold>,
         lock: u8,
     ) -> Result<Option<Pass>, WorkerFault>
-        requires tokens { AreWith C.sits C.has self.now.machine.now (thread_in T.tag_of held.now ∷ []) kit.old.tokens }
+        requires tokens { AreOf C.sits self.now.machine.now kit.old.tokens }
         requires lock { lock < length self.now.machine.now.locks }
-        ensures { AreWith C.sits C.has self.now.machine.now (thread_in T.tag_of held.now ∷ []) kit.new.tokens }
+        ensures { AreKept C.sits C.has self.now.machine.now kit.old.tokens kit.new.tokens }
     {
         let who = asker(held);
         for _ in self.rt.forever() {
@@ -134,9 +137,9 @@ impl<'a, H: Wait, T: RunJob, C: Contexts<T>, R: Rng, G: Gate> Worker<'a, H, T, C
         held: &Held<T, C::Hold>,
         lock: u8,
     ) -> Option<Pass>
-        requires tokens { AreWith C.sits C.has self.now.machine.now (thread_in T.tag_of held.now ∷ []) kit.old.tokens }
+        requires tokens { AreOf C.sits self.now.machine.now kit.old.tokens }
         requires lock { lock < length self.now.machine.now.locks }
-        ensures { AreWith C.sits C.has self.now.machine.now (thread_in T.tag_of held.now ∷ []) kit.new.tokens }
+        ensures { AreKept C.sits C.has self.now.machine.now kit.old.tokens kit.new.tokens }
     {
         let who = asker(held);
         for _ in self.rt.forever() {
@@ -160,9 +163,9 @@ impl<'a, H: Wait, T: RunJob, C: Contexts<T>, R: Rng, G: Gate> Worker<'a, H, T, C
         held: &Held<T, C::Hold>,
         lock: u8,
     ) -> Result<Option<ThreadId>, WorkerFault>
-        requires tokens { AreWith C.sits C.has self.now.machine.now (thread_in T.tag_of held.now ∷ []) kit.old.tokens }
+        requires tokens { AreOf C.sits self.now.machine.now kit.old.tokens }
         requires lock { lock < length self.now.machine.now.locks }
-        ensures { AreWith C.sits C.has self.now.machine.now (thread_in T.tag_of held.now ∷ []) kit.new.tokens }
+        ensures { AreKept C.sits C.has self.now.machine.now kit.old.tokens kit.new.tokens }
     {
         let who = asker(held);
         for _ in self.rt.forever() {

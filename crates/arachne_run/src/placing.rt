@@ -1,7 +1,7 @@
 //! Where the thread that a fork begins gets its place.
-ghost use Rattle.std.specs.Prelude.{◌≡◌, [], ◌∷◌, None, OnOk, IfOk, MatchOption};
-ghost use Rattle.arachne_contexts.specs.Out.{Claim as a_claim};
-ghost use Rattle.arachne_run.specs.Tokens.{AreWith, thread_in};
+ghost use Rattle.std.specs.Prelude.{◌≡◌, None, OnOk, IfOk, MatchOption};
+ghost use Rattle.arachne_contexts.specs.Out.{HasOut, Claim as a_claim};
+ghost use Rattle.arachne_run.specs.Tokens.{AreKept, AreLess, AreMore, AreOf, IsSameThread, thread_in};
 
 use crate::fault::WorkerFault;
 use crate::gate::Gate;
@@ -21,12 +21,14 @@ impl<'a, H: Wait, T: RunJob, C: Contexts<T>, R: Rng, G: Gate> Worker<'a, H, T, C
         class: Class,
         child: T::Child,
     ) -> Result<(), WorkerFault>
-        requires tokens { AreWith C.sits C.has self.now.machine.now (thread_in T.tag_of held.old ∷ []) kit.old.tokens }
+        requires tokens { AreOf C.sits self.now.machine.now kit.old.tokens }
+        requires held { HasOut (C.has self.now.machine.now.table) (thread_in T.tag_of held.old) kit.old.tokens.seat }
         requires forks { T.forks held.old.value child }
-        ensures tokens { OnOk result (AreWith C.sits C.has self.now.machine.now (thread_in T.tag_of held.new ∷ []) kit.new.tokens) }
+        ensures tokens { OnOk result (AreKept C.sits C.has self.now.machine.now kit.old.tokens kit.new.tokens) }
+        ensures thread { OnOk result (IsSameThread T.tag_of held.old held.new) }
         ensures answered { OnOk result (T.pause_of held.new.value ≡ None) }
     {
-        match self.claim(kit, held, class)? {
+        match self.claim(kit, class)? {
             Some(claim) => {
                 self.fork_off(kit, held, claim, child)?;
                 // One that is to be alone on its core can't be taken back.
@@ -47,9 +49,11 @@ impl<'a, H: Wait, T: RunJob, C: Contexts<T>, R: Rng, G: Gate> Worker<'a, H, T, C
         claim: C::Claim,
         child: T::Child,
     ) -> Result<(), WorkerFault>
-        requires tokens { AreWith C.sits C.has self.now.machine.now (a_claim claim ∷ thread_in T.tag_of held.old ∷ []) kit.old.tokens }
+        requires tokens { AreOf C.sits self.now.machine.now kit.old.tokens }
+        requires claim { HasOut (C.has self.now.machine.now.table) (a_claim claim) kit.old.tokens.seat }
         requires forks { T.forks held.old.value child }
-        ensures tokens { OnOk result (AreWith C.sits C.has self.now.machine.now (thread_in T.tag_of held.new ∷ []) kit.new.tokens) }
+        ensures tokens { OnOk result (AreLess C.sits C.has self.now.machine.now (a_claim claim) kit.old.tokens kit.new.tokens) }
+        ensures thread { OnOk result (IsSameThread T.tag_of held.old held.new) }
         ensures answered { OnOk result (T.pause_of held.new.value ≡ None) }
     {
         let me = held.id();
@@ -57,7 +61,7 @@ impl<'a, H: Wait, T: RunJob, C: Contexts<T>, R: Rng, G: Gate> Worker<'a, H, T, C
         let job = held
             .value
             .fork_off(self.alloc, me, child, tag, &mut kit.spares)?;
-        self.post(kit, held, claim, job)
+        self.post(kit, claim, job, me)
     }
 
     /// The child runs in the place of the thread that forks it.
@@ -67,9 +71,10 @@ impl<'a, H: Wait, T: RunJob, C: Contexts<T>, R: Rng, G: Gate> Worker<'a, H, T, C
         held: &mut Held<T, C::Hold>,
         child: T::Child,
     ) -> Result<(), WorkerFault>
-        requires tokens { AreWith C.sits C.has self.now.machine.now (thread_in T.tag_of held.old ∷ []) kit.old.tokens }
+        requires tokens { AreOf C.sits self.now.machine.now kit.old.tokens }
         requires forks { T.forks held.old.value child }
-        ensures tokens { AreWith C.sits C.has self.now.machine.now (thread_in T.tag_of held.new ∷ []) kit.new.tokens }
+        ensures tokens { AreKept C.sits C.has self.now.machine.now kit.old.tokens kit.new.tokens }
+        ensures thread { IsSameThread T.tag_of held.old held.new }
         ensures answered { OnOk result (T.pause_of held.new.value ≡ None) }
     {
         let _ = kit;
@@ -77,18 +82,16 @@ impl<'a, H: Wait, T: RunJob, C: Contexts<T>, R: Rng, G: Gate> Worker<'a, H, T, C
         held.value.fork_in_place(child, tag)
     }
 
-    /// A place for the thread that the one that is held forks. A normal one gets it on the core with fewer threads of two
-    /// that are drawn, else on another core that has one; an exclusive one on an empty core.
+    /// A place for a thread that is forked. A normal one gets it on the core with fewer threads of two that are drawn, else on
+    /// another core that has one; an exclusive one on an empty core.
     fn claim(
         &self,
         kit: &mut Kit<C::Seat, R, T::Spares>,
-        held: &Held<T, C::Hold>,
         class: Class,
     ) -> Result<Option<C::Claim>, WorkerFault>
-        requires { AreWith C.sits C.has self.now.machine.now (thread_in T.tag_of held.now ∷ []) kit.old.tokens }
-        ensures { IfOk result (λ place. MatchOption place (AreWith C.sits C.has self.now.machine.now (thread_in T.tag_of held.now ∷ []) kit.new.tokens) (λ claim. AreWith C.sits C.has self.now.machine.now (a_claim claim ∷ thread_in T.tag_of held.now ∷ []) kit.new.tokens)) }
+        requires { AreOf C.sits self.now.machine.now kit.old.tokens }
+        ensures { IfOk result (λ place. MatchOption place (AreKept C.sits C.has self.now.machine.now kit.old.tokens kit.new.tokens) (λ claim. AreMore C.sits C.has self.now.machine.now (a_claim claim) kit.old.tokens kit.new.tokens)) }
     {
-        let _ = held;
         let seat = &mut kit.tokens.seat;
         let place = match class {
             Class::Normal => self.cores().claim_normal(seat, &mut kit.chooser)?,

@@ -1,17 +1,16 @@
 //! The calls of the table that a worker makes, with what is out with its seat.
 ghost use Rattle.std.specs.Prelude.{◌≡◌, ◌<◌, [], ◌∷◌, OnOk, IfOk, MatchOption};
-ghost use Rattle.arachne_contexts.specs.Out.{KeepsOut, Claim as a_claim};
+ghost use Rattle.arachne_contexts.specs.Out.{HasOut, KeepsOut, Claim as a_claim};
 ghost use Rattle.arachne_run.specs.Slices.{MayRest};
-ghost use Rattle.arachne_run.specs.Tokens.{AreIdle, AreOf, AreWith, thread_in};
+ghost use Rattle.arachne_run.specs.Tokens.{AreIdle, AreKept, AreLess, AreMore, AreOf, AreWith, thread_in};
 
 use crate::deferred::Post;
 use crate::fault::WorkerFault;
 use crate::gate::Gate;
-use crate::readiness::bit_of;
 use crate::slice::RunJob;
 use crate::worker::{Kit, Worker};
 use arachne_contexts::{Claimed, Contexts, Held, Placed, Rested, Taken};
-use arachne_core::{Rest, SLOTS};
+use arachne_core::{Place, Rest, SLOTS, ThreadId};
 use rand_core::Rng;
 use std::sync::Wait;
 
@@ -26,22 +25,23 @@ impl<'a, H: Wait, T: RunJob, C: Contexts<T>, R: Rng, G: Gate> Worker<'a, H, T, C
         table.look(self.rt, &mut kit.tokens.seat, self.core)
     }
 
-    /// The thread at an index of the core, if it is ready.
+    /// The thread at a place, if it is ready.
     pub(crate) fn take(
         &self,
         kit: &mut Kit<C::Seat, R, T::Spares>,
-        index: u8,
+        place: Place,
     ) -> Option<Held<T, C::Hold>>
-        requires tokens { AreIdle C.sits C.idle self.now.machine.now kit.old.tokens }
-        requires index { index < SLOTS }
-        ensures { MatchOption result (AreIdle C.sits C.idle self.now.machine.now kit.new.tokens) (λ held. AreWith C.sits C.has self.now.machine.now (thread_in T.tag_of held ∷ []) kit.new.tokens) }
+        requires tokens { AreOf C.sits self.now.machine.now kit.old.tokens }
+        requires core { place.core < self.now.machine.now.cores }
+        requires index { place.index < SLOTS }
+        ensures { MatchOption result (AreKept C.sits C.has self.now.machine.now kit.old.tokens kit.new.tokens) (λ held. AreMore C.sits C.has self.now.machine.now (thread_in T.tag_of held) kit.old.tokens kit.new.tokens) }
     {
         let table = &self.machine.table;
-        match table.take(self.rt, &mut kit.tokens.seat, self.core, index) {
+        match table.take(self.rt, &mut kit.tokens.seat, place.core, place.index) {
             Taken::Run(held) => Some(held),
             Taken::NotReady(_) => None,
             Taken::Lost(_) => {
-                kit.ready |= bit_of(index);
+                self.hint(kit, place);
                 None
             }
         }
@@ -54,16 +54,17 @@ impl<'a, H: Wait, T: RunJob, C: Contexts<T>, R: Rng, G: Gate> Worker<'a, H, T, C
         held: Held<T, C::Hold>,
         rest: Rest,
     ) -> Result<(), WorkerFault>
-        requires tokens { AreWith C.sits C.has self.now.machine.now (thread_in T.tag_of held ∷ []) kit.old.tokens }
+        requires tokens { AreOf C.sits self.now.machine.now kit.old.tokens }
+        requires held { HasOut (C.has self.now.machine.now.table) (thread_in T.tag_of held) kit.old.tokens.seat }
         requires rest { MayRest rest (T.pause_of held.value) }
-        ensures { OnOk result (AreIdle C.sits C.idle self.now.machine.now kit.new.tokens) }
+        ensures { OnOk result (AreLess C.sits C.has self.now.machine.now (thread_in T.tag_of held) kit.old.tokens kit.new.tokens) }
     {
-        let index = held.place().index;
+        let place = held.place();
         let table = &self.machine.table;
         match table.put_back(self.rt, &mut kit.tokens.seat, held, rest) {
             Ok(rested) => {
                 if rest == Rest::Ready || rested == Rested::WokenMeanwhile {
-                    kit.ready |= bit_of(index);
+                    self.hint(kit, place);
                 }
                 Ok(())
             }
@@ -77,8 +78,9 @@ impl<'a, H: Wait, T: RunJob, C: Contexts<T>, R: Rng, G: Gate> Worker<'a, H, T, C
         kit: &mut Kit<C::Seat, R, T::Spares>,
         held: Held<T, C::Hold>,
     ) -> Result<T, WorkerFault>
-        requires { AreWith C.sits C.has self.now.machine.now (thread_in T.tag_of held ∷ []) kit.old.tokens }
-        ensures tokens { OnOk result (AreIdle C.sits C.idle self.now.machine.now kit.new.tokens) }
+        requires tokens { AreOf C.sits self.now.machine.now kit.old.tokens }
+        requires held { HasOut (C.has self.now.machine.now.table) (thread_in T.tag_of held) kit.old.tokens.seat }
+        ensures tokens { OnOk result (AreLess C.sits C.has self.now.machine.now (thread_in T.tag_of held) kit.old.tokens kit.new.tokens) }
         ensures job { IfOk result (λ job. job ≡ held.value) }
     {
         let table = &self.machine.table;
@@ -88,23 +90,23 @@ impl<'a, H: Wait, T: RunJob, C: Contexts<T>, R: Rng, G: Gate> Worker<'a, H, T, C
         }
     }
 
-    /// Posts a thread that the one that is held has forked.
+    /// Posts a thread that the one of this id has forked.
     pub(crate) fn post(
         &self,
         kit: &mut Kit<C::Seat, R, T::Spares>,
-        held: &Held<T, C::Hold>,
         claim: C::Claim,
         job: T,
+        parent: ThreadId,
     ) -> Result<(), WorkerFault>
-        requires { AreWith C.sits C.has self.now.machine.now (a_claim claim ∷ thread_in T.tag_of held.now ∷ []) kit.old.tokens }
-        ensures { OnOk result (AreWith C.sits C.has self.now.machine.now (thread_in T.tag_of held.now ∷ []) kit.new.tokens) }
+        requires tokens { AreOf C.sits self.now.machine.now kit.old.tokens }
+        requires claim { HasOut (C.has self.now.machine.now.table) (a_claim claim) kit.old.tokens.seat }
+        ensures { OnOk result (AreLess C.sits C.has self.now.machine.now (a_claim claim) kit.old.tokens kit.new.tokens) }
     {
-        let _ = held;
         let place = claim.place();
         let table = &self.machine.table;
         match table.post(self.rt, &mut kit.tokens.seat, claim, job) {
             Ok(id) => {
-                self.defer(kit, Post { id, place });
+                self.defer(kit, Post { id, place, parent });
                 Ok(())
             }
             Err(_) => Err(WorkerFault::Token),

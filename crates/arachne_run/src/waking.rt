@@ -94,7 +94,11 @@ impl<'a, H: Wait, T: RunJob, C: Contexts<T>, R: Rng, G: Gate> Worker<'a, H, T, C
     }
 
     /// Where a thread is that is ready, if it has not been taken since.
-    fn ready_at(&self, kit: &mut Kit<C::Seat, R, T::Spares>, id: ThreadId) -> Option<Place>
+    pub(crate) fn ready_at(
+        &self,
+        kit: &mut Kit<C::Seat, R, T::Spares>,
+        id: ThreadId,
+    ) -> Option<Place>
         requires { AreOf C.sits self.now.machine.now kit.old.tokens }
         ensures tokens { AreOf C.sits self.now.machine.now kit.new.tokens }
         ensures out { KeepsOut (C.has self.now.machine.now.table) kit.old.tokens.seat kit.new.tokens.seat }

@@ -1,10 +1,10 @@
 //! The loop of one core's kernel thread.
-ghost use Rattle.std.specs.Prelude.{◌≡◌, ◌<◌, ◌≤◌, [], ◌∷◌, None, Some, OnOk, IfOk, MatchOption};
+ghost use Rattle.std.specs.Prelude.{◌≡◌, ◌<◌, ◌≤◌, [], ◌∷◌, true, None, Some, OnOk, IfOk, MatchOption};
 ghost use Rattle.arachne_machine.specs.Suspended.{IsTally};
 ghost use Rattle.arachne_machine.specs.declared.pause.Pending.TheVariants as pause;
-ghost use Rattle.arachne_contexts.specs.Out.{KeepsOut};
+ghost use Rattle.arachne_contexts.specs.Out.{HasOut, KeepsOut};
 ghost use Rattle.arachne_run.specs.Slices.{MayRest};
-ghost use Rattle.arachne_run.specs.Tokens.{AreIdle, AreOf, AreWith, IsSetUp, thread_in};
+ghost use Rattle.arachne_run.specs.Tokens.{AreIdle, AreKept, AreMore, AreOf, AreWith, IsSameThread, IsSetUp, thread_in};
 
 use crate::deferred::Deferred;
 use crate::fault::WorkerFault;
@@ -17,7 +17,7 @@ use crate::tokens::Tokens;
 use crate::waking::Cause;
 use arachne_arbiter::Cores;
 use arachne_contexts::{Contexts, Held, Seats};
-use arachne_core::{OccWord, Rest, SLOTS};
+use arachne_core::{OccWord, Place, Rest, SLOTS, ThreadId};
 use rand_core::Rng;
 use std::alloc::Global;
 use std::marker::PhantomData;
@@ -25,6 +25,9 @@ use std::sync::Wait;
 
 /// How many threads in turn may go on next before others do.
 const MOST_IN_TURN: u32 = 64;
+
+/// How many threads a worker holds at most, each of which waits for the one after it.
+const MOST_NESTED: u32 = 64;
 
 /// How many steps more a thread makes in its slice once the next holder of a lock that it freed is to go on here.
 const STEPS_PAST_FREE: u32 = 50;
@@ -177,7 +180,11 @@ impl<'a, H: Wait, T: RunJob, C: Contexts<T>, R: Rng, G: Gate> Worker<'a, H, T, C
         let mut found = false;
         for _ in 0..MOST_IN_TURN {
             self.tend(kit);
-            if let Some(held) = self.take(kit, index) {
+            let place = Place {
+                core: self.core,
+                index,
+            };
+            if let Some(held) = self.take(kit, place) {
                 found = true;
                 self.turn(kit, held)?;
             }
@@ -249,7 +256,7 @@ impl<'a, H: Wait, T: RunJob, C: Contexts<T>, R: Rng, G: Gate> Worker<'a, H, T, C
         while left > 0 {
             let most = left.min(kit.deferred.most_steps());
             let mut steps = most;
-            let rest = self.stretch(kit, held, &mut steps)?;
+            let rest = self.stretch(kit, held, &mut steps, MOST_NESTED)?;
             if kit.deferred.spend(most.saturating_sub(steps)) {
                 self.tell(kit);
             }
@@ -263,23 +270,33 @@ impl<'a, H: Wait, T: RunJob, C: Contexts<T>, R: Rng, G: Gate> Worker<'a, H, T, C
     }
 
     /// A part of a slice: the thread goes on for at most as many steps as are left, and for few more once it has freed a lock
-    /// whose next holder is to go on here.
+    /// whose next holder is to go on here. A child that it waits for may go on meanwhile, and that one's child, so many levels
+    /// deep.
+    #[cycle(stretch)]
     fn stretch(
         &self,
         kit: &mut Kit<C::Seat, R, T::Spares>,
         held: &mut Held<T, C::Hold>,
         left: &mut u32,
+        levels: u32,
     ) -> Result<Option<Rest>, WorkerFault>
-        requires tokens { AreWith C.sits C.has self.now.machine.now (thread_in T.tag_of held.old ∷ []) kit.old.tokens }
+        requires tokens { AreOf C.sits self.now.machine.now kit.old.tokens }
+        requires held { HasOut (C.has self.now.machine.now.table) (thread_in T.tag_of held.old) kit.old.tokens.seat }
         requires some { 1 ≤ left.old }
-        ensures tokens { OnOk result (AreWith C.sits C.has self.now.machine.now (thread_in T.tag_of held.new ∷ []) kit.new.tokens) }
+        ensures tokens { OnOk result (AreKept C.sits C.has self.now.machine.now kit.old.tokens kit.new.tokens) }
+        ensures left { OnOk result (left.new ≤ left.old) }
+        ensures thread { OnOk result (IsSameThread T.tag_of held.old held.new) }
         ensures rest { IfOk result (λ rest. MatchOption rest (T.pause_of held.new.value ≡ Some pause.Ended) (λ rest. MayRest rest (T.pause_of held.new.value))) }
     {
         while *left > 0 {
             match held.value.slice(left, &mut kit.spares)? {
                 Slice::Goes => {}
                 Slice::Forks(class, child) => self.fork(kit, held, class, child)?,
-                Slice::Blocks => return Ok(Some(Rest::Blocked)),
+                Slice::Blocks => {
+                    if levels == 0 || !self.run_child(kit, held, left, levels - 1)? {
+                        return Ok(Some(Rest::Blocked));
+                    }
+                }
                 Slice::Asks(lock) => {
                     if !self.ask(kit, held, lock)? {
                         return Ok(Some(Rest::Blocked));
@@ -305,6 +322,62 @@ impl<'a, H: Wait, T: RunJob, C: Contexts<T>, R: Rng, G: Gate> Worker<'a, H, T, C
         Ok(Some(Rest::Ready))
     }
 
+    /// Runs the child that a thread has forked last, and waits for, if no worker was told of the child and none has taken it.
+    /// It goes on for the steps that the thread has left but two: one of them counts for this, and one is left. Whether the
+    /// child has ended.
+    #[cycle(stretch)]
+    fn run_child(
+        &self,
+        kit: &mut Kit<C::Seat, R, T::Spares>,
+        held: &Held<T, C::Hold>,
+        left: &mut u32,
+        levels: u32,
+    ) -> Result<bool, WorkerFault>
+        requires tokens { AreOf C.sits self.now.machine.now kit.old.tokens }
+        requires held { HasOut (C.has self.now.machine.now.table) (thread_in T.tag_of held.now) kit.old.tokens.seat }
+        ensures tokens { OnOk result (AreKept C.sits C.has self.now.machine.now kit.old.tokens kit.new.tokens) }
+        ensures left { OnOk result (left.new ≤ left.old) }
+        ensures used { IfOk result (λ has_ended. has_ended ≡ true → (1 ≤ left.new) × (left.new < left.old)) }
+    {
+        let mut steps = left.saturating_sub(2);
+        if steps == 0 {
+            return Ok(false);
+        }
+        let Some(mut child) = self.take_child(kit, held.id()) else {
+            return Ok(false);
+        };
+        let rest = self.stretch(kit, &mut child, &mut steps, levels)?;
+        *left = steps + 1;
+        if let Some(rest) = rest {
+            self.put_back(kit, child, rest)?;
+            return Ok(false);
+        }
+        let job = self.end(kit, child)?;
+        match job.leave(&mut kit.spares) {
+            Some(parent) if parent == held.id() => {}
+            Some(parent) => self.wake(kit, parent, Cause::ChildEnded),
+            None => self.machine.shared.stop(),
+        }
+        Ok(true)
+    }
+
+    /// The child that a thread has forked last, if it is kept back and still ready.
+    fn take_child(
+        &self,
+        kit: &mut Kit<C::Seat, R, T::Spares>,
+        parent: ThreadId,
+    ) -> Option<Held<T, C::Hold>>
+        requires tokens { AreOf C.sits self.now.machine.now kit.old.tokens }
+        ensures { MatchOption result (AreKept C.sits C.has self.now.machine.now kit.old.tokens kit.new.tokens) (λ held. AreMore C.sits C.has self.now.machine.now (thread_in T.tag_of held) kit.old.tokens kit.new.tokens) }
+    {
+        let post = kit.deferred.take_newest_of(parent)?;
+        let place = self.ready_at(kit, post.id)?;
+        if place.core >= self.machine.cores {
+            return None;
+        }
+        self.take(kit, place)
+    }
+
     /// Adds to a ledger for a thread.
     fn tally(
         &self,
@@ -313,9 +386,10 @@ impl<'a, H: Wait, T: RunJob, C: Contexts<T>, R: Rng, G: Gate> Worker<'a, H, T, C
         ledger: u64,
         amount: u64,
     ) -> Result<(), WorkerFault>
-        requires tokens { AreWith C.sits C.has self.now.machine.now (thread_in T.tag_of held.old ∷ []) kit.old.tokens }
+        requires tokens { AreOf C.sits self.now.machine.now kit.old.tokens }
         requires tallies { IsTally (T.pause_of held.old.value) }
-        ensures tokens { AreWith C.sits C.has self.now.machine.now (thread_in T.tag_of held.new ∷ []) kit.new.tokens }
+        ensures tokens { AreKept C.sits C.has self.now.machine.now kit.old.tokens kit.new.tokens }
+        ensures thread { IsSameThread T.tag_of held.old held.new }
         ensures answered { OnOk result (T.pause_of held.new.value ≡ None) }
     {
         let ledgers = &self.machine.ledgers;

@@ -1,6 +1,5 @@
-use Rattle.std.specs.Prelude.{[], ◌∷◌}
-use Rattle.arachne_run.specs.Tokens.{AreWith, thread_in}
+use Rattle.arachne_run.specs.Tokens.{AreKept}
 use Rattle.arachne_run.proofs.worker.Worker.check.Given as goal
 
 abbrev pub invariant-loop : goal.invariant-loop
-invariant-loop g l = AreWith g.C.Seats.sits g.C.Contexts.has l.self.machine.now (thread_in g.T.Tagged.tag_of l.held ∷ []) l.kit.tokens
+invariant-loop g l = AreKept g.C.Seats.sits g.C.Contexts.has l.self.machine.now l.initial.kit.tokens l.kit.tokens
