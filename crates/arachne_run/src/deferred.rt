@@ -20,8 +20,8 @@ pub(crate) struct Post {
     pub(crate) parent: ThreadId,
 }
 
-/// The threads that a worker has posted on other cores without telling the workers of those, and for how many steps more it
-/// keeps them back.
+/// The threads that a worker has posted on other cores without telling the workers of those, and after how many steps more it
+/// tells of all of them.
 ///
 /// Contracts see the threads, the newest last.
 #[derive(Drop)]
@@ -54,8 +54,7 @@ impl Deferred {
     pub(crate) fn keep(&mut self, post: Post) -> Option<Post>
         ensures { MatchOption result (self.new ≡ self.old ++ post ∷ []) (λ oldest. oldest ∷ self.new ≡ self.old ++ post ∷ []) }
     {
-        let is_room = self.patience > 0 && self.posts.len() < MOST;
-        if is_room && self.posts.try_reserve(1).is_ok() {
+        if self.posts.len() < MOST && self.posts.try_reserve(1).is_ok() {
             self.posts.push_reserved(post);
             return None;
         }
@@ -65,6 +64,11 @@ impl Deferred {
         let oldest = self.posts.remove(0);
         self.posts.push_reserved(post);
         Some(oldest)
+    }
+
+    /// Whether one is kept back.
+    pub(crate) fn is_any(&self) -> bool {
+        !self.posts.is_empty()
     }
 
     /// The newest, which is kept back no longer.
@@ -84,7 +88,7 @@ impl Deferred {
         }
     }
 
-    /// A slice begins. If nothing is kept back, what is posted from now on is for as long as it may be.
+    /// A slice begins. If nothing is kept back, what is posted from now on may be for as long as anything.
     pub(crate) fn begin(&mut self)
         ensures { self.new ≡ self.old }
     {
@@ -93,22 +97,22 @@ impl Deferred {
         }
     }
 
-    /// After how many steps at most the worker is to look whether it tells of what is kept back.
+    /// After how many steps at most the worker is to tell of what is kept back.
     pub(crate) fn most_steps(&self) -> u32
         ensures { 1 ≤ result }
     {
-        if self.patience > 0 {
-            self.patience
-        } else {
-            u32::MAX
-        }
+        self.patience.max(1)
     }
 
-    /// The worker has made so many steps. Whether it keeps nothing back from now on.
+    /// The worker has made so many steps. Whether it is to tell now of all that is kept back.
     pub(crate) fn spend(&mut self, steps: u32) -> bool
         ensures { self.new ≡ self.old }
     {
-        self.patience = self.patience.saturating_sub(steps);
-        self.patience == 0
+        if self.patience <= steps {
+            self.patience = PATIENCE;
+            return true;
+        }
+        self.patience -= steps;
+        false
     }
 }

@@ -13,6 +13,7 @@ mod machine;
 mod placing;
 mod readiness;
 mod report;
+mod reserve;
 mod running;
 mod seated;
 mod setup;

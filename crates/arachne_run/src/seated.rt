@@ -1,5 +1,5 @@
 //! The calls of the table that a worker makes, with what is out with its seat.
-ghost use Rattle.std.specs.Prelude.{◌≡◌, ◌<◌, [], ◌∷◌, OnOk, IfOk, MatchOption};
+ghost use Rattle.std.specs.Prelude.{◌≡◌, ◌<◌, [], ◌∷◌, OnOk, IfOk, MatchOption, map};
 ghost use Rattle.arachne_contexts.specs.Out.{HasOut, KeepsOut, Claim as a_claim};
 ghost use Rattle.arachne_run.specs.Slices.{MayRest};
 ghost use Rattle.arachne_run.specs.Tokens.{AreIdle, AreKept, AreLess, AreMore, AreOf, AreWith, thread_in};
@@ -7,11 +7,13 @@ ghost use Rattle.arachne_run.specs.Tokens.{AreIdle, AreKept, AreLess, AreMore, A
 use crate::deferred::Post;
 use crate::fault::WorkerFault;
 use crate::gate::Gate;
+use crate::reserve::Reserve;
 use crate::slice::RunJob;
 use crate::worker::{Kit, Worker};
 use arachne_contexts::{Claimed, Contexts, Held, Placed, Rested, Taken};
 use arachne_core::{Place, Rest, SLOTS, ThreadId};
 use rand_core::Rng;
+use std::mem::replace;
 use std::sync::Wait;
 
 impl<'a, H: Wait, T: RunJob, C: Contexts<T>, R: Rng, G: Gate> Worker<'a, H, T, C, R, G> {
@@ -85,7 +87,104 @@ impl<'a, H: Wait, T: RunJob, C: Contexts<T>, R: Rng, G: Gate> Worker<'a, H, T, C
     {
         let table = &self.machine.table;
         match table.finish(self.rt, &mut kit.tokens.seat, held) {
-            Ok(job) => Ok(job),
+            Ok(job) => {
+                kit.vacated = kit.vacated.saturating_add(1);
+                Ok(job)
+            }
+            Err(_) => Err(WorkerFault::Token),
+        }
+    }
+
+    /// Keeps a place of the core for each that its threads have left, as far as there are some that are free. So threads that
+    /// begin after others have ended run in place, as long as there is something to run. None is kept where orders may close a
+    /// core, or threads may wait for locks: room is wanted then for threads that are moved.
+    pub(crate) fn keep_places(
+        &self,
+        kit: &mut Kit<C::Seat, R, T::Spares>,
+        places: &mut Reserve<C::Claim>,
+    ) -> Result<(), WorkerFault>
+        requires { AreWith C.sits C.has self.now.machine.now (map a_claim places.old) kit.old.tokens }
+        ensures { OnOk result (AreWith C.sits C.has self.now.machine.now (map a_claim places.new) kit.new.tokens) }
+    {
+        let vacated = replace(&mut kit.vacated, 0);
+        if self.machine.orders > 0 || self.machine.locks.count() > 0 {
+            return Ok(());
+        }
+        for _ in 0..vacated {
+            if !self.keep_place(kit, places)? {
+                break;
+            }
+        }
+        Ok(())
+    }
+
+    /// Keeps a place of the core, if there is one that is free. Whether it did.
+    fn keep_place(
+        &self,
+        kit: &mut Kit<C::Seat, R, T::Spares>,
+        places: &mut Reserve<C::Claim>,
+    ) -> Result<bool, WorkerFault>
+        requires { AreWith C.sits C.has self.now.machine.now (map a_claim places.old) kit.old.tokens }
+        ensures { OnOk result (AreWith C.sits C.has self.now.machine.now (map a_claim places.new) kit.new.tokens) }
+    {
+        let table = &self.machine.table;
+        let claimed = table.claim(self.rt, &mut kit.tokens.seat, self.core);
+        let Ok(Claimed::Place(claim)) = claimed else {
+            return Ok(false);
+        };
+        match places.keep(claim) {
+            Ok(()) => Ok(true),
+            Err(claim) => {
+                self.give_back(kit, claim)?;
+                Ok(false)
+            }
+        }
+    }
+
+    /// Gives back the newest place that is kept, so that a thread can be moved here.
+    pub(crate) fn give_one_back(
+        &self,
+        kit: &mut Kit<C::Seat, R, T::Spares>,
+        places: &mut Reserve<C::Claim>,
+    ) -> Result<(), WorkerFault>
+        requires { AreWith C.sits C.has self.now.machine.now (map a_claim places.old) kit.old.tokens }
+        ensures { OnOk result (AreWith C.sits C.has self.now.machine.now (map a_claim places.new) kit.new.tokens) }
+    {
+        match places.take() {
+            Some(claim) => self.give_back(kit, claim),
+            None => Ok(()),
+        }
+    }
+
+    /// Gives back all places that are kept.
+    pub(crate) fn give_all_back(
+        &self,
+        kit: &mut Kit<C::Seat, R, T::Spares>,
+        places: &mut Reserve<C::Claim>,
+    ) -> Result<(), WorkerFault>
+        requires { AreWith C.sits C.has self.now.machine.now (map a_claim places.old) kit.old.tokens }
+        ensures none { OnOk result (places.new ≡ []) }
+        ensures idle { OnOk result (AreIdle C.sits C.idle self.now.machine.now kit.new.tokens) }
+    {
+        while let Some(claim) = places.take() {
+            self.give_back(kit, claim)?;
+        }
+        Ok(())
+    }
+
+    /// Gives back a place.
+    fn give_back(
+        &self,
+        kit: &mut Kit<C::Seat, R, T::Spares>,
+        claim: C::Claim,
+    ) -> Result<(), WorkerFault>
+        requires tokens { AreOf C.sits self.now.machine.now kit.old.tokens }
+        requires claim { HasOut (C.has self.now.machine.now.table) (a_claim claim) kit.old.tokens.seat }
+        ensures { OnOk result (AreLess C.sits C.has self.now.machine.now (a_claim claim) kit.old.tokens kit.new.tokens) }
+    {
+        let table = &self.machine.table;
+        match table.give_back(self.rt, &mut kit.tokens.seat, claim) {
+            Ok(()) => Ok(()),
             Err(_) => Err(WorkerFault::Token),
         }
     }

@@ -1,8 +1,8 @@
 //! The loop of one core's kernel thread.
-ghost use Rattle.std.specs.Prelude.{◌≡◌, ◌<◌, ◌≤◌, [], ◌∷◌, true, None, Some, OnOk, IfOk, MatchOption};
+ghost use Rattle.std.specs.Prelude.{◌≡◌, ◌<◌, ◌≤◌, ◌∷◌, true, None, Some, OnOk, IfOk, MatchOption, map};
 ghost use Rattle.arachne_machine.specs.Suspended.{IsTally};
 ghost use Rattle.arachne_machine.specs.declared.pause.Pending.TheVariants as pause;
-ghost use Rattle.arachne_contexts.specs.Out.{HasOut, KeepsOut};
+ghost use Rattle.arachne_contexts.specs.Out.{HasOut, KeepsOut, Claim as a_claim};
 ghost use Rattle.arachne_run.specs.Slices.{MayRest};
 ghost use Rattle.arachne_run.specs.Tokens.{AreIdle, AreKept, AreMore, AreOf, AreWith, IsSameThread, IsSetUp, thread_in};
 
@@ -12,6 +12,7 @@ use crate::gate::Gate;
 use crate::idle::{Idle, LONG_SLEEP, SHORT_SLEEP};
 use crate::machine::Machine;
 use crate::readiness::bit_of;
+use crate::reserve::Reserve;
 use crate::slice::{RunJob, Slice};
 use crate::tokens::Tokens;
 use crate::waking::Cause;
@@ -48,6 +49,8 @@ pub(crate) struct Kit<S, R, P> {
     pub(crate) deferred: Deferred,
     /// What it keeps of ended threads for those that begin.
     pub(crate) spares: P,
+    /// How many places its threads have left since it last kept some.
+    pub(crate) vacated: u32,
 }
 
 impl<S, R, P> Kit<S, R, P> {
@@ -63,6 +66,7 @@ impl<S, R, P> Kit<S, R, P> {
             next: None,
             deferred: Deferred::new(alloc),
             spares,
+            vacated: 0,
         }
     }
 }
@@ -99,12 +103,15 @@ impl<'a, H: Wait, T: RunJob, C: Contexts<T>, R: Rng, G: Gate> Worker<'a, H, T, C
         requires { AreIdle C.sits C.idle self.now.machine.now kit.old.tokens }
         ensures { OnOk result (AreIdle C.sits C.idle self.now.machine.now kit.new.tokens) }
     {
+        let mut places = Reserve::new(self.alloc);
         let mut idle = Idle::new();
         for _ in self.rt.forever() {
             if self.machine.shared.is_stopped() {
-                return Ok(());
+                return self.give_all_back(kit, &mut places);
             }
-            if self.run_hinted(kit)? || idle.looks_at_all() && self.run_occupied(kit)? {
+            if self.run_hinted(kit, &mut places)?
+                || idle.looks_at_all() && self.run_occupied(kit, &mut places)?
+            {
                 idle.reset();
             } else {
                 self.tend(kit);
@@ -120,24 +127,33 @@ impl<'a, H: Wait, T: RunJob, C: Contexts<T>, R: Rng, G: Gate> Worker<'a, H, T, C
     }
 
     /// Runs the threads that may be ready as far as it was told. Whether there was one that was.
-    fn run_hinted(&self, kit: &mut Kit<C::Seat, R, T::Spares>) -> Result<bool, WorkerFault>
-        requires { AreIdle C.sits C.idle self.now.machine.now kit.old.tokens }
-        ensures { OnOk result (AreIdle C.sits C.idle self.now.machine.now kit.new.tokens) }
+    fn run_hinted(
+        &self,
+        kit: &mut Kit<C::Seat, R, T::Spares>,
+        places: &mut Reserve<C::Claim>,
+    ) -> Result<bool, WorkerFault>
+        requires { AreWith C.sits C.has self.now.machine.now (map a_claim places.old) kit.old.tokens }
+        ensures { OnOk result (AreWith C.sits C.has self.now.machine.now (map a_claim places.new) kit.new.tokens) }
     {
         let hinted = self.machine.shared.readiness().take(self.core);
         let indexes = kit.ready | hinted;
         kit.ready = 0;
-        self.run_each(kit, indexes)
+        self.run_each(kit, places, indexes)
     }
 
-    /// Runs the threads that are ready of all that are on the core, and parks where the core is closed and there is none.
-    /// Whether there was one, or it has parked.
-    fn run_occupied(&self, kit: &mut Kit<C::Seat, R, T::Spares>) -> Result<bool, WorkerFault>
-        requires { AreIdle C.sits C.idle self.now.machine.now kit.old.tokens }
-        ensures { OnOk result (AreIdle C.sits C.idle self.now.machine.now kit.new.tokens) }
+    /// Gives back the places that it keeps, runs the threads that are ready of all that are on the core, and parks where the
+    /// core is closed and there is none. Whether there was one, or it has parked.
+    fn run_occupied(
+        &self,
+        kit: &mut Kit<C::Seat, R, T::Spares>,
+        places: &mut Reserve<C::Claim>,
+    ) -> Result<bool, WorkerFault>
+        requires { AreWith C.sits C.has self.now.machine.now (map a_claim places.old) kit.old.tokens }
+        ensures { OnOk result (AreWith C.sits C.has self.now.machine.now (map a_claim places.new) kit.new.tokens) }
     {
+        self.give_all_back(kit, places)?;
         let occupied = self.look(kit);
-        if self.run_each(kit, occupied)? {
+        if self.run_each(kit, places, occupied)? {
             return Ok(true);
         }
         self.tell(kit);
@@ -149,10 +165,11 @@ impl<'a, H: Wait, T: RunJob, C: Contexts<T>, R: Rng, G: Gate> Worker<'a, H, T, C
     fn run_each(
         &self,
         kit: &mut Kit<C::Seat, R, T::Spares>,
+        places: &mut Reserve<C::Claim>,
         indexes: u64,
     ) -> Result<bool, WorkerFault>
-        requires { AreIdle C.sits C.idle self.now.machine.now kit.old.tokens }
-        ensures { OnOk result (AreIdle C.sits C.idle self.now.machine.now kit.new.tokens) }
+        requires { AreWith C.sits C.has self.now.machine.now (map a_claim places.old) kit.old.tokens }
+        ensures { OnOk result (AreWith C.sits C.has self.now.machine.now (map a_claim places.new) kit.new.tokens) }
     {
         let mut indexes = indexes;
         let mut found = false;
@@ -162,7 +179,7 @@ impl<'a, H: Wait, T: RunJob, C: Contexts<T>, R: Rng, G: Gate> Worker<'a, H, T, C
                 break;
             }
             indexes ^= 1 << u32::from(index);
-            if self.run_at(kit, index)? {
+            if self.run_at(kit, places, index)? {
                 found = true;
             }
         }
@@ -171,10 +188,15 @@ impl<'a, H: Wait, T: RunJob, C: Contexts<T>, R: Rng, G: Gate> Worker<'a, H, T, C
 
     /// Runs the thread at an index of the core for a turn, if it is ready, and then each that is to go on next. Whether there
     /// was one that was ready.
-    fn run_at(&self, kit: &mut Kit<C::Seat, R, T::Spares>, index: u8) -> Result<bool, WorkerFault>
-        requires tokens { AreIdle C.sits C.idle self.now.machine.now kit.old.tokens }
+    fn run_at(
+        &self,
+        kit: &mut Kit<C::Seat, R, T::Spares>,
+        places: &mut Reserve<C::Claim>,
+        index: u8,
+    ) -> Result<bool, WorkerFault>
+        requires tokens { AreWith C.sits C.has self.now.machine.now (map a_claim places.old) kit.old.tokens }
         requires index { index < SLOTS }
-        ensures { OnOk result (AreIdle C.sits C.idle self.now.machine.now kit.new.tokens) }
+        ensures { OnOk result (AreWith C.sits C.has self.now.machine.now (map a_claim places.new) kit.new.tokens) }
     {
         let mut index = index;
         let mut found = false;
@@ -186,7 +208,10 @@ impl<'a, H: Wait, T: RunJob, C: Contexts<T>, R: Rng, G: Gate> Worker<'a, H, T, C
             };
             if let Some(held) = self.take(kit, place) {
                 found = true;
-                self.turn(kit, held)?;
+                self.turn(kit, places, held)?;
+            }
+            if kit.deferred.is_any() {
+                self.give_one_back(kit, places)?;
             }
             match self.next(kit) {
                 Some(next) => index = next,
@@ -201,10 +226,11 @@ impl<'a, H: Wait, T: RunJob, C: Contexts<T>, R: Rng, G: Gate> Worker<'a, H, T, C
     fn turn(
         &self,
         kit: &mut Kit<C::Seat, R, T::Spares>,
+        places: &mut Reserve<C::Claim>,
         held: Held<T, C::Hold>,
     ) -> Result<(), WorkerFault>
-        requires { AreWith C.sits C.has self.now.machine.now (thread_in T.tag_of held ∷ []) kit.old.tokens }
-        ensures { OnOk result (AreIdle C.sits C.idle self.now.machine.now kit.new.tokens) }
+        requires { AreWith C.sits C.has self.now.machine.now (thread_in T.tag_of held ∷ map a_claim places.old) kit.old.tokens }
+        ensures { OnOk result (AreWith C.sits C.has self.now.machine.now (map a_claim places.new) kit.new.tokens) }
     {
         let index = held.place().index;
         let mut held = held;
@@ -213,17 +239,27 @@ impl<'a, H: Wait, T: RunJob, C: Contexts<T>, R: Rng, G: Gate> Worker<'a, H, T, C
             self.gate.slice_ended(self.core);
             self.machine.shared.slices().count(self.core);
             match rest {
-                None => return self.finish(kit, held),
-                Some(Rest::Ready) if self.has_core_to_itself(kit, index) => self.tend(kit),
-                Some(rest) => return self.put_back(kit, held, rest),
+                None => return self.finish(kit, places, held),
+                Some(Rest::Ready) if self.has_core_to_itself(kit, index, places.count()) => {
+                    self.tend(kit);
+                }
+                Some(rest) => {
+                    self.put_back(kit, held, rest)?;
+                    return self.keep_places(kit, places);
+                }
             }
         }
         unreachable!()
     }
 
     /// Whether the thread at this index could go on at once if it were put back: it is the only one on the core, which is
-    /// open, and the workers go on.
-    fn has_core_to_itself(&self, kit: &mut Kit<C::Seat, R, T::Spares>, index: u8) -> bool
+    /// open and of which so many places are kept, and the workers go on.
+    fn has_core_to_itself(
+        &self,
+        kit: &mut Kit<C::Seat, R, T::Spares>,
+        index: u8,
+        kept: usize,
+    ) -> bool
         requires { AreOf C.sits self.now.machine.now kit.old.tokens }
         ensures tokens { AreOf C.sits self.now.machine.now kit.new.tokens }
         ensures out { KeepsOut (C.has self.now.machine.now.table) kit.old.tokens.seat kit.new.tokens.seat }
@@ -233,7 +269,10 @@ impl<'a, H: Wait, T: RunJob, C: Contexts<T>, R: Rng, G: Gate> Worker<'a, H, T, C
             return false;
         }
         match OccWord::from_word(self.look(kit)) {
-            Some(core) => core.mask() == bit_of(index) && !core.is_closed(),
+            Some(core) => {
+                let is_here = core.mask() & bit_of(index) != 0;
+                is_here && usize::from(core.count()) == kept.saturating_add(1) && !core.is_closed()
+            }
             None => false,
         }
     }
@@ -245,8 +284,10 @@ impl<'a, H: Wait, T: RunJob, C: Contexts<T>, R: Rng, G: Gate> Worker<'a, H, T, C
         kit: &mut Kit<C::Seat, R, T::Spares>,
         held: &mut Held<T, C::Hold>,
     ) -> Result<Option<Rest>, WorkerFault>
-        requires { AreWith C.sits C.has self.now.machine.now (thread_in T.tag_of held.old ∷ []) kit.old.tokens }
-        ensures tokens { OnOk result (AreWith C.sits C.has self.now.machine.now (thread_in T.tag_of held.new ∷ []) kit.new.tokens) }
+        requires tokens { AreOf C.sits self.now.machine.now kit.old.tokens }
+        requires held { HasOut (C.has self.now.machine.now.table) (thread_in T.tag_of held.old) kit.old.tokens.seat }
+        ensures tokens { OnOk result (AreKept C.sits C.has self.now.machine.now kit.old.tokens kit.new.tokens) }
+        ensures thread { OnOk result (IsSameThread T.tag_of held.old held.new) }
         ensures rest { IfOk result (λ rest. MatchOption rest (T.pause_of held.new.value ≡ Some pause.Ended) (λ rest. MayRest rest (T.pause_of held.new.value))) }
     {
         self.gate.slice(self.core, kit.slices);
@@ -401,22 +442,23 @@ impl<'a, H: Wait, T: RunJob, C: Contexts<T>, R: Rng, G: Gate> Worker<'a, H, T, C
         Ok(())
     }
 
-    /// Ends a thread, and wakes its parent. With the root all workers stop.
+    /// Ends a thread, and wakes its parent. With the root all workers stop. Then places of the core are kept.
     fn finish(
         &self,
         kit: &mut Kit<C::Seat, R, T::Spares>,
+        places: &mut Reserve<C::Claim>,
         held: Held<T, C::Hold>,
     ) -> Result<(), WorkerFault>
-        requires tokens { AreWith C.sits C.has self.now.machine.now (thread_in T.tag_of held ∷ []) kit.old.tokens }
+        requires tokens { AreWith C.sits C.has self.now.machine.now (thread_in T.tag_of held ∷ map a_claim places.old) kit.old.tokens }
         requires over { T.pause_of held.value ≡ Some pause.Ended }
-        ensures { OnOk result (AreIdle C.sits C.idle self.now.machine.now kit.new.tokens) }
+        ensures { OnOk result (AreWith C.sits C.has self.now.machine.now (map a_claim places.new) kit.new.tokens) }
     {
         let job = self.end(kit, held)?;
         match job.leave(&mut kit.spares) {
             Some(parent) => self.wake(kit, parent, Cause::ChildEnded),
             None => self.machine.shared.stop(),
         }
-        Ok(())
+        self.keep_places(kit, places)
     }
 
     /// The cores of the table.
