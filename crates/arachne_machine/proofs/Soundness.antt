@@ -294,14 +294,14 @@ sound_join old new outcome s of_name same_source j =
           (j.sums source.ledgers s.account.sums effects.sums s.sums childs ∙ ap (tabulated source.ledgers) (sym (with_join-sums source.locks name n effects s.account)));
       holds = subst (λ x. x.holds.items ≡ tabulated (source_of new.program.now).locks account.holds) own_is
           (subst (λ x. old.own.holds.items ≡ tabulated x.locks account.holds) program_is (s.holds ∙ ap (tabulated source.locks) (sym (with_join-holds source.locks name n effects s.account))));
-      lines = ap (λ b. map named_holds (lines_in b)) j.below ∙ ap (map named_holds) (lines_in-push old.below.items outcome.lines)
-          ∙ map-append named_holds (lines_in old.below.items) outcome.lines ∙ ap (λ l. l ++ map named_holds outcome.lines) s.lines
+      lines = ap (λ b. map named_holds (lines_in b)) j.below ∙ ap (map named_holds) (lines_in-push old.below.list.items outcome.lines)
+          ∙ map-append named_holds (lines_in old.below.list.items) outcome.lines ∙ ap (λ l. l ++ map named_holds outcome.lines) s.lines
           ∙ ap (λ l. s.account.lines ++ l) lines ∙ sym (with_join-lines source.locks name n effects s.account);
       forks = j.forks ∙ s.forks ∙ ap length (sym (with_join-children source.locks name n effects s.account));
       value = ap (λ x. x.value) kept.ending ∙ subst (λ x. (ending old).value ≡ task_value x.arrays s.task) program_is s.value;
       whole = kept.account s.account ∙ subst (λ x. account_at_end old s.account ≡ after x.name (task_effects (source_of new.program.now).arrays (source_of new.program.now).locks s.task) untouched) own_is
           (subst (λ x. account_at_end old s.account ≡ after name (task_effects x.arrays x.locks s.task) untouched) program_is s.whole);
-      numbered = omega (arith, s.numbered, j.forks, ap length j.below, length-append old.below.items (outcome.lines ∷ []), ap length j.unjoined);
+      numbered = omega (arith, s.numbered, j.forks, ap length j.below, length-append old.below.list.items (outcome.lines ∷ []), ap length j.unjoined);
       faultless = λ checked. kept.faultless (s.faultless (subst IsChecked (sym program_is) checked));
     }
 
@@ -327,7 +327,7 @@ same_meaning v v' t t' l l' p q r =
 
 -- A sound thread that has ended has the outcome of its name.
 pub sound_end : (t : State) (v : ℕ) → IsSound t → t.control ≡ Ended v →
-    IsOfItsName (record { program = t.program.now; name = t.own.name; value = v; sums = t.sums.items; lines = own_line_of (suspended t) ∷ lines_in t.below.items })
+    IsOfItsName (record { program = t.program.now; name = t.own.name; value = v; sums = t.sums.items; lines = own_line_of (suspended t) ∷ lines_in t.below.list.items })
 sound_end t v s ended =
     let source = source_of t.program.now in
     let name = t.own.name in
@@ -343,11 +343,11 @@ sound_end t v s ended =
     let holds : t.own.holds.items ≡ tabulated source.locks effects.holds =
     s.holds ∙ ap (λ a. tabulated source.locks a.holds) whole ∙ ap (tabulated source.locks) (after-holds name effects untouched)
     ∙ tabulated-same source.locks (λ l. 0 + effects.holds l) effects.holds (λ k. omega arith) in
-    let below : map named_holds (lines_in t.below.items) ≡ effects.lines name 0 = s.lines ∙ ap (λ a. a.lines) whole ∙ after-lines name effects untouched in
+    let below : map named_holds (lines_in t.below.list.items) ≡ effects.lines name 0 = s.lines ∙ ap (λ a. a.lines) whole ∙ after-lines name effects untouched in
     let line : List ℕ → Line = λ h. record { name = name; holds = h } in
     ap (option_map (meaning_as source name)) s.has_task
     ∙ ap (λ m. Some m) (same_meaning (task_value source.arrays s.task) v (tabulated source.ledgers effects.sums) t.sums.items
-    (line_of source.locks name effects ∷ effects.lines name 0) (map named_holds (own_line_of (suspended t) ∷ lines_in t.below.items))
+    (line_of source.locks name effects ∷ effects.lines name 0) (map named_holds (own_line_of (suspended t) ∷ lines_in t.below.list.items))
     (sym value) (sym sums)
     (ap (λ h. line h ∷ effects.lines name 0) (sym holds) ∙ ap (λ l. line t.own.holds.items ∷ l) (sym below)))
 
@@ -491,7 +491,7 @@ joined_seen old new outcome s of_name same_source j =
       locks = j.locks;
       sums = added_is n s.account.sums effects.sums _ _ _ s.sums childs (j.sums n s.account.sums effects.sums s.sums childs);
       holds = ap (λ o. o.holds.items) j.own;
-      below = ap lines_in j.below ∙ lines_in-push old.below.items outcome.lines;
+      below = ap lines_in j.below ∙ lines_in-push old.below.list.items outcome.lines;
       pending = j.pending;
       work = (join_keeps old new outcome of_name same_source j).work;
       trace = sym (join_keeps old new outcome of_name same_source j).trace;

@@ -56,14 +56,14 @@ suspended t = record {
   pending = pending_of t.control;
   sums = t.sums.items;
   holds = t.own.holds.items;
-  below = lines_in t.below.items;
+  below = lines_in t.below.list.items;
   work = work_left t;
   trace = trace_left t;
 }
 
 -- A fork's number fits, since each fork that was joined has its branch, and each other one its frame.
 abbrev pub IsNumbered : State → Type 0
-IsNumbered t = t.forks ≤ length t.below.items + length (unjoined_of t)
+IsNumbered t = t.forks ≤ length t.below.list.items + length (unjoined_of t)
 
 -- a thread may begin like this
 abbrev pub IsBeginning : Control → Type 0
@@ -81,7 +81,7 @@ task_begun _ env = Evaluate (Number 0) env
 pub record Becomes (old new : State) (environment : Environment) (frames : List Frame) (control : Control) : Type 0 where
   pub program : new.program ≡ old.program
   pub own : new.own ≡ old.own
-  pub below : new.below.items ≡ old.below.items
+  pub below : new.below.list.items ≡ old.below.list.items
   pub sums : new.sums.items ≡ old.sums.items
   pub forks : new.forks ≡ old.forks
   pub environment_is : new.environment.items ≡ environment
@@ -116,7 +116,7 @@ pub record TurnsSweep (old new : State) (reduction : Reduction) (next end : ℕ)
 pub record Goes (steps : ℕ) (answered : List Event) (old new : State) : Type 0 where
   pub program : new.program ≡ old.program
   pub own : new.own ≡ old.own
-  pub below : new.below.items ≡ old.below.items
+  pub below : new.below.list.items ≡ old.below.list.items
   pub sums : new.sums.items ≡ old.sums.items
   pub forks : new.forks ≡ old.forks
   pub unjoined : unjoined_of new ≡ unjoined_of old
@@ -137,7 +137,7 @@ pub record GoesWithin (least most : ℕ) (old new : State) : Type 0 where
 pub record IsRenewed (program : Bor Program) (own : Own) (sums : List ℕ) (control : Control) (environment : Environment) (t : State) : Type 0 where
   pub program_is : t.program ≡ program
   pub own_is : t.own ≡ own
-  pub below : t.below.items ≡ []
+  pub below : t.below.list.items ≡ []
   pub sums_are : t.sums.items ≡ sums
   pub forks : t.forks ≡ 0
   pub environment_is : t.environment.items ≡ environment
@@ -150,7 +150,7 @@ pub record IsNew (program : Program) (name : List ℕ) (tag : ℕ) (task : Task)
   pub has_name : t.own.name ≡ name
   pub has_label : t.own.label ≡ record { tag = tag; in_place = false }
   pub holds : t.own.holds.items ≡ tabulated program.locks (λ lock. 0)
-  pub below : t.below.items ≡ []
+  pub below : t.below.list.items ≡ []
   pub sums : t.sums.items ≡ tabulated program.ledgers (λ ledger. 0)
   pub forks : t.forks ≡ 0
   pub unjoined : unjoined_of t ≡ []
@@ -177,7 +177,7 @@ pub record KeepsOverFork (steps : ℕ) (old new child : State) (made : Child) : 
 pub record GoesToFork (steps : ℕ) (old new child : State) (made : Child) : Type 0 where
   pub program : new.program ≡ old.program
   pub own : new.own ≡ old.own
-  pub below : new.below.items ≡ old.below.items
+  pub below : new.below.list.items ≡ old.below.list.items
   pub sums : new.sums.items ≡ old.sums.items
   pub forks : new.forks ≡ old.forks + 1
   pub unjoined : unjoined_of new ≡ old.forks ∷ unjoined_of old
@@ -231,7 +231,7 @@ OnValue (Made stop) A = Unit {0}
 pub record PushesFork (old new child : State) (begins : Control) (frame : Frame) (control : Control) : Type 0 where
   pub program : new.program ≡ old.program
   pub own : new.own ≡ old.own
-  pub below : new.below.items ≡ old.below.items
+  pub below : new.below.list.items ≡ old.below.list.items
   pub sums : new.sums.items ≡ old.sums.items
   pub forks : new.forks ≡ old.forks + 1
   pub environment : new.environment.items ≡ old.environment.items
@@ -249,7 +249,7 @@ pub record TakesIn (old : State) (outcome : Finished) (new : State) : Type 0 whe
   pub environment : new.environment ≡ old.environment
   pub frames : new.frames ≡ old.frames
   pub control : new.control ≡ old.control
-  pub below : new.below.items ≡ old.below.items ++ outcome.lines ∷ []
+  pub below : new.below.list.items ≡ old.below.list.items ++ outcome.lines ∷ []
   pub sums : (n : ℕ) (own childs : ℕ → ℕ) → old.sums.items ≡ tabulated n own → outcome.sums ≡ tabulated n childs → new.sums.items ≡ tabulated n (λ ledger. own ledger + childs ledger)
 
 -- The thread comes to the same, now that the child of this number is counted.
@@ -270,7 +270,7 @@ pub record Joins (old : State) (outcome : Finished) (new : State) : Type 0 where
   pub name : outcome.name ≡ old.own.name ++ number ∷ []
   pub unjoined : unjoined_of old ≡ number ∷ unjoined_of new
   pub locks : locks_of new ≡ locks_of old
-  pub below : new.below.items ≡ old.below.items ++ outcome.lines ∷ []
+  pub below : new.below.list.items ≡ old.below.list.items ++ outcome.lines ∷ []
   pub sums : (n : ℕ) (own childs : ℕ → ℕ) → old.sums.items ≡ tabulated n own → outcome.sums ≡ tabulated n childs → new.sums.items ≡ tabulated n (λ ledger. own ledger + childs ledger)
   pub keeps : outcome.value ≡ task_value (source_of old.program.now).arrays (child_task (source_of old.program.now) old.own.name number) → KeepsOverJoin old new number
 
@@ -279,7 +279,7 @@ pub record Counts (answered : Pending) (effects : Effects) (old new : State) : T
   pub program : new.program ≡ old.program
   pub name : new.own.name ≡ old.own.name
   pub label : new.own.label ≡ old.own.label
-  pub below : new.below.items ≡ old.below.items
+  pub below : new.below.list.items ≡ old.below.list.items
   pub forks : new.forks ≡ old.forks
   pub unjoined : unjoined_of new ≡ unjoined_of old
   pub locks : locks_of new ≡ locks_of old
@@ -297,7 +297,7 @@ pub record CountsHold (old new : State) (lock : ℕ) : Type 0 where
   pub program : new.program ≡ old.program
   pub name : new.own.name ≡ old.own.name
   pub label : new.own.label ≡ old.own.label
-  pub below : new.below.items ≡ old.below.items
+  pub below : new.below.list.items ≡ old.below.list.items
   pub sums : new.sums.items ≡ old.sums.items
   pub forks : new.forks ≡ old.forks
   pub environment : new.environment.items ≡ old.environment.items
@@ -309,7 +309,7 @@ pub record CountsHold (old new : State) (lock : ℕ) : Type 0 where
 pub record CountsTally (old new : State) (ledger amount : ℕ) : Type 0 where
   pub program : new.program ≡ old.program
   pub own : new.own ≡ old.own
-  pub below : new.below.items ≡ old.below.items
+  pub below : new.below.list.items ≡ old.below.list.items
   pub forks : new.forks ≡ old.forks
   pub environment : new.environment.items ≡ old.environment.items
   pub frames : new.frames.items ≡ old.frames.items

@@ -1,4 +1,3 @@
-use crate::branch::{Branch, reserve_branch};
 use crate::frame::{Control, Frame};
 use crate::outcome::Outcome;
 use crate::state::State;
@@ -49,7 +48,7 @@ impl<'p> State<'p> {
         requires sums { length outcome.sums ≡ length self.old.sums.items }
         requires environment { vec_len self.old.environment + 2 ≤ vec_capacity self.old.environment }
         requires frames { vec_len self.old.frames + 1 ≤ vec_capacity self.old.frames }
-        requires below { vec_len self.old.below + 1 ≤ vec_capacity self.old.below }
+        requires below { vec_len self.old.below.list + 1 ≤ vec_capacity self.old.below.list }
         ensures { Joins self.old outcome.entry self.new }
     {
         match self.control {
@@ -78,16 +77,16 @@ impl<'p> State<'p> {
         ensures same { IsUnchanged self.old self.new }
         ensures environment { OnOk result (vec_len self.new.environment + 2 ≤ vec_capacity self.new.environment) }
         ensures frames { OnOk result (vec_len self.new.frames + 1 ≤ vec_capacity self.new.frames) }
-        ensures below { OnOk result (vec_len self.new.below + 1 ≤ vec_capacity self.new.below) }
+        ensures below { OnOk result (vec_len self.new.below.list + 1 ≤ vec_capacity self.new.below.list) }
     {
         self.reserve_turn()?;
-        reserve_branch(&mut self.below)
+        self.below.reserve()
     }
 
     /// Takes in the child's sums, and its lines as one branch, and gives its value.
     fn take_in(&mut self, outcome: Outcome<'p>) -> u64
         requires sums { length outcome.sums ≡ length self.old.sums.items }
-        requires room { vec_len self.old.below + 1 ≤ vec_capacity self.old.below }
+        requires room { vec_len self.old.below.list + 1 ≤ vec_capacity self.old.below.list }
         ensures value { result ≡ outcome.entry.value }
         ensures taken { TakesIn self.old outcome.entry self.new }
     {
@@ -99,7 +98,7 @@ impl<'p> State<'p> {
             below,
         } = outcome;
         add_each(&mut self.sums, &sums);
-        self.below.push_reserved(Branch { own, below });
+        self.below.push(own, below);
         value
     }
 }

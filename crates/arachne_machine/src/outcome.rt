@@ -1,7 +1,7 @@
 ghost use Rattle.std.specs.Prelude.{◌≡◌, ◌∷◌, IfOk, IfErr};
 ghost use Rattle.arachne_machine.specs.Outcome.{IsOfItsName};
 
-use crate::branch::{Branch, count_lines, move_lines};
+use crate::branch::{Branches, move_lines};
 use crate::line::ThreadLine;
 use arachne_lang::{Name, Program, Sequence};
 use std::marker::Model;
@@ -14,7 +14,7 @@ pub struct Outcome<'p> {
     pub(crate) value: u64,
     pub(crate) sums: Vec<u64>,
     pub(crate) own: ThreadLine,
-    pub(crate) below: Vec<Branch>,
+    pub(crate) below: Branches,
 }
 
 impl<'p> Model for Outcome<'p> {
@@ -29,9 +29,9 @@ impl<'p> Model for Outcome<'p> {
 
     ghost coded = { Prim.hlevel (codes, expr.the_row.coded) };
 
-    ghost view = { λ o. record { program = o.program.now; name = o.own.name; value = o.value; sums = o.sums.items; lines = o.own ∷ lines_in o.below.items } };
+    ghost view = { λ o. record { program = o.program.now; name = o.own.name; value = o.value; sums = o.sums.items; lines = o.own ∷ lines_in o.below.list.items } };
 
-    ghost invariant = { λ o. IsOfItsName (record { program = o.program.now; name = o.own.name; value = o.value; sums = o.sums.items; lines = o.own ∷ lines_in o.below.items }) };
+    ghost invariant = { λ o. IsOfItsName (record { program = o.program.now; name = o.own.name; value = o.value; sums = o.sums.items; lines = o.own ∷ lines_in o.below.list.items }) };
 }
 
 /// An outcome taken apart.
@@ -76,8 +76,8 @@ impl<'p> Outcome<'p> {
         ensures handed_back { IfErr result (λ outcome. outcome ≡ self.entry) }
         ensures of_its_name { IsOfItsName self.entry }
     {
-        let alloc = *self.below.allocator();
-        let count = count_lines(&self.below).saturating_add(1);
+        let alloc = *self.sums.allocator();
+        let count = self.below.count.saturating_add(1);
         let Ok(mut lines) = Vec::with_capacity(alloc, count) else {
             return Err(self);
         };
@@ -89,7 +89,7 @@ impl<'p> Outcome<'p> {
             below,
         } = self;
         lines.push_reserved(own);
-        move_lines(below, &mut lines);
+        move_lines(below.list, &mut lines);
         Ok(OutcomeParts {
             value,
             sums: Sequence::from(sums),

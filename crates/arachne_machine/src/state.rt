@@ -1,4 +1,4 @@
-use crate::branch::Branch;
+use crate::branch::Branches;
 use crate::frame::{Control, Frame};
 use crate::line::{Label, ThreadLine};
 use crate::outcome::Outcome;
@@ -39,7 +39,7 @@ pub struct State<'p> {
     pub alloc: Global,
     pub own: Own,
     /// The threads that it has joined, in order, with those below them.
-    pub below: Vec<Branch>,
+    pub below: Branches,
     /// For each ledger the sum of what was tallied, modulo 2^64.
     pub sums: Vec<u64>,
     /// How many threads it has forked.
@@ -120,7 +120,7 @@ impl<'p> State<'p> {
             program,
             alloc,
             own: Own::vacant(alloc),
-            below: Vec::new(alloc),
+            below: Branches::new(alloc),
             sums: Vec::new(alloc),
             forks: 0,
             environment: Vec::new(alloc),
@@ -241,7 +241,7 @@ impl<'p> State<'p> {
                 holds: Sequence::from(holds),
                 in_place: label.in_place,
             },
-            below: replace(&mut self.below, Vec::new(alloc)),
+            below: replace(&mut self.below, Branches::new(alloc)),
         }
     }
 }

@@ -18,8 +18,8 @@ invariant_of-result c =
       lines = (record { name = own.name; tag = own.label.tag; holds = holds; in_place = own.label.in_place }) ∷ lines_in below;
     }) in
     let own = c.replace-name.result in
-    subst (λ holds. Told own c.replace.result.items c.replace-2.result.items holds) (sym c.from.ensures)
-    (subst (λ below. Told own c.replace.result.items below.items own.holds.items) (sym c.replace-2.ensures.value)
-    (subst (λ sums. Told own sums.items t.below.items own.holds.items) (sym c.replace.ensures.value)
-    (subst (λ o. Told o t.sums.items t.below.items o.holds.items) (sym c.replace-name.ensures.value)
+    subst (λ holds. Told own c.replace.result.items c.replace-2.result.list.items holds) (sym c.from.ensures)
+    (subst (λ below. Told own c.replace.result.items below.list.items own.holds.items) (sym c.replace-2.ensures.value)
+    (subst (λ sums. Told own sums.items t.below.list.items own.holds.items) (sym c.replace.ensures.value)
+    (subst (λ o. Told o t.sums.items t.below.list.items o.holds.items) (sym c.replace-name.ensures.value)
     (sound_end t c.in-Ended.value c.requires.sound c.in-Ended.is))))
