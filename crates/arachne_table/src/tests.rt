@@ -22,10 +22,14 @@ impl Tagged for Job {
 
 #[test]
 fn a_table_behind_a_lock_gives_each_row(rt: HostRuntime) -> Result<(), Fail> {
-    rows::give::<LockedContexts<Job>, HostRuntime>(&rt, rt.alloc())
+    let runs = rows::give::<LockedContexts<Job>, HostRuntime>(&rt, rt.alloc())?;
+    assert!(rt; runs == 11);
+    Ok(())
 }
 
 #[test]
 fn a_table_of_words_gives_each_row(rt: HostRuntime) -> Result<(), Fail> {
-    rows::give::<WordContexts<Job>, HostRuntime>(&rt, rt.alloc())
+    let runs = rows::give::<WordContexts<Job>, HostRuntime>(&rt, rt.alloc())?;
+    assert!(rt; runs == 11);
+    Ok(())
 }

@@ -5,19 +5,9 @@ ghost use Rattle.arachne_ledger.specs.Views.{IsShareOf, IsWhole};
 use crate::compare::same;
 use arachne_ledger::{Ledgers, Share};
 use std::alloc::{AllocError, Global};
-use std::snapshot::Snapshot;
-use std::sync::Wait;
 use std::test::Fail;
 use std::thread;
-use std::thread::{Promise, Threads};
-
-// The share that comes back is of these ledgers.
-#[derive(Drop)]
-struct ShareOf(Snapshot<Ledgers>);
-
-impl Promise<Share> for ShareOf {
-    ghost kept_by = { λ p share. share.table ≡ p.0.value.table };
-}
+use std::thread::Threads;
 
 fn add_threes(ledgers: &Ledgers, mut share: Share) -> Share
     requires share { IsShareOf ledgers.now share }
@@ -30,50 +20,32 @@ fn add_threes(ledgers: &Ledgers, mut share: Share) -> Share
     share
 }
 
-fn add_in_four_threads<R: Threads + Wait>(
-    rt: &R,
-    ledgers: &Ledgers,
-    share: Share,
-) -> Result<Share, AllocError>
+fn add_in_two_threads<R: Threads>(rt: &R, ledgers: &Ledgers, share: Share) -> Share
     requires share { IsShareOf ledgers.now share }
     requires some_ledger { 0 < ledgers.now.count }
-    ensures { IfOk result (λ s. IsShareOf ledgers.now s) }
+    ensures { IsShareOf ledgers.now result }
 {
-    let (a, b) = ledgers.split(share);
-    let (a, c) = ledgers.split(a);
-    let (b, d) = ledgers.split(b);
-    thread::scope(
-        thread::scope_env(),
+    let (first, second) = ledgers.split(share);
+    let (first, second) = thread::join(
         rt,
-        |scope| -> Result<Share, AllocError>
-            requires share { IsShareOf ledgers.now a }
-            requires other { IsShareOf ledgers.now b }
-            requires third { IsShareOf ledgers.now c }
-            requires fourth { IsShareOf ledgers.now d }
-            requires some_ledger { 0 < ledgers.now.count }
-            ensures { IfOk result (λ s. IsShareOf ledgers.entry.now s) }
-        {
-            let first = scope.spawn_with(
-                ShareOf(Snapshot::of(ledgers)),
-                move || add_threes(ledgers, a),
-            )?;
-            let second = scope.spawn_with(
-                ShareOf(Snapshot::of(ledgers)),
-                move || add_threes(ledgers, b),
-            )?;
-            let third = scope.spawn_with(
-                ShareOf(Snapshot::of(ledgers)),
-                move || add_threes(ledgers, c),
-            )?;
-            let fourth = scope.spawn_with(
-                ShareOf(Snapshot::of(ledgers)),
-                move || add_threes(ledgers, d),
-            )?;
-            let share = ledgers.join_shares(first.join(rt), second.join(rt));
-            let share = ledgers.join_shares(share, third.join(rt));
-            Ok(ledgers.join_shares(share, fourth.join(rt)))
-        },
-    )
+        move || add_threes(ledgers, first),
+        move || add_threes(ledgers, second),
+    );
+    ledgers.join_shares(first, second)
+}
+
+fn add_in_four_threads<R: Threads + Sync>(rt: &R, ledgers: &Ledgers, share: Share) -> Share
+    requires share { IsShareOf ledgers.now share }
+    requires some_ledger { 0 < ledgers.now.count }
+    ensures { IsShareOf ledgers.now result }
+{
+    let (first, second) = ledgers.split(share);
+    let (first, second) = thread::join(
+        rt,
+        move || add_in_two_threads(rt, ledgers, first),
+        move || add_in_two_threads(rt, ledgers, second),
+    );
+    ledgers.join_shares(first, second)
 }
 
 // Under `rt try --test --fail-alloc N` the Nth allocation is refused. A call that answers so is made once more.
@@ -102,7 +74,7 @@ fn sums(alloc: Global, ledgers: Ledgers, share: Share) -> Option<Vec<u64>>
 #[test]
 fn four_threads_add_up(rt: HostRuntime) -> Result<(), Fail> {
     let (ledgers, share) = make_ledgers(rt.alloc(), 1)?;
-    let share = add_in_four_threads(&rt, &ledgers, share)?;
+    let share = add_in_four_threads(&rt, &ledgers, share);
     assert!(rt; share.is_whole());
     let sums = sums(rt.alloc(), ledgers, share).ok_or("no memory")?;
     assert_eq!(rt; sums.as_slice(), [12000].as_slice());

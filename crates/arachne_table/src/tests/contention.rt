@@ -1,42 +1,30 @@
 //! Two kernel threads that contend for the places of one table.
 ghost use Rattle.std.specs.Prelude.{◌≡◌, ◌<◌, ◌≤◌, IfSome};
 ghost use Rattle.arachne_words.specs.Seats.{HasNothingOut};
-ghost use Rattle.std.specs.Thread.{IsSync};
 
 use super::Job;
 use crate::{Claimed, Contexts, Moved, Taken, WordContexts, WordSeat};
-use arachne_core::{Place, SLOTS};
+use arachne_core::{Place, SLOTS, ThreadId};
 use std::alloc::Global;
-use std::snapshot::Snapshot;
 use std::sync::Wait;
 use std::test::Fail;
 use std::thread;
-use std::thread::{Promise, Threads};
+use std::thread::Threads;
 
 const ROUNDS: u64 = 10_000;
 
-/// What a thread has done: its seat, the tags of what it has posted and ended, and how many of those were moved.
+/// What a thread has done: its seat, twice the tag of each thread that it has posted, twice the tag and 1 of each that it has ended, and
+/// how many it has moved.
 #[derive(Drop)]
 struct Work<S> {
     seat: S,
-    posted: Vec<u64>,
-    ended: Vec<u64>,
+    log: Vec<u64>,
     moved: u64,
 }
 
 type Words = WordContexts<Job>;
 
 type WordWork = Work<WordSeat<Job>>;
-
-/// The seat that comes back is of this table, with nothing out.
-#[derive(Drop)]
-struct SeatOf {
-    table: Snapshot<Words>,
-}
-
-impl Promise<Option<WordWork>> for SeatOf {
-    ghost kept_by = { λ promise work. IfSome work (λ w. (w.seat.table ≡ promise.table.value.table) × HasNothingOut w.seat.known) };
-}
 
 /// Claims a place on a core, and posts a thread there if it got one. None where the table refuses memory or the claim.
 fn post<C: Contexts<Job>, R: Wait>(
@@ -53,12 +41,17 @@ fn post<C: Contexts<Job>, R: Wait>(
     match table.claim(rt, &mut work.seat, core).ok()? {
         Claimed::Place(claim) => {
             table.post(rt, &mut work.seat, claim, Job(tag)).ok()?;
-            work.posted.push(tag).ok()
+            work.log.push(tag.wrapping_mul(2)).ok()
         }
         Claimed::Full(_) => Some(()),
         Claimed::Closed(_) => Some(()),
         Claimed::Lost(_) => Some(()),
     }
+}
+
+/// How the end of a thread is noted.
+fn ended(job: &Job) -> u64 {
+    job.0.wrapping_mul(2).wrapping_add(1)
 }
 
 /// Takes the thread at a place, if it is ready, and ends it.
@@ -77,7 +70,7 @@ fn end<C: Contexts<Job>, R: Wait>(
     match table.take(rt, &mut work.seat, core, index) {
         Taken::Run(held) => {
             let job = table.finish(rt, &mut work.seat, held).ok()?;
-            work.ended.push(job.0).ok()?;
+            work.log.push(ended(&job)).ok()?;
             Some(true)
         }
         Taken::NotReady(_) => Some(false),
@@ -147,8 +140,7 @@ fn all_rounds<C: Contexts<Job>, R: Wait>(
 {
     let mut work = Work {
         seat,
-        posted: Vec::new(alloc),
-        ended: Vec::new(alloc),
+        log: Vec::new(alloc),
         moved: 0,
     };
     for round in 0..ROUNDS {
@@ -180,105 +172,101 @@ fn work_side_by_side<R: Threads + Wait + Sync>(
     ensures second { IfSome result (λ w. (w.1.seat.table ≡ table.now.table) × HasNothingOut w.1.seat.known) }
 {
     let (first, second) = table.split(seat);
-    thread::scope(
-        thread::scope_env(),
+    let (first, second) = thread::join(
         rt,
-        |scope| -> Option<(WordWork, WordWork)>
-            requires sync { IsSync R.row }
-            requires first { (first.table ≡ table.now.table) × HasNothingOut first.known }
-            requires second { (second.table ≡ table.now.table) × HasNothingOut second.known }
-            requires own { (1 ≤ own.cores) × (own.cores ≡ table.now.shape.cores) }
-            requires their { (1 ≤ their.cores) × (their.cores ≡ table.now.shape.cores) }
-            ensures first { IfSome result (λ w. (w.0.seat.table ≡ table.entry.now.table) × HasNothingOut w.0.seat.known) }
-            ensures second { IfSome result (λ w. (w.1.seat.table ≡ table.entry.now.table) × HasNothingOut w.1.seat.known) }
-        {
-            let seat_of = SeatOf {
-                table: Snapshot::of(table),
-            };
-            let other = scope
-                .spawn_with(
-                    seat_of,
-                    move || -> Option<WordWork>
-                        requires { (second.table ≡ table.now.table) × HasNothingOut second.known × (1 ≤ their.cores) × (their.cores ≡ table.now.shape.cores) }
-                        ensures { IfSome result (λ w. (w.seat.table ≡ table.entry.now.table) × HasNothingOut w.seat.known) }
-                    { all_rounds::<Words, R>(rt, table, alloc, second, their) },
-                )
-                .ok()?;
-            let own = all_rounds::<Words, R>(rt, table, alloc, first, own);
-            let theirs = other.join(rt);
-            Some((own?, theirs?))
-        },
-    )
+        move || -> Option<WordWork>
+            requires { (first.table ≡ table.now.table) × HasNothingOut first.known × (1 ≤ own.cores) × (own.cores ≡ table.now.shape.cores) }
+            ensures { IfSome result (λ w. (w.seat.table ≡ table.entry.now.table) × HasNothingOut w.seat.known) }
+        { all_rounds::<Words, R>(rt, table, alloc, first, own) },
+        move || -> Option<WordWork>
+            requires { (second.table ≡ table.now.table) × HasNothingOut second.known × (1 ≤ their.cores) × (their.cores ≡ table.now.shape.cores) }
+            ensures { IfSome result (λ w. (w.seat.table ≡ table.entry.now.table) × HasNothingOut w.seat.known) }
+        { all_rounds::<Words, R>(rt, table, alloc, second, their) },
+    );
+    Some((first?, second?))
 }
 
-/// Two kernel threads on one table. Answers whether each tag that was posted was ended or is left, once, and how many
+/// Adds the ends of the threads that are left to what was noted of both kernel threads. Whether each tag that was posted was ended or is
+/// left, once.
+fn is_settled(
+    mut log: Vec<u64>,
+    other: Vec<u64>,
+    left: Vec<(ThreadId, Job)>,
+) -> Result<bool, Fail> {
+    log.extend(other)?;
+    for (_, job) in left {
+        log.push(ended(&job))?;
+    }
+    log.sort()?;
+    Ok(log.chunks(2).all(|pair| is_pair(pair)))
+}
+
+/// A thread was posted and ended.
+fn is_pair(pair: &[u64]) -> bool {
+    match pair {
+        [posted, ended] => *posted % 2 == 0 && *ended == posted.wrapping_add(1),
+        _ => false,
+    }
+}
+
+/// The threads that are left, where the seats of both kernel threads are whole together.
+fn left(
+    alloc: Global,
+    table: Words,
+    seat: WordSeat<Job>,
+    other: WordSeat<Job>,
+) -> Option<Vec<(ThreadId, Job)>>
+    requires seat { (seat.table ≡ table.table) × HasNothingOut seat.known }
+    requires other { (other.table ≡ table.table) × HasNothingOut other.known }
+{
+    let seat = table.join_seats(seat, other);
+    if !table.is_whole(&seat) {
+        return None;
+    }
+    table.close(alloc, seat).ok()
+}
+
+/// Two kernel threads on one table of so many cores, one of which may move threads away. Answers whether all is settled, and how many
 /// threads were moved.
 fn contend<R: Threads + Wait + Sync>(
     rt: &R,
     alloc: Global,
-    own: Part,
-    their: Part,
+    cores: u8,
+    moves: bool,
 ) -> Result<(bool, u64), Fail>
-    requires some { 1 ≤ own.cores }
-    requires cores { own.cores ≤ 16 }
-    requires same { their.cores ≡ own.cores }
+    requires some { 1 ≤ cores }
+    requires most { cores ≤ 16 }
 {
-    let (table, seat) = Words::new(alloc, own.cores, 0)?;
-    let works = work_side_by_side(rt, &table, alloc, seat, own, their);
-    let (first, second) = works.ok_or("no memory")?;
-    let moved = first.moved.wrapping_add(second.moved);
-    let seat = table.join_seats(first.seat, second.seat);
-    if !table.is_whole(&seat) {
-        return Err("not whole".into());
-    }
-    let left = table.close(alloc, seat).ok().ok_or("no memory")?;
-    let mut posted = first.posted;
-    posted.extend(second.posted)?;
-    posted.sort()?;
-    let mut gone = first.ended;
-    gone.extend(second.ended)?;
-    for (_, job) in left {
-        gone.push(job.0)?;
-    }
-    gone.sort()?;
-    Ok((posted.as_slice() == gone.as_slice(), moved))
-}
-
-#[test]
-fn two_threads_on_one_core_of_words(rt: HostRuntime) -> Result<(), Fail> {
     let own = Part {
-        cores: 1,
+        cores,
         moves: false,
         from: 0,
         first_tag: 0,
     };
     let their = Part {
-        cores: 1,
-        moves: false,
-        from: 0,
+        cores,
+        moves,
+        from: u8::from(moves),
         first_tag: ROUNDS,
     };
-    let (settled, _) = contend(&rt, rt.alloc(), own, their)?;
+    let (table, seat) = Words::new(alloc, cores, 0)?;
+    let works = work_side_by_side(rt, &table, alloc, seat, own, their);
+    let (first, second) = works.ok_or("no memory")?;
+    let moved = first.moved.wrapping_add(second.moved);
+    let left = left(alloc, table, first.seat, second.seat).ok_or("not closed")?;
+    Ok((is_settled(first.log, second.log, left)?, moved))
+}
+
+#[test]
+fn two_threads_on_one_core_of_words(rt: HostRuntime) -> Result<(), Fail> {
+    let (settled, _) = contend(&rt, rt.alloc(), 1, false)?;
     assert!(rt; settled);
     Ok(())
 }
 
 #[test]
 fn two_threads_one_of_which_moves_words(rt: HostRuntime) -> Result<(), Fail> {
-    let own = Part {
-        cores: 2,
-        moves: false,
-        from: 0,
-        first_tag: 0,
-    };
-    let their = Part {
-        cores: 2,
-        moves: true,
-        from: 1,
-        first_tag: ROUNDS,
-    };
-    let (settled, moved) = contend(&rt, rt.alloc(), own, their)?;
-    assert!(rt; settled);
-    assert!(rt; moved > 0);
+    let (settled, moved) = contend(&rt, rt.alloc(), 2, true)?;
+    assert!(rt; settled && moved > 0);
     Ok(())
 }

@@ -1,432 +1,674 @@
-//! What any form of table answers: runs, a step a line, each with its answer.
-ghost use Rattle.std.specs.Prelude.{◌≡◌, List, IfOk, [], ◌∷◌};
+//! What any form of table answers: runs, a step a row, each with its answer.
+ghost use Rattle.std.specs.Prelude.{◌≡◌, List, IfOk, IfSome, [], ◌∷◌};
 ghost use Rattle.arachne_contexts.specs.Out.{Out, KeepsOut, Claim as a_claim, Thread as a_thread};
 
 use super::Job;
-use super::steps::{Answer, answered, number, small};
+use super::steps::{Answer, Step, answered, told_id};
 use crate::{Claimed, Contexts, Held, Placed, Rested, Taken};
 use arachne_core::{CORES, LAST_GENERATION, Rest, SLOTS, ThreadId};
 use std::alloc::Global;
-use std::str::{Lines, Split};
 use std::sync::Wait;
 use std::test::Fail;
 
-/// The words of a line's step.
-fn words_of<'t>(line: &'t str) -> Split<'t, char> {
-    let (step, _) = line.split_once(" => ").unwrap_or((line, ""));
-    step.split(' ')
+/// Steps, and what each answers.
+type Rows = &'static [(Step, Answer)];
+
+/// How a claim or a thread is spent.
+#[derive(Clone, Copy)]
+enum Spend {
+    Back,
+    /// A thread with a tag is posted at the place.
+    Post(u64),
+    End,
+    Block,
 }
 
-/// The line was to show this.
-fn same(line: &str, expected: &str, shown: &str) -> Result<(), Fail> {
-    if shown == expected {
+/// What the step answers that gets a claim or a thread, the steps while that is out, how it is spent, and what that answers.
+/// Where none is got, that is all.
+struct Use {
+    got: Answer,
+    steps: Rows,
+    spend: Spend,
+    spent: Answer,
+}
+
+/// A part of a run: steps with nothing out, a place that is claimed on a core, or the whole core, or the thread at a core's index.
+enum Part {
+    Steps(Rows),
+    Claim(u8, bool, Use),
+    Thread(u8, u8, Use),
+}
+
+/// The cores of a run's table, the generation that its contexts begin with, its parts, and where that is looked at what is left at the end:
+/// each thread's context, its generation and its tag.
+struct Run {
+    cores: u8,
+    first_generation: u64,
+    parts: &'static [Part],
+    left: Option<&'static [(u32, u64, u64)]>,
+}
+
+/// The answer was to be this.
+fn same(expected: Answer, shown: Answer) -> Result<(), Fail> {
+    let ((told, one, other), (word, first, second)) = (expected, shown);
+    if told == word && one == first && other == second {
         return Ok(());
     }
-    Err(Fail::new(format_args!("{line}, and not {shown}")))
+    Err(Fail::new(format_args!(
+        "{told} {one:#x} {other:#x}, and not {word} {first:#x} {second:#x}"
+    )))
 }
 
-/// The line was to show this answer.
-fn expect(alloc: Global, line: &str, answer: Answer) -> Result<(), Fail> {
-    let (_, expected) = line.split_once(" => ").unwrap_or((line, ""));
-    same(line, expected, answer.shown(alloc)?.as_str())
-}
-
-/// Takes a step that leaves out what is out.
-fn take<C: Contexts<Job>, R: Wait>(
+/// Takes steps that leave out what is out.
+fn go_on<C: Contexts<Job>, R: Wait>(
     rt: &R,
-    alloc: Global,
     table: &C,
     seat: &mut C::Seat,
     cores: u8,
-    line: &str,
+    steps: Rows,
 ) -> Result<(), Fail>
     requires seat { C.sits table.now seat.old }
     requires out { (outs : List (Out C.Claim C.Hold)) × C.has table.now seat.old outs }
     requires cores { cores ≡ C.core_count table.now }
     ensures { IfOk result (λ _. C.sits table.now seat.new × KeepsOut (C.has table.now) seat.old seat.new) }
 {
-    let mut words = words_of(line);
-    let answer = answered(rt, table, seat, cores, &mut words).ok_or("no such step")?;
-    expect(alloc, line, answer)
-}
-
-/// Takes the steps up to the next line with a sign in front, which comes back, or up to the end of the lines.
-fn go_on<'t, C: Contexts<Job>, R: Wait>(
-    rt: &R,
-    alloc: Global,
-    table: &C,
-    seat: &mut C::Seat,
-    cores: u8,
-    lines: &mut Lines<'t>,
-) -> Result<&'t str, Fail>
-    requires seat { C.sits table.now seat.old }
-    requires out { (outs : List (Out C.Claim C.Hold)) × C.has table.now seat.old outs }
-    requires cores { cores ≡ C.core_count table.now }
-    ensures { IfOk result (λ _. C.sits table.now seat.new × KeepsOut (C.has table.now) seat.old seat.new) }
-{
-    for _ in rt.forever() {
-        let line = lines.next().unwrap_or("");
-        if line.is_empty() || !line.starts_with(char::is_alphabetic) {
-            return Ok(line);
-        }
-        take(rt, alloc, table, seat, cores, line)?;
+    for &(step, answer) in steps {
+        let shown = answered(rt, table, seat, cores, step).ok_or("no such step")?;
+        same(answer, shown)?;
     }
-    Err("no end".into())
+    Ok(())
 }
 
-/// Posts a thread with the claim, or gives it back.
+/// Posts a thread with the claim, or gives it back. What that answers.
 fn spend_claim<C: Contexts<Job>, R: Wait>(
     rt: &R,
-    alloc: Global,
     table: &C,
     seat: &mut C::Seat,
     claim: C::Claim,
-    line: &str,
+    spend: Spend,
+) -> Option<Answer>
+    requires seat { C.sits table.now seat.old }
+    requires out { C.has table.now seat.old (a_claim claim ∷ []) }
+    ensures { IfSome result (λ _. C.sits table.now seat.new × C.idle table.now seat.new) }
+{
+    let Spend::Post(tag) = spend else {
+        table.give_back(rt, seat, claim).ok()?;
+        return Some(("back", 0, 0));
+    };
+    Some(told_id(table.post(rt, seat, claim, Job(tag)).ok()?))
+}
+
+/// Takes the steps while a claim is out, and spends it.
+fn use_claim<C: Contexts<Job>, R: Wait>(
+    rt: &R,
+    table: &C,
+    seat: &mut C::Seat,
+    cores: u8,
+    claim: C::Claim,
+    part: &Use,
 ) -> Result<(), Fail>
     requires seat { C.sits table.now seat.old }
     requires out { C.has table.now seat.old (a_claim claim ∷ []) }
+    requires cores { cores ≡ C.core_count table.now }
     ensures { IfOk result (λ _. C.sits table.now seat.new × C.idle table.now seat.new) }
 {
-    if line == "- back" {
-        return match table.give_back(rt, seat, claim) {
-            Ok(()) => Ok(()),
-            Err(_) => Err("not given back".into()),
-        };
-    }
-    let tag = tag_of(line).ok_or("the claim is not spent")?;
-    match table.post(rt, seat, claim, Job(tag)) {
-        Ok(id) => expect(alloc, line, Answer::id(id)),
-        Err(_) => Err("not posted".into()),
-    }
-}
-
-/// The tag that a line posts at a claimed place.
-fn tag_of(line: &str) -> Option<u64> {
-    let mut words = words_of(line.strip_prefix("- post ")?);
-    number(&mut words)
-}
-
-/// The core of a line that claims.
-fn core_of(line: &str) -> Option<u8> {
-    let mut words = words_of(line);
-    words.next()?;
-    words.next()?;
-    small(&mut words)
+    let place = claim.place();
+    same(part.got, ("place", place.core.into(), place.index.into()))?;
+    go_on(rt, table, seat, cores, part.steps)?;
+    let spent = spend_claim(rt, table, seat, claim, part.spend).ok_or("not spent")?;
+    same(part.spent, spent)
 }
 
 /// Claims a place or a whole core, and spends the claim if it got one.
 fn with_claim<C: Contexts<Job>, R: Wait>(
     rt: &R,
-    alloc: Global,
     table: &C,
     seat: &mut C::Seat,
     cores: u8,
-    line: &str,
-    lines: &mut Lines<'_>,
+    core: u8,
+    alone: bool,
+    part: &Use,
 ) -> Result<(), Fail>
     requires seat { C.sits table.now seat.old × C.idle table.now seat.old }
     requires cores { cores ≡ C.core_count table.now }
     ensures { IfOk result (λ _. C.sits table.now seat.new × C.idle table.now seat.new) }
 {
-    let core = core_of(line).ok_or("no core")?;
     if core >= cores {
         return Err("no such core".into());
     }
-    let claimed = if line.starts_with("+ alone ") {
+    let claimed = if alone {
         table.claim_alone(rt, seat, core)?
     } else {
         table.claim(rt, seat, core)?
     };
     match claimed {
-        Claimed::Place(claim) => {
-            expect(alloc, line, Answer::place(claim.place()))?;
-            let line = go_on(rt, alloc, table, seat, cores, lines)?;
-            spend_claim(rt, alloc, table, seat, claim, line)
-        }
-        Claimed::Full(word) => expect(alloc, line, Answer::With("full", word)),
-        Claimed::Closed(word) => expect(alloc, line, Answer::With("closed", word)),
-        Claimed::Lost(word) => expect(alloc, line, Answer::With("lost", word)),
+        Claimed::Place(claim) => use_claim(rt, table, seat, cores, claim, part),
+        Claimed::Full(word) => same(part.got, ("full", word, 0)),
+        Claimed::Closed(word) => same(part.got, ("closed", word, 0)),
+        Claimed::Lost(word) => same(part.got, ("lost", word, 0)),
     }
 }
 
-/// Ends the thread, or puts it back as blocked.
+/// Ends the thread, or puts it back as blocked. What that answers.
 fn spend_thread<C: Contexts<Job>, R: Wait>(
     rt: &R,
-    alloc: Global,
     table: &C,
     seat: &mut C::Seat,
     held: Held<Job, C::Hold>,
-    line: &str,
-) -> Result<(), Fail>
+    spend: Spend,
+) -> Option<Answer>
     requires seat { C.sits table.now seat.old }
     requires out { C.has table.now seat.old (a_thread held.hold held.value.0 ∷ []) }
-    ensures { IfOk result (λ _. C.sits table.now seat.new × C.idle table.now seat.new) }
+    ensures { IfSome result (λ _. C.sits table.now seat.new × C.idle table.now seat.new) }
 {
-    if line.starts_with("- end ") {
-        return match table.finish(rt, seat, held) {
-            Ok(job) => expect(alloc, line, Answer::With("tag", job.0)),
-            Err(_) => Err("not ended".into()),
-        };
+    if let Spend::End = spend {
+        let job = table.finish(rt, seat, held).ok()?;
+        return Some(("tag", job.0, 0));
     }
-    match table.put_back(rt, seat, held, Rest::Blocked) {
-        Ok(Rested::AsAsked) => expect(alloc, line, Answer::Told("as asked")),
-        Ok(Rested::WokenMeanwhile) => expect(alloc, line, Answer::Told("woken meanwhile")),
-        Err(_) => Err("not put back".into()),
+    match table.put_back(rt, seat, held, Rest::Blocked).ok()? {
+        Rested::AsAsked => Some(("as asked", 0, 0)),
+        Rested::WokenMeanwhile => Some(("woken meanwhile", 0, 0)),
     }
-}
-
-/// The place of a line that takes a thread.
-fn place_of(line: &str) -> Option<(u8, u8)> {
-    let mut words = words_of(line.strip_prefix("+ take ")?);
-    Some((small(&mut words)?, small(&mut words)?))
 }
 
 /// Takes the thread at a place, and spends it.
 fn with_thread<C: Contexts<Job>, R: Wait>(
     rt: &R,
-    alloc: Global,
     table: &C,
     seat: &mut C::Seat,
     cores: u8,
-    line: &str,
-    lines: &mut Lines<'_>,
+    core: u8,
+    index: u8,
+    part: &Use,
 ) -> Result<(), Fail>
     requires seat { C.sits table.now seat.old × C.idle table.now seat.old }
     requires cores { cores ≡ C.core_count table.now }
     ensures { IfOk result (λ _. C.sits table.now seat.new × C.idle table.now seat.new) }
 {
-    let (core, index) = place_of(line).ok_or("no place")?;
     if core >= cores || index >= SLOTS {
         return Err("no such place".into());
     }
     let Taken::Run(held) = table.take(rt, seat, core, index) else {
         return Err("not ready".into());
     };
-    expect(alloc, line, Answer::id(held.id()))?;
-    let line = go_on(rt, alloc, table, seat, cores, lines)?;
-    spend_thread(rt, alloc, table, seat, held, line)
+    same(part.got, told_id(held.id()))?;
+    go_on(rt, table, seat, cores, part.steps)?;
+    let spent = spend_thread(rt, table, seat, held, part.spend).ok_or("not spent")?;
+    same(part.spent, spent)
 }
 
-/// Takes all steps up to the line of what is left, which comes back, or up to the end of the lines.
-fn follow<'t, C: Contexts<Job>, R: Wait>(
+/// Takes all parts of a run.
+fn follow<C: Contexts<Job>, R: Wait>(
     rt: &R,
-    alloc: Global,
     table: &C,
     seat: &mut C::Seat,
     cores: u8,
-    lines: &mut Lines<'t>,
-) -> Result<&'t str, Fail>
+    parts: &[Part],
+) -> Result<(), Fail>
     requires seat { C.sits table.now seat.old × C.idle table.now seat.old }
     requires cores { cores ≡ C.core_count table.now }
     ensures { IfOk result (λ _. C.sits table.now seat.new × C.idle table.now seat.new) }
 {
-    for _ in rt.forever() {
-        let line = go_on(rt, alloc, table, seat, cores, lines)?;
-        if line.starts_with("+ take ") {
-            with_thread(rt, alloc, table, seat, cores, line, lines)?;
-        } else if line.starts_with("+ ") {
-            with_claim(rt, alloc, table, seat, cores, line, lines)?;
-        } else {
-            return Ok(line);
+    for part in parts {
+        match part {
+            Part::Steps(steps) => go_on(rt, table, seat, cores, steps)?,
+            Part::Claim(core, alone, part) => {
+                with_claim(rt, table, seat, cores, *core, *alone, part)?
+            }
+            Part::Thread(core, index, part) => {
+                with_thread(rt, table, seat, cores, *core, *index, part)?
+            }
         }
     }
-    Err("no end".into())
+    Ok(())
 }
 
-/// The threads that are left, each with its context, its generation and its tag.
-fn listed(alloc: Global, left: Vec<(ThreadId, Job)>) -> Result<String, Fail> {
-    let mut text = format!(in alloc; "=")?;
-    for (id, job) in left {
-        let line = format!(in alloc; " {}:{}:{}", id.context, id.generation, job.0)?;
-        text.push_str(line.as_str())?;
+/// Whether these threads are left, each with its context, its generation and its tag.
+fn are_left(left: &[(ThreadId, Job)], expected: &[(u32, u64, u64)]) -> bool {
+    if left.len() != expected.len() {
+        return false;
     }
-    Ok(text)
+    for k in 0..left.len() {
+        let (id, job) = &left[k];
+        if (id.context, id.generation, job.0) != expected[k] {
+            return false;
+        }
+    }
+    true
 }
 
-/// What is left at the end, after the seat was split and joined.
+/// Splits the seat, joins both halves, and closes the table. The threads that are left.
 fn close<C: Contexts<Job> + Drop, R: Wait>(
     rt: &R,
     alloc: Global,
     table: C,
     seat: C::Seat,
-) -> Result<String, Fail>
+) -> Option<Vec<(ThreadId, Job)>>
     requires { C.sits table seat × C.idle table seat }
 {
     let (first, second) = table.split(rt, seat);
     if table.is_whole(&first) {
-        return Err("not split".into());
+        return None;
     }
     let seat = table.join_seats(rt, second, first);
     if !table.is_whole(&seat) {
-        return Err("not whole".into());
+        return None;
     }
-    match table.close(rt, alloc, seat) {
-        Ok(left) => listed(alloc, left),
-        Err(_) => Err("no memory".into()),
-    }
+    table.close(rt, alloc, seat).ok()
 }
 
-/// The cores of a run's table, the generation that its contexts begin with, and the steps.
-fn shape(run: &str) -> Option<(u8, u64, &str)> {
-    let (title, steps) = run.split_once('\n')?;
-    let (_, numbers) = title.split_once(": ")?;
-    let mut words = words_of(numbers);
-    Some((small(&mut words)?, number(&mut words)?, steps))
-}
-
-/// Takes the steps of a run.
-fn run<C: Contexts<Job> + Drop, R: Wait>(rt: &R, alloc: Global, run: &str) -> Result<(), Fail> {
-    let (cores, first_generation, steps) = shape(run).ok_or("no shape")?;
-    if cores == 0 || cores > CORES || first_generation > LAST_GENERATION {
+/// Takes a run.
+fn take<C: Contexts<Job> + Drop, R: Wait>(rt: &R, alloc: Global, run: &Run) -> Result<(), Fail> {
+    let cores = run.cores;
+    if cores == 0 || cores > CORES || run.first_generation > LAST_GENERATION {
         return Err("no such table".into());
     }
-    let (table, mut seat) = C::new(alloc, cores, first_generation)?;
-    let end = follow(rt, alloc, &table, &mut seat, cores, &mut steps.lines())?;
-    if end.is_empty() {
+    let (table, mut seat) = C::new(alloc, cores, run.first_generation)?;
+    follow(rt, &table, &mut seat, cores, run.parts)?;
+    let Some(expected) = run.left else {
         return Ok(());
-    }
-    same(end, end, close(rt, alloc, table, seat)?.as_str())
-}
-
-/// Each run has a line with its title, the cores of its table and the generation that the contexts begin with; then its steps. A step that
-/// gets a claim or a thread has the sign `+`, one that spends it the sign `-`, and what is left at the end the sign `=`.
-const RUNS: &str = "\
-a claim takes the lowest free index: 2 0
-+ claim 0 => place 0 0
-look 0 => 0x100000000000001
-- post 5 => id 0 0
-post 0 6 => id 1 0
-post 0 7 => id 2 0
-+ take 0 1 => id 1 0
-- end => tag 0x6
-look 0 => 0x200000000000005
-+ claim 0 => place 0 1
-look 0 => 0x300000000000007
-out => 0x1
-- back
-
-a place that is given back is free: 2 0
-+ claim 0 => place 0 0
-second 0 3 => id 2 0
-look 0 => 0x200000000000005
-- post 5 => id 0 0
-+ claim 0 => place 0 1
-look 0 => 0x300000000000007
-- back
-
-a closed core and a full one: 2 0
-close 0 => 0x0
-drained 0 => yes
-+ claim 0 => closed 0x4000000000000000
-open 0 => 0x4000000000000000
-drained 0 => no
-+ claim 0 => place 0 0
-- back
-look 0 => 0x0
-fill 0 => id 55 0
-+ claim 0 => full 0x38ffffffffffffff
-
-a core for one thread: 2 0
-+ alone 0 => place 0 0
-- post 3 => id 0 0
-look 0 => 0x8100000000000001
-mark 0 => 0x9
-+ claim 0 => full 0x8100000000000001
-post 1 4 => id 56 0
-+ alone 1 => full 0x100000000000001
-look 1 => 0x100000000000001
-
-a thread is woken while it is held: 2 0
-post 0 3 => id 0 0
-mark 0 => 0x1
-+ take 0 0 => id 0 0
-mark 0 => 0x3
-wake 0 0 => woken
-mark 0 => 0x4
-- blocked => woken meanwhile
-mark 0 => 0x1
-wake 0 0 => already 0x1
-mark 0 => 0x1
-
-an ended thread is gone: 2 0
-post 0 3 => id 0 0
-+ take 0 0 => id 0 0
-- end => tag 0x3
-mark 0 => 0x4000
-look 0 => 0x0
-wake 0 0 => gone
-mark 0 => 0x4000
-post 0 4 => id 0 1
-wake 0 0 => gone
-mark 0 => 0x4001
-
-the last generation is spent: 2 last
-post 0 3 => id 0 1125899906842623
-mark 0 => 0xffffffffffffc001
-+ take 0 0 => id 0 1125899906842623
-- end => tag 0x3
-mark 0 => 0xffffffffffffc005
-look 0 => 0x100000000000001
-wake 0 last => gone
-+ claim 0 => place 0 1
-- back
-
-a core is drained: 2 0
-post 1 5 => id 56 0
-post 1 6 => id 57 0
-+ take 1 1 => id 57 0
-- blocked => as asked
-+ claim 1 => place 1 2
-close 1 => 0x300000000000007
-look 1 => 0x4300000000000007
-move 1 0 0 => moved
-move 1 1 0 => moved
-move 1 2 0 => unposted
-look 1 => 0x4100000000000004
-look 0 => 0x200000000000003
-mark 57 => 0x12
-wake 57 0 => woken
-- post 7 => id 58 0
-mark 56 => 0x1
-mark 57 => 0x11
-mark 0 => 0x400
-mark 1 => 0x410
-mark 58 => 0x421
-move 1 2 0 => moved
-look 0 => 0x300000000000007
-look 1 => 0x4000000000000000
-drained 1 => yes
-
-a thread goes there and back: 2 0
-post 1 5 => id 56 0
-move 1 0 0 => moved
-mark 56 => 0x1
-mark 0 => 0x400
-move 0 0 1 => moved
-mark 56 => 0x401
-mark 0 => 0x0
-look 0 => 0x0
-look 1 => 0x100000000000001
-close 0 => 0x0
-move 1 0 0 => no room 0x4000000000000000
-+ take 1 0 => id 56 0
-- end => tag 0x5
-
-what is left comes back by context: 2 0
-post 1 5 => id 56 0
-post 0 6 => id 0 0
-post 1 7 => id 57 0
-+ take 1 0 => id 56 0
-- end => tag 0x5
-= 0:0:6 57:0:7
-
-an id of no context is gone: 1 0
-wake 56 0 => gone";
-
-/// The table gives what each run shows.
-pub(super) fn give<C: Contexts<Job> + Drop, R: Wait>(rt: &R, alloc: Global) -> Result<(), Fail> {
-    for text in RUNS.split("\n\n") {
-        run::<C, R>(rt, alloc, text)?;
+    };
+    let left = close(rt, alloc, table, seat).ok_or("not closed")?;
+    if !are_left(left.as_slice(), expected) {
+        return Err("other threads are left".into());
     }
     Ok(())
+}
+
+const RUNS: &[Run] = &[
+    // A claim takes the lowest free index.
+    Run {
+        cores: 2,
+        first_generation: 0,
+        parts: &[
+            Part::Claim(
+                0,
+                false,
+                Use {
+                    got: ("place", 0, 0),
+                    steps: &[(Step::Look(0), ("word", 0x100000000000001, 0))],
+                    spend: Spend::Post(5),
+                    spent: ("id", 0, 0),
+                },
+            ),
+            Part::Steps(&[
+                (Step::Post(0, 6), ("id", 1, 0)),
+                (Step::Post(0, 7), ("id", 2, 0)),
+            ]),
+            Part::Thread(
+                0,
+                1,
+                Use {
+                    got: ("id", 1, 0),
+                    steps: &[],
+                    spend: Spend::End,
+                    spent: ("tag", 0x6, 0),
+                },
+            ),
+            Part::Steps(&[(Step::Look(0), ("word", 0x200000000000005, 0))]),
+            Part::Claim(
+                0,
+                false,
+                Use {
+                    got: ("place", 0, 1),
+                    steps: &[
+                        (Step::Look(0), ("word", 0x300000000000007, 0)),
+                        (Step::Out, ("out", 0x1, 0)),
+                    ],
+                    spend: Spend::Back,
+                    spent: ("back", 0, 0),
+                },
+            ),
+        ],
+        left: None,
+    },
+    // A place that is given back is free.
+    Run {
+        cores: 2,
+        first_generation: 0,
+        parts: &[
+            Part::Claim(
+                0,
+                false,
+                Use {
+                    got: ("place", 0, 0),
+                    steps: &[
+                        (Step::Second(0, 3), ("id", 2, 0)),
+                        (Step::Look(0), ("word", 0x200000000000005, 0)),
+                    ],
+                    spend: Spend::Post(5),
+                    spent: ("id", 0, 0),
+                },
+            ),
+            Part::Claim(
+                0,
+                false,
+                Use {
+                    got: ("place", 0, 1),
+                    steps: &[(Step::Look(0), ("word", 0x300000000000007, 0))],
+                    spend: Spend::Back,
+                    spent: ("back", 0, 0),
+                },
+            ),
+        ],
+        left: None,
+    },
+    // A closed core and a full one.
+    Run {
+        cores: 2,
+        first_generation: 0,
+        parts: &[
+            Part::Steps(&[
+                (Step::Close(0), ("word", 0x0, 0)),
+                (Step::Drained(0), ("drained", 1, 0)),
+            ]),
+            Part::Claim(
+                0,
+                false,
+                Use {
+                    got: ("closed", 0x4000000000000000, 0),
+                    steps: &[],
+                    spend: Spend::Back,
+                    spent: ("back", 0, 0),
+                },
+            ),
+            Part::Steps(&[
+                (Step::Open(0), ("word", 0x4000000000000000, 0)),
+                (Step::Drained(0), ("drained", 0, 0)),
+            ]),
+            Part::Claim(
+                0,
+                false,
+                Use {
+                    got: ("place", 0, 0),
+                    steps: &[],
+                    spend: Spend::Back,
+                    spent: ("back", 0, 0),
+                },
+            ),
+            Part::Steps(&[
+                (Step::Look(0), ("word", 0x0, 0)),
+                (Step::Fill(0), ("id", 55, 0)),
+            ]),
+            Part::Claim(
+                0,
+                false,
+                Use {
+                    got: ("full", 0x38ffffffffffffff, 0),
+                    steps: &[],
+                    spend: Spend::Back,
+                    spent: ("back", 0, 0),
+                },
+            ),
+        ],
+        left: None,
+    },
+    // A core for one thread.
+    Run {
+        cores: 2,
+        first_generation: 0,
+        parts: &[
+            Part::Claim(
+                0,
+                true,
+                Use {
+                    got: ("place", 0, 0),
+                    steps: &[],
+                    spend: Spend::Post(3),
+                    spent: ("id", 0, 0),
+                },
+            ),
+            Part::Steps(&[
+                (Step::Look(0), ("word", 0x8100000000000001, 0)),
+                (Step::Mark(0), ("word", 0x9, 0)),
+            ]),
+            Part::Claim(
+                0,
+                false,
+                Use {
+                    got: ("full", 0x8100000000000001, 0),
+                    steps: &[],
+                    spend: Spend::Back,
+                    spent: ("back", 0, 0),
+                },
+            ),
+            Part::Steps(&[(Step::Post(1, 4), ("id", 56, 0))]),
+            Part::Claim(
+                1,
+                true,
+                Use {
+                    got: ("full", 0x100000000000001, 0),
+                    steps: &[],
+                    spend: Spend::Back,
+                    spent: ("back", 0, 0),
+                },
+            ),
+            Part::Steps(&[(Step::Look(1), ("word", 0x100000000000001, 0))]),
+        ],
+        left: None,
+    },
+    // A thread is woken while it is held.
+    Run {
+        cores: 2,
+        first_generation: 0,
+        parts: &[
+            Part::Steps(&[
+                (Step::Post(0, 3), ("id", 0, 0)),
+                (Step::Mark(0), ("word", 0x1, 0)),
+            ]),
+            Part::Thread(
+                0,
+                0,
+                Use {
+                    got: ("id", 0, 0),
+                    steps: &[
+                        (Step::Mark(0), ("word", 0x3, 0)),
+                        (Step::Wake(0, 0), ("woken", 0, 0)),
+                        (Step::Mark(0), ("word", 0x4, 0)),
+                    ],
+                    spend: Spend::Block,
+                    spent: ("woken meanwhile", 0, 0),
+                },
+            ),
+            Part::Steps(&[
+                (Step::Mark(0), ("word", 0x1, 0)),
+                (Step::Wake(0, 0), ("already", 0x1, 0)),
+                (Step::Mark(0), ("word", 0x1, 0)),
+            ]),
+        ],
+        left: None,
+    },
+    // An ended thread is gone.
+    Run {
+        cores: 2,
+        first_generation: 0,
+        parts: &[
+            Part::Steps(&[(Step::Post(0, 3), ("id", 0, 0))]),
+            Part::Thread(
+                0,
+                0,
+                Use {
+                    got: ("id", 0, 0),
+                    steps: &[],
+                    spend: Spend::End,
+                    spent: ("tag", 0x3, 0),
+                },
+            ),
+            Part::Steps(&[
+                (Step::Mark(0), ("word", 0x4000, 0)),
+                (Step::Look(0), ("word", 0x0, 0)),
+                (Step::Wake(0, 0), ("gone", 0, 0)),
+                (Step::Mark(0), ("word", 0x4000, 0)),
+                (Step::Post(0, 4), ("id", 0, 1)),
+                (Step::Wake(0, 0), ("gone", 0, 0)),
+                (Step::Mark(0), ("word", 0x4001, 0)),
+            ]),
+        ],
+        left: None,
+    },
+    // The last generation is spent.
+    Run {
+        cores: 2,
+        first_generation: LAST_GENERATION,
+        parts: &[
+            Part::Steps(&[
+                (Step::Post(0, 3), ("id", 0, LAST_GENERATION)),
+                (Step::Mark(0), ("word", 0xffffffffffffc001, 0)),
+            ]),
+            Part::Thread(
+                0,
+                0,
+                Use {
+                    got: ("id", 0, LAST_GENERATION),
+                    steps: &[],
+                    spend: Spend::End,
+                    spent: ("tag", 0x3, 0),
+                },
+            ),
+            Part::Steps(&[
+                (Step::Mark(0), ("word", 0xffffffffffffc005, 0)),
+                (Step::Look(0), ("word", 0x100000000000001, 0)),
+                (Step::Wake(0, LAST_GENERATION), ("gone", 0, 0)),
+            ]),
+            Part::Claim(
+                0,
+                false,
+                Use {
+                    got: ("place", 0, 1),
+                    steps: &[],
+                    spend: Spend::Back,
+                    spent: ("back", 0, 0),
+                },
+            ),
+        ],
+        left: None,
+    },
+    // A core is drained.
+    Run {
+        cores: 2,
+        first_generation: 0,
+        parts: &[
+            Part::Steps(&[
+                (Step::Post(1, 5), ("id", 56, 0)),
+                (Step::Post(1, 6), ("id", 57, 0)),
+            ]),
+            Part::Thread(
+                1,
+                1,
+                Use {
+                    got: ("id", 57, 0),
+                    steps: &[],
+                    spend: Spend::Block,
+                    spent: ("as asked", 0, 0),
+                },
+            ),
+            Part::Claim(
+                1,
+                false,
+                Use {
+                    got: ("place", 1, 2),
+                    steps: &[
+                        (Step::Close(1), ("word", 0x300000000000007, 0)),
+                        (Step::Look(1), ("word", 0x4300000000000007, 0)),
+                        (Step::Move(1, 0, 0), ("moved", 0, 0)),
+                        (Step::Move(1, 1, 0), ("moved", 0, 0)),
+                        (Step::Move(1, 2, 0), ("unposted", 0, 0)),
+                        (Step::Look(1), ("word", 0x4100000000000004, 0)),
+                        (Step::Look(0), ("word", 0x200000000000003, 0)),
+                        (Step::Mark(57), ("word", 0x12, 0)),
+                        (Step::Wake(57, 0), ("woken", 0, 0)),
+                    ],
+                    spend: Spend::Post(7),
+                    spent: ("id", 58, 0),
+                },
+            ),
+            Part::Steps(&[
+                (Step::Mark(56), ("word", 0x1, 0)),
+                (Step::Mark(57), ("word", 0x11, 0)),
+                (Step::Mark(0), ("word", 0x400, 0)),
+                (Step::Mark(1), ("word", 0x410, 0)),
+                (Step::Mark(58), ("word", 0x421, 0)),
+                (Step::Move(1, 2, 0), ("moved", 0, 0)),
+                (Step::Look(0), ("word", 0x300000000000007, 0)),
+                (Step::Look(1), ("word", 0x4000000000000000, 0)),
+                (Step::Drained(1), ("drained", 1, 0)),
+            ]),
+        ],
+        left: None,
+    },
+    // A thread goes there and back.
+    Run {
+        cores: 2,
+        first_generation: 0,
+        parts: &[
+            Part::Steps(&[
+                (Step::Post(1, 5), ("id", 56, 0)),
+                (Step::Move(1, 0, 0), ("moved", 0, 0)),
+                (Step::Mark(56), ("word", 0x1, 0)),
+                (Step::Mark(0), ("word", 0x400, 0)),
+                (Step::Move(0, 0, 1), ("moved", 0, 0)),
+                (Step::Mark(56), ("word", 0x401, 0)),
+                (Step::Mark(0), ("word", 0x0, 0)),
+                (Step::Look(0), ("word", 0x0, 0)),
+                (Step::Look(1), ("word", 0x100000000000001, 0)),
+                (Step::Close(0), ("word", 0x0, 0)),
+                (Step::Move(1, 0, 0), ("no room", 0x4000000000000000, 0)),
+            ]),
+            Part::Thread(
+                1,
+                0,
+                Use {
+                    got: ("id", 56, 0),
+                    steps: &[],
+                    spend: Spend::End,
+                    spent: ("tag", 0x5, 0),
+                },
+            ),
+        ],
+        left: None,
+    },
+    // What is left comes back by context.
+    Run {
+        cores: 2,
+        first_generation: 0,
+        parts: &[
+            Part::Steps(&[
+                (Step::Post(1, 5), ("id", 56, 0)),
+                (Step::Post(0, 6), ("id", 0, 0)),
+                (Step::Post(1, 7), ("id", 57, 0)),
+            ]),
+            Part::Thread(
+                1,
+                0,
+                Use {
+                    got: ("id", 56, 0),
+                    steps: &[],
+                    spend: Spend::End,
+                    spent: ("tag", 0x5, 0),
+                },
+            ),
+        ],
+        left: Some(&[(0, 0, 6), (57, 0, 7)]),
+    },
+    // An id of no context is gone.
+    Run {
+        cores: 1,
+        first_generation: 0,
+        parts: &[Part::Steps(&[(Step::Wake(56, 0), ("gone", 0, 0))])],
+        left: None,
+    },
+];
+
+/// The runs.
+fn runs() -> &'static [Run] {
+    RUNS
+}
+
+/// The table gives what each run shows. How many runs there are.
+pub(super) fn give<C: Contexts<Job> + Drop, R: Wait>(rt: &R, alloc: Global) -> Result<usize, Fail> {
+    let runs = runs();
+    for run in runs {
+        take::<C, R>(rt, alloc, run)?;
+    }
+    Ok(runs.len())
 }

@@ -4,76 +4,56 @@ ghost use Rattle.arachne_contexts.specs.Out.{Out, KeepsOut};
 
 use super::Job;
 use crate::{Claimed, Contexts, Moved, Woken};
-use arachne_core::{LAST_GENERATION, Place, SLOTS, ThreadId};
-use std::alloc::{AllocError, Global};
-use std::str::Split;
+use arachne_core::{Place, SLOTS, ThreadId};
 use std::sync::Wait;
 
-/// What a step answers.
+/// A step, with its core, with its context or with its place.
 #[derive(Clone, Copy)]
-pub(super) enum Answer {
-    Told(&'static str),
-    Word(u64),
-    /// A word that shows why.
-    With(&'static str, u64),
-    /// A core and an index, or a context and a generation.
-    Pair(&'static str, u64, u64),
+pub(super) enum Step {
+    /// Tells how much is out with the seat.
+    Out,
+    Look(u8),
+    Close(u8),
+    Open(u8),
+    Drained(u8),
+    Mark(u32),
+    /// Wakes the thread of a context and a generation.
+    Wake(u32, u64),
+    /// Moves the thread at a core's index to another core.
+    Move(u8, u8, u8),
+    /// Posts a thread with a tag on a core.
+    Post(u8, u64),
+    /// Claims two places of a core, posts a thread at the second, and gives the first back.
+    Second(u8, u64),
+    /// Posts a thread at each place of a core, and tells the last.
+    Fill(u8),
 }
 
-impl Answer {
-    pub(super) fn shown(self, alloc: Global) -> Result<String, AllocError> {
-        match self {
-            Answer::Told(told) => format!(in alloc; "{told}"),
-            Answer::Word(word) => format!(in alloc; "{word:#x}"),
-            Answer::With(told, word) => format!(in alloc; "{told} {word:#x}"),
-            Answer::Pair(told, one, other) => format!(in alloc; "{told} {one} {other}"),
-        }
-    }
+/// What is told, and up to two numbers: a word that shows it, a core and an index, or a context and a generation.
+pub(super) type Answer = (&'static str, u64, u64);
 
-    pub(super) fn place(place: Place) -> Answer {
-        Answer::Pair("place", u64::from(place.core), u64::from(place.index))
-    }
-
-    pub(super) fn id(id: ThreadId) -> Answer {
-        Answer::Pair("id", u64::from(id.context), id.generation)
-    }
+/// A thread's context and its generation.
+pub(super) fn told_id(id: ThreadId) -> Answer {
+    ("id", u64::from(id.context), id.generation)
 }
 
-/// The next word of a step, a number. The last generation is spelled `last`.
-pub(super) fn number(words: &mut Split<'_, char>) -> Option<u64> {
-    match words.next()? {
-        "last" => Some(LAST_GENERATION),
-        word => word.parse::<u64>().ok(),
-    }
-}
-
-/// The next word of a step, the number of a core or of one of its places.
-pub(super) fn small(words: &mut Split<'_, char>) -> Option<u8> {
-    words.next()?.parse::<u8>().ok()
-}
-
-/// The next word of a step, the number of a context.
-fn context(words: &mut Split<'_, char>) -> Option<u32> {
-    words.next()?.parse::<u32>().ok()
-}
-
-fn woken(answer: Woken) -> Answer {
+fn told_wake(answer: Woken) -> Answer {
     match answer {
-        Woken::Woken => Answer::Told("woken"),
-        Woken::Already(word) => Answer::With("already", word),
-        Woken::Gone => Answer::Told("gone"),
-        Woken::Lost(word) => Answer::With("lost", word),
+        Woken::Woken => ("woken", 0, 0),
+        Woken::Already(word) => ("already", word, 0),
+        Woken::Gone => ("gone", 0, 0),
+        Woken::Lost(word) => ("lost", word, 0),
     }
 }
 
-fn moved(answer: Moved) -> Answer {
+fn told_move(answer: Moved) -> Answer {
     match answer {
-        Moved::Moved => Answer::Told("moved"),
-        Moved::NoRoom(word) => Answer::With("no room", word),
-        Moved::Unposted => Answer::Told("unposted"),
-        Moved::Running => Answer::Told("running"),
-        Moved::Alone => Answer::Told("alone"),
-        Moved::Lost(word) => Answer::With("lost", word),
+        Moved::Moved => ("moved", 0, 0),
+        Moved::NoRoom(word) => ("no room", word, 0),
+        Moved::Unposted => ("unposted", 0, 0),
+        Moved::Running => ("running", 0, 0),
+        Moved::Alone => ("alone", 0, 0),
+        Moved::Lost(word) => ("lost", word, 0),
     }
 }
 
@@ -82,67 +62,55 @@ fn at_core<C: Contexts<Job>, R: Wait>(
     rt: &R,
     table: &C,
     seat: &mut C::Seat,
-    step: &str,
-    core: u8,
+    cores: u8,
+    step: Step,
 ) -> Option<Answer>
     requires seat { C.sits table.now seat.old }
-    requires core { core < C.core_count table.now }
+    requires cores { cores ≡ C.core_count table.now }
     ensures { IfSome result (λ _. C.sits table.now seat.new × KeepsOut (C.has table.now) seat.old seat.new) }
 {
     match step {
-        "look" => Some(Answer::Word(table.look(rt, seat, core))),
-        "close" => Some(Answer::Word(table.close_core(rt, seat, core))),
-        "open" => Some(Answer::Word(table.open_core(rt, seat, core))),
-        "drained" if table.is_drained(rt, seat, core) => Some(Answer::Told("yes")),
-        "drained" => Some(Answer::Told("no")),
+        Step::Look(core) if core < cores => Some(("word", table.look(rt, seat, core), 0)),
+        Step::Close(core) if core < cores => Some(("word", table.close_core(rt, seat, core), 0)),
+        Step::Open(core) if core < cores => Some(("word", table.open_core(rt, seat, core), 0)),
+        Step::Drained(core) if core < cores => {
+            Some(("drained", u64::from(table.is_drained(rt, seat, core)), 0))
+        }
         _ => None,
     }
 }
 
-/// A step at a context or with a thread's id.
+/// A step at a context, with a thread's id or at two cores, or the count of what is out.
 fn at_context<C: Contexts<Job>, R: Wait>(
     rt: &R,
     table: &C,
     seat: &mut C::Seat,
     cores: u8,
-    context: u32,
-    generation: Option<u64>,
+    step: Step,
 ) -> Option<Answer>
     requires seat { C.sits table.now seat.old }
     requires cores { cores ≡ C.core_count table.now }
     ensures { IfSome result (λ _. C.sits table.now seat.new × KeepsOut (C.has table.now) seat.old seat.new) }
 {
-    let Some(generation) = generation else {
-        if context < u32::from(cores) * 56 {
-            return Some(Answer::Word(table.look_mark(rt, seat, context)));
+    match step {
+        Step::Out => Some(("out", u64::from(table.out(seat)), 0)),
+        Step::Mark(context) if context < u32::from(cores) * 56 => {
+            Some(("word", table.look_mark(rt, seat, context), 0))
         }
-        return None;
-    };
-    let id = ThreadId {
-        context,
-        generation,
-    };
-    Some(woken(table.wake(rt, seat, id)))
-}
-
-/// Moves the thread at a place of a core to another core.
-fn move_one<C: Contexts<Job>, R: Wait>(
-    rt: &R,
-    table: &C,
-    seat: &mut C::Seat,
-    cores: u8,
-    words: &mut Split<'_, char>,
-) -> Option<Answer>
-    requires seat { C.sits table.now seat.old }
-    requires cores { cores ≡ C.core_count table.now }
-    ensures { IfSome result (λ _. C.sits table.now seat.new × KeepsOut (C.has table.now) seat.old seat.new) }
-{
-    let (core, index, to) = (small(words)?, small(words)?, small(words)?);
-    if core >= cores || index >= SLOTS || to >= cores || to == core {
-        return None;
+        Step::Wake(context, generation) => {
+            let id = ThreadId {
+                context,
+                generation,
+            };
+            Some(told_wake(table.wake(rt, seat, id)))
+        }
+        Step::Move(core, index, to) if core < cores && index < SLOTS && to < cores && to != core =>
+            {
+                let place = Place { core, index };
+                Some(told_move(table.move_one(rt, seat, place, to)))
+            }
+        _ => at_core(rt, table, seat, cores, step),
     }
-    let place = Place { core, index };
-    Some(moved(table.move_one(rt, seat, place, to)))
 }
 
 /// Claims a place and posts a thread there.
@@ -152,7 +120,7 @@ fn post<C: Contexts<Job>, R: Wait>(
     seat: &mut C::Seat,
     core: u8,
     tag: u64,
-) -> Option<ThreadId>
+) -> Option<Answer>
     requires seat { C.sits table.now seat.old }
     requires out { (outs : List (Out C.Claim C.Hold)) × C.has table.now seat.old outs }
     requires core { core < C.core_count table.now }
@@ -161,7 +129,7 @@ fn post<C: Contexts<Job>, R: Wait>(
     let Claimed::Place(claim) = table.claim(rt, seat, core).ok()? else {
         return None;
     };
-    table.post(rt, seat, claim, Job(tag)).ok()
+    Some(told_id(table.post(rt, seat, claim, Job(tag)).ok()?))
 }
 
 /// Claims two places, posts a thread at the second, and gives the first back.
@@ -171,7 +139,7 @@ fn post_second<C: Contexts<Job>, R: Wait>(
     seat: &mut C::Seat,
     core: u8,
     tag: u64,
-) -> Option<ThreadId>
+) -> Option<Answer>
     requires seat { C.sits table.now seat.old }
     requires out { (outs : List (Out C.Claim C.Hold)) × C.has table.now seat.old outs }
     requires core { core < C.core_count table.now }
@@ -191,7 +159,7 @@ fn fill<C: Contexts<Job>, R: Wait>(
     table: &C,
     seat: &mut C::Seat,
     core: u8,
-) -> Option<ThreadId>
+) -> Option<Answer>
     requires seat { C.sits table.now seat.old }
     requires out { (outs : List (Out C.Claim C.Hold)) × C.has table.now seat.old outs }
     requires core { core < C.core_count table.now }
@@ -203,54 +171,23 @@ fn fill<C: Contexts<Job>, R: Wait>(
     post(rt, table, seat, core, 55)
 }
 
-/// A step at a core of the table.
-fn at_its_core<C: Contexts<Job>, R: Wait>(
-    rt: &R,
-    table: &C,
-    seat: &mut C::Seat,
-    cores: u8,
-    step: &str,
-    words: &mut Split<'_, char>,
-) -> Option<Answer>
-    requires seat { C.sits table.now seat.old }
-    requires out { (outs : List (Out C.Claim C.Hold)) × C.has table.now seat.old outs }
-    requires cores { cores ≡ C.core_count table.now }
-    ensures { IfSome result (λ _. C.sits table.now seat.new × KeepsOut (C.has table.now) seat.old seat.new) }
-{
-    let core = small(words)?;
-    if core >= cores {
-        return None;
-    }
-    let id = match step {
-        "post" => post(rt, table, seat, core, number(words)?)?,
-        "second" => post_second(rt, table, seat, core, number(words)?)?,
-        "fill" => fill(rt, table, seat, core)?,
-        _ => return at_core(rt, table, seat, step, core),
-    };
-    Some(Answer::id(id))
-}
-
-/// What a step answers, if there is such a step.
+/// What a step answers. None where a core or a context is not there, or a claim isn't had.
 pub(super) fn answered<C: Contexts<Job>, R: Wait>(
     rt: &R,
     table: &C,
     seat: &mut C::Seat,
     cores: u8,
-    words: &mut Split<'_, char>,
+    step: Step,
 ) -> Option<Answer>
     requires seat { C.sits table.now seat.old }
     requires out { (outs : List (Out C.Claim C.Hold)) × C.has table.now seat.old outs }
     requires cores { cores ≡ C.core_count table.now }
     ensures { IfSome result (λ _. C.sits table.now seat.new × KeepsOut (C.has table.now) seat.old seat.new) }
 {
-    match words.next()? {
-        "out" => Some(Answer::Word(u64::from(table.out(seat)))),
-        "mark" => at_context(rt, table, seat, cores, context(words)?, None),
-        "wake" => {
-            let (context, generation) = (context(words)?, number(words)?);
-            at_context(rt, table, seat, cores, context, Some(generation))
-        }
-        "move" => move_one(rt, table, seat, cores, words),
-        step => at_its_core(rt, table, seat, cores, step, words),
+    match step {
+        Step::Post(core, tag) if core < cores => post(rt, table, seat, core, tag),
+        Step::Second(core, tag) if core < cores => post_second(rt, table, seat, core, tag),
+        Step::Fill(core) if core < cores => fill(rt, table, seat, core),
+        _ => at_context(rt, table, seat, cores, step),
     }
 }

@@ -342,14 +342,25 @@ fn shown(alloc: Global, program: &Program) -> Result<String, Fail> {
     Ok(format!(in alloc; "{arrays:?} {ledgers} {locks} {root:?}")?)
 }
 
+/// Whether a program is printed as this text.
+fn is_printed_as(alloc: Global, program: &Program, text: &[u8]) -> Result<bool, Fail> {
+    Ok(print(alloc, program)?.as_slice() == text)
+}
+
+/// What is shown of the program of a text, which has to be printed as that text.
+fn read(alloc: Global, text: &[u8]) -> Result<String, Fail> {
+    let program = parse(alloc, text)?;
+    if !is_printed_as(alloc, &program, text)? {
+        return Err("printed as another text")?;
+    }
+    shown(alloc, &program)
+}
+
 #[test]
 fn texts_are_read_and_printed(rt: HostRuntime) -> Result<(), Fail> {
     for &(lines, expr, expected) in READ {
         let text = format!(in rt.alloc(); "arachne 1\n{lines}\n{expr}\n")?;
-        let program = parse(rt.alloc(), text.as_bytes())?;
-        assert_eq!(rt; shown(rt.alloc(), &program)?.as_str(), expected);
-        let printed = print(rt.alloc(), &program)?;
-        assert!(rt; printed.as_slice() == text.as_bytes(), "{expr}");
+        assert_eq!(rt; read(rt.alloc(), text.as_bytes())?.as_str(), expected);
     }
     Ok(())
 }
@@ -459,7 +470,7 @@ const LONG: &[(&str, (&str, usize), &str, &str, Option<TextFault>)] = &[
 fn fault_or_printed(alloc: Global, text: &str) -> Result<Option<TextFault>, Fail> {
     match parse(alloc, text.as_bytes()) {
         Ok(program) => {
-            if print(alloc, &program)?.as_slice() != text.as_bytes() {
+            if !is_printed_as(alloc, &program, text.as_bytes())? {
                 return Err("printed as another text")?;
             }
             Ok(None)
