@@ -62,6 +62,7 @@ impl Branches {
     }
 
     /// One more: this line, with those of the branches below it.
+    #[inline(always)]
     pub fn push(&mut self, own: ThreadLine, below: Branches)
         requires { vec_len self.old.list + 1 ≤ vec_capacity self.old.list }
         ensures { self.new.list.items ≡ self.old.list.items ++ (own ∷ lines_in below.list.items) ∷ [] }

@@ -42,6 +42,7 @@ impl<'p> State<'p> {
     }
 
     /// Joins the child that it awaits, for which there is room.
+    #[inline(always)]
     pub fn join_with_room(&mut self, outcome: Outcome<'p>)
         requires awaits { pending_of self.old.control ≡ Some pause.Joins }
         requires child { awaited (suspended self.old) ≡ Some outcome.name }
@@ -84,6 +85,7 @@ impl<'p> State<'p> {
     }
 
     /// Takes in the child's sums, and its lines as one branch, and gives its value.
+    #[inline(always)]
     fn take_in(&mut self, outcome: Outcome<'p>) -> u64
         requires sums { length outcome.sums ≡ length self.old.sums.items }
         requires room { vec_len self.old.below.list + 1 ≤ vec_capacity self.old.below.list }

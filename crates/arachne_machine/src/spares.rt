@@ -50,6 +50,7 @@ impl<'p> Spares<'p> {
     }
 
     /// Keeps what an ended thread leaves, unless there is enough.
+    #[inline(always)]
     pub(crate) fn keep(&mut self, state: Box<State<'p>>) {
         if self.states.len() < self.most {
             let _ = self.states.push(state);

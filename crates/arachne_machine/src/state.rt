@@ -115,6 +115,8 @@ impl<'p> State<'p> {
     }
 
     /// A thread of the program that does nothing.
+    #[cold]
+    #[inline(never)]
     pub fn vacant(alloc: Global, program: &'p Program) -> State<'p> {
         State {
             program,
@@ -218,6 +220,7 @@ impl<'p> State<'p> {
     }
 
     /// The outcome of a thread that has ended.
+    #[inline(always)]
     pub fn finish(&mut self) -> Outcome<'p>
         requires ended { pending_of self.old.control ≡ Some pause.Ended }
         requires sound { IsSound self.old }

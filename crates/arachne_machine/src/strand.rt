@@ -255,6 +255,7 @@ impl<'p> Strand<'p> {
     }
 
     /// The outcome of a thread that has ended. It takes no memory.
+    #[inline(always)]
     pub fn finish(self, spares: &mut Spares<'p>) -> Outcome<'p>
         requires { self.pending ≡ Some pause.Ended }
         ensures program { result.program ≡ self.entry.program }

@@ -312,6 +312,7 @@ impl<'p> Thread<'p> {
     }
 
     /// The one that goes on next.
+    #[inline(always)]
     fn into_running(self) -> Strand<'p>
         ensures { result ≡ self.entry.running }
     {

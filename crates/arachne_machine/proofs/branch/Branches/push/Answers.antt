@@ -1,4 +1,4 @@
-use Rattle.std.proofs.Common.{◌≡◌, ◌+◌, ◌∷◌, [], length, ap, ◌∙◌, arith, length-append}
+use Rattle.std.proofs.Common.{◌≡◌, ◌+◌, ◌∷◌, length, ap, ◌∙◌, arith, length-append}
 use Rattle.arachne_machine.specs.Branches.{lines_in}
 use Rattle.arachne_machine.proofs.Branches.{lines_in-push}
 use Rattle.arachne_machine.proofs.branch.Branches.push.Goals as goal
