@@ -2,22 +2,11 @@
 ghost use Rattle.std.specs.Prelude.{◌≡◌, ◌<◌, IfOk};
 ghost use Rattle.arachne_ledger.specs.Views.{IsShareOf, IsWhole};
 
-use crate::compare::same;
 use arachne_ledger::{Ledgers, Share};
 use std::alloc::{AllocError, Global};
-use std::snapshot::Snapshot;
-use std::sync::Wait;
 use std::test::Fail;
 use std::thread;
-use std::thread::{Promise, Threads};
-
-// The share that comes back is of these ledgers.
-#[derive(Drop)]
-struct ShareOf(Snapshot<Ledgers>);
-
-impl Promise<Share> for ShareOf {
-    ghost kept_by = { λ p share. share.table ≡ p.0.value.table };
-}
+use std::thread::Threads;
 
 fn add_threes(ledgers: &Ledgers, mut share: Share) -> Share
     requires share { IsShareOf ledgers.now share }
@@ -30,50 +19,32 @@ fn add_threes(ledgers: &Ledgers, mut share: Share) -> Share
     share
 }
 
-fn add_in_four_threads<R: Threads + Wait>(
-    rt: &R,
-    ledgers: &Ledgers,
-    share: Share,
-) -> Result<Share, AllocError>
+fn add_in_two_threads<R: Threads>(rt: &R, ledgers: &Ledgers, share: Share) -> Share
     requires share { IsShareOf ledgers.now share }
     requires some_ledger { 0 < ledgers.now.count }
-    ensures { IfOk result (λ s. IsShareOf ledgers.now s) }
+    ensures { IsShareOf ledgers.now result }
 {
-    let (a, b) = ledgers.split(share);
-    let (a, c) = ledgers.split(a);
-    let (b, d) = ledgers.split(b);
-    thread::scope(
-        thread::scope_env(),
+    let (first, second) = ledgers.split(share);
+    let (first, second) = thread::join(
         rt,
-        |scope| -> Result<Share, AllocError>
-            requires share { IsShareOf ledgers.now a }
-            requires other { IsShareOf ledgers.now b }
-            requires third { IsShareOf ledgers.now c }
-            requires fourth { IsShareOf ledgers.now d }
-            requires some_ledger { 0 < ledgers.now.count }
-            ensures { IfOk result (λ s. IsShareOf ledgers.entry.now s) }
-        {
-            let first = scope.spawn_with(
-                ShareOf(Snapshot::of(ledgers)),
-                move || add_threes(ledgers, a),
-            )?;
-            let second = scope.spawn_with(
-                ShareOf(Snapshot::of(ledgers)),
-                move || add_threes(ledgers, b),
-            )?;
-            let third = scope.spawn_with(
-                ShareOf(Snapshot::of(ledgers)),
-                move || add_threes(ledgers, c),
-            )?;
-            let fourth = scope.spawn_with(
-                ShareOf(Snapshot::of(ledgers)),
-                move || add_threes(ledgers, d),
-            )?;
-            let share = ledgers.join_shares(first.join(rt), second.join(rt));
-            let share = ledgers.join_shares(share, third.join(rt));
-            Ok(ledgers.join_shares(share, fourth.join(rt)))
-        },
-    )
+        move || add_threes(ledgers, first),
+        move || add_threes(ledgers, second),
+    );
+    ledgers.join_shares(first, second)
+}
+
+fn add_in_four_threads<R: Threads + Sync>(rt: &R, ledgers: &Ledgers, share: Share) -> Share
+    requires share { IsShareOf ledgers.now share }
+    requires some_ledger { 0 < ledgers.now.count }
+    ensures { IsShareOf ledgers.now result }
+{
+    let (first, second) = ledgers.split(share);
+    let (first, second) = thread::join(
+        rt,
+        move || add_in_two_threads(rt, ledgers, first),
+        move || add_in_two_threads(rt, ledgers, second),
+    );
+    ledgers.join_shares(first, second)
 }
 
 // Under `rt try --test --fail-alloc N` the Nth allocation is refused. A call that answers so is made once more.
@@ -102,7 +73,7 @@ fn sums(alloc: Global, ledgers: Ledgers, share: Share) -> Option<Vec<u64>>
 #[test]
 fn four_threads_add_up(rt: HostRuntime) -> Result<(), Fail> {
     let (ledgers, share) = make_ledgers(rt.alloc(), 1)?;
-    let share = add_in_four_threads(&rt, &ledgers, share)?;
+    let share = add_in_four_threads(&rt, &ledgers, share);
     assert!(rt; share.is_whole());
     let sums = sums(rt.alloc(), ledgers, share).ok_or("no memory")?;
     assert_eq!(rt; sums.as_slice(), [12000].as_slice());
@@ -112,17 +83,17 @@ fn four_threads_add_up(rt: HostRuntime) -> Result<(), Fail> {
 #[test]
 fn each_call_on_two_ledgers(rt: HostRuntime) -> Result<(), Fail> {
     let (ledgers, mut share) = make_ledgers(rt.alloc(), 2)?;
-    same(&rt, ledgers.count(), 2);
+    assert!(rt; ledgers.count() == 2);
     ledgers.add(&mut share, 0, u64::MAX);
     let (mut share, mut other) = ledgers.split(share);
-    same(&rt, share.is_whole() || other.is_whole(), false);
+    assert!(rt; !share.is_whole() && !other.is_whole());
     ledgers.add(&mut share, 1, 5);
     ledgers.add(&mut other, 0, 3);
-    same(&rt, ledgers.read(&mut share, 0), 2);
-    same(&rt, ledgers.read(&mut other, 1), 5);
+    let read = (ledgers.read(&mut share, 0), ledgers.read(&mut other, 1));
+    assert!(rt; read == (2, 5));
     let mut share = ledgers.join_shares(other, share);
-    same(&rt, ledgers.read(&mut share, 0), 2);
-    same(&rt, ledgers.read(&mut share, 1), 5);
+    let read = (ledgers.read(&mut share, 0), ledgers.read(&mut share, 1));
+    assert!(rt; read == (2, 5));
     assert!(rt; share.is_whole());
     let sums = sums(rt.alloc(), ledgers, share).ok_or("no memory")?;
     assert_eq!(rt; sums.as_slice(), [2, 5].as_slice());
@@ -133,12 +104,12 @@ fn each_call_on_two_ledgers(rt: HostRuntime) -> Result<(), Fail> {
 fn there_may_be_no_ledger(rt: HostRuntime) -> Result<(), Fail> {
     let (ledgers, share) = make_ledgers(rt.alloc(), 0)?;
     let sums = sums(rt.alloc(), ledgers, share).ok_or("no memory")?;
-    same(&rt, sums.is_empty(), true);
+    assert!(rt; sums.is_empty());
     Ok(())
 }
 
 #[test]
 fn more_ledgers_than_memory_are_refused(rt: HostRuntime) {
-    same(&rt, Ledgers::new(rt.alloc(), 1 << 59).is_err(), true);
-    same(&rt, Ledgers::new(rt.alloc(), usize::MAX).is_err(), true);
+    assert!(rt; Ledgers::new(rt.alloc(), 1 << 59).is_err());
+    assert!(rt; Ledgers::new(rt.alloc(), usize::MAX).is_err());
 }

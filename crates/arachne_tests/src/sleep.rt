@@ -1,10 +1,9 @@
+//! One run of asks, looks and frees, by each form of lock, a call a row with its answer.
 mod several;
 mod shared;
 
-use crate::compare::same;
 use arachne_core::ThreadId;
 use arachne_sleep::{AskFault, Asked, Freed, LockEvent, LockState, NotHolder, Pass, Who};
-use std::process::Abort;
 use std::test::Fail;
 
 /// A thread of the context and the generation 7, by its tag.
@@ -18,28 +17,154 @@ fn thread(tag: u64, context: u32) -> Who {
     }
 }
 
-/// Asks, and where memory is refused looks that nothing changed and asks again.
-fn ask(lock: &mut LockState, who: Who, rt: &impl Abort) -> Result<Asked, AskFault> {
+const A: Who = Who {
+    tag: 0,
+    id: ThreadId {
+        context: 3,
+        generation: 7,
+    },
+};
+
+const B: Who = Who {
+    tag: 1,
+    id: ThreadId {
+        context: 3,
+        generation: 7,
+    },
+};
+
+const C: Who = Who {
+    tag: 1,
+    id: ThreadId {
+        context: 4,
+        generation: 7,
+    },
+};
+
+/// What a thread calls.
+#[derive(Clone, Copy)]
+enum Call {
+    Ask,
+    Check,
+    Free,
+}
+
+/// What is told, the place in the history, and the next thread.
+type Answer = (&'static str, usize, Option<Who>);
+
+/// Calls, each by a thread, and what it answers.
+type Rows = &'static [(Call, Who, Answer)];
+
+/// Three threads ask: one is let in, and two wait.
+const ASKED: Rows = &[
+    (Call::Ask, A, ("granted", 1, None)),
+    (Call::Ask, B, ("queued", 2, None)),
+    (Call::Ask, C, ("queued", 3, None)),
+    (Call::Ask, A, ("already in", 0, None)),
+    (Call::Ask, B, ("already in", 0, None)),
+    (Call::Free, C, ("not its holder", 0, None)),
+    (Call::Free, B, ("not its holder", 0, None)),
+    (Call::Check, A, ("pass", 1, None)),
+    (Call::Check, B, ("no pass", 0, None)),
+];
+
+/// The three free the lock, each once it has it.
+const FREED: Rows = &[
+    (Call::Free, A, ("freed", 4, Some(B))),
+    (Call::Check, B, ("pass", 5, None)),
+    (Call::Free, B, ("freed", 6, Some(C))),
+    (Call::Check, C, ("pass", 7, None)),
+    (Call::Free, C, ("freed", 8, None)),
+    (Call::Check, C, ("no pass", 0, None)),
+];
+
+/// The history of these calls.
+const WHOLE: &[LockEvent] = &[
+    LockEvent::Ask(A),
+    LockEvent::Grant(A),
+    LockEvent::Ask(B),
+    LockEvent::Ask(C),
+    LockEvent::Free(A),
+    LockEvent::Grant(B),
+    LockEvent::Free(B),
+    LockEvent::Grant(C),
+    LockEvent::Free(C),
+];
+
+// Each use of a constant table is proved anew, so each has one.
+
+fn asked_rows() -> Rows {
+    ASKED
+}
+
+fn freed_rows() -> Rows {
+    FREED
+}
+
+fn whole_history() -> &'static [LockEvent] {
+    WHOLE
+}
+
+/// A pass of this lock for this thread.
+fn told_pass(told: &'static str, lock: u8, who: Who, pass: Pass) -> Answer {
+    if pass.lock == lock && pass.who == who {
+        return (told, pass.at, None);
+    }
+    ("another's pass", pass.at, Some(pass.who))
+}
+
+fn told_ask(lock: u8, who: Who, asked: Result<Asked, AskFault>) -> Answer {
+    match asked {
+        Ok(Asked::Granted(pass)) => told_pass("granted", lock, who, pass),
+        Ok(Asked::Queued { at }) => ("queued", at, None),
+        Err(AskFault::AlreadyIn) => ("already in", 0, None),
+        Err(AskFault::Memory) => ("no memory", 0, None),
+    }
+}
+
+fn told_check(lock: u8, who: Who, checked: Option<Pass>) -> Answer {
+    match checked {
+        Some(pass) => told_pass("pass", lock, who, pass),
+        None => ("no pass", 0, None),
+    }
+}
+
+fn told_free(freed: Result<Freed, NotHolder>) -> Answer {
+    match freed {
+        Ok(Freed { next, at }) => ("freed", at, next),
+        Err(NotHolder) => ("not its holder", 0, None),
+    }
+}
+
+/// Asks, and where memory is refused and nothing changed asks again.
+fn ask(lock: &mut LockState, who: Who) -> Result<Asked, AskFault> {
     let before = lock.history().len();
-    match lock.ask(who) {
-        Err(AskFault::Memory) => {
-            same(rt, lock.history().len(), before);
-            same(rt, lock.holds(who), false);
-            same(rt, lock.waits(who), false);
-            lock.ask(who)
-        }
+    let answer = lock.ask(who);
+    let changed = lock.history().len() != before || lock.holds(who) || lock.waits(who);
+    match answer {
+        Err(AskFault::Memory) if !changed => lock.ask(who),
         answer => answer,
     }
 }
 
-/// The answer to a free.
-fn free(lock: &mut LockState, who: Who) -> Result<Freed, NotHolder> {
-    lock.free(who)
+/// What a call on lock 5 answers.
+fn called(lock: &mut LockState, call: Call, who: Who) -> Answer {
+    match call {
+        Call::Ask => told_ask(5, who, ask(lock, who)),
+        Call::Check => told_check(5, who, lock.check(who)),
+        Call::Free => told_free(lock.free(who)),
+    }
 }
 
-/// The pass that a look gives.
-fn check(lock: &LockState, who: Who) -> Option<Pass> {
-    lock.check(who)
+/// The number of the first call that answers something else, from 0.
+fn first_wrong(lock: &mut LockState, rows: Rows) -> Option<usize> {
+    for k in 0..rows.len() {
+        let (call, who, answer) = rows[k];
+        if called(lock, call, who) != answer {
+            return Some(k);
+        }
+    }
+    None
 }
 
 /// Whether the thread holds the lock, and whether it waits for it.
@@ -47,64 +172,16 @@ fn stands(lock: &LockState, who: Who) -> (bool, bool) {
     (lock.holds(who), lock.waits(who))
 }
 
-/// The pass of lock 5 for this thread.
-fn pass(who: Who, at: usize) -> Pass {
-    Pass { lock: 5, who, at }
-}
-
-/// Three threads ask for lock 5: one is let in, and two wait.
-fn ask_in_turn(rt: &impl Abort, lock: &mut LockState, [a, b, c]: [Who; 3]) -> Result<(), AskFault> {
-    same(rt, ask(lock, a, rt)?, Asked::Granted(pass(a, 1)));
-    same(rt, ask(lock, b, rt)?, Asked::Queued { at: 2 });
-    same(rt, ask(lock, c, rt)?, Asked::Queued { at: 3 });
-    for who in [a, b] {
-        same(rt, ask(lock, who, rt), Err(AskFault::AlreadyIn));
-    }
-    same(rt, free(lock, c), Err(NotHolder));
-    same(rt, lock.history().len(), 4);
-    Ok(())
-}
-
-/// The first of two threads holds lock 5, and the other waits.
-fn look_at_two(rt: &impl Abort, lock: &LockState, a: Who, b: Who) {
-    same(rt, stands(lock, a), (true, false));
-    same(rt, stands(lock, b), (false, true));
-    same(rt, check(lock, a), Some(pass(a, 1)));
-    same(rt, check(lock, b), None);
-}
-
-/// The three free the lock, each once it has it.
-fn free_in_turn(rt: &impl Abort, lock: &mut LockState, [a, b, c]: [Who; 3]) {
-    for (who, granted, next, at) in [(a, 1, Some(b), 4), (b, 5, Some(c), 6), (c, 7, None, 8)] {
-        same(rt, stands(lock, who), (true, false));
-        same(rt, check(lock, who), Some(pass(who, granted)));
-        same(rt, free(lock, who), Ok(Freed { next, at }));
-    }
-    same(rt, check(lock, c), None);
-}
-
 #[test]
-fn three_threads_in_turn(rt: HostRuntime) -> Result<(), Fail> {
-    let (a, b, c) = (thread(0, 3), thread(1, 3), thread(1, 4));
+fn three_threads_in_turn(rt: HostRuntime) {
     let mut lock = LockState::new(rt.alloc(), 5);
-    same(&rt, lock.history().len(), 0);
-    ask_in_turn(&rt, &mut lock, [a, b, c])?;
-    look_at_two(&rt, &lock, a, b);
-    free_in_turn(&rt, &mut lock, [a, b, c]);
-    let whole = [
-        LockEvent::Ask(a),
-        LockEvent::Grant(a),
-        LockEvent::Ask(b),
-        LockEvent::Ask(c),
-        LockEvent::Free(a),
-        LockEvent::Grant(b),
-        LockEvent::Free(b),
-        LockEvent::Grant(c),
-        LockEvent::Free(c),
-    ];
-    assert_eq!(rt; lock.history(), whole.as_slice());
-    assert_eq!(rt; lock.into_history().as_slice(), whole.as_slice());
-    Ok(())
+    assert!(rt; lock.history().is_empty());
+    assert_eq!(rt; first_wrong(&mut lock, asked_rows()), None);
+    assert!(rt; stands(&lock, A) == (true, false) && stands(&lock, B) == (false, true));
+    assert_eq!(rt; first_wrong(&mut lock, freed_rows()), None);
+    assert!(rt; stands(&lock, B) == (false, false) && stands(&lock, C) == (false, false));
+    assert!(rt; lock.history() == whole_history());
+    assert!(rt; lock.into_history().as_slice() == whole_history());
 }
 
 /// Hands a value on that may cross threads.
@@ -118,7 +195,7 @@ fn a_crowd_leaves_in_the_order_in_which_it_came(rt: HostRuntime) -> Result<(), F
     let mut lock = carried(LockState::new(rt.alloc(), 0));
     for round in 0..3 {
         for tag in 0..crowd {
-            let asked = ask(&mut lock, thread(tag, 0), &rt)?;
+            let asked = ask(&mut lock, thread(tag, 0))?;
             assert_eq!(rt;
                 matches!(asked, Asked::Granted(_)),
                 tag == 0,
@@ -133,9 +210,9 @@ fn a_crowd_leaves_in_the_order_in_which_it_came(rt: HostRuntime) -> Result<(), F
             } else {
                 None
             };
-            same(&rt, next, due);
+            assert!(rt; next == due);
         }
     }
-    same(&rt, lock.history().len(), 8100);
+    assert!(rt; lock.history().len() == 8100);
     Ok(())
 }

@@ -76,9 +76,14 @@ fn judged_with_arrays(alloc: Global, items: usize) -> Result<Result<(), CheckFau
     Ok(check(&program))
 }
 
+const ARRAYS: &[(usize, Result<(), CheckFault>)] = &[
+    (15_625, Ok(())),
+    (15_626, Err(CheckFault::OverLimit)),
+];
+
 #[test]
 fn limits_on_arrays(rt: HostRuntime) -> Result<(), Fail> {
-    for (items, verdict) in [(15_625, Ok(())), (15_626, Err(CheckFault::OverLimit))] {
+    for &(items, verdict) in ARRAYS {
         assert_eq!(rt; judged_with_arrays(rt.alloc(), items)?, verdict);
     }
     Ok(())
@@ -104,14 +109,17 @@ fn judged(
     Ok(check(&program_of(alloc, "0", "0", expr.as_str())?))
 }
 
+/// What stands before and behind the sums, and what is judged of the whole.
+const AROUND_SUMS: &[(&str, &str, Result<(), CheckFault>)] = &[
+    ("", "", Ok(())),
+    ("(item 0 ", ")", Ok(())),
+    ("(add (num 0) ", ")", Err(CheckFault::OverLimit)),
+];
+
 #[test]
 fn limits_on_nodes(rt: HostRuntime) -> Result<(), Fail> {
     let sums = sums(rt.alloc())?;
-    for (front, end, verdict) in [
-        ("", "", Ok(())),
-        ("(item 0 ", ")", Ok(())),
-        ("(add (num 0) ", ")", Err(CheckFault::OverLimit)),
-    ] {
+    for &(front, end, verdict) in AROUND_SUMS {
         assert_eq!(rt; judged(rt.alloc(), front, sums.as_str(), end)?, verdict);
     }
     Ok(())
@@ -152,14 +160,16 @@ fn judged_when_nested(
     Ok(verdict)
 }
 
+const NESTED: &[(u8, u64, Result<(), CheckFault>)] = &[
+    (0, 63, Ok(())),
+    (17, 63, Err(CheckFault::OverLimit)),
+    (17, 64, Err(CheckFault::Nesting)),
+    (0, 100_000, Err(CheckFault::Nesting)),
+];
+
 #[test]
 fn nesting_is_judged_before_all_else(rt: HostRuntime) -> Result<(), Fail> {
-    for (ledgers, sums, verdict) in [
-        (0, 63, Ok(())),
-        (17, 63, Err(CheckFault::OverLimit)),
-        (17, 64, Err(CheckFault::Nesting)),
-        (0, 100_000, Err(CheckFault::Nesting)),
-    ] {
+    for &(ledgers, sums, verdict) in NESTED {
         let judged = judged_when_nested(rt.alloc(), ledgers, sums)?;
         assert_eq!(rt; judged, verdict, "{sums}");
     }
@@ -281,15 +291,8 @@ fn mean_the_same(alloc: Global, some: &str, other: &str) -> Result<bool, Fail> {
 
 #[test]
 fn meanings_are_compared(rt: HostRuntime) -> Result<(), Fail> {
-    for (other, expected) in [
-        (SWEEP, true),
-        ("0 0 (sweep add 1 (num 0) (num 8) (var 0))", false),
-    ] {
-        assert_eq!(rt;
-            mean_the_same(rt.alloc(), SWEEP, other)?,
-            expected,
-            "{other}"
-        );
-    }
+    let other = "0 0 (sweep add 1 (num 0) (num 8) (var 0))";
+    assert!(rt; mean_the_same(rt.alloc(), SWEEP, SWEEP)?);
+    assert!(rt; !mean_the_same(rt.alloc(), SWEEP, other)?);
     Ok(())
 }

@@ -1,479 +1,525 @@
-//! Runs of the World: a step a line, with what it shows afterwards.
+//! Runs of the World: a step a row, with what it shows afterwards.
 
 use arachne_core::{CORES, Event, LAST_GENERATION, NotApplied, Place, Rest, ThreadId, World};
 use std::alloc::Global;
-use std::str::Split;
 use std::test::Fail;
 
-/// The occupancy word of a core, if there is such a core.
-fn occ(world: &World, core: u8) -> Option<u64> {
-    if core < world.cores() {
-        Some(world.occ(core).word())
-    } else {
-        None
-    }
+/// An event, mostly of a carrier on a context, or a question.
+#[derive(Clone, Copy)]
+enum Step {
+    Still,
+    Claim(u32, u32),
+    Alone(u32, u32),
+    /// Posts a thread with a tag.
+    Post(u32, u32, u64),
+    Take(u32, u32),
+    Ready(u32, u32),
+    Blocked(u32, u32),
+    /// Wakes the thread of a context and a generation.
+    Wake(u32, u64),
+    Retire(u32, u32),
+    Release(u32, u32),
+    /// Moves a carrier's thread from a context to another.
+    Move(u32, u32, u32),
+    Close(u8),
+    Open(u8),
+    /// Asks for the occupancy word of a core.
+    Occ(u8),
+    /// Asks for the mark word of a context, or for its core or index.
+    Mark(u32),
+    Core(u32),
+    Index(u32),
+    /// Asks for the context at a core's index.
+    At(u8, u8),
 }
 
-/// The mark word of a context, if there is such a context.
-fn mark(world: &World, context: u32) -> Option<u64> {
-    if context < u32::from(world.cores()) * 56 {
-        Some(world.mark(context).word())
-    } else {
-        None
-    }
-}
+/// What a step shows: of an event the words of core 0 and context 0 afterwards, of a question the number and 0.
+type Shown = (u64, u64);
 
-/// The place of a context, if there is such a context.
-fn place(world: &World, context: u32) -> Option<Place> {
-    if context < u32::from(world.cores()) * 56 {
-        Some(world.place_of(context))
-    } else {
-        None
-    }
-}
+/// What an event shows that isn't allowed. No mark word is this number.
+const REFUSED: Shown = (0, 7);
 
-/// The context at a place, if there is such a place.
-fn context(world: &World, core: u8, index: u8) -> Option<u32> {
-    if core < world.cores() && index < 56 {
-        Some(world.context_at(Place { core, index }))
-    } else {
-        None
-    }
-}
-
-/// The next word of a line, a number.
-fn number(words: &mut Split<'_, char>) -> Option<u32> {
-    words.next()?.parse::<u32>().ok()
-}
-
-/// The next word of a line, the number of a core or of one of its places.
-fn small(words: &mut Split<'_, char>) -> Option<u8> {
-    words.next()?.parse::<u8>().ok()
-}
-
-/// The generation of a word. The last one is spelled `last`.
-fn generation(word: &str) -> Option<u64> {
-    if word == "last" {
-        return Some(LAST_GENERATION);
-    }
-    word.parse::<u64>().ok()
-}
-
-/// The event of a line's first word that a carrier makes on a context and that has no other number.
-fn plain_event(event: &str, carrier: u32, context: u32) -> Option<Event> {
-    Some(match event {
-        "claim" => Event::Claim { carrier, context },
-        "alone" => Event::Alone { carrier, context },
-        "take" => Event::Take { carrier, context },
-        "retire" => Event::Retire { carrier, context },
-        "release" => Event::Release { carrier, context },
-        _ => return None,
-    })
-}
-
-/// The event of a line's first word that a carrier makes on a context.
-fn event_on_context(event: &str, words: &mut Split<'_, char>) -> Option<Event> {
-    let (carrier, context) = (number(words)?, number(words)?);
-    let rest = match event {
-        "ready" => Rest::Ready,
-        "blocked" => Rest::Blocked,
-        "post" => {
-            let tag = u64::from(number(words)?);
-            return Some(Event::Post {
-                carrier,
-                context,
-                tag,
-            });
-        }
-        "move" => {
-            return Some(Event::Move {
-                carrier,
-                from: context,
-                to: number(words)?,
-            });
-        }
-        _ => return plain_event(event, carrier, context),
-    };
-    Some(Event::Rest {
-        carrier,
-        context,
-        rest,
-    })
-}
-
-/// The event of a line: its first word, and the others.
-fn event_of(event: &str, words: &mut Split<'_, char>) -> Option<Event> {
-    match event {
-        "still" => Some(Event::Still),
-        "close" => Some(Event::CloseCore {
-            core: small(words)?,
+/// The event of a step on a context that a carrier makes.
+fn on_context(step: Step) -> Option<Event> {
+    match step {
+        Step::Claim(carrier, context) => Some(Event::Claim { carrier, context }),
+        Step::Alone(carrier, context) => Some(Event::Alone { carrier, context }),
+        Step::Post(carrier, context, tag) => Some(Event::Post {
+            carrier,
+            context,
+            tag,
         }),
-        "open" => Some(Event::OpenCore {
-            core: small(words)?,
+        Step::Take(carrier, context) => Some(Event::Take { carrier, context }),
+        Step::Ready(carrier, context) => Some(Event::Rest {
+            carrier,
+            context,
+            rest: Rest::Ready,
         }),
-        "wake" => Some(Event::Wake {
+        Step::Blocked(carrier, context) => Some(Event::Rest {
+            carrier,
+            context,
+            rest: Rest::Blocked,
+        }),
+        Step::Retire(carrier, context) => Some(Event::Retire { carrier, context }),
+        Step::Release(carrier, context) => Some(Event::Release { carrier, context }),
+        Step::Move(carrier, from, to) => Some(Event::Move { carrier, from, to }),
+        _ => None,
+    }
+}
+
+/// The event of a step, if it is one.
+fn event_of(step: Step) -> Option<Event> {
+    match step {
+        Step::Still => Some(Event::Still),
+        Step::Close(core) => Some(Event::CloseCore { core }),
+        Step::Open(core) => Some(Event::OpenCore { core }),
+        Step::Wake(context, generation) => Some(Event::Wake {
             id: ThreadId {
-                context: number(words)?,
-                generation: generation(words.next()?)?,
+                context,
+                generation,
             },
         }),
-        _ => event_on_context(event, words),
+        _ => on_context(step),
+    }
+}
+
+/// The number that a step asks for, if it is a question, and what it names is there.
+fn asked(world: &World, step: Step) -> Option<u64> {
+    let cores = world.cores();
+    let contexts = u32::from(cores) * 56;
+    match step {
+        Step::Occ(core) if core < cores => Some(world.occ(core).word()),
+        Step::Mark(context) if context < contexts => Some(world.mark(context).word()),
+        Step::Core(context) if context < contexts => Some(world.place_of(context).core.into()),
+        Step::Index(context) if context < contexts => Some(world.place_of(context).index.into()),
+        Step::At(core, index) if core < cores && index < 56 => {
+            Some(world.context_at(Place { core, index }).into())
+        }
+        _ => None,
     }
 }
 
 /// Makes an event. Where memory is refused for it, it is made once more, and the mark word of context 0 is to be as before.
 fn make(world: &mut World, event: Event) -> Result<(), NotApplied> {
-    let before = mark(world, 0);
+    let before = asked(world, Step::Mark(0));
     match world.apply(event) {
-        Err(NotApplied::Memory) if mark(world, 0) == before => world.apply(event),
+        Err(NotApplied::Memory) if asked(world, Step::Mark(0)) == before => world.apply(event),
         answer => answer,
     }
 }
 
-/// Makes an event, and shows the words of core 0 and context 0 afterwards.
-fn applied(alloc: Global, world: &mut World, event: Event) -> Result<String, Fail> {
-    match make(world, event) {
-        Ok(()) => shown(alloc, occ(world, 0), mark(world, 0)),
-        Err(NotApplied::NotAllowed) => Ok(format!(in alloc; "refused")?),
-        Err(NotApplied::Memory) => Ok(format!(in alloc; "no memory")?),
-    }
-}
-
-fn shown(alloc: Global, occ: Option<u64>, mark: Option<u64>) -> Result<String, Fail> {
-    let (Some(occ), Some(mark)) = (occ, mark) else {
-        return Err("no core")?;
+/// What a step shows.
+fn shown(world: &mut World, step: Step) -> Option<Shown> {
+    let Some(event) = event_of(step) else {
+        return Some((asked(world, step)?, 0));
     };
-    Ok(format!(in alloc; "{occ:#x} {mark:#x}")?)
-}
-
-/// The number that a line asks for, if there is one: the word of a core or of a context, a context's core or index, or the context at a place.
-fn asked(world: &World, first: &str, words: &mut Split<'_, char>) -> Option<u64> {
-    match first {
-        "occ" => occ(world, small(words)?),
-        "mark" => mark(world, number(words)?),
-        "core" => Some(u64::from(place(world, number(words)?)?.core)),
-        "index" => Some(u64::from(place(world, number(words)?)?.index)),
-        "at" => Some(u64::from(context(world, small(words)?, small(words)?)?)),
-        _ => None,
+    match make(world, event) {
+        Ok(()) => Some((asked(world, Step::Occ(0))?, asked(world, Step::Mark(0))?)),
+        Err(NotApplied::NotAllowed) => Some(REFUSED),
+        Err(NotApplied::Memory) => None,
     }
 }
 
-/// What a line asks for, or what its event shows.
-fn answer(alloc: Global, world: &mut World, line: &str) -> Result<String, Fail> {
-    let mut words = line.split(' ');
-    let first = words.next().ok_or("an empty line")?;
-    if let Some(number) = asked(world, first, &mut words) {
-        return Ok(format!(in alloc; "{number:#x}")?);
-    }
-    applied(alloc, world, event_of(first, &mut words).ok_or("no event")?)
+/// The cores of a run's World, the generation that its contexts begin with, for how many posts and retires it has room, and its steps.
+struct Run {
+    cores: u8,
+    first_generation: u64,
+    room: (usize, usize),
+    steps: &'static [(Step, Shown)],
 }
 
-/// Takes a step of a line, which has to show what stands behind it.
-fn take(alloc: Global, world: &mut World, line: &str) -> Result<(), Fail> {
-    let (step, expected) = line.split_once(" => ").unwrap_or((line, ""));
-    let shown = answer(alloc, world, step)?;
-    if shown.as_str() == expected {
-        return Ok(());
-    }
-    Err(Fail::new(format_args!("{line}, and not {shown}")))
-}
-
-/// The cores of a World, the generation that its contexts begin with, and for how many posts and retires it has room.
-fn shape(machine: &str) -> Option<(u8, u64, u8, u8)> {
-    let mut words = machine.split(' ');
-    let cores = small(&mut words)?;
-    let first_generation = generation(words.next()?)?;
-    Some((
+/// The World of a run.
+fn begun(alloc: Global, run: &Run) -> Result<World, Fail> {
+    let &Run {
         cores,
         first_generation,
-        small(&mut words)?,
-        small(&mut words)?,
-    ))
-}
-
-/// The World of such a line.
-fn begun(alloc: Global, machine: &str) -> Result<World, Fail> {
-    let (cores, first_generation, posts, retires) = shape(machine).ok_or("no shape")?;
+        room: (posts, retires),
+        ..
+    } = run;
     if cores == 0 || cores > CORES || first_generation > LAST_GENERATION {
         return Err("no such World")?;
     }
     let mut world = World::new(alloc, cores, first_generation)?;
-    world.reserve(posts.into(), retires.into())?;
+    world.reserve(posts, retires)?;
     Ok(world)
 }
 
-/// The shape of a run's World, and its steps.
-fn parts(run: &str) -> Option<(&str, &str)> {
-    let (title, steps) = run.split_once('\n')?;
-    let (_, machine) = title.split_once(": ")?;
-    Some((machine, steps))
-}
-
-/// Takes the steps of a run.
-fn follow(alloc: Global, run: &str) -> Result<(), Fail> {
-    let (machine, steps) = parts(run).ok_or("no parts")?;
-    let mut world = begun(alloc, machine)?;
-    for line in steps.lines() {
-        take(alloc, &mut world, line)?;
-    }
-    Ok(())
-}
-
-/// Each run has a line with its title, its cores, its first generation, and for how many posts and retires there is room; then its steps.
 /// A spent context isn't shown alone, though its core stays so. Where no room is reserved a post may be refused for memory, and stays possible.
-const RUNS: &str = "\
-a closed core keeps its threads: 1 0 1 0
-claim 0 0 => 0x100000000000001 0x0
-post 0 0 7 => 0x100000000000001 0x1
-close 0 => 0x4100000000000001 0x1
-claim 0 1 => refused
-take 1 0 => 0x4100000000000001 0x3
-take 0 0 => refused
-open 0 => 0x100000000000001 0x3
-still => 0x100000000000001 0x3
+const RUNS: &[Run] = &[
+    // A closed core keeps its threads.
+    Run {
+        cores: 1,
+        first_generation: 0,
+        room: (1, 0),
+        steps: &[
+            (Step::Claim(0, 0), (0x100000000000001, 0x0)),
+            (Step::Post(0, 0, 7), (0x100000000000001, 0x1)),
+            (Step::Close(0), (0x4100000000000001, 0x1)),
+            (Step::Claim(0, 1), REFUSED),
+            (Step::Take(1, 0), (0x4100000000000001, 0x3)),
+            (Step::Take(0, 0), REFUSED),
+            (Step::Open(0), (0x100000000000001, 0x3)),
+            (Step::Still, (0x100000000000001, 0x3)),
+        ],
+    },
+    // A core closes beside a claimed place.
+    Run {
+        cores: 1,
+        first_generation: 0,
+        room: (1, 0),
+        steps: &[
+            (Step::Claim(0, 0), (0x100000000000001, 0x0)),
+            (Step::Close(0), (0x4100000000000001, 0x0)),
+            (Step::Close(0), (0x4100000000000001, 0x0)),
+            (Step::Post(1, 0, 7), REFUSED),
+            (Step::Post(0, 0, 7), (0x4100000000000001, 0x1)),
+            (Step::Alone(0, 0), REFUSED),
+        ],
+    },
+    // A closed core drains.
+    Run {
+        cores: 1,
+        first_generation: 0,
+        room: (1, 1),
+        steps: &[
+            (Step::Claim(1, 0), (0x100000000000001, 0x0)),
+            (Step::Post(1, 0, 7), (0x100000000000001, 0x1)),
+            (Step::Take(1, 0), (0x100000000000001, 0x3)),
+            (Step::Close(0), (0x4100000000000001, 0x3)),
+            (Step::Retire(1, 0), (0x4100000000000001, 0x4000)),
+            (Step::Release(1, 0), (0x4000000000000000, 0x4000)),
+            (Step::Claim(1, 0), REFUSED),
+            (Step::Open(0), (0x0, 0x4000)),
+            (Step::Claim(1, 0), (0x100000000000001, 0x4000)),
+        ],
+    },
+    // A thread is woken while it is held.
+    Run {
+        cores: 1,
+        first_generation: 0,
+        room: (1, 0),
+        steps: &[
+            (Step::Claim(0, 0), (0x100000000000001, 0x0)),
+            (Step::Wake(0, 0), REFUSED),
+            (Step::Post(0, 0, 7), (0x100000000000001, 0x1)),
+            (Step::Wake(0, 0), REFUSED),
+            (Step::Take(1, 0), (0x100000000000001, 0x3)),
+            (Step::Wake(0, 0), (0x100000000000001, 0x4)),
+            (Step::Wake(0, 0), REFUSED),
+            (Step::Blocked(1, 0), (0x100000000000001, 0x1)),
+            (Step::Take(1, 0), (0x100000000000001, 0x3)),
+            (Step::Wake(0, 0), (0x100000000000001, 0x4)),
+            (Step::Ready(1, 0), (0x100000000000001, 0x1)),
+        ],
+    },
+    // A thread is woken while it is blocked.
+    Run {
+        cores: 1,
+        first_generation: 0,
+        room: (1, 0),
+        steps: &[
+            (Step::Claim(1, 0), (0x100000000000001, 0x0)),
+            (Step::Post(1, 0, 7), (0x100000000000001, 0x1)),
+            (Step::Take(1, 0), (0x100000000000001, 0x3)),
+            (Step::Blocked(1, 0), (0x100000000000001, 0x2)),
+            (Step::Take(1, 0), REFUSED),
+            (Step::Wake(0, 0), (0x100000000000001, 0x1)),
+            (Step::Take(1, 0), (0x100000000000001, 0x3)),
+            (Step::Ready(0, 0), REFUSED),
+            (Step::Ready(1, 0), (0x100000000000001, 0x1)),
+        ],
+    },
+    // An id ends with its thread.
+    Run {
+        cores: 1,
+        first_generation: 0,
+        room: (2, 1),
+        steps: &[
+            (Step::Claim(1, 0), (0x100000000000001, 0x0)),
+            (Step::Post(1, 0, 7), (0x100000000000001, 0x1)),
+            (Step::Take(1, 0), (0x100000000000001, 0x3)),
+            (Step::Wake(0, 0), (0x100000000000001, 0x4)),
+            (Step::Retire(0, 0), REFUSED),
+            (Step::Retire(1, 0), (0x100000000000001, 0x4000)),
+            (Step::Release(0, 0), REFUSED),
+            (Step::Release(1, 0), (0x0, 0x4000)),
+            (Step::Wake(0, 0), REFUSED),
+            (Step::Claim(1, 0), (0x100000000000001, 0x4000)),
+            (Step::Post(1, 0, 8), (0x100000000000001, 0x4001)),
+            (Step::Wake(0, 0), REFUSED),
+            (Step::Take(1, 0), (0x100000000000001, 0x4003)),
+            (Step::Wake(0, 0), REFUSED),
+        ],
+    },
+    // The last generation is spent.
+    Run {
+        cores: 1,
+        first_generation: LAST_GENERATION,
+        room: (1, 1),
+        steps: &[
+            (Step::Claim(0, 0), (0x100000000000001, 0xffffffffffffc000)),
+            (Step::Post(0, 0, 7), (0x100000000000001, 0xffffffffffffc001)),
+            (Step::Take(0, 0), (0x100000000000001, 0xffffffffffffc003)),
+            (Step::Retire(0, 0), (0x100000000000001, 0xffffffffffffc005)),
+            (Step::Claim(0, 0), REFUSED),
+            (Step::Release(0, 0), REFUSED),
+            (Step::Close(0), (0x4100000000000001, 0xffffffffffffc005)),
+        ],
+    },
+    // The generation before the last is not spent.
+    Run {
+        cores: 1,
+        first_generation: 1125899906842622,
+        room: (1, 1),
+        steps: &[
+            (Step::Claim(1, 0), (0x100000000000001, 0xffffffffffff8000)),
+            (Step::Post(1, 0, 7), (0x100000000000001, 0xffffffffffff8001)),
+            (Step::Take(1, 0), (0x100000000000001, 0xffffffffffff8003)),
+            (Step::Retire(1, 0), (0x100000000000001, 0xffffffffffffc000)),
+            (Step::Release(1, 0), (0x0, 0xffffffffffffc000)),
+        ],
+    },
+    // A woken thread of the last generation is spent.
+    Run {
+        cores: 1,
+        first_generation: LAST_GENERATION,
+        room: (1, 1),
+        steps: &[
+            (Step::Claim(1, 0), (0x100000000000001, 0xffffffffffffc000)),
+            (Step::Post(1, 0, 7), (0x100000000000001, 0xffffffffffffc001)),
+            (Step::Take(1, 0), (0x100000000000001, 0xffffffffffffc003)),
+            (
+                Step::Wake(0, LAST_GENERATION),
+                (0x100000000000001, 0xffffffffffffc004),
+            ),
+            (Step::Retire(1, 0), (0x100000000000001, 0xffffffffffffc005)),
+            (Step::Wake(0, LAST_GENERATION), REFUSED),
+        ],
+    },
+    // A thread has its core alone.
+    Run {
+        cores: 1,
+        first_generation: 0,
+        room: (1, 1),
+        steps: &[
+            (Step::Alone(0, 1), REFUSED),
+            (Step::Claim(0, 1), (0x100000000000002, 0x0)),
+            (Step::Alone(0, 0), REFUSED),
+            (Step::Release(0, 1), (0x0, 0x0)),
+            (Step::Alone(0, 0), (0x8100000000000001, 0x0)),
+            (Step::Post(0, 0, 7), (0x8100000000000001, 0x9)),
+            (Step::Claim(0, 1), REFUSED),
+            (Step::Take(0, 0), (0x8100000000000001, 0xb)),
+            (Step::Blocked(0, 0), (0x8100000000000001, 0xa)),
+            (Step::Wake(0, 0), (0x8100000000000001, 0x9)),
+            (Step::Take(0, 0), (0x8100000000000001, 0xb)),
+            (Step::Wake(0, 0), (0x8100000000000001, 0xc)),
+            (Step::Close(0), (0xc100000000000001, 0xc)),
+            (Step::Open(0), (0x8100000000000001, 0xc)),
+            (Step::Retire(0, 0), (0x8100000000000001, 0x4000)),
+            (Step::Release(0, 0), (0x0, 0x4000)),
+        ],
+    },
+    // A core stays alone with a spent context.
+    Run {
+        cores: 1,
+        first_generation: LAST_GENERATION,
+        room: (1, 1),
+        steps: &[
+            (Step::Alone(1, 0), (0x8100000000000001, 0xffffffffffffc000)),
+            (
+                Step::Post(1, 0, 7),
+                (0x8100000000000001, 0xffffffffffffc009),
+            ),
+            (Step::Take(1, 0), (0x8100000000000001, 0xffffffffffffc00b)),
+            (Step::Retire(1, 0), (0x8100000000000001, 0xffffffffffffc005)),
+            (Step::Claim(1, 1), REFUSED),
+        ],
+    },
+    // Threads move to another core.
+    Run {
+        cores: 2,
+        first_generation: 0,
+        room: (3, 0),
+        steps: &[
+            (Step::Claim(0, 56), (0x0, 0x0)),
+            (Step::Post(0, 56, 1), (0x0, 0x0)),
+            (Step::Claim(0, 57), (0x0, 0x0)),
+            (Step::Post(0, 57, 2), (0x0, 0x0)),
+            (Step::Take(0, 57), (0x0, 0x0)),
+            (Step::Blocked(0, 57), (0x0, 0x0)),
+            (Step::Claim(0, 58), (0x0, 0x0)),
+            (Step::Close(1), (0x0, 0x0)),
+            (Step::Occ(1), (0x4300000000000007, 0)),
+            (Step::Claim(9, 0), (0x100000000000001, 0x0)),
+            (Step::Move(8, 56, 0), REFUSED),
+            (Step::Move(9, 56, 0), (0x100000000000001, 0x400)),
+            (Step::Release(9, 0), (0x100000000000001, 0x400)),
+            (Step::Claim(9, 1), (0x200000000000003, 0x400)),
+            (Step::Move(9, 58, 1), REFUSED),
+            (Step::Move(9, 57, 1), (0x200000000000003, 0x400)),
+            (Step::Release(9, 1), (0x200000000000003, 0x400)),
+            (Step::Occ(1), (0x4100000000000004, 0)),
+            (Step::Mark(56), (0x1, 0)),
+            (Step::Mark(57), (0x12, 0)),
+            (Step::Mark(1), (0x410, 0)),
+            (Step::Core(57), (0x0, 0)),
+            (Step::Index(57), (0x1, 0)),
+            (Step::At(0, 1), (0x39, 0)),
+            (Step::At(1, 0), (0x0, 0)),
+            (Step::At(1, 2), (0x3a, 0)),
+            (Step::Wake(57, 0), (0x200000000000003, 0x400)),
+            (Step::Mark(57), (0x11, 0)),
+            (Step::Post(0, 58, 3), (0x200000000000003, 0x400)),
+            (Step::Mark(58), (0x421, 0)),
+            (Step::Claim(9, 2), (0x300000000000007, 0x400)),
+            (Step::Move(9, 58, 2), (0x300000000000007, 0x400)),
+            (Step::Release(9, 2), (0x300000000000007, 0x400)),
+            (Step::Occ(1), (0x4000000000000000, 0)),
+        ],
+    },
+    // A thread moves there and back.
+    Run {
+        cores: 2,
+        first_generation: 0,
+        room: (1, 0),
+        steps: &[
+            (Step::Claim(0, 56), (0x0, 0x0)),
+            (Step::Post(0, 56, 1), (0x0, 0x0)),
+            (Step::Claim(9, 0), (0x100000000000001, 0x0)),
+            (Step::Move(9, 56, 0), (0x100000000000001, 0x400)),
+            (Step::Release(9, 0), (0x100000000000001, 0x400)),
+            (Step::Mark(56), (0x1, 0)),
+            (Step::Occ(1), (0x0, 0)),
+            (Step::Claim(9, 0), (0x100000000000001, 0x400)),
+            (Step::Move(9, 56, 0), (0x100000000000001, 0x0)),
+            (Step::Release(9, 0), (0x0, 0x0)),
+            (Step::Mark(56), (0x401, 0)),
+            (Step::Occ(1), (0x100000000000001, 0)),
+            (Step::Take(1, 56), (0x0, 0x0)),
+        ],
+    },
+    // Moves that are not allowed.
+    Run {
+        cores: 2,
+        first_generation: 0,
+        room: (2, 0),
+        steps: &[
+            (Step::Claim(0, 56), (0x0, 0x0)),
+            (Step::Post(0, 56, 1), (0x0, 0x0)),
+            (Step::Move(0, 56, 0), REFUSED),
+            (Step::Claim(0, 57), (0x0, 0x0)),
+            (Step::Move(0, 56, 57), REFUSED),
+            (Step::Alone(0, 0), (0x8100000000000001, 0x0)),
+            (Step::Move(0, 56, 0), REFUSED),
+            (Step::Post(0, 0, 2), (0x8100000000000001, 0x9)),
+            (Step::Move(0, 0, 57), REFUSED),
+            (Step::Take(0, 56), (0x8100000000000001, 0x9)),
+            (Step::Move(0, 56, 57), REFUSED),
+        ],
+    },
+    // An event names what is not there.
+    Run {
+        cores: 1,
+        first_generation: 0,
+        room: (1, 0),
+        steps: &[
+            (Step::Claim(0, 0), (0x100000000000001, 0x0)),
+            (Step::Post(0, 0, 7), (0x100000000000001, 0x1)),
+            (Step::Claim(0, 56), REFUSED),
+            (Step::Alone(0, 56), REFUSED),
+            (Step::Post(0, 56, 7), REFUSED),
+            (Step::Take(0, 56), REFUSED),
+            (Step::Ready(0, 56), REFUSED),
+            (Step::Wake(56, 0), REFUSED),
+            (Step::Retire(0, 56), REFUSED),
+            (Step::Release(0, 56), REFUSED),
+            (Step::Move(0, 56, 0), REFUSED),
+            (Step::Move(0, 0, 56), REFUSED),
+            (Step::Claim(0, 895), REFUSED),
+            (Step::Alone(0, 895), REFUSED),
+            (Step::Post(0, 895, 7), REFUSED),
+            (Step::Take(0, 895), REFUSED),
+            (Step::Ready(0, 895), REFUSED),
+            (Step::Wake(895, 0), REFUSED),
+            (Step::Retire(0, 895), REFUSED),
+            (Step::Release(0, 895), REFUSED),
+            (Step::Move(0, 895, 0), REFUSED),
+            (Step::Move(0, 0, 895), REFUSED),
+            (Step::Claim(0, 4294967295), REFUSED),
+            (Step::Alone(0, 4294967295), REFUSED),
+            (Step::Post(0, 4294967295, 7), REFUSED),
+            (Step::Take(0, 4294967295), REFUSED),
+            (Step::Ready(0, 4294967295), REFUSED),
+            (Step::Wake(4294967295, 0), REFUSED),
+            (Step::Retire(0, 4294967295), REFUSED),
+            (Step::Release(0, 4294967295), REFUSED),
+            (Step::Move(0, 4294967295, 0), REFUSED),
+            (Step::Move(0, 0, 4294967295), REFUSED),
+            (Step::Close(1), REFUSED),
+            (Step::Open(1), REFUSED),
+            (Step::Close(16), REFUSED),
+            (Step::Open(16), REFUSED),
+            (Step::Close(255), REFUSED),
+            (Step::Open(255), REFUSED),
+        ],
+    },
+    // A machine of sixteen cores.
+    Run {
+        cores: 16,
+        first_generation: 0,
+        room: (1, 1),
+        steps: &[
+            (Step::Claim(0, 895), (0x0, 0x0)),
+            (Step::Post(0, 895, 7), (0x0, 0x0)),
+            (Step::Occ(15), (0x180000000000000, 0)),
+            (Step::Mark(895), (0x3f71, 0)),
+            (Step::At(15, 55), (0x37f, 0)),
+            (Step::Claim(0, 896), REFUSED),
+            (Step::Close(16), REFUSED),
+            (Step::Close(15), (0x0, 0x0)),
+            (Step::Claim(1, 0), (0x100000000000001, 0x0)),
+            (Step::Move(1, 895, 0), (0x100000000000001, 0x3f70)),
+            (Step::Release(1, 0), (0x100000000000001, 0x3f70)),
+            (Step::Occ(15), (0x4000000000000000, 0)),
+            (Step::Mark(895), (0x1, 0)),
+            (Step::Take(0, 895), (0x100000000000001, 0x3f70)),
+            (Step::Retire(0, 895), (0x100000000000001, 0x3f70)),
+            (Step::Release(0, 895), (0x0, 0x3f70)),
+        ],
+    },
+    // A post without room.
+    Run {
+        cores: 1,
+        first_generation: 0,
+        room: (0, 0),
+        steps: &[
+            (Step::Claim(0, 0), (0x100000000000001, 0x0)),
+            (Step::Post(0, 0, 7), (0x100000000000001, 0x1)),
+            (Step::Mark(0), (0x1, 0)),
+            (Step::Take(0, 0), (0x100000000000001, 0x3)),
+            (Step::Retire(0, 0), (0x100000000000001, 0x4000)),
+            (Step::Mark(0), (0x4000, 0)),
+        ],
+    },
+];
 
-a core closes beside a claimed place: 1 0 1 0
-claim 0 0 => 0x100000000000001 0x0
-close 0 => 0x4100000000000001 0x0
-close 0 => 0x4100000000000001 0x0
-post 1 0 7 => refused
-post 0 0 7 => 0x4100000000000001 0x1
-alone 0 0 => refused
-
-a closed core drains: 1 0 1 1
-claim 1 0 => 0x100000000000001 0x0
-post 1 0 7 => 0x100000000000001 0x1
-take 1 0 => 0x100000000000001 0x3
-close 0 => 0x4100000000000001 0x3
-retire 1 0 => 0x4100000000000001 0x4000
-release 1 0 => 0x4000000000000000 0x4000
-claim 1 0 => refused
-open 0 => 0x0 0x4000
-claim 1 0 => 0x100000000000001 0x4000
-
-a thread is woken while it is held: 1 0 1 0
-claim 0 0 => 0x100000000000001 0x0
-wake 0 0 => refused
-post 0 0 7 => 0x100000000000001 0x1
-wake 0 0 => refused
-take 1 0 => 0x100000000000001 0x3
-wake 0 0 => 0x100000000000001 0x4
-wake 0 0 => refused
-blocked 1 0 => 0x100000000000001 0x1
-take 1 0 => 0x100000000000001 0x3
-wake 0 0 => 0x100000000000001 0x4
-ready 1 0 => 0x100000000000001 0x1
-
-a thread is woken while it is blocked: 1 0 1 0
-claim 1 0 => 0x100000000000001 0x0
-post 1 0 7 => 0x100000000000001 0x1
-take 1 0 => 0x100000000000001 0x3
-blocked 1 0 => 0x100000000000001 0x2
-take 1 0 => refused
-wake 0 0 => 0x100000000000001 0x1
-take 1 0 => 0x100000000000001 0x3
-ready 0 0 => refused
-ready 1 0 => 0x100000000000001 0x1
-
-an id ends with its thread: 1 0 2 1
-claim 1 0 => 0x100000000000001 0x0
-post 1 0 7 => 0x100000000000001 0x1
-take 1 0 => 0x100000000000001 0x3
-wake 0 0 => 0x100000000000001 0x4
-retire 0 0 => refused
-retire 1 0 => 0x100000000000001 0x4000
-release 0 0 => refused
-release 1 0 => 0x0 0x4000
-wake 0 0 => refused
-claim 1 0 => 0x100000000000001 0x4000
-post 1 0 8 => 0x100000000000001 0x4001
-wake 0 0 => refused
-take 1 0 => 0x100000000000001 0x4003
-wake 0 0 => refused
-
-the last generation is spent: 1 last 1 1
-claim 0 0 => 0x100000000000001 0xffffffffffffc000
-post 0 0 7 => 0x100000000000001 0xffffffffffffc001
-take 0 0 => 0x100000000000001 0xffffffffffffc003
-retire 0 0 => 0x100000000000001 0xffffffffffffc005
-claim 0 0 => refused
-release 0 0 => refused
-close 0 => 0x4100000000000001 0xffffffffffffc005
-
-the generation before the last is not spent: 1 1125899906842622 1 1
-claim 1 0 => 0x100000000000001 0xffffffffffff8000
-post 1 0 7 => 0x100000000000001 0xffffffffffff8001
-take 1 0 => 0x100000000000001 0xffffffffffff8003
-retire 1 0 => 0x100000000000001 0xffffffffffffc000
-release 1 0 => 0x0 0xffffffffffffc000
-
-a woken thread of the last generation is spent: 1 last 1 1
-claim 1 0 => 0x100000000000001 0xffffffffffffc000
-post 1 0 7 => 0x100000000000001 0xffffffffffffc001
-take 1 0 => 0x100000000000001 0xffffffffffffc003
-wake 0 last => 0x100000000000001 0xffffffffffffc004
-retire 1 0 => 0x100000000000001 0xffffffffffffc005
-wake 0 last => refused
-
-a thread has its core alone: 1 0 1 1
-alone 0 1 => refused
-claim 0 1 => 0x100000000000002 0x0
-alone 0 0 => refused
-release 0 1 => 0x0 0x0
-alone 0 0 => 0x8100000000000001 0x0
-post 0 0 7 => 0x8100000000000001 0x9
-claim 0 1 => refused
-take 0 0 => 0x8100000000000001 0xb
-blocked 0 0 => 0x8100000000000001 0xa
-wake 0 0 => 0x8100000000000001 0x9
-take 0 0 => 0x8100000000000001 0xb
-wake 0 0 => 0x8100000000000001 0xc
-close 0 => 0xc100000000000001 0xc
-open 0 => 0x8100000000000001 0xc
-retire 0 0 => 0x8100000000000001 0x4000
-release 0 0 => 0x0 0x4000
-
-a core stays alone with a spent context: 1 last 1 1
-alone 1 0 => 0x8100000000000001 0xffffffffffffc000
-post 1 0 7 => 0x8100000000000001 0xffffffffffffc009
-take 1 0 => 0x8100000000000001 0xffffffffffffc00b
-retire 1 0 => 0x8100000000000001 0xffffffffffffc005
-claim 1 1 => refused
-
-threads move to another core: 2 0 3 0
-claim 0 56 => 0x0 0x0
-post 0 56 1 => 0x0 0x0
-claim 0 57 => 0x0 0x0
-post 0 57 2 => 0x0 0x0
-take 0 57 => 0x0 0x0
-blocked 0 57 => 0x0 0x0
-claim 0 58 => 0x0 0x0
-close 1 => 0x0 0x0
-occ 1 => 0x4300000000000007
-claim 9 0 => 0x100000000000001 0x0
-move 8 56 0 => refused
-move 9 56 0 => 0x100000000000001 0x400
-release 9 0 => 0x100000000000001 0x400
-claim 9 1 => 0x200000000000003 0x400
-move 9 58 1 => refused
-move 9 57 1 => 0x200000000000003 0x400
-release 9 1 => 0x200000000000003 0x400
-occ 1 => 0x4100000000000004
-mark 56 => 0x1
-mark 57 => 0x12
-mark 1 => 0x410
-core 57 => 0x0
-index 57 => 0x1
-at 0 1 => 0x39
-at 1 0 => 0x0
-at 1 2 => 0x3a
-wake 57 0 => 0x200000000000003 0x400
-mark 57 => 0x11
-post 0 58 3 => 0x200000000000003 0x400
-mark 58 => 0x421
-claim 9 2 => 0x300000000000007 0x400
-move 9 58 2 => 0x300000000000007 0x400
-release 9 2 => 0x300000000000007 0x400
-occ 1 => 0x4000000000000000
-
-a thread moves there and back: 2 0 1 0
-claim 0 56 => 0x0 0x0
-post 0 56 1 => 0x0 0x0
-claim 9 0 => 0x100000000000001 0x0
-move 9 56 0 => 0x100000000000001 0x400
-release 9 0 => 0x100000000000001 0x400
-mark 56 => 0x1
-occ 1 => 0x0
-claim 9 0 => 0x100000000000001 0x400
-move 9 56 0 => 0x100000000000001 0x0
-release 9 0 => 0x0 0x0
-mark 56 => 0x401
-occ 1 => 0x100000000000001
-take 1 56 => 0x0 0x0
-
-moves that are not allowed: 2 0 2 0
-claim 0 56 => 0x0 0x0
-post 0 56 1 => 0x0 0x0
-move 0 56 0 => refused
-claim 0 57 => 0x0 0x0
-move 0 56 57 => refused
-alone 0 0 => 0x8100000000000001 0x0
-move 0 56 0 => refused
-post 0 0 2 => 0x8100000000000001 0x9
-move 0 0 57 => refused
-take 0 56 => 0x8100000000000001 0x9
-move 0 56 57 => refused
-
-an event names what is not there: 1 0 1 0
-claim 0 0 => 0x100000000000001 0x0
-post 0 0 7 => 0x100000000000001 0x1
-claim 0 56 => refused
-alone 0 56 => refused
-post 0 56 7 => refused
-take 0 56 => refused
-ready 0 56 => refused
-wake 56 0 => refused
-retire 0 56 => refused
-release 0 56 => refused
-move 0 56 0 => refused
-move 0 0 56 => refused
-claim 0 895 => refused
-alone 0 895 => refused
-post 0 895 7 => refused
-take 0 895 => refused
-ready 0 895 => refused
-wake 895 0 => refused
-retire 0 895 => refused
-release 0 895 => refused
-move 0 895 0 => refused
-move 0 0 895 => refused
-claim 0 4294967295 => refused
-alone 0 4294967295 => refused
-post 0 4294967295 7 => refused
-take 0 4294967295 => refused
-ready 0 4294967295 => refused
-wake 4294967295 0 => refused
-retire 0 4294967295 => refused
-release 0 4294967295 => refused
-move 0 4294967295 0 => refused
-move 0 0 4294967295 => refused
-close 1 => refused
-open 1 => refused
-close 16 => refused
-open 16 => refused
-close 255 => refused
-open 255 => refused
-
-a machine of sixteen cores: 16 0 1 1
-claim 0 895 => 0x0 0x0
-post 0 895 7 => 0x0 0x0
-occ 15 => 0x180000000000000
-mark 895 => 0x3f71
-at 15 55 => 0x37f
-claim 0 896 => refused
-close 16 => refused
-close 15 => 0x0 0x0
-claim 1 0 => 0x100000000000001 0x0
-move 1 895 0 => 0x100000000000001 0x3f70
-release 1 0 => 0x100000000000001 0x3f70
-occ 15 => 0x4000000000000000
-mark 895 => 0x1
-take 0 895 => 0x100000000000001 0x3f70
-retire 0 895 => 0x100000000000001 0x3f70
-release 0 895 => 0x0 0x3f70
-
-a post without room: 1 0 0 0
-claim 0 0 => 0x100000000000001 0x0
-post 0 0 7 => 0x100000000000001 0x1
-mark 0 => 0x1
-take 0 0 => 0x100000000000001 0x3
-retire 0 0 => 0x100000000000001 0x4000
-mark 0 => 0x4000";
+/// The number of the first step that shows something else, from 0.
+fn first_wrong(world: &mut World, steps: &[(Step, Shown)]) -> Option<usize> {
+    for k in 0..steps.len() {
+        let (step, expected) = steps[k];
+        if shown(world, step) != Some(expected) {
+            return Some(k);
+        }
+    }
+    None
+}
 
 #[test]
 fn runs_show_their_words(rt: HostRuntime) -> Result<(), Fail> {
-    for run in RUNS.split("\n\n") {
-        follow(rt.alloc(), run)?;
+    for run in RUNS {
+        let mut world = begun(rt.alloc(), run)?;
+        assert_eq!(rt; first_wrong(&mut world, run.steps), None);
     }
     Ok(())
 }

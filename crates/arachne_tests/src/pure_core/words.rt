@@ -1,179 +1,243 @@
-//! Worked values of the words, of the numbers of places, and of a refusal's text.
+//! Worked values of the words, of the numbers of places, and of a refusal's text: rows of numbers, each with what is read of it.
 
-use crate::compare::same;
-use arachne_core::{LAST_GENERATION, Mark, MarkWord, NotApplied, OccWord, Place};
+use arachne_core::{Mark, MarkWord, NotApplied, OccWord, Place};
+use std::alloc::Global;
 use std::test::Fail;
 
-const FIRST: Place = Place { core: 0, index: 0 };
+/// Numbers, and what each is as a mark word: its mark, whether it is alone, its core and index, and its generation.
+/// No mark has the codes 6 and 7, and no core the index 56.
+const MARKS: &[(u64, &str)] = &[
+    (0x4850, "Free false 2 5 1"),
+    (0x4851, "Ready false 2 5 1"),
+    (0x4852, "Blocked false 2 5 1"),
+    (0x4853, "Held false 2 5 1"),
+    (0x4854, "Woken false 2 5 1"),
+    (0x4855, "Spent false 2 5 1"),
+    (0x4856, "none"),
+    (0x4857, "none"),
+    (0x9, "Ready true 0 0 0"),
+    (0x370, "Free false 0 55 0"),
+    (0x380, "none"),
+    (0x7f71, "Ready false 15 55 1"),
+    (0xffff_ffff_ffff_c001, "Ready false 0 0 1125899906842623"),
+    (0xffff_ffff_ffff_c005, "Spent false 0 0 1125899906842623"),
+    (0xffff_ffff_ffff_ff7d, "Spent true 15 55 1125899906842623"),
+];
 
-const LAST: Place = Place {
-    core: 15,
-    index: 55,
-};
-
-#[test]
-fn a_mark_word_and_its_fields(rt: HostRuntime) {
-    let place = Place { core: 2, index: 5 };
-    let word = MarkWord::new(Mark::Ready, false, place, 1);
-    same(&rt, word.word(), 0x4851);
-    same(&rt, word.mark(), Mark::Ready);
-    same(&rt, word.is_alone(), false);
-    same(&rt, word.place(), place);
-    same(&rt, word.generation(), 1);
-
-    let alone = MarkWord::new(Mark::Ready, true, FIRST, 0);
-    same(&rt, alone.word(), 0x9);
-    same(&rt, alone.is_alone(), true);
-    same(&rt, alone != word, true);
-}
-
-#[test]
-fn marks_and_their_codes(rt: HostRuntime) {
-    let word = MarkWord::new(Mark::Ready, false, Place { core: 2, index: 5 }, 1);
-    let codes = [
-        (Mark::Free, 0),
-        (Mark::Ready, 1),
-        (Mark::Blocked, 2),
-        (Mark::Held, 3),
-        (Mark::Woken, 4),
-        (Mark::Spent, 5),
-    ];
-    for (mark, code) in codes {
-        same(&rt, mark.code(), code);
-        same(&rt, word.with_mark(mark).word(), 0x4850 + code);
-        same(&rt, word.with_mark(mark).mark(), mark);
+/// What a number is as a mark word, whose parts have to make that number again.
+fn shown_mark(alloc: Global, number: u64) -> Result<String, Fail> {
+    let Some(word) = MarkWord::from_word(number) else {
+        return Ok(format!(in alloc; "none")?);
+    };
+    let (mark, alone, generation) = (word.mark(), word.is_alone(), word.generation());
+    let Place { core, index } = word.place();
+    let again = MarkWord::new(mark, alone, word.place(), generation);
+    if again != word || again.word() != number {
+        return Err("another word")?;
     }
-    same(&rt, Mark::from_code(0), Mark::Free);
-    same(&rt, Mark::from_code(5), Mark::Spent);
+    Ok(format!(in alloc; "{mark:?} {alone} {core} {index} {generation}")?)
+}
+
+/// Mark words, a mark with its code, and the word with that mark in place of its own.
+const WITH_MARK: &[(u64, Mark, u64, u64)] = &[
+    (0x4851, Mark::Free, 0, 0x4850),
+    (0x4851, Mark::Ready, 1, 0x4851),
+    (0x4851, Mark::Blocked, 2, 0x4852),
+    (0x4851, Mark::Held, 3, 0x4853),
+    (0x4851, Mark::Woken, 4, 0x4854),
+    (0x4851, Mark::Spent, 5, 0x4855),
+    (0xffff_ffff_ffff_c001, Mark::Spent, 5, 0xffff_ffff_ffff_c005),
+];
+
+/// The word of a number with another mark, if it is a mark word.
+fn with_mark(number: u64, mark: Mark) -> Option<u64> {
+    Some(MarkWord::from_word(number)?.with_mark(mark).word())
+}
+
+/// The word of a number with the last place in place of its own, if it is a mark word.
+fn at_the_last_place(number: u64) -> Option<u64> {
+    let last = Place {
+        core: 15,
+        index: 55,
+    };
+    Some(MarkWord::from_word(number)?.with_place(last).word())
 }
 
 #[test]
-fn mark_words_at_the_ends_of_their_fields(rt: HostRuntime) {
-    let word = MarkWord::new(Mark::Ready, false, FIRST, 1);
-    same(&rt, word.with_place(LAST).word(), 0x7f71);
-    same(&rt, word.with_place(LAST).place(), LAST);
-
-    let last = MarkWord::new(Mark::Ready, false, FIRST, LAST_GENERATION);
-    same(&rt, last.word(), 0xffff_ffff_ffff_c001);
-    same(&rt, last.generation(), 1_125_899_906_842_623);
-    same(
-        &rt,
-        last.with_mark(Mark::Spent).word(),
-        0xffff_ffff_ffff_c005,
-    );
-
-    let greatest = MarkWord::new(Mark::Spent, true, LAST, LAST_GENERATION);
-    same(&rt, greatest.word(), 0xffff_ffff_ffff_ff7d);
-    same(
-        &rt,
-        MarkWord::from_word(0xffff_ffff_ffff_ff7d),
-        Some(greatest),
-    );
+fn mark_words(rt: HostRuntime) -> Result<(), Fail> {
+    for &(number, shown) in MARKS {
+        assert_eq!(rt;
+            shown_mark(rt.alloc(), number)?.as_str(),
+            shown,
+            "{number:#x}"
+        );
+    }
+    for &(number, mark, code, changed) in WITH_MARK {
+        assert!(rt; mark.code() == code && (code > 5 || Mark::from_code(code) == mark));
+        assert!(rt;
+            with_mark(number, mark) == Some(changed),
+            "{number:#x} {mark:?}"
+        );
+    }
+    assert!(rt; at_the_last_place(0x4001) == Some(0x7f71));
+    Ok(())
 }
 
-#[test]
-fn words_that_are_read(rt: HostRuntime) {
-    same(
-        &rt,
-        MarkWord::from_word(0x4851).map(|mark| mark.word()),
-        Some(0x4851),
-    );
-    // No mark has this code, and no core this index.
-    same(&rt, MarkWord::from_word(0x4856).is_none(), true);
-    same(&rt, MarkWord::from_word(0x4857).is_none(), true);
-    same(&rt, MarkWord::from_word(56 << 4).is_none(), true);
-    same(&rt, MarkWord::from_word(55 << 4).is_some(), true);
+/// Numbers, and what each is as an occupancy word: its mask and its count, whether it is closed, exclusive and empty, and its
+/// lowest free index. In the last three the count isn't that of the mask.
+const OCCUPANCIES: &[(u64, &str)] = &[
+    (0, "0x0 0 false false true Some(0)"),
+    (0x0100_0000_0000_0001, "0x1 1 false false false Some(1)"),
+    (0x0200_0000_0000_0005, "0x5 2 false false false Some(1)"),
+    (0x0300_0000_0000_0007, "0x7 3 false false false Some(3)"),
+    (
+        0x0180_0000_0000_0000,
+        "0x80000000000000 1 false false false Some(0)",
+    ),
+    (
+        0x377f_ffff_ffff_ffff,
+        "0x7fffffffffffff 55 false false false Some(55)",
+    ),
+    (
+        0x38ff_ffff_ffff_ffff,
+        "0xffffffffffffff 56 false false false None",
+    ),
+    (
+        0x78ff_ffff_ffff_ffff,
+        "0xffffffffffffff 56 true false false None",
+    ),
+    (
+        0xf8ff_ffff_ffff_ffff,
+        "0xffffffffffffff 56 true true false None",
+    ),
+    (0x4300_0000_0000_0007, "0x7 3 true false false Some(3)"),
+    (0x8100_0000_0000_0001, "0x1 1 false true false Some(1)"),
+    (0xc100_0000_0000_0001, "0x1 1 true true false Some(1)"),
+    (0xc000_0000_0000_0000, "0x0 0 true true true Some(0)"),
+    (0x0200_0000_0000_0007, "none"),
+    (0x3900_0000_0000_0000, "none"),
+    (0x00ff_ffff_ffff_ffff, "none"),
+];
 
-    same(
-        &rt,
-        OccWord::from_word(0x4300_0000_0000_0007).map(|occ| occ.count()),
-        Some(3),
-    );
-    let full = OccWord::new(0x00ff_ffff_ffff_ffff, true, true);
-    same(&rt, OccWord::from_word(0xf8ff_ffff_ffff_ffff), Some(full));
-    same(&rt, OccWord::from_word(0), Some(OccWord::empty()));
-    // The count isn't that of the mask.
-    same(
-        &rt,
-        OccWord::from_word(0x0200_0000_0000_0007).is_none(),
+/// What a number is as an occupancy word, whose parts have to make that number again.
+fn shown_occupancy(alloc: Global, number: u64) -> Result<String, Fail> {
+    let Some(occ) = OccWord::from_word(number) else {
+        return Ok(format!(in alloc; "none")?);
+    };
+    let (mask, closed, exclusive) = (occ.mask(), occ.is_closed(), occ.is_exclusive());
+    let again = OccWord::new(mask, closed, exclusive);
+    if again != occ || again.word() != number {
+        return Err("another word")?;
+    }
+    let (count, empty, free) = (occ.count(), occ.is_empty(), occ.lowest_free());
+    Ok(format!(in alloc; "{mask:#x} {count} {closed} {exclusive} {empty} {free:?}")?)
+}
+
+/// Occupancy words, an index and whether it is occupied, and the words with it and without it.
+const INDEXES: &[(u64, u8, bool, u64, u64)] = &[
+    (0, 0, false, 0x0100_0000_0000_0001, 0),
+    (0, 55, false, 0x0180_0000_0000_0000, 0),
+    (
+        0x0100_0000_0000_0001,
+        2,
+        false,
+        0x0200_0000_0000_0005,
+        0x0100_0000_0000_0001,
+    ),
+    (
+        0x0200_0000_0000_0005,
+        0,
         true,
-    );
-    same(
-        &rt,
-        OccWord::from_word(0x3900_0000_0000_0000).is_none(),
+        0x0200_0000_0000_0005,
+        0x0100_0000_0000_0004,
+    ),
+    (
+        0x0200_0000_0000_0005,
+        1,
+        false,
+        0x0300_0000_0000_0007,
+        0x0200_0000_0000_0005,
+    ),
+    (
+        0x0200_0000_0000_0005,
+        2,
         true,
-    );
-    same(
-        &rt,
-        OccWord::from_word(0x00ff_ffff_ffff_ffff).is_none(),
+        0x0200_0000_0000_0005,
+        0x0100_0000_0000_0001,
+    ),
+    (0x0180_0000_0000_0000, 55, true, 0x0180_0000_0000_0000, 0),
+    (
+        0x38ff_ffff_ffff_ffff,
+        55,
         true,
-    );
+        0x38ff_ffff_ffff_ffff,
+        0x377f_ffff_ffff_ffff,
+    ),
+    (
+        0xc100_0000_0000_0001,
+        0,
+        true,
+        0xc100_0000_0000_0001,
+        0xc000_0000_0000_0000,
+    ),
+];
+
+/// Whether an index of a number is occupied, and the words with it and without it, if that is an occupancy word.
+fn at_index(number: u64, index: u8) -> Option<(bool, u64, u64)> {
+    let occ = OccWord::from_word(number)?;
+    if index >= 56 {
+        return None;
+    }
+    let (with, without) = (occ.with_bit(index), occ.without_bit(index));
+    Some((occ.is_occupied(index), with.word(), without.word()))
+}
+
+/// Occupancy words, whether a core is closed and exclusive, and the words that say so.
+const FLAGS: &[(u64, bool, bool, u64)] = &[
+    (0x38ff_ffff_ffff_ffff, true, false, 0x78ff_ffff_ffff_ffff),
+    (0x78ff_ffff_ffff_ffff, true, false, 0x78ff_ffff_ffff_ffff),
+    (0x78ff_ffff_ffff_ffff, false, false, 0x38ff_ffff_ffff_ffff),
+    (0x0100_0000_0000_0001, false, true, 0x8100_0000_0000_0001),
+    (0x8100_0000_0000_0001, false, false, 0x0100_0000_0000_0001),
+    (0x8100_0000_0000_0001, true, true, 0xc100_0000_0000_0001),
+];
+
+/// The word of a number that is closed and exclusive as is said, if it is an occupancy word.
+fn with_flags(number: u64, closed: bool, exclusive: bool) -> Option<u64> {
+    let occ = OccWord::from_word(number)?;
+    Some(occ.with_closed(closed).with_exclusive(exclusive).word())
 }
 
 #[test]
-fn indexes_of_a_core(rt: HostRuntime) {
-    let one = OccWord::empty().with_bit(0);
-    same(&rt, one.word(), 0x0100_0000_0000_0001);
-    let gap = one.with_bit(2);
-    same(&rt, gap.word(), 0x0200_0000_0000_0005);
-    same(&rt, gap.mask(), 0x5);
-    same(&rt, gap.lowest_free(), Some(1));
-    same(&rt, gap.is_occupied(2), true);
-    same(&rt, gap.is_occupied(1), false);
-    same(&rt, gap.with_bit(1).word(), 0x0300_0000_0000_0007);
-    same(&rt, gap.with_bit(2).word(), gap.word());
-    same(&rt, gap.without_bit(0).word(), 0x0100_0000_0000_0004);
-    same(&rt, gap.without_bit(1).word(), gap.word());
-    same(&rt, OccWord::empty().word(), 0);
-    same(&rt, OccWord::empty().lowest_free(), Some(0));
-    same(&rt, OccWord::empty().is_empty(), true);
-    same(&rt, gap.is_empty(), false);
-}
-
-#[test]
-fn the_last_index_and_a_full_core(rt: HostRuntime) {
-    let last = OccWord::empty().with_bit(55);
-    same(&rt, last.word(), 0x0180_0000_0000_0000);
-    same(&rt, last.is_occupied(55), true);
-    same(&rt, last.without_bit(55).word(), 0);
-    let full = OccWord::new(0x00ff_ffff_ffff_ffff, false, false);
-    same(&rt, full.word(), 0x38ff_ffff_ffff_ffff);
-    same(&rt, full.mask(), 0x00ff_ffff_ffff_ffff);
-    same(&rt, full.count(), 56);
-    same(&rt, full.lowest_free(), None);
-    same(&rt, full.without_bit(55).lowest_free(), Some(55));
-    same(&rt, full.without_bit(55).count(), 55);
-}
-
-#[test]
-fn closed_and_exclusive(rt: HostRuntime) {
-    let full = OccWord::new(0x00ff_ffff_ffff_ffff, false, false);
-    let closed = full.with_closed(true);
-    same(&rt, closed.word(), 0x78ff_ffff_ffff_ffff);
-    same(&rt, closed.is_closed(), true);
-    same(&rt, closed.is_exclusive(), false);
-    same(&rt, closed.with_closed(true).word(), closed.word());
-    same(&rt, closed.with_closed(false).word(), full.word());
-
-    let one = OccWord::new(1, false, false);
-    let alone = one.with_exclusive(true);
-    same(&rt, alone.word(), 0x8100_0000_0000_0001);
-    same(&rt, alone.is_exclusive(), true);
-    same(&rt, alone.is_closed(), false);
-    same(&rt, alone.with_exclusive(false).word(), one.word());
-
-    let both = OccWord::new(1, true, true);
-    same(&rt, both.word(), 0xc100_0000_0000_0001);
-    same(&rt, alone.with_closed(true), both);
-    same(&rt, both.without_bit(0).word(), 0xc000_0000_0000_0000);
+fn occupancy_words(rt: HostRuntime) -> Result<(), Fail> {
+    for &(number, shown) in OCCUPANCIES {
+        assert_eq!(rt;
+            shown_occupancy(rt.alloc(), number)?.as_str(),
+            shown,
+            "{number:#x}"
+        );
+    }
+    for &(number, index, occupied, with, without) in INDEXES {
+        assert!(rt;
+            at_index(number, index) == Some((occupied, with, without)),
+            "{number:#x} {index}"
+        );
+    }
+    for &(number, closed, exclusive, word) in FLAGS {
+        assert!(rt;
+            with_flags(number, closed, exclusive) == Some(word),
+            "{number:#x} {word:#x}"
+        );
+    }
+    assert!(rt; OccWord::empty().word() == 0);
+    Ok(())
 }
 
 #[test]
 fn numbers_of_places(rt: HostRuntime) {
     for (context, core, index) in [(0, 0, 0), (55, 0, 55), (56, 1, 0), (895, 15, 55)] {
         let place = Place { core, index };
-        same(&rt, Place::of_context(context), place);
-        same(&rt, place.number(), context);
+        assert!(rt; Place::of_context(context) == place && place.number() == context);
     }
 }
 

@@ -3,9 +3,10 @@ ghost use Rattle.std.specs.Prelude.{◌≡◌, ◌<◌, All, IfOk, IfSome, lengt
 ghost use Rattle.arachne_sleep.specs.SleepLock.{IsWhole};
 ghost use Rattle.arachne_sleep.specs.SleepLocks.{AreSeatsOf};
 
-use super::thread as user;
-use crate::compare::same;
-use arachne_sleep::{Asked, Freed, LockEvent, LockSeats, Pass, SleepLocks, Tried, Who};
+use super::{
+    A, Answer, Call, Rows, asked_rows, freed_rows, told_ask, told_check, told_free, whole_history,
+};
+use arachne_sleep::{AskFault, Asked, LockEvent, LockSeats, SleepLocks, Tried, Who};
 use std::alloc::{AllocError, Global};
 use std::sync::Wait;
 use std::test::Fail;
@@ -22,81 +23,88 @@ fn make(alloc: Global, count: u8) -> Result<(SleepLocks, LockSeats), AllocError>
     }
 }
 
-/// Asks until memory is there.
-fn ask<R: Wait>(
+/// Asks, and once more where memory was refused. None where another kernel thread was at the lock.
+fn asked<R: Wait>(
     rt: &R,
     locks: &SleepLocks,
     seats: &mut LockSeats,
     lock: u8,
     who: Who,
-) -> Option<Asked>
+) -> Option<Result<Asked, AskFault>>
     requires own { AreSeatsOf locks.now seats.old }
     requires lock { lock < length locks.now }
     ensures { seats.new ≡ seats.old }
 {
     match locks.ask(rt, seats, lock, who) {
-        Tried::Answered(Ok(asked)) => return Some(asked),
-        _ => {}
+        Tried::Answered(Err(AskFault::Memory)) => {}
+        Tried::Answered(answer) => return Some(answer),
+        Tried::Contended => return None,
     }
     match locks.ask(rt, seats, lock, who) {
-        Tried::Answered(Ok(asked)) => Some(asked),
-        _ => None,
+        Tried::Answered(answer) => Some(answer),
+        Tried::Contended => None,
     }
 }
 
+/// What a call on a lock answers.
+fn called<R: Wait>(
+    rt: &R,
+    locks: &SleepLocks,
+    seats: &mut LockSeats,
+    lock: u8,
+    call: Call,
+    who: Who,
+) -> Option<Answer>
+    requires own { AreSeatsOf locks.now seats.old }
+    requires lock { lock < length locks.now }
+    ensures { seats.new ≡ seats.old }
+{
+    match call {
+        Call::Ask => Some(told_ask(lock, who, asked(rt, locks, seats, lock, who)?)),
+        Call::Check => match locks.check(rt, seats, lock, who) {
+            Tried::Answered(pass) => Some(told_check(lock, who, pass)),
+            Tried::Contended => None,
+        },
+        Call::Free => match locks.free(rt, seats, lock, who) {
+            Tried::Answered(freed) => Some(told_free(freed)),
+            Tried::Contended => None,
+        },
+    }
+}
+
+/// The number of the first call on lock 2 that answers something else, from 0.
+fn first_wrong<R: Wait>(
+    rt: &R,
+    locks: &SleepLocks,
+    seats: &mut LockSeats,
+    rows: Rows,
+) -> Option<usize>
+    requires own { AreSeatsOf locks.now seats.old }
+    requires lock { 2 < length locks.now }
+    ensures { AreSeatsOf locks.now seats.new }
+{
+    for k in 0..rows.len() {
+        let (call, who, answer) = rows[k];
+        if called(rt, locks, seats, 2, call, who) != Some(answer) {
+            return Some(k);
+        }
+    }
+    None
+}
+
+/// The calls on lock 2 go by that lock alone.
 #[test]
 fn each_call_on_three_locks(rt: HostRuntime) -> Result<(), Fail> {
-    let (a, b) = (user(0, 3), user(1, 4));
     let (locks, mut seats) = make(rt.alloc(), 3)?;
-    same(&rt, locks.count(), 3);
-    same(&rt, locks.are_whole(&seats), true);
-
-    let pass = Pass {
-        lock: 2,
-        who: a,
-        at: 1,
-    };
-    let asked = ask(&rt, &locks, &mut seats, 2, a);
-    same(&rt, asked, Some(Asked::Granted(pass)));
-    let asked = ask(&rt, &locks, &mut seats, 2, b);
-    same(&rt, asked, Some(Asked::Queued { at: 2 }));
-    same(
-        &rt,
-        locks.check(&rt, &mut seats, 2, a),
-        Tried::Answered(Some(pass)),
-    );
-    same(
-        &rt,
-        locks.check(&rt, &mut seats, 1, a),
-        Tried::Answered(None),
-    );
-    let freed = Freed {
-        next: Some(b),
-        at: 3,
-    };
-    same(
-        &rt,
-        locks.free(&rt, &mut seats, 2, a),
-        Tried::Answered(Ok(freed)),
-    );
-
+    assert!(rt; locks.count() == 3 && locks.are_whole(&seats));
+    assert_eq!(rt; first_wrong(&rt, &locks, &mut seats, asked_rows()), None);
+    let other = called(&rt, &locks, &mut seats, 1, Call::Check, A);
+    assert!(rt; other == Some(("no pass", 0, None)));
+    assert_eq!(rt; first_wrong(&rt, &locks, &mut seats, freed_rows()), None);
     let seats = parted_and_joined(rt.alloc(), &locks, seats).ok_or("no memory")?;
-    same(&rt, locks.are_whole(&seats), true);
-    let histories = closed(rt.alloc(), locks, seats).ok_or("no memory")?;
-    let last = [
-        LockEvent::Ask(a),
-        LockEvent::Grant(a),
-        LockEvent::Ask(b),
-        LockEvent::Free(a),
-        LockEvent::Grant(b),
-    ];
-    assert_eq!(rt; histories.len(), 3);
-    same(
-        &rt,
-        histories[0].is_empty() && histories[1].is_empty(),
-        true,
-    );
-    assert_eq!(rt; histories[2].as_slice(), last.as_slice());
+    let histories = closed(rt.alloc(), locks, seats).ok_or("not closed")?;
+    assert!(rt; histories.len() == 3 && histories[0].is_empty() && histories[1].is_empty());
+    assert!(rt; histories[2].as_slice() == whole_history());
     Ok(())
 }
 

@@ -1,28 +1,17 @@
 //! A lock that two kernel threads share, and each call once.
 ghost use Rattle.std.specs.Prelude.{◌≡◌, IfOk};
-ghost use Rattle.std.specs.Thread.{IsSync};
 ghost use Rattle.arachne_sleep.specs.SleepLock.{IsSeatOf, IsWhole};
 
-use super::thread as user;
-use crate::compare::same;
-use arachne_sleep::{
-    AskFault, Asked, Freed, LockEvent, LockSeat, NotHolder, Pass, SleepLock, Tried, Who,
+use super::{
+    A, Answer, B, Call, Rows, asked_rows, freed_rows, told_ask, told_check, told_free,
+    whole_history,
 };
+use arachne_sleep::{AskFault, Asked, LockEvent, LockSeat, SleepLock, Tried, Who};
 use std::alloc::{AllocError, Global};
-use std::process::Abort;
-use std::snapshot::Snapshot;
 use std::sync::Wait;
 use std::test::Fail;
 use std::thread;
-use std::thread::{Promise, Threads};
-
-// The seat that comes back is of this lock.
-#[derive(Drop)]
-struct SeatOf(Snapshot<SleepLock>);
-
-impl Promise<LockSeat> for SeatOf {
-    ghost kept_by = { λ p seat. seat.table ≡ p.0.value.table };
-}
+use std::thread::Threads;
 
 /// Asks until the thread is let in, and then looks until it owns the lock.
 fn enter<R: Wait>(rt: &R, lock: &SleepLock, seat: &mut LockSeat, who: Who)
@@ -60,36 +49,23 @@ fn take_turns<R: Wait>(
     seat
 }
 
+/// Two kernel threads take turns, each as often as is said.
 fn take_turns_in_two_threads<R: Threads + Wait + Sync>(
     rt: &R,
     lock: &SleepLock,
     seat: LockSeat,
     turns: u32,
-) -> Result<LockSeat, AllocError>
+) -> LockSeat
     requires { IsSeatOf lock.now seat }
-    ensures { IfOk result (λ s. IsSeatOf lock.now s) }
+    ensures { IsSeatOf lock.now result }
 {
     let (own, theirs) = lock.split(seat);
-    thread::scope(
-        thread::scope_env(),
+    let (own, theirs) = thread::join(
         rt,
-        |scope| -> Result<LockSeat, AllocError>
-            requires sync { IsSync R.row }
-            requires own { IsSeatOf lock.now own }
-            requires theirs { IsSeatOf lock.now theirs }
-            ensures { IfOk result (λ s. IsSeatOf lock.entry.now s) }
-        {
-            let other = scope.spawn_with(
-                SeatOf(Snapshot::of(lock)),
-                move || -> LockSeat
-                    requires { IsSeatOf lock.now theirs }
-                    ensures { IsSeatOf lock.entry.now result }
-                { take_turns(rt, lock, theirs, user(1, 4), turns) },
-            )?;
-            let own = take_turns(rt, lock, own, user(0, 3), turns);
-            Ok(lock.join_seats(own, other.join(rt)))
-        },
-    )
+        move || take_turns(rt, lock, own, A, turns),
+        move || take_turns(rt, lock, theirs, B, turns),
+    );
+    lock.join_seats(own, theirs)
 }
 
 // Under `rt try --test --fail-alloc N` the Nth allocation is refused. A call that answers so is made once more.
@@ -113,12 +89,11 @@ fn grants_to(history: &[LockEvent], who: Who) -> usize {
 #[test]
 fn two_kernel_threads_take_turns(rt: HostRuntime) -> Result<(), Fail> {
     let (lock, seat) = make(rt.alloc(), 5)?;
-    let seat = take_turns_in_two_threads(&rt, &lock, seat, 100)?;
+    let seat = take_turns_in_two_threads(&rt, &lock, seat, 100);
     assert!(rt; lock.is_whole(&seat));
     let history = closed(lock, seat)?;
-    same(&rt, history.len(), 600);
-    same(&rt, grants_to(&history, user(0, 3)), 100);
-    same(&rt, grants_to(&history, user(1, 4)), 100);
+    assert!(rt; history.len() == 600);
+    assert!(rt; grants_to(&history, A) == 100 && grants_to(&history, B) == 100);
     Ok(())
 }
 
@@ -132,50 +107,75 @@ fn closed(lock: SleepLock, seat: LockSeat) -> Result<Vec<LockEvent>, Fail>
     }
 }
 
+/// Asks, and once more where memory was refused. None where another kernel thread was at the lock.
+fn asked<R: Wait>(
+    rt: &R,
+    lock: &SleepLock,
+    seat: &mut LockSeat,
+    who: Who,
+) -> Option<Result<Asked, AskFault>>
+    requires { IsSeatOf lock.now seat.old }
+    ensures { seat.new ≡ seat.old }
+{
+    match lock.ask(rt, seat, who) {
+        Tried::Answered(Err(AskFault::Memory)) => {}
+        Tried::Answered(answer) => return Some(answer),
+        Tried::Contended => return None,
+    }
+    match lock.ask(rt, seat, who) {
+        Tried::Answered(answer) => Some(answer),
+        Tried::Contended => None,
+    }
+}
+
+/// What a call on lock 5 answers.
+fn called<R: Wait>(
+    rt: &R,
+    lock: &SleepLock,
+    seat: &mut LockSeat,
+    call: Call,
+    who: Who,
+) -> Option<Answer>
+    requires { IsSeatOf lock.now seat.old }
+    ensures { seat.new ≡ seat.old }
+{
+    match call {
+        Call::Ask => Some(told_ask(5, who, asked(rt, lock, seat, who)?)),
+        Call::Check => match lock.check(rt, seat, who) {
+            Tried::Answered(pass) => Some(told_check(5, who, pass)),
+            Tried::Contended => None,
+        },
+        Call::Free => match lock.free(rt, seat, who) {
+            Tried::Answered(freed) => Some(told_free(freed)),
+            Tried::Contended => None,
+        },
+    }
+}
+
+/// The number of the first call that answers something else, from 0.
+fn first_wrong<R: Wait>(rt: &R, lock: &SleepLock, seat: &mut LockSeat, rows: Rows) -> Option<usize>
+    requires { IsSeatOf lock.now seat.old }
+    ensures { IsSeatOf lock.now seat.new }
+{
+    for k in 0..rows.len() {
+        let (call, who, answer) = rows[k];
+        if called(rt, lock, seat, call, who) != Some(answer) {
+            return Some(k);
+        }
+    }
+    None
+}
+
 #[test]
 fn each_call_of_a_shared_lock(rt: HostRuntime) -> Result<(), Fail> {
-    let (a, b) = (user(0, 3), user(1, 4));
     let (lock, mut seat) = make(rt.alloc(), 5)?;
-    same(&rt, lock.number(), 5);
-    let first = Pass {
-        lock: 5,
-        who: a,
-        at: 1,
-    };
-    enter(&rt, &lock, &mut seat, a);
-    same(
-        &rt,
-        lock.check(&rt, &mut seat, a),
-        Tried::Answered(Some(first)),
-    );
-    same(&rt, lock.check(&rt, &mut seat, b), Tried::Answered(None));
-    let asked = lock.ask(&rt, &mut seat, a);
-    same(&rt, asked, Tried::Answered(Err(AskFault::AlreadyIn)));
-    let asked = lock.ask(&rt, &mut seat, b);
-    same(&rt, asked, Tried::Answered(Ok(Asked::Queued { at: 2 })));
-    let freed = lock.free(&rt, &mut seat, b);
-    same(&rt, freed, Tried::Answered(Err(NotHolder)));
-    let freed = Freed {
-        next: Some(b),
-        at: 3,
-    };
-    same(
-        &rt,
-        lock.free(&rt, &mut seat, a),
-        Tried::Answered(Ok(freed)),
-    );
-
+    assert!(rt; lock.number() == 5);
+    assert_eq!(rt; first_wrong(&rt, &lock, &mut seat, asked_rows()), None);
+    assert_eq!(rt; first_wrong(&rt, &lock, &mut seat, freed_rows()), None);
     let (seat, other) = lock.split(seat);
-    same(&rt, lock.is_whole(&seat) || lock.is_whole(&other), false);
+    assert!(rt; !lock.is_whole(&seat) && !lock.is_whole(&other));
     let seat = lock.join_seats(other, seat);
     assert!(rt; lock.is_whole(&seat));
-    let whole = [
-        LockEvent::Ask(a),
-        LockEvent::Grant(a),
-        LockEvent::Ask(b),
-        LockEvent::Free(a),
-        LockEvent::Grant(b),
-    ];
-    assert_eq!(rt; closed(lock, seat)?.as_slice(), whole.as_slice());
+    assert!(rt; closed(lock, seat)?.as_slice() == whole_history());
     Ok(())
 }
