@@ -2,7 +2,6 @@
 ghost use Rattle.std.specs.Prelude.{◌≡◌, ◌<◌, IfOk};
 ghost use Rattle.arachne_ledger.specs.Views.{IsShareOf, IsWhole};
 
-use crate::compare::same;
 use arachne_ledger::{Ledgers, Share};
 use std::alloc::{AllocError, Global};
 use std::test::Fail;
@@ -84,17 +83,17 @@ fn four_threads_add_up(rt: HostRuntime) -> Result<(), Fail> {
 #[test]
 fn each_call_on_two_ledgers(rt: HostRuntime) -> Result<(), Fail> {
     let (ledgers, mut share) = make_ledgers(rt.alloc(), 2)?;
-    same(&rt, ledgers.count(), 2);
+    assert!(rt; ledgers.count() == 2);
     ledgers.add(&mut share, 0, u64::MAX);
     let (mut share, mut other) = ledgers.split(share);
-    same(&rt, share.is_whole() || other.is_whole(), false);
+    assert!(rt; !share.is_whole() && !other.is_whole());
     ledgers.add(&mut share, 1, 5);
     ledgers.add(&mut other, 0, 3);
-    same(&rt, ledgers.read(&mut share, 0), 2);
-    same(&rt, ledgers.read(&mut other, 1), 5);
+    let read = (ledgers.read(&mut share, 0), ledgers.read(&mut other, 1));
+    assert!(rt; read == (2, 5));
     let mut share = ledgers.join_shares(other, share);
-    same(&rt, ledgers.read(&mut share, 0), 2);
-    same(&rt, ledgers.read(&mut share, 1), 5);
+    let read = (ledgers.read(&mut share, 0), ledgers.read(&mut share, 1));
+    assert!(rt; read == (2, 5));
     assert!(rt; share.is_whole());
     let sums = sums(rt.alloc(), ledgers, share).ok_or("no memory")?;
     assert_eq!(rt; sums.as_slice(), [2, 5].as_slice());
@@ -105,12 +104,12 @@ fn each_call_on_two_ledgers(rt: HostRuntime) -> Result<(), Fail> {
 fn there_may_be_no_ledger(rt: HostRuntime) -> Result<(), Fail> {
     let (ledgers, share) = make_ledgers(rt.alloc(), 0)?;
     let sums = sums(rt.alloc(), ledgers, share).ok_or("no memory")?;
-    same(&rt, sums.is_empty(), true);
+    assert!(rt; sums.is_empty());
     Ok(())
 }
 
 #[test]
 fn more_ledgers_than_memory_are_refused(rt: HostRuntime) {
-    same(&rt, Ledgers::new(rt.alloc(), 1 << 59).is_err(), true);
-    same(&rt, Ledgers::new(rt.alloc(), usize::MAX).is_err(), true);
+    assert!(rt; Ledgers::new(rt.alloc(), 1 << 59).is_err());
+    assert!(rt; Ledgers::new(rt.alloc(), usize::MAX).is_err());
 }

@@ -132,11 +132,7 @@ const CHOICES: &[(u64, &[(u8, u8)], u8)] = &[
 #[test]
 fn the_word_picks_two_entries(rt: HostRuntime) -> Result<(), Fail> {
     for &(word, cores, expected) in CHOICES {
-        assert_eq!(rt;
-            choice(rt.alloc(), word, cores)?,
-            Some(expected),
-            "{word} {cores:?}"
-        );
+        assert_eq!(rt; choice(rt.alloc(), word, cores)?, Some(expected), "{word}");
     }
     Ok(())
 }
@@ -201,30 +197,23 @@ const ORDERS: &[(
 #[test]
 fn the_first_order_at_fault_is_answered(rt: HostRuntime) -> Result<(), Fail> {
     for &(orders, cores, fault) in ORDERS {
-        assert_eq!(rt;
-            answer(rt.alloc(), orders, cores)?,
-            fault,
-            "{orders:?} {cores}"
-        );
+        assert_eq!(rt; answer(rt.alloc(), orders, cores)?, fault);
     }
     Ok(())
 }
 
-fn advice_texts(rt: &impl Abort, alloc: Global) -> Result<(), Fail> {
-    for (advice, text) in [
-        (Advice::Add, "add"),
-        (Advice::Stay, "stay"),
-        (Advice::Remove, "remove"),
-    ] {
-        assert_eq!(rt; advice.to_string(alloc)?.as_str(), text);
-    }
-    Ok(())
-}
+const ADVICE: &[(Advice, &str)] = &[
+    (Advice::Add, "add"),
+    (Advice::Stay, "stay"),
+    (Advice::Remove, "remove"),
+];
 
 #[test]
 fn texts(rt: HostRuntime) -> Result<(), Fail> {
     let alloc = rt.alloc();
-    advice_texts(&rt, alloc)?;
+    for &(advice, text) in ADVICE {
+        assert_eq!(rt; advice.to_string(alloc)?.as_str(), text);
+    }
     let fault = OrderFault {
         index: 3,
         kind: OrderFaultKind::ReleasesCoreZero,
