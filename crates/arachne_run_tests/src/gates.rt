@@ -27,8 +27,10 @@ pub enum Watching {
 #[derive(Drop)]
 pub struct Watch {
     watching: Watching,
-    entered: AtomicU64,
-    slices: AtomicU64,
+    /// Bit k is set where core k has entered a slice.
+    pub entered: AtomicU64,
+    /// How many slices were entered.
+    pub slices: AtomicU64,
     zero: AtomicU64,
     one: AtomicU64,
     failed: AtomicU64,
@@ -44,16 +46,6 @@ impl Watch {
             one: AtomicU64::new(0),
             failed: AtomicU64::new(0),
         }
-    }
-
-    /// Bit k is set where core k has entered a slice.
-    pub fn entered(&self) -> u64 {
-        self.entered.load(Ordering::SeqCst)
-    }
-
-    /// How many slices were entered.
-    pub fn slices(&self) -> u64 {
-        self.slices.load(Ordering::SeqCst)
     }
 
     /// Whether all came that a core was held up for, and no core has given up.
@@ -77,17 +69,15 @@ impl Watch {
         self.slices.fetch_add(1, Ordering::SeqCst);
     }
 
-    /// Waits for the other core's word.
+    /// Waits until the other core's word is at least so great.
     fn wait(&self, other: &AtomicU64, wanted: u64) {
-        if !reaches(other, wanted) {
-            self.failed.store(1, Ordering::SeqCst);
+        for _ in 0..POLLS {
+            if other.load(Ordering::SeqCst) >= wanted {
+                return;
+            }
+            yield_now();
         }
-    }
-
-    /// Enters a slice, and waits until the other core has entered its own.
-    fn meet(&self, own: &AtomicU64, other: &AtomicU64) {
-        own.store(1, Ordering::SeqCst);
-        self.wait(other, 1);
+        self.failed.store(1, Ordering::SeqCst);
     }
 }
 
@@ -95,8 +85,14 @@ impl Gate for Watch {
     fn slice(&self, core: u8, nth: u64) {
         match (self.watching, core, nth) {
             (Watching::Cores, _, _) => self.note(core),
-            (Watching::Meeting, 0, MEETING) => self.meet(&self.zero, &self.one),
-            (Watching::Meeting, 1, 0) => self.meet(&self.one, &self.zero),
+            (Watching::Meeting, 0, MEETING) => {
+                self.zero.store(1, Ordering::SeqCst);
+                self.wait(&self.one, 1);
+            }
+            (Watching::Meeting, 1, 0) => {
+                self.one.store(1, Ordering::SeqCst);
+                self.wait(&self.zero, 1);
+            }
             (Watching::Lead(_), 0, _) => {
                 self.zero.fetch_add(1, Ordering::SeqCst);
             }
@@ -104,15 +100,4 @@ impl Gate for Watch {
             _ => {}
         }
     }
-}
-
-/// Waits until a word is at least so great. Whether it was before this gave up.
-fn reaches(word: &AtomicU64, wanted: u64) -> bool {
-    for _ in 0..POLLS {
-        if word.load(Ordering::SeqCst) >= wanted {
-            return true;
-        }
-        yield_now();
-    }
-    false
 }

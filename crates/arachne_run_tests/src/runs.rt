@@ -5,10 +5,11 @@ ghost use Rattle.arachne_lang.specs.Checked.{IsChecked};
 
 use crate::altered::Altered;
 use crate::choosers::{Draws, Progression};
+use crate::gates::Watch;
 use arachne_lang::{Program, check, parse};
 use arachne_locked::LockedContexts;
 use arachne_policy::CoreOrder;
-use arachne_run::{Gate, Job, Report, RunFault, Setup, run};
+use arachne_run::{Job, Report, RunFault, Setup, run};
 use arachne_words::WordContexts;
 use std::alloc::{AllocError, Global};
 use std::sync::Wait;
@@ -21,13 +22,12 @@ mod loads;
 mod locks;
 mod orders;
 mod programs;
-mod refusals;
 mod reports;
 mod rows;
 mod tables;
 
 /// A form of context table.
-#[derive(Clone, Copy, Debug)]
+#[derive(Clone, Copy)]
 enum Form {
     Locked,
     Words,
@@ -41,15 +41,8 @@ const FORMS: &[Form] = &[Form::Locked, Form::Words];
 /// The form that answers one call by itself.
 const ALTERED: &[Form] = &[Form::Altered];
 
-/// A machine, and what its choosers draw.
-#[derive(Clone, Copy)]
-struct Machine {
-    cores: u64,
-    quantum: u64,
-    /// How many choosers it has. A run wants one for each core.
-    choosers: u64,
-    draws: Draws,
-}
+/// How many cores a machine has, its quantum, and how many choosers. A run wants one for each core.
+type Machine = (u64, u64, u64);
 
 /// A program: how many ledgers and locks it has, and so many forks within one another, of which the innermost one's child
 /// is the expression.
@@ -61,18 +54,12 @@ struct Source {
     expr: &'static str,
 }
 
-/// So many forks within one another, of which the innermost one's child is this.
-fn nested(alloc: Global, forks: usize, innermost: &str) -> Result<String, Fail> {
-    let fronts = "(fork n ".repeat(alloc, forks)?;
-    let ends = " (num 1) (add (var 0) (var 1)))".repeat(alloc, forks)?;
-    Ok(format!(in alloc; "{fronts}{innermost}{ends}")?)
-}
-
 /// The text of a program.
 fn text_of(alloc: Global, source: &Source) -> Result<String, Fail> {
-    let expr = nested(alloc, source.forks, source.expr)?;
-    let (ledgers, locks) = (source.ledgers, source.locks);
-    Ok(format!(in alloc; "arachne 1\nledgers {ledgers}\nlocks {locks}\n{expr}\n")?)
+    let (ledgers, locks, expr) = (source.ledgers, source.locks, source.expr);
+    let fronts = "(fork n ".repeat(alloc, source.forks)?;
+    let ends = " (num 1) (add (var 0) (var 1)))".repeat(alloc, source.forks)?;
+    Ok(format!(in alloc; "arachne 1\nledgers {ledgers}\nlocks {locks}\n{fronts}{expr}{ends}\n")?)
 }
 
 /// The program of a text, which may run.
@@ -85,84 +72,89 @@ fn checked(alloc: Global, text: &[u8]) -> Result<Program, Fail>
 }
 
 /// Runs a program over a table behind a lock.
-fn run_on_lock<'p, R: Threads + Wait + Sync, G: Gate + Sync>(
+fn run_on_lock<'p, R: Threads + Wait + Sync>(
     rt: &R,
     alloc: Global,
     program: &'p Program,
     setup: Setup,
     choosers: Vec<Progression>,
-    gate: &G,
+    gate: &Watch,
 ) -> Result<Report, RunFault>
     requires { IsChecked (source_of program.now) }
 {
-    run::<R, Job<'p>, LockedContexts<Job<'p>>, Progression, G>(
+    run::<R, Job<'p>, LockedContexts<Job<'p>>, Progression, Watch>(
         rt, alloc, program, setup, choosers, gate,
     )
 }
 
 /// Runs a program over a table on words.
-fn run_on_words<'p, R: Threads + Wait + Sync, G: Gate + Sync>(
+fn run_on_words<'p, R: Threads + Wait + Sync>(
     rt: &R,
     alloc: Global,
     program: &'p Program,
     setup: Setup,
     choosers: Vec<Progression>,
-    gate: &G,
+    gate: &Watch,
 ) -> Result<Report, RunFault>
     requires { IsChecked (source_of program.now) }
 {
-    run::<R, Job<'p>, WordContexts<Job<'p>>, Progression, G>(
+    run::<R, Job<'p>, WordContexts<Job<'p>>, Progression, Watch>(
         rt, alloc, program, setup, choosers, gate,
     )
 }
 
 /// Runs a program over an altered table.
-fn run_altered<'p, R: Threads + Wait + Sync, G: Gate + Sync>(
+fn run_altered<'p, R: Threads + Wait + Sync>(
     rt: &R,
     alloc: Global,
     program: &'p Program,
     setup: Setup,
     choosers: Vec<Progression>,
-    gate: &G,
+    gate: &Watch,
 ) -> Result<Report, RunFault>
     requires { IsChecked (source_of program.now) }
 {
-    run::<R, Job<'p>, Altered<Job<'p>>, Progression, G>(rt, alloc, program, setup, choosers, gate)
+    run::<R, Job<'p>, Altered<Job<'p>>, Progression, Watch>(
+        rt, alloc, program, setup, choosers, gate,
+    )
 }
 
 /// How a run is set up on a machine, and its choosers.
 fn setup_of(
     alloc: Global,
     machine: Machine,
+    draws: Draws,
     orders: &[CoreOrder],
 ) -> Result<(Setup, Vec<Progression>), AllocError> {
+    let (cores, quantum, count) = machine;
+    let orders = orders.to_vec(alloc)?;
     let mut choosers = Vec::new(alloc);
-    for nth in 0..machine.choosers {
-        choosers.push(machine.draws.of(nth))?;
+    for nth in 0..count {
+        choosers.push(draws.of(nth))?;
     }
     let setup = Setup {
-        cores: machine.cores,
-        quantum: machine.quantum,
-        orders: orders.to_vec(alloc)?,
+        cores,
+        quantum,
+        orders,
     };
     Ok((setup, choosers))
 }
 
-/// What comes of a run of a text's program. All tests run their programs here.
-fn answer<R: Threads + Wait + Sync, G: Gate + Sync>(
+/// What comes of a run of a program. All tests run their programs here.
+fn answer<R: Threads + Wait + Sync>(
     rt: &R,
     alloc: Global,
-    text: &[u8],
+    program: &Program,
     form: Form,
-    machine: Machine,
-    orders: &[CoreOrder],
-    gate: &G,
-) -> Result<Result<Report, RunFault>, Fail> {
-    let program = checked(alloc, text)?;
-    let (setup, choosers) = setup_of(alloc, machine, orders)?;
-    Ok(match form {
-        Form::Locked => run_on_lock(rt, alloc, &program, setup, choosers, gate),
-        Form::Words => run_on_words(rt, alloc, &program, setup, choosers, gate),
-        Form::Altered => run_altered(rt, alloc, &program, setup, choosers, gate),
-    })
+    setup: Setup,
+    choosers: Vec<Progression>,
+    gate: &Watch,
+) -> Result<Report, RunFault>
+    requires { IsChecked (source_of program.now) }
+{
+    match form {
+        Form::Locked => run_on_lock(rt, alloc, program, setup, choosers, gate),
+        Form::Words => run_on_words(rt, alloc, program, setup, choosers, gate),
+        Form::Altered => run_altered(rt, alloc, program, setup, choosers, gate),
+    }
 }

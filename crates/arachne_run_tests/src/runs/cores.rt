@@ -14,24 +14,6 @@ pub(super) const FORK: Source = Source {
     expr: "(fork n (num 2) (num 3) (add (var 0) (var 1)))",
 };
 
-/// With these words both choices of a fork are core 3.
-const FORKED: &[Row] = &[Row {
-    source: FORK,
-    forms: FORMS,
-    machines: &[(4, 1)],
-    draws: CORE_THREE,
-    orders: &[],
-    watching: Watching::Cores,
-    facts: &[(Fact::Value, 5), (Fact::Cores, 0b1001)],
-    telling: Telling::Nothing,
-    told: "",
-}];
-
-#[test]
-fn a_fork_goes_where_its_choices_say(rt: HostRuntime) -> Result<(), Fail> {
-    rows_hold(&rt, rt.alloc(), FORKED)
-}
-
 /// A fork's first choice is the low half of a drawn word, its second the high half.
 const STEP: u64 = 0x0000_0001_0000_0001;
 
@@ -42,90 +24,6 @@ const NEXT_CORES: Draws = Draws {
     apart: STEP,
 };
 
-/// Of threads that fork one another each is on the core behind its parent's.
-const CHAINS: &[Row] = &[
-    Row {
-        source: Source {
-            ledgers: 0,
-            locks: 0,
-            forks: 1,
-            expr: "(num 1)",
-        },
-        forms: FORMS,
-        machines: &[(4, 1)],
-        draws: NEXT_CORES,
-        orders: &[],
-        watching: Watching::Cores,
-        facts: &[(Fact::Value, 2), (Fact::Cores, 0b0011)],
-        telling: Telling::Nothing,
-        told: "",
-    },
-    Row {
-        source: Source {
-            ledgers: 0,
-            locks: 0,
-            forks: 2,
-            expr: "(num 1)",
-        },
-        forms: FORMS,
-        machines: &[(4, 1)],
-        draws: NEXT_CORES,
-        orders: &[],
-        watching: Watching::Cores,
-        facts: &[(Fact::Value, 3), (Fact::Cores, 0b0111)],
-        telling: Telling::Nothing,
-        told: "",
-    },
-    Row {
-        source: Source {
-            ledgers: 0,
-            locks: 0,
-            forks: 3,
-            expr: "(num 1)",
-        },
-        forms: FORMS,
-        machines: &[(4, 1)],
-        draws: NEXT_CORES,
-        orders: &[],
-        watching: Watching::Cores,
-        facts: &[(Fact::Value, 4), (Fact::Cores, 0b1111)],
-        telling: Telling::Nothing,
-        told: "",
-    },
-];
-
-#[test]
-fn each_core_has_its_own_chooser(rt: HostRuntime) -> Result<(), Fail> {
-    rows_hold(&rt, rt.alloc(), CHAINS)
-}
-
-/// Core 0's chooser draws cores 1, 2 and 3 in turn, for the three threads that the root forks before it joins any.
-const THREE: &[Row] = &[Row {
-    source: Source {
-        ledgers: 0,
-        locks: 0,
-        forks: 0,
-        expr: "(fork n (num 1) (fork n (num 2) (fork n (num 3) (num 4) (var 1)) (var 1)) (var 1))",
-    },
-    forms: FORMS,
-    machines: &[(4, 1)],
-    draws: Draws {
-        word: STEP,
-        step: STEP,
-        apart: 0,
-    },
-    orders: &[],
-    watching: Watching::Cores,
-    facts: &[(Fact::Value, 4), (Fact::Cores, 0b1111)],
-    telling: Telling::Nothing,
-    told: "",
-}];
-
-#[test]
-fn each_fork_draws_a_word(rt: HostRuntime) -> Result<(), Fail> {
-    rows_hold(&rt, rt.alloc(), THREE)
-}
-
 /// The root counts to 1,000 while its child has another core alone.
 pub(super) const ALONE: Source = Source {
     ledgers: 0,
@@ -133,29 +31,6 @@ pub(super) const ALONE: Source = Source {
     forks: 0,
     expr: "(fork x (num 1) (fold (num 0) (num 1000) (num 0) (var 1)) (add (var 0) (var 1)))",
 };
-
-/// The child runs while the root does.
-const BESIDE: &[Row] = &[Row {
-    source: ALONE,
-    forms: FORMS,
-    machines: &[(2, 1)],
-    draws: ZEROS,
-    orders: &[],
-    watching: Watching::Meeting,
-    facts: &[
-        (Fact::Value, 1),
-        (Fact::Threads, 2),
-        (Fact::InPlace, 0),
-        (Fact::IsOver, 1),
-    ],
-    telling: Telling::Nothing,
-    told: "",
-}];
-
-#[test]
-fn a_thread_that_has_a_core_alone_runs_beside_its_parent(rt: HostRuntime) -> Result<(), Fail> {
-    rows_hold(&rt, rt.alloc(), BESIDE)
-}
 
 /// A thread that begins at least 1,004 nodes.
 const LONG: Source = Source {
@@ -165,12 +40,118 @@ const LONG: Source = Source {
     expr: "(fold (num 0) (num 1000) (num 0) (var 1))",
 };
 
-/// A slice has no more steps than the quantum, and each beginning of a node is a step.
-const QUANTA: &[Row] = &[
+const ROWS: &[Row] = &[
+    // With these words both choices of a fork are core 3.
     Row {
+        shows: "a fork goes where its choices say",
+        source: FORK,
+        forms: FORMS,
+        machines: &[(4, 1, 4)],
+        draws: CORE_THREE,
+        orders: &[],
+        watching: Watching::Cores,
+        facts: &[(Fact::Value, 5), (Fact::Cores, 0b1001)],
+        telling: Telling::Nothing,
+        told: "",
+    },
+    // Of threads that fork one another each is on the core behind its parent's.
+    Row {
+        shows: "each core has its own chooser",
+        source: Source {
+            ledgers: 0,
+            locks: 0,
+            forks: 1,
+            expr: "(num 1)",
+        },
+        forms: FORMS,
+        machines: &[(4, 1, 4)],
+        draws: NEXT_CORES,
+        orders: &[],
+        watching: Watching::Cores,
+        facts: &[(Fact::Value, 2), (Fact::Cores, 0b0011)],
+        telling: Telling::Nothing,
+        told: "",
+    },
+    Row {
+        shows: "each core has its own chooser",
+        source: Source {
+            ledgers: 0,
+            locks: 0,
+            forks: 2,
+            expr: "(num 1)",
+        },
+        forms: FORMS,
+        machines: &[(4, 1, 4)],
+        draws: NEXT_CORES,
+        orders: &[],
+        watching: Watching::Cores,
+        facts: &[(Fact::Value, 3), (Fact::Cores, 0b0111)],
+        telling: Telling::Nothing,
+        told: "",
+    },
+    Row {
+        shows: "each core has its own chooser",
+        source: Source {
+            ledgers: 0,
+            locks: 0,
+            forks: 3,
+            expr: "(num 1)",
+        },
+        forms: FORMS,
+        machines: &[(4, 1, 4)],
+        draws: NEXT_CORES,
+        orders: &[],
+        watching: Watching::Cores,
+        facts: &[(Fact::Value, 4), (Fact::Cores, 0b1111)],
+        telling: Telling::Nothing,
+        told: "",
+    },
+    // Core 0's chooser draws cores 1, 2 and 3 in turn, for the three threads that the root forks before it joins any.
+    Row {
+        shows: "each fork draws a word",
+        source: Source {
+            ledgers: 0,
+            locks: 0,
+            forks: 0,
+            expr: "(fork n (num 1) (fork n (num 2) (fork n (num 3) (num 4) (var 1)) (var 1)) (var 1))",
+        },
+        forms: FORMS,
+        machines: &[(4, 1, 4)],
+        draws: Draws {
+            word: STEP,
+            step: STEP,
+            apart: 0,
+        },
+        orders: &[],
+        watching: Watching::Cores,
+        facts: &[(Fact::Value, 4), (Fact::Cores, 0b1111)],
+        telling: Telling::Nothing,
+        told: "",
+    },
+    // The child runs while the root does.
+    Row {
+        shows: "a thread that has a core alone runs beside its parent",
+        source: ALONE,
+        forms: FORMS,
+        machines: &[(2, 1, 2)],
+        draws: ZEROS,
+        orders: &[],
+        watching: Watching::Meeting,
+        facts: &[
+            (Fact::Value, 1),
+            (Fact::Threads, 2),
+            (Fact::InPlace, 0),
+            (Fact::IsOver, 1),
+        ],
+        telling: Telling::Nothing,
+        told: "",
+    },
+    // A slice has no more steps than the quantum, and each beginning of a node is a step.
+    Row {
+        shows: "a slice ends by its quantum",
         source: LONG,
         forms: FORMS,
-        machines: &[(2, 1)],
+        machines: &[(2, 1, 2)],
         draws: ZEROS,
         orders: &[],
         watching: Watching::Cores,
@@ -183,9 +164,10 @@ const QUANTA: &[Row] = &[
         told: "",
     },
     Row {
+        shows: "a slice ends by its quantum",
         source: LONG,
         forms: FORMS,
-        machines: &[(2, 2)],
+        machines: &[(2, 2, 2)],
         draws: ZEROS,
         orders: &[],
         watching: Watching::Cores,
@@ -198,9 +180,10 @@ const QUANTA: &[Row] = &[
         told: "",
     },
     Row {
+        shows: "a slice ends by its quantum",
         source: LONG,
         forms: FORMS,
-        machines: &[(2, 7)],
+        machines: &[(2, 7, 2)],
         draws: ZEROS,
         orders: &[],
         watching: Watching::Cores,
@@ -213,9 +196,10 @@ const QUANTA: &[Row] = &[
         told: "",
     },
     Row {
+        shows: "a slice ends by its quantum",
         source: LONG,
         forms: FORMS,
-        machines: &[(2, 100)],
+        machines: &[(2, 100, 2)],
         draws: ZEROS,
         orders: &[],
         watching: Watching::Cores,
@@ -224,9 +208,10 @@ const QUANTA: &[Row] = &[
         told: "",
     },
     Row {
+        shows: "a slice ends by its quantum",
         source: LONG,
         forms: FORMS,
-        machines: &[(2, 1003)],
+        machines: &[(2, 1003, 2)],
         draws: ZEROS,
         orders: &[],
         watching: Watching::Cores,
@@ -237,6 +222,6 @@ const QUANTA: &[Row] = &[
 ];
 
 #[test]
-fn a_slice_ends_by_its_quantum(rt: HostRuntime) -> Result<(), Fail> {
-    rows_hold(&rt, rt.alloc(), QUANTA)
+fn threads_run_on_the_cores_that_are_drawn(rt: HostRuntime) -> Result<(), Fail> {
+    rows_hold(&rt, rt.alloc(), ROWS)
 }

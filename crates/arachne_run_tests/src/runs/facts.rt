@@ -1,13 +1,14 @@
 //! What a report, and a gate that watched the run, show.
-use super::locks::{count_of_grants, events_of, grants_are_holds, history};
+use super::locks::{events_of, grants, grants_are_holds, history};
 use super::programs::threads_of;
 use crate::gates::Watch;
-use arachne_run::Report;
+use arachne_run::{Report, RunFault};
 use std::alloc::Global;
+use std::sync::atomic::Ordering;
 use std::test::Fail;
 
 /// A number of a run. Those that are asked by a word are 1 where that is so, and else 0.
-#[derive(Clone, Copy, Debug)]
+#[derive(Clone, Copy)]
 pub(super) enum Fact {
     Value,
     /// How many threads there were.
@@ -37,41 +38,31 @@ pub(super) enum Fact {
 }
 
 /// The number of a fact.
-pub(super) fn number(
-    alloc: Global,
-    report: &Report,
-    watch: &Watch,
-    fact: Fact,
-) -> Result<u64, Fail> {
-    Ok(match fact {
-        Fact::Events => history(report).len() as u64,
-        Fact::Grants => count_of_grants(alloc, report)?,
-        Fact::GrantsAreHolds => u64::from(grants_are_holds(alloc, report)?),
-        Fact::Cores => watch.entered(),
-        Fact::Slices(least) => u64::from(watch.slices() >= least),
-        Fact::IsOver => u64::from(watch.is_over()),
-        _ => reported(report, fact),
-    })
-}
-
-/// The number of a fact that the report alone shows.
-fn reported(report: &Report, fact: Fact) -> u64 {
+pub(super) fn number(report: &Report, watch: &Watch, fact: Fact) -> u64 {
     match fact {
         Fact::Value => report.value,
         Fact::Threads => report.threads.as_slice().len() as u64,
-        Fact::InPlace => in_place(report) as u64,
+        Fact::InPlace => in_place(report),
         Fact::Totals => report.totals.as_slice().len() as u64,
         Fact::Total => report.totals.as_slice().first().copied().unwrap_or(0),
         Fact::Applied => report.applied as u64,
         Fact::AppliesUpTo(most) => u64::from(report.applied as u64 <= most),
-        _ => 0,
+        Fact::Cores => watch.entered.load(Ordering::SeqCst),
+        Fact::Slices(least) => u64::from(watch.slices.load(Ordering::SeqCst) >= least),
+        Fact::IsOver => u64::from(watch.is_over()),
+        Fact::Events => history(report).len() as u64,
+        Fact::Grants => grants(history(report), None),
+        Fact::GrantsAreHolds => u64::from(grants_are_holds(report)),
     }
 }
 
 /// How many threads ran in the place of their parents.
-fn in_place(report: &Report) -> usize {
-    let lines = report.threads.as_slice();
-    lines.iter().filter(|line| line.in_place).count()
+fn in_place(report: &Report) -> u64 {
+    let mut count = 0u64;
+    for line in report.threads.as_slice() {
+        count = count.wrapping_add(u64::from(line.in_place));
+    }
+    count
 }
 
 /// What is told of a run.
@@ -85,10 +76,15 @@ pub(super) enum Telling {
 }
 
 /// What is told of a run.
-pub(super) fn told(alloc: Global, report: &Report, telling: Telling) -> Result<String, Fail> {
-    match telling {
-        Telling::Nothing => Ok(String::new(alloc)),
-        Telling::Threads => threads_of(alloc, report),
-        Telling::Events => events_of(alloc, report),
+pub(super) fn told(
+    alloc: Global,
+    answer: &Result<Report, RunFault>,
+    telling: Telling,
+) -> Result<String, Fail> {
+    match (answer, telling) {
+        (Err(fault), _) => Ok(format!(in alloc; "{fault:?}")?),
+        (Ok(_), Telling::Nothing) => Ok(String::new(alloc)),
+        (Ok(report), Telling::Threads) => threads_of(alloc, report),
+        (Ok(report), Telling::Events) => events_of(alloc, report),
     }
 }

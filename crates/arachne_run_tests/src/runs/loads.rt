@@ -1,7 +1,7 @@
 //! Many threads, over and over.
 use super::facts::{Fact, Telling};
 use super::rows::{Row, row_holds};
-use super::{Form, Machine, Source};
+use super::{Form, Source};
 use crate::choosers::{Draws, SPREAD};
 use crate::gates::Watching;
 use std::alloc::Global;
@@ -12,6 +12,7 @@ use std::thread::Threads;
 
 /// Each of 100,000 threads holds the lock once and tallies.
 const SUMS: Row = Row {
+    shows: "many threads end",
     source: Source {
         ledgers: 1,
         locks: 1,
@@ -45,13 +46,8 @@ fn run_five_times<R: Abort + Threads + Wait + Sync>(
             word: SPREAD.word.wrapping_add(seed).wrapping_mul(2 * nth + 1),
             ..SPREAD
         };
-        let machine = Machine {
-            cores: 16,
-            quantum,
-            choosers: 16,
-            draws,
-        };
-        row_holds(rt, alloc, &SUMS, Form::Words, machine, &[])?;
+        let row = Row { draws, ..SUMS };
+        row_holds(rt, alloc, &row, Form::Words, (16, quantum, 16), &[])?;
     }
     Ok(())
 }

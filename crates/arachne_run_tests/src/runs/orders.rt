@@ -4,7 +4,7 @@ use super::facts::{Fact, Telling};
 use super::programs::{SWEEP, SWEPT};
 use super::reports::MANY;
 use super::rows::{Row, row_holds, rows_hold};
-use super::{FORMS, Machine, Source};
+use super::{FORMS, Source};
 use crate::choosers::{CORE_ONE, CORE_THREE, SPREAD, ZEROS};
 use crate::gates::Watching;
 use arachne_policy::{CoreOrder, OrderKind};
@@ -12,12 +12,84 @@ use std::alloc::{AllocError, Global};
 use std::test::Fail;
 use std::time::{Duration, Instant};
 
-/// Three orders, and with the last one, which is never due.
-const COUNTED: &[Row] = &[
+/// The root forks once it has counted to 3,000.
+const LATE: Source = Source {
+    ledgers: 0,
+    locks: 0,
+    forks: 0,
+    expr: "(let (fold (num 0) (num 3000) (num 0) (var 0)) (fork n (num 2) (num 3) (add (var 1) (var 2))))",
+};
+
+/// The root forks two threads that count to 3,000, and counts to 1,000 itself.
+const COUNTING: Source = Source {
+    ledgers: 0,
+    locks: 0,
+    forks: 0,
+    expr: "(fork n (fold (num 0) (num 3000) (num 0) (var 0)) (fork n (fold (num 0) (num 3000) (num 0) (var 0)) (fold (num 0) (num 1000) (num 0) (var 0)) (add (var 0) (var 1))) (add (var 0) (var 1)))",
+};
+
+/// So many orders, each due a slice after the one before: releases and grants of cores 1 to 3 in turn.
+fn orders(alloc: Global, count: u64) -> Result<Vec<CoreOrder>, AllocError> {
+    let mut orders = Vec::new(alloc);
+    for after in 0..count {
+        let kind = if after % 2 == 0 {
+            OrderKind::Release
+        } else {
+            OrderKind::Grant
+        };
+        let core = 1 + after / 2 % 3;
+        orders.push(CoreOrder { after, kind, core })?;
+    }
+    Ok(orders)
+}
+
+/// 901 threads on four cores.
+const COMING_AND_GOING: Row = Row {
+    shows: "cores come and go",
+    source: MANY,
+    forms: FORMS,
+    machines: &[(4, 1, 4)],
+    draws: SPREAD,
+    orders: &[],
+    watching: Watching::Nothing,
+    facts: &[
+        (Fact::Value, 405_450),
+        (Fact::Threads, 901),
+        (Fact::AppliesUpTo(1000), 1),
+    ],
+    telling: Telling::Nothing,
+    told: "",
+};
+
+/// A thousand orders close and open three of four cores while the threads run.
+#[test]
+fn cores_come_and_go(rt: HostRuntime) -> Result<(), Fail> {
+    let alloc = rt.alloc();
+    let orders = orders(alloc, 1000)?;
+    for &form in FORMS {
+        let start = Instant::now(&rt)?;
+        row_holds(
+            &rt,
+            alloc,
+            &COMING_AND_GOING,
+            form,
+            (4, 1, 4),
+            orders.as_slice(),
+        )?;
+        let elapsed = start.elapsed(&rt)?;
+        assert!(rt; elapsed < Duration::from_secs(5), "{elapsed:?}");
+    }
+    Ok(())
+}
+
+const ROWS: &[Row] = &[
+    // Three orders, and with the last one, which is never due.
+    // A report tells how many orders were applied: one that is never due was not.
     Row {
+        shows: "orders are counted",
         source: SWEEP,
         forms: FORMS,
-        machines: &[(4, 1)],
+        machines: &[(4, 1, 4)],
         draws: SPREAD,
         orders: &[
             CoreOrder {
@@ -42,9 +114,10 @@ const COUNTED: &[Row] = &[
         told: SWEPT,
     },
     Row {
+        shows: "orders are counted",
         source: SWEEP,
         forms: FORMS,
-        machines: &[(4, 1)],
+        machines: &[(4, 1, 4)],
         draws: SPREAD,
         orders: &[
             CoreOrder {
@@ -73,88 +146,54 @@ const COUNTED: &[Row] = &[
         telling: Telling::Threads,
         told: SWEPT,
     },
-];
-
-/// A report tells how many orders were applied: one that is never due was not.
-#[test]
-fn orders_are_counted(rt: HostRuntime) -> Result<(), Fail> {
-    rows_hold(&rt, rt.alloc(), COUNTED)
-}
-
-/// Both choices of the fork are core 3, which is closed: of the cores that are left both are core 0.
-const CLOSED: &[Row] = &[Row {
-    source: FORK,
-    forms: FORMS,
-    machines: &[(4, 1), (4, 100)],
-    draws: CORE_THREE,
-    orders: &[CoreOrder {
-        after: 0,
-        kind: OrderKind::Release,
-        core: 3,
-    }],
-    watching: Watching::Cores,
-    facts: &[(Fact::Value, 5), (Fact::Applied, 1), (Fact::Cores, 0b0001)],
-    telling: Telling::Nothing,
-    told: "",
-}];
-
-#[test]
-fn a_closed_core_gets_no_thread(rt: HostRuntime) -> Result<(), Fail> {
-    rows_hold(&rt, rt.alloc(), CLOSED)
-}
-
-/// The root forks once it has counted to 3,000.
-const LATE: Source = Source {
-    ledgers: 0,
-    locks: 0,
-    forks: 0,
-    expr: "(let (fold (num 0) (num 3000) (num 0) (var 0)) (fork n (num 2) (num 3) (add (var 1) (var 2))))",
-};
-
-/// Core 3 is closed at first, and open again when the root forks.
-const GRANTED: &[Row] = &[Row {
-    source: LATE,
-    forms: FORMS,
-    machines: &[(4, 1)],
-    draws: CORE_THREE,
-    orders: &[
-        CoreOrder {
+    // Both choices of the fork are core 3, which is closed: of the cores that are left both are core 0.
+    Row {
+        shows: "a closed core gets no thread",
+        source: FORK,
+        forms: FORMS,
+        machines: &[(4, 1, 4), (4, 100, 4)],
+        draws: CORE_THREE,
+        orders: &[CoreOrder {
             after: 0,
             kind: OrderKind::Release,
             core: 3,
-        },
-        CoreOrder {
-            after: 10,
-            kind: OrderKind::Grant,
-            core: 3,
-        },
-    ],
-    watching: Watching::Cores,
-    facts: &[(Fact::Value, 5), (Fact::Applied, 2), (Fact::Cores, 0b1001)],
-    telling: Telling::Nothing,
-    told: "",
-}];
-
-#[test]
-fn a_granted_core_gets_threads_again(rt: HostRuntime) -> Result<(), Fail> {
-    rows_hold(&rt, rt.alloc(), GRANTED)
-}
-
-/// The root forks two threads that count to 3,000, and counts to 1,000 itself.
-const COUNTING: Source = Source {
-    ledgers: 0,
-    locks: 0,
-    forks: 0,
-    expr: "(fork n (fold (num 0) (num 3000) (num 0) (var 0)) (fork n (fold (num 0) (num 3000) (num 0) (var 0)) (fold (num 0) (num 1000) (num 0) (var 0)) (add (var 0) (var 1))) (add (var 0) (var 1)))",
-};
-
-/// Both of the root's children are on core 1, whose first slice is held up until core 0 has entered more slices than the
-/// root alone has: the other one comes there once core 1 was closed.
-const DRAINED: &[Row] = &[
+        }],
+        watching: Watching::Cores,
+        facts: &[(Fact::Value, 5), (Fact::Applied, 1), (Fact::Cores, 0b0001)],
+        telling: Telling::Nothing,
+        told: "",
+    },
+    // Core 3 is closed at first, and open again when the root forks.
     Row {
+        shows: "a granted core gets threads again",
+        source: LATE,
+        forms: FORMS,
+        machines: &[(4, 1, 4)],
+        draws: CORE_THREE,
+        orders: &[
+            CoreOrder {
+                after: 0,
+                kind: OrderKind::Release,
+                core: 3,
+            },
+            CoreOrder {
+                after: 10,
+                kind: OrderKind::Grant,
+                core: 3,
+            },
+        ],
+        watching: Watching::Cores,
+        facts: &[(Fact::Value, 5), (Fact::Applied, 2), (Fact::Cores, 0b1001)],
+        telling: Telling::Nothing,
+        told: "",
+    },
+    // Both of the root's children are on core 1, whose first slice is held up until core 0 has entered more slices than the
+    // root alone has: the other one comes there once core 1 was closed.
+    Row {
+        shows: "a closed core is drained",
         source: COUNTING,
         forms: FORMS,
-        machines: &[(2, 1)],
+        machines: &[(2, 1, 2)],
         draws: CORE_ONE,
         orders: &[CoreOrder {
             after: 5,
@@ -167,9 +206,10 @@ const DRAINED: &[Row] = &[
         told: "",
     },
     Row {
+        shows: "a closed core is drained",
         source: COUNTING,
         forms: FORMS,
-        machines: &[(2, 100)],
+        machines: &[(2, 100, 2)],
         draws: CORE_ONE,
         orders: &[CoreOrder {
             after: 5,
@@ -181,96 +221,31 @@ const DRAINED: &[Row] = &[
         telling: Telling::Nothing,
         told: "",
     },
+    // A thread that has its core alone stays there when that is closed, and runs beside its parent.
+    Row {
+        shows: "a thread that has a core alone stays",
+        source: ALONE,
+        forms: FORMS,
+        machines: &[(2, 1, 2)],
+        draws: ZEROS,
+        orders: &[CoreOrder {
+            after: 400,
+            kind: OrderKind::Release,
+            core: 1,
+        }],
+        watching: Watching::Meeting,
+        facts: &[
+            (Fact::Value, 1),
+            (Fact::Applied, 1),
+            (Fact::IsOver, 1),
+            (Fact::InPlace, 0),
+        ],
+        telling: Telling::Nothing,
+        told: "",
+    },
 ];
 
 #[test]
-fn a_closed_core_is_drained(rt: HostRuntime) -> Result<(), Fail> {
-    rows_hold(&rt, rt.alloc(), DRAINED)
-}
-
-/// A thread that has its core alone stays there when that is closed, and runs beside its parent.
-const STAYS: &[Row] = &[Row {
-    source: ALONE,
-    forms: FORMS,
-    machines: &[(2, 1)],
-    draws: ZEROS,
-    orders: &[CoreOrder {
-        after: 400,
-        kind: OrderKind::Release,
-        core: 1,
-    }],
-    watching: Watching::Meeting,
-    facts: &[
-        (Fact::Value, 1),
-        (Fact::Applied, 1),
-        (Fact::IsOver, 1),
-        (Fact::InPlace, 0),
-    ],
-    telling: Telling::Nothing,
-    told: "",
-}];
-
-#[test]
-fn a_thread_that_has_a_core_alone_stays(rt: HostRuntime) -> Result<(), Fail> {
-    rows_hold(&rt, rt.alloc(), STAYS)
-}
-
-/// So many orders, each due a slice after the one before: releases and grants of cores 1 to 3 in turn.
-fn orders(alloc: Global, count: u64) -> Result<Vec<CoreOrder>, AllocError> {
-    let mut orders = Vec::new(alloc);
-    for after in 0..count {
-        let kind = if after % 2 == 0 {
-            OrderKind::Release
-        } else {
-            OrderKind::Grant
-        };
-        let core = 1 + after / 2 % 3;
-        orders.push(CoreOrder { after, kind, core })?;
-    }
-    Ok(orders)
-}
-
-/// 901 threads on four cores.
-const COMING_AND_GOING: Row = Row {
-    source: MANY,
-    forms: FORMS,
-    machines: &[(4, 1)],
-    draws: SPREAD,
-    orders: &[],
-    watching: Watching::Nothing,
-    facts: &[
-        (Fact::Value, 405_450),
-        (Fact::Threads, 901),
-        (Fact::AppliesUpTo(1000), 1),
-    ],
-    telling: Telling::Nothing,
-    told: "",
-};
-
-const FOUR_CORES: Machine = Machine {
-    cores: 4,
-    quantum: 1,
-    choosers: 4,
-    draws: SPREAD,
-};
-
-/// A thousand orders close and open three of four cores while the threads run.
-#[test]
-fn cores_come_and_go(rt: HostRuntime) -> Result<(), Fail> {
-    let alloc = rt.alloc();
-    let orders = orders(alloc, 1000)?;
-    for &form in FORMS {
-        let start = Instant::now(&rt)?;
-        row_holds(
-            &rt,
-            alloc,
-            &COMING_AND_GOING,
-            form,
-            FOUR_CORES,
-            orders.as_slice(),
-        )?;
-        let elapsed = start.elapsed(&rt)?;
-        assert!(rt; elapsed < Duration::from_secs(5), "{form:?}: {elapsed:?}");
-    }
-    Ok(())
+fn orders_close_and_open_cores(rt: HostRuntime) -> Result<(), Fail> {
+    rows_hold(&rt, rt.alloc(), ROWS)
 }

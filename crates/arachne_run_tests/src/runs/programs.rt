@@ -20,133 +20,6 @@ pub(super) const SWEEP: Source = Source {
 /// What is told of it.
 pub(super) const SWEPT: &str = "28 [] [][] [1][] [0][] [0, 0][]";
 
-/// What is told of each program's threads.
-const PROGRAMS: &[Row] = &[
-    Row {
-        source: Source {
-            ledgers: 0,
-            locks: 0,
-            forks: 0,
-            expr: "(num 7)",
-        },
-        forms: FORMS,
-        machines: MACHINES,
-        draws: SPREAD,
-        orders: &[],
-        watching: Watching::Nothing,
-        facts: &[],
-        telling: Telling::Threads,
-        told: "7 [] [][]",
-    },
-    Row {
-        source: Source {
-            ledgers: 0,
-            locks: 0,
-            forks: 0,
-            expr: "(add (num 18446744073709551615) (num 1))",
-        },
-        forms: FORMS,
-        machines: MACHINES,
-        draws: SPREAD,
-        orders: &[],
-        watching: Watching::Nothing,
-        facts: &[],
-        telling: Telling::Threads,
-        told: "0 [] [][]",
-    },
-    Row {
-        source: Source {
-            ledgers: 0,
-            locks: 0,
-            forks: 0,
-            expr: "(fork n (num 2) (num 3) (sub (var 0) (var 1)))",
-        },
-        forms: FORMS,
-        machines: MACHINES,
-        draws: SPREAD,
-        orders: &[],
-        watching: Watching::Nothing,
-        facts: &[],
-        telling: Telling::Threads,
-        told: "18446744073709551615 [] [][] [0][]",
-    },
-    Row {
-        source: Source {
-            ledgers: 0,
-            locks: 0,
-            forks: 0,
-            expr: "(fork x (num 2) (num 3) (add (var 0) (var 1)))",
-        },
-        forms: FORMS,
-        machines: MACHINES,
-        draws: SPREAD,
-        orders: &[],
-        watching: Watching::Nothing,
-        facts: &[],
-        telling: Telling::Threads,
-        told: "5 [] [][] [0][]",
-    },
-    Row {
-        source: SWEEP,
-        forms: FORMS,
-        machines: MACHINES,
-        draws: SPREAD,
-        orders: &[],
-        watching: Watching::Nothing,
-        facts: &[],
-        telling: Telling::Threads,
-        told: SWEPT,
-    },
-    Row {
-        source: Source {
-            ledgers: 0,
-            locks: 0,
-            forks: 0,
-            expr: "(sweep min 1 (num 5) (num 5) (var 0))",
-        },
-        forms: FORMS,
-        machines: MACHINES,
-        draws: SPREAD,
-        orders: &[],
-        watching: Watching::Nothing,
-        facts: &[],
-        telling: Telling::Threads,
-        told: "18446744073709551615 [] [][]",
-    },
-    Row {
-        source: Source {
-            ledgers: 1,
-            locks: 1,
-            forks: 0,
-            expr: "(sweep add 1 (num 0) (num 8) (hold 0 (tally 0 (num 5) (num 1))))",
-        },
-        forms: FORMS,
-        machines: MACHINES,
-        draws: SPREAD,
-        orders: &[],
-        watching: Watching::Nothing,
-        facts: &[],
-        telling: Telling::Threads,
-        told: "8 [40] [][1] [2][1] [1][1] [1, 0][1] [0][1] [0, 1][1] [0, 0][1] [0, 0, 0][1]",
-    },
-    Row {
-        source: Source {
-            ledgers: 2,
-            locks: 2,
-            forks: 0,
-            expr: "(fork n (hold 1 (tally 1 (num 4) (num 1))) (tally 0 (num 3) (num 2)) (hold 0 (add (var 0) (var 1))))",
-        },
-        forms: FORMS,
-        machines: MACHINES,
-        draws: SPREAD,
-        orders: &[],
-        watching: Watching::Nothing,
-        facts: &[],
-        telling: Telling::Threads,
-        told: "3 [3, 4] [][1, 0] [0][0, 1]",
-    },
-];
-
 /// The numbers of a name.
 fn numbers(alloc: Global, name: &Name) -> Result<Vec<u64>, Fail> {
     let mut numbers = Vec::new(alloc);
@@ -166,8 +39,144 @@ pub(super) fn threads_of(alloc: Global, report: &Report) -> Result<String, Fail>
     Ok(text)
 }
 
+const ROWS: &[Row] = &[
+    // What is told of each program's threads.
+    // Whatever the table, the cores and the quantum, a program means the same.
+    Row {
+        shows: "every machine tells the same",
+        source: Source {
+            ledgers: 0,
+            locks: 0,
+            forks: 0,
+            expr: "(num 7)",
+        },
+        forms: FORMS,
+        machines: MACHINES,
+        draws: SPREAD,
+        orders: &[],
+        watching: Watching::Nothing,
+        facts: &[],
+        telling: Telling::Threads,
+        told: "7 [] [][]",
+    },
+    Row {
+        shows: "every machine tells the same",
+        source: Source {
+            ledgers: 0,
+            locks: 0,
+            forks: 0,
+            expr: "(add (num 18446744073709551615) (num 1))",
+        },
+        forms: FORMS,
+        machines: MACHINES,
+        draws: SPREAD,
+        orders: &[],
+        watching: Watching::Nothing,
+        facts: &[],
+        telling: Telling::Threads,
+        told: "0 [] [][]",
+    },
+    Row {
+        shows: "every machine tells the same",
+        source: Source {
+            ledgers: 0,
+            locks: 0,
+            forks: 0,
+            expr: "(fork n (num 2) (num 3) (sub (var 0) (var 1)))",
+        },
+        forms: FORMS,
+        machines: MACHINES,
+        draws: SPREAD,
+        orders: &[],
+        watching: Watching::Nothing,
+        facts: &[],
+        telling: Telling::Threads,
+        told: "18446744073709551615 [] [][] [0][]",
+    },
+    Row {
+        shows: "every machine tells the same",
+        source: Source {
+            ledgers: 0,
+            locks: 0,
+            forks: 0,
+            expr: "(fork x (num 2) (num 3) (add (var 0) (var 1)))",
+        },
+        forms: FORMS,
+        machines: MACHINES,
+        draws: SPREAD,
+        orders: &[],
+        watching: Watching::Nothing,
+        facts: &[],
+        telling: Telling::Threads,
+        told: "5 [] [][] [0][]",
+    },
+    Row {
+        shows: "every machine tells the same",
+        source: SWEEP,
+        forms: FORMS,
+        machines: MACHINES,
+        draws: SPREAD,
+        orders: &[],
+        watching: Watching::Nothing,
+        facts: &[],
+        telling: Telling::Threads,
+        told: SWEPT,
+    },
+    Row {
+        shows: "every machine tells the same",
+        source: Source {
+            ledgers: 0,
+            locks: 0,
+            forks: 0,
+            expr: "(sweep min 1 (num 5) (num 5) (var 0))",
+        },
+        forms: FORMS,
+        machines: MACHINES,
+        draws: SPREAD,
+        orders: &[],
+        watching: Watching::Nothing,
+        facts: &[],
+        telling: Telling::Threads,
+        told: "18446744073709551615 [] [][]",
+    },
+    Row {
+        shows: "every machine tells the same",
+        source: Source {
+            ledgers: 1,
+            locks: 1,
+            forks: 0,
+            expr: "(sweep add 1 (num 0) (num 8) (hold 0 (tally 0 (num 5) (num 1))))",
+        },
+        forms: FORMS,
+        machines: MACHINES,
+        draws: SPREAD,
+        orders: &[],
+        watching: Watching::Nothing,
+        facts: &[],
+        telling: Telling::Threads,
+        told: "8 [40] [][1] [2][1] [1][1] [1, 0][1] [0][1] [0, 1][1] [0, 0][1] [0, 0, 0][1]",
+    },
+    Row {
+        shows: "every machine tells the same",
+        source: Source {
+            ledgers: 2,
+            locks: 2,
+            forks: 0,
+            expr: "(fork n (hold 1 (tally 1 (num 4) (num 1))) (tally 0 (num 3) (num 2)) (hold 0 (add (var 0) (var 1))))",
+        },
+        forms: FORMS,
+        machines: MACHINES,
+        draws: SPREAD,
+        orders: &[],
+        watching: Watching::Nothing,
+        facts: &[],
+        telling: Telling::Threads,
+        told: "3 [3, 4] [][1, 0] [0][0, 1]",
+    },
+];
+
 /// Whatever the table, the cores and the quantum, a program means the same.
 #[test]
 fn every_machine_tells_the_same(rt: HostRuntime) -> Result<(), Fail> {
-    rows_hold(&rt, rt.alloc(), PROGRAMS)
+    rows_hold(&rt, rt.alloc(), ROWS)
 }

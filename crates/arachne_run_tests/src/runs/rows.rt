@@ -1,6 +1,6 @@
 //! Rows of runs: what is run, on which machines, and what each run has to show.
 use super::facts::{Fact, Telling, number, told};
-use super::{Form, Machine, Source, answer, text_of};
+use super::{Form, Machine, Source, answer, checked, setup_of, text_of};
 use crate::choosers::Draws;
 use crate::gates::{Watch, Watching};
 use arachne_policy::CoreOrder;
@@ -10,31 +10,33 @@ use std::sync::Wait;
 use std::test::Fail;
 use std::thread::Threads;
 
-/// Numbers of cores, and quanta.
-pub(super) const MACHINES: &[(u64, u64)] = &[
-    (1, 1),
-    (2, 1),
-    (3, 1),
-    (4, 1),
-    (16, 1),
-    (1, 100),
-    (2, 100),
-    (4, 100),
-    (16, 100),
+/// All machines on which a program has to mean the same.
+pub(super) const MACHINES: &[Machine] = &[
+    (1, 1, 1),
+    (2, 1, 2),
+    (3, 1, 3),
+    (4, 1, 4),
+    (16, 1, 16),
+    (1, 100, 1),
+    (2, 100, 2),
+    (4, 100, 4),
+    (16, 100, 16),
 ];
 
 /// A program that is run over each of the forms on each of the machines.
 #[derive(Clone, Copy)]
 pub(super) struct Row {
+    /// What it shows.
+    pub(super) shows: &'static str,
     pub(super) source: Source,
     pub(super) forms: &'static [Form],
-    /// Numbers of cores, and quanta.
-    pub(super) machines: &'static [(u64, u64)],
+    pub(super) machines: &'static [Machine],
     pub(super) draws: Draws,
     pub(super) orders: &'static [CoreOrder],
     pub(super) watching: Watching,
+    /// What a report has to say.
     pub(super) facts: &'static [(Fact, u64)],
-    /// What is told of each run, and how.
+    /// What is told of each run, and how. Of a run that gives no report its fault is told.
     pub(super) telling: Telling,
     pub(super) told: &'static str,
 }
@@ -48,24 +50,20 @@ pub(super) fn row_holds<R: Abort + Threads + Wait + Sync>(
     machine: Machine,
     orders: &[CoreOrder],
 ) -> Result<(), Fail> {
-    let (cores, quantum) = (machine.cores, machine.quantum);
     let text = text_of(alloc, &row.source)?;
+    let program = checked(alloc, text.as_bytes())?;
+    let (setup, choosers) = setup_of(alloc, machine, row.draws, orders)?;
     let watch = Watch::new(row.watching);
-    let report = answer(rt, alloc, text.as_bytes(), form, machine, orders, &watch)??;
-    for &(fact, expected) in row.facts {
-        let found = number(alloc, &report, &watch, fact)?;
-        assert_eq!(rt;
-            found,
-            expected,
-            "{fact:?} {form:?} {cores} {quantum}: {text}"
-        );
+    let answer = answer(rt, alloc, &program, form, setup, choosers, &watch);
+    let told = told(alloc, &answer, row.telling)?;
+    let shows = row.shows;
+    assert_eq!(rt; told.as_str(), row.told, "{shows}: {machine:?} {text}");
+    if let Ok(report) = &answer {
+        for &(fact, expected) in row.facts {
+            let found = number(report, &watch, fact);
+            assert_eq!(rt; found, expected, "{shows}: {machine:?} {text}");
+        }
     }
-    let told = told(alloc, &report, row.telling)?;
-    assert_eq!(rt;
-        told.as_str(),
-        row.told,
-        "{form:?} {cores} {quantum}: {text}"
-    );
     Ok(())
 }
 
@@ -77,13 +75,7 @@ pub(super) fn rows_hold<R: Abort + Threads + Wait + Sync>(
 ) -> Result<(), Fail> {
     for row in rows {
         for &form in row.forms {
-            for &(cores, quantum) in row.machines {
-                let machine = Machine {
-                    cores,
-                    quantum,
-                    choosers: cores,
-                    draws: row.draws,
-                };
+            for &machine in row.machines {
                 row_holds(rt, alloc, row, form, machine, row.orders)?;
             }
         }

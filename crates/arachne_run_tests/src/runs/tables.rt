@@ -1,12 +1,10 @@
 //! That a run goes through its table, and looks at its setup before it does.
 use super::cores::FORK;
 use super::facts::{Fact, Telling};
-use super::refusals::{Refusal, refusals_hold};
 use super::rows::{Row, rows_hold};
-use super::{ALTERED, FORMS, Machine, Source};
+use super::{ALTERED, FORMS, Source};
 use crate::choosers::{CORE_ONE, CORE_THREE, ZEROS};
 use crate::gates::Watching;
-use arachne_run::RunFault;
 use std::test::Fail;
 
 /// A thread that forks none.
@@ -17,55 +15,6 @@ const SEVEN: Source = Source {
     expr: "(num 7)",
 };
 
-/// A table that hands each thread back when it is to be finished gives the run no report.
-const HANDED_BACK: &[Refusal] = &[
-    Refusal {
-        source: SEVEN,
-        forms: ALTERED,
-        machine: Machine {
-            cores: 1,
-            quantum: 1,
-            choosers: 1,
-            draws: ZEROS,
-        },
-        fault: RunFault::Token,
-    },
-    Refusal {
-        source: SEVEN,
-        forms: ALTERED,
-        machine: Machine {
-            cores: 1,
-            quantum: 100,
-            choosers: 1,
-            draws: ZEROS,
-        },
-        fault: RunFault::Token,
-    },
-];
-
-#[test]
-fn threads_that_come_back_stop_the_run(rt: HostRuntime) -> Result<(), Fail> {
-    refusals_hold(&rt, rt.alloc(), HANDED_BACK)
-}
-
-/// Where all other cores answer that they are full, core 0 runs every thread.
-const FULL: &[Row] = &[Row {
-    source: FORK,
-    forms: ALTERED,
-    machines: &[(4, 1), (4, 100)],
-    draws: CORE_THREE,
-    orders: &[],
-    watching: Watching::Cores,
-    facts: &[(Fact::Value, 5), (Fact::Cores, 0b0001)],
-    telling: Telling::Nothing,
-    told: "",
-}];
-
-#[test]
-fn full_cores_run_nothing(rt: HostRuntime) -> Result<(), Fail> {
-    rows_hold(&rt, rt.alloc(), FULL)
-}
-
 /// The child of the root's child.
 const GRANDCHILD: Source = Source {
     ledgers: 0,
@@ -74,120 +23,99 @@ const GRANDCHILD: Source = Source {
     expr: "(fork n (fork n (num 1) (num 2) (add (var 0) (var 1))) (num 3) (add (var 0) (var 1)))",
 };
 
-/// The first claim that is refused memory is the root's for its child on core 0, or that child's for its own on core 1.
-const REFUSED: &[Refusal] = &[
-    Refusal {
+const ROWS: &[Row] = &[
+    // A table that hands each thread back when it is to be finished gives the run no report.
+    Row {
+        shows: "threads that come back stop the run",
+        source: SEVEN,
+        forms: ALTERED,
+        machines: &[(1, 1, 1), (1, 100, 1)],
+        draws: ZEROS,
+        orders: &[],
+        watching: Watching::Nothing,
+        facts: &[],
+        telling: Telling::Nothing,
+        told: "Token",
+    },
+    // Where all other cores answer that they are full, core 0 runs every thread.
+    Row {
+        shows: "full cores run nothing",
+        source: FORK,
+        forms: ALTERED,
+        machines: &[(4, 1, 4), (4, 100, 4)],
+        draws: CORE_THREE,
+        orders: &[],
+        watching: Watching::Cores,
+        facts: &[(Fact::Value, 5), (Fact::Cores, 0b0001)],
+        telling: Telling::Nothing,
+        told: "",
+    },
+    // The first claim that is refused memory is the root's for its child on core 0, or that child's for its own on core 1.
+    // The fault of any core's kernel thread is the run's, not that its tokens are missing then.
+    Row {
+        shows: "the first fault is told",
         source: GRANDCHILD,
         forms: ALTERED,
-        machine: Machine {
-            cores: 2,
-            quantum: 1,
-            choosers: 2,
-            draws: ZEROS,
-        },
-        fault: RunFault::Memory,
+        machines: &[(2, 1, 2)],
+        draws: ZEROS,
+        orders: &[],
+        watching: Watching::Nothing,
+        facts: &[],
+        telling: Telling::Nothing,
+        told: "Memory",
     },
-    Refusal {
+    Row {
+        shows: "the first fault is told",
         source: GRANDCHILD,
         forms: ALTERED,
-        machine: Machine {
-            cores: 2,
-            quantum: 1,
-            choosers: 2,
-            draws: CORE_ONE,
-        },
-        fault: RunFault::Memory,
+        machines: &[(2, 1, 2)],
+        draws: CORE_ONE,
+        orders: &[],
+        watching: Watching::Nothing,
+        facts: &[],
+        telling: Telling::Nothing,
+        told: "Memory",
     },
-];
-
-/// The fault of any core's kernel thread is the run's, not that its tokens are missing then.
-#[test]
-fn the_first_fault_is_told(rt: HostRuntime) -> Result<(), Fail> {
-    refusals_hold(&rt, rt.alloc(), REFUSED)
-}
-
-/// A run wants one chooser for each core, and tells this after the number of cores and the quantum.
-const SETUPS: &[Refusal] = &[
-    Refusal {
+    // A run wants one chooser for each core, and tells this after the number of cores and the quantum.
+    Row {
+        shows: "setups are looked at first",
         source: SEVEN,
         forms: FORMS,
-        machine: Machine {
-            cores: 4,
-            quantum: 1,
-            choosers: 3,
-            draws: ZEROS,
-        },
-        fault: RunFault::Choosers,
+        machines: &[(4, 1, 3), (4, 1, 5)],
+        draws: ZEROS,
+        orders: &[],
+        watching: Watching::Nothing,
+        facts: &[],
+        telling: Telling::Nothing,
+        told: "Choosers",
     },
-    Refusal {
+    Row {
+        shows: "setups are looked at first",
         source: SEVEN,
         forms: FORMS,
-        machine: Machine {
-            cores: 4,
-            quantum: 1,
-            choosers: 5,
-            draws: ZEROS,
-        },
-        fault: RunFault::Choosers,
+        machines: &[(4, 0, 3), (4, 10_001, 4)],
+        draws: ZEROS,
+        orders: &[],
+        watching: Watching::Nothing,
+        facts: &[],
+        telling: Telling::Nothing,
+        told: "Quantum",
     },
-    Refusal {
+    Row {
+        shows: "setups are looked at first",
         source: SEVEN,
         forms: FORMS,
-        machine: Machine {
-            cores: 4,
-            quantum: 0,
-            choosers: 3,
-            draws: ZEROS,
-        },
-        fault: RunFault::Quantum,
-    },
-    Refusal {
-        source: SEVEN,
-        forms: FORMS,
-        machine: Machine {
-            cores: 4,
-            quantum: 10_001,
-            choosers: 4,
-            draws: ZEROS,
-        },
-        fault: RunFault::Quantum,
-    },
-    Refusal {
-        source: SEVEN,
-        forms: FORMS,
-        machine: Machine {
-            cores: 0,
-            quantum: 0,
-            choosers: 0,
-            draws: ZEROS,
-        },
-        fault: RunFault::Cores,
-    },
-    Refusal {
-        source: SEVEN,
-        forms: FORMS,
-        machine: Machine {
-            cores: 17,
-            quantum: 0,
-            choosers: 3,
-            draws: ZEROS,
-        },
-        fault: RunFault::Cores,
-    },
-    Refusal {
-        source: SEVEN,
-        forms: FORMS,
-        machine: Machine {
-            cores: 17,
-            quantum: 1,
-            choosers: 17,
-            draws: ZEROS,
-        },
-        fault: RunFault::Cores,
+        machines: &[(0, 0, 0), (17, 0, 3), (17, 1, 17)],
+        draws: ZEROS,
+        orders: &[],
+        watching: Watching::Nothing,
+        facts: &[],
+        telling: Telling::Nothing,
+        told: "Cores",
     },
 ];
 
 #[test]
-fn setups_are_looked_at_first(rt: HostRuntime) -> Result<(), Fail> {
-    refusals_hold(&rt, rt.alloc(), SETUPS)
+fn a_run_goes_through_its_table_and_its_setup(rt: HostRuntime) -> Result<(), Fail> {
+    rows_hold(&rt, rt.alloc(), ROWS)
 }

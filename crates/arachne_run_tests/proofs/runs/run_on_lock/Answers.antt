@@ -8,6 +8,7 @@ use Rattle.arachne_locked.proofs.tokens.LockedHold.TheSendSync as hold
 use Rattle.arachne_machine.proofs.Crossing.{thread_send}
 use Rattle.arachne_run.proofs.Crossing.{job_send, spares_send}
 use Rattle.arachne_run_tests.proofs.choosers.Progression.TheSendSync as chooser
+use Rattle.arachne_run_tests.proofs.gates.Watch.TheSendSync as watch
 use Rattle.arachne_run_tests.proofs.runs.run_on_lock.Goals as goal
 
 -- what a run sends to its kernel threads and shares with them may cross; the program is checked
@@ -31,7 +32,7 @@ run-requires g c κs = (
                 (
                   search (sendable, std.crosses, locked.the_sync, job_send) depth 20,
                   (
-                    search (sendable, c.type_bounds.sync-G) depth 20,
+                    search (sendable, std.crosses, watch.the_sync) depth 20,
                     ((refl, tt), c.requires),
                   ),
                 ),
