@@ -1,4 +1,4 @@
-//! A form of table that answers one call by itself.
+//! A form of table behind a lock that can answer one call by itself.
 ghost use Rattle.std.specs.Prelude.{◌≡◌, IfOk, IfErr};
 ghost use Rattle.arachne_contexts.specs.Answers.{RestsAs};
 
@@ -14,6 +14,8 @@ const FULL: u64 = 0x38FF_FFFF_FFFF_FFFF;
 /// What a table answers by itself.
 #[derive(Clone, Copy)]
 enum Alteration {
+    /// Nothing.
+    None,
     /// A thread that is to be finished comes back.
     HandsBack,
     /// A claim on a core that is in use is refused its memory.
@@ -22,9 +24,9 @@ enum Alteration {
     IsFull,
 }
 
-/// A table behind a lock that hands on all calls but one. A run makes its table itself, so the number of cores says which:
-/// of one core it hands back each thread that is to be finished, of two it refuses memory to a claim on a core that is in
-/// use, and of more all cores but 0 are full.
+/// A table behind a lock that hands on all calls, or all but one. A run makes its table itself, so the number of cores says
+/// which: of 5 cores it hands back each thread that is to be finished, of 6 it refuses memory to a claim on a core that is in
+/// use, of 7 all cores but 0 are full, and of any other number it answers nothing by itself.
 #[derive(Drop)]
 pub struct Altered<T: Tagged> {
     inner: LockedContexts<T>,
@@ -49,9 +51,10 @@ impl<T: Tagged + Drop> Seats for Altered<T> {
     ) -> Result<(Altered<T>, LockedSeat), AllocError> {
         let (inner, seat) = LockedContexts::new(alloc, cores, first_generation)?;
         let alteration = match cores {
-            1 => Alteration::HandsBack,
-            2 => Alteration::RefusesMemory,
-            _ => Alteration::IsFull,
+            5 => Alteration::HandsBack,
+            6 => Alteration::RefusesMemory,
+            7 => Alteration::IsFull,
+            _ => Alteration::None,
         };
         Ok((Altered { inner, alteration }, seat))
     }

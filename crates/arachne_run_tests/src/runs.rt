@@ -7,7 +7,6 @@ use crate::altered::Altered;
 use crate::choosers::{Draws, Progression};
 use crate::gates::Watch;
 use arachne_lang::{Program, check, parse};
-use arachne_locked::LockedContexts;
 use arachne_policy::CoreOrder;
 use arachne_run::{Job, Report, RunFault, Setup, run};
 use arachne_words::WordContexts;
@@ -29,17 +28,16 @@ mod tables;
 /// A form of context table.
 #[derive(Clone, Copy)]
 enum Form {
+    /// The table behind a lock, which answers one call by itself on machines of 5, 6 and 7 cores.
     Locked,
     Words,
-    /// Behind a lock, and answers one call by itself.
-    Altered,
 }
 
-/// The forms of table that answer all calls.
+/// Both forms of table.
 const FORMS: &[Form] = &[Form::Locked, Form::Words];
 
-/// The form that answers one call by itself.
-const ALTERED: &[Form] = &[Form::Altered];
+/// The one behind a lock.
+const LOCKED: &[Form] = &[Form::Locked];
 
 /// How many cores a machine has, its quantum, and how many choosers. A run wants one for each core.
 type Machine = (u64, u64, u64);
@@ -71,22 +69,6 @@ fn checked(alloc: Global, text: &[u8]) -> Result<Program, Fail>
     Ok(program)
 }
 
-/// Runs a program over a table behind a lock.
-fn run_on_lock<'p, R: Threads + Wait + Sync>(
-    rt: &R,
-    alloc: Global,
-    program: &'p Program,
-    setup: Setup,
-    choosers: Vec<Progression>,
-    gate: &Watch,
-) -> Result<Report, RunFault>
-    requires { IsChecked (source_of program.now) }
-{
-    run::<R, Job<'p>, LockedContexts<Job<'p>>, Progression, Watch>(
-        rt, alloc, program, setup, choosers, gate,
-    )
-}
-
 /// Runs a program over a table on words.
 fn run_on_words<'p, R: Threads + Wait + Sync>(
     rt: &R,
@@ -103,8 +85,8 @@ fn run_on_words<'p, R: Threads + Wait + Sync>(
     )
 }
 
-/// Runs a program over an altered table.
-fn run_altered<'p, R: Threads + Wait + Sync>(
+/// Runs a program over a table behind a lock.
+fn run_on_lock<'p, R: Threads + Wait + Sync>(
     rt: &R,
     alloc: Global,
     program: &'p Program,
@@ -155,6 +137,5 @@ fn answer<R: Threads + Wait + Sync>(
     match form {
         Form::Locked => run_on_lock(rt, alloc, program, setup, choosers, gate),
         Form::Words => run_on_words(rt, alloc, program, setup, choosers, gate),
-        Form::Altered => run_altered(rt, alloc, program, setup, choosers, gate),
     }
 }

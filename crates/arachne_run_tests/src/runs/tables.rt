@@ -2,7 +2,7 @@
 use super::cores::FORK;
 use super::facts::{Fact, Telling};
 use super::rows::{Row, rows_hold};
-use super::{ALTERED, FORMS, Source};
+use super::{FORMS, LOCKED, Source};
 use crate::choosers::{CORE_ONE, CORE_THREE, ZEROS};
 use crate::gates::Watching;
 use std::test::Fail;
@@ -28,8 +28,8 @@ const ROWS: &[Row] = &[
     Row {
         shows: "threads that come back stop the run",
         source: SEVEN,
-        forms: ALTERED,
-        machines: &[(1, 1, 1), (1, 100, 1)],
+        forms: LOCKED,
+        machines: &[(5, 1, 5), (5, 100, 5)],
         draws: ZEROS,
         orders: &[],
         watching: Watching::Nothing,
@@ -41,8 +41,8 @@ const ROWS: &[Row] = &[
     Row {
         shows: "full cores run nothing",
         source: FORK,
-        forms: ALTERED,
-        machines: &[(4, 1, 4), (4, 100, 4)],
+        forms: LOCKED,
+        machines: &[(7, 1, 7), (7, 100, 7)],
         draws: CORE_THREE,
         orders: &[],
         watching: Watching::Cores,
@@ -55,8 +55,8 @@ const ROWS: &[Row] = &[
     Row {
         shows: "the first fault is told",
         source: GRANDCHILD,
-        forms: ALTERED,
-        machines: &[(2, 1, 2)],
+        forms: LOCKED,
+        machines: &[(6, 1, 6)],
         draws: ZEROS,
         orders: &[],
         watching: Watching::Nothing,
@@ -67,8 +67,8 @@ const ROWS: &[Row] = &[
     Row {
         shows: "the first fault is told",
         source: GRANDCHILD,
-        forms: ALTERED,
-        machines: &[(2, 1, 2)],
+        forms: LOCKED,
+        machines: &[(6, 1, 6)],
         draws: CORE_ONE,
         orders: &[],
         watching: Watching::Nothing,

@@ -7,6 +7,7 @@ use Rattle.arachne_locked.proofs.tokens.LockedClaim.TheSendSync as claim
 use Rattle.arachne_locked.proofs.tokens.LockedHold.TheSendSync as hold
 use Rattle.arachne_machine.proofs.Crossing.{thread_send}
 use Rattle.arachne_run.proofs.Crossing.{job_send, spares_send}
+use Rattle.arachne_run_tests.proofs.altered.Altered.TheSendSync as altered
 use Rattle.arachne_run_tests.proofs.choosers.Progression.TheSendSync as chooser
 use Rattle.arachne_run_tests.proofs.gates.Watch.TheSendSync as watch
 use Rattle.arachne_run_tests.proofs.runs.run_on_lock.Goals as goal
@@ -30,7 +31,7 @@ run-requires g c κs = (
               (
                 search (sendable, c.type_bounds.sync-R) depth 20,
                 (
-                  search (sendable, std.crosses, locked.the_sync, job_send) depth 20,
+                  search (sendable, std.crosses, altered.the_sync, locked.the_sync, job_send) depth 20,
                   (
                     search (sendable, std.crosses, watch.the_sync) depth 20,
                     ((refl, tt), c.requires),
