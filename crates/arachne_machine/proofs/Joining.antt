@@ -20,6 +20,7 @@ use Rattle.arachne_machine.specs.declared.state.State.{State}
 use Rattle.arachne_machine.specs.Trace.{At}
 use Rattle.arachne_machine.specs.Outcome.{Finished}
 use Rattle.arachne_machine.specs.Account.{after}
+use Rattle.arachne_machine.specs.Branches.{Gains}
 use Rattle.arachne_machine.specs.Ending.{child_task, joined_env, account_joined, fork_awaited, lock_freed, forks_of, releases, frames_left}
 use Rattle.arachne_machine.specs.Steps.{Joins, Counts, pending_of, suspended}
 use Rattle.arachne_machine.specs.Suspended.{awaited}
@@ -28,7 +29,7 @@ use Rattle.arachne_machine.proofs.Outlooks.{SameOutlook, IsAt, Any, unjoined_at,
 joins_by : (old new : State) (outcome : Finished) (n : ℕ) (k k' : Control) (gs' : List Frame) (env' : List ℕ) → old.control ≡ k → outcome.name ≡ old.own.name ++ n ∷ [] →
     new.program ≡ old.program → new.own ≡ old.own → new.forks ≡ old.forks → new.control ≡ k' →
     new.frames.items ≡ old.frames.items ++ gs' → new.environment.items ≡ env' →
-    new.below.list.items ≡ old.below.list.items ++ outcome.lines ∷ [] →
+    Gains old.below.list.items outcome.lines new.below.list.items →
     ((m : ℕ) (own childs : ℕ → ℕ) → old.sums.items ≡ tabulated m own → outcome.sums ≡ tabulated m childs → new.sums.items ≡ tabulated m (λ ledger. own ledger + childs ledger)) →
     ((fs : List Frame) → frames_left k fs ≡ fs) → ((fs : List Frame) → frames_left k' fs ≡ fs) →
     fork_awaited k ++ [] ≡ n ∷ (fork_awaited k' ++ forks_of gs') → lock_freed k' ++ releases gs' ≡ lock_freed k ++ [] → pending_of k' ≡ None →
@@ -87,7 +88,7 @@ pub joins_fork : (old new : State) (outcome : Finished) (n v : ℕ) (next : Bor 
     new.program ≡ old.program → new.own ≡ old.own → new.forks ≡ old.forks → new.control ≡ Begin next →
     new.frames.items ≡ old.frames.items ++ Restore (length old.environment.items) ∷ [] →
     new.environment.items ≡ with_newest (with_newest old.environment.items outcome.value) v →
-    new.below.list.items ≡ old.below.list.items ++ outcome.lines ∷ [] →
+    Gains old.below.list.items outcome.lines new.below.list.items →
     ((m : ℕ) (own childs : ℕ → ℕ) → old.sums.items ≡ tabulated m own → outcome.sums ≡ tabulated m childs → new.sums.items ≡ tabulated m (λ ledger. own ledger + childs ledger)) →
     Joins old outcome new
 joins_fork old new outcome n v next awaits is_name program own forks control frames environment below sums =
@@ -102,7 +103,7 @@ joins_fork old new outcome n v next awaits is_name program own forks control fra
 pub joins_half : (old new : State) (outcome : Finished) (n right w : ℕ) (reduction : Reduction) → old.control ≡ AwaitsHalf n right reduction → outcome.name ≡ old.own.name ++ n ∷ [] →
     new.program ≡ old.program → new.own ≡ old.own → new.forks ≡ old.forks → new.control ≡ Give w → w ≡ apply (operation_of reduction) outcome.value right →
     new.frames.items ≡ old.frames.items → new.environment.items ≡ old.environment.items →
-    new.below.list.items ≡ old.below.list.items ++ outcome.lines ∷ [] →
+    Gains old.below.list.items outcome.lines new.below.list.items →
     ((m : ℕ) (own childs : ℕ → ℕ) → old.sums.items ≡ tabulated m own → outcome.sums ≡ tabulated m childs → new.sums.items ≡ tabulated m (λ ledger. own ledger + childs ledger)) →
     Joins old outcome new
 joins_half old new outcome n right w reduction awaits is_name program own forks control is frames environment below sums =

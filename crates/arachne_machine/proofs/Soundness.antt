@@ -17,7 +17,7 @@ use Rattle.arachne_machine.specs.Suspended.{own_line_of, SameThread, MakesSteps,
 use Rattle.arachne_machine.specs.declared.state.State.{State}
 use Rattle.arachne_machine.specs.declared.state.Stop.{Stop}
 use Rattle.arachne_machine.specs.declared.state.Stop.TheVariants as stop
-use Rattle.arachne_machine.specs.Branches.{lines_in}
+use Rattle.arachne_machine.specs.Branches.{Gains, lines_in}
 use Rattle.arachne_machine.specs.Outcome.{Finished, named_holds, meaning_as, meaning_in, outcome_of, IsOfItsName}
 use Rattle.arachne_machine.specs.Account.{Account, untouched, after, with_fork, with_join}
 use Rattle.arachne_machine.specs.Ending.{child_task, account_joined, ending, account_at_end, trace_left, unjoined_of, locks_of, resume, resume_account, frames_left, begun, begun_account, fork_awaited, forks_of, lock_freed, releases}
@@ -26,7 +26,6 @@ use Rattle.arachne_lang.specs.Checked.{IsChecked}
 use Rattle.arachne_machine.specs.Faultless.{IsWithoutFault}
 use Rattle.arachne_machine.specs.Sound.{IsSound}
 use Rattle.arachne_machine.specs.Trace.{Event, with_steps}
-use Rattle.arachne_machine.proofs.Branches.{lines_in-push}
 use Rattle.arachne_machine.proofs.Accounts.{after-children}
 use Rattle.arachne_machine.proofs.Frames.{with_steps-add}
 use Rattle.arachne_machine.proofs.Names.{task_below-child, slice_get-seam}
@@ -294,14 +293,14 @@ sound_join old new outcome s of_name same_source j =
           (j.sums source.ledgers s.account.sums effects.sums s.sums childs ∙ ap (tabulated source.ledgers) (sym (with_join-sums source.locks name n effects s.account)));
       holds = subst (λ x. x.holds.items ≡ tabulated (source_of new.program.now).locks account.holds) own_is
           (subst (λ x. old.own.holds.items ≡ tabulated x.locks account.holds) program_is (s.holds ∙ ap (tabulated source.locks) (sym (with_join-holds source.locks name n effects s.account))));
-      lines = ap (λ b. map named_holds (lines_in b)) j.below ∙ ap (map named_holds) (lines_in-push old.below.list.items outcome.lines)
+      lines = ap (map named_holds) j.below.lines_are
           ∙ map-append named_holds (lines_in old.below.list.items) outcome.lines ∙ ap (λ l. l ++ map named_holds outcome.lines) s.lines
           ∙ ap (λ l. s.account.lines ++ l) lines ∙ sym (with_join-lines source.locks name n effects s.account);
       forks = j.forks ∙ s.forks ∙ ap length (sym (with_join-children source.locks name n effects s.account));
       value = ap (λ x. x.value) kept.ending ∙ subst (λ x. (ending old).value ≡ task_value x.arrays s.task) program_is s.value;
       whole = kept.account s.account ∙ subst (λ x. account_at_end old s.account ≡ after x.name (task_effects (source_of new.program.now).arrays (source_of new.program.now).locks s.task) untouched) own_is
           (subst (λ x. account_at_end old s.account ≡ after name (task_effects x.arrays x.locks s.task) untouched) program_is s.whole);
-      numbered = omega (arith, s.numbered, j.forks, ap length j.below, length-append old.below.list.items (outcome.lines ∷ []), ap length j.unjoined);
+      numbered = omega (arith, s.numbered, j.forks, j.below.more, ap length j.unjoined);
       faultless = λ checked. kept.faultless (s.faultless (subst IsChecked (sym program_is) checked));
     }
 
@@ -491,7 +490,7 @@ joined_seen old new outcome s of_name same_source j =
       locks = j.locks;
       sums = added_is n s.account.sums effects.sums _ _ _ s.sums childs (j.sums n s.account.sums effects.sums s.sums childs);
       holds = ap (λ o. o.holds.items) j.own;
-      below = ap lines_in j.below ∙ lines_in-push old.below.list.items outcome.lines;
+      below = j.below.lines_are;
       pending = j.pending;
       work = (join_keeps old new outcome of_name same_source j).work;
       trace = sym (join_keeps old new outcome of_name same_source j).trace;
@@ -553,7 +552,7 @@ joins_after a b c outcome u j =
       name = j.name ∙ ap (λ n. n ++ j.number ∷ []) name_is;
       unjoined = sym g.unjoined ∙ j.unjoined;
       locks = j.locks ∙ locks_unchanged a b u;
-      below = j.below ∙ ap (λ b. b ++ outcome.lines ∷ []) u.below;
+      below = subst (λ b. Gains b outcome.lines c.below.list.items) u.below j.below;
       sums = λ n own childs e f. j.sums n own childs (u.sums ∙ e) f;
       keeps = λ h.
           let value : outcome.value ≡ task_value (source_of b.program.now).arrays (child_task (source_of b.program.now) b.own.name j.number) =

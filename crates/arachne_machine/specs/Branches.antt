@@ -18,3 +18,8 @@ pub most_le-length-lines_in : (branches : List (List ThreadLine)) → most (λ b
 most_le-length-lines_in [] = omega arith
 most_le-length-lines_in (branch ∷ branches) =
     omega (arith, most_le-length-lines_in branches, length-append branch (lines_in branches))
+
+-- these lines are behind all others, and there is at least one branch more
+pub record Gains (old : List (List ThreadLine)) (lines : List ThreadLine) (new : List (List ThreadLine)) : Type 0 where
+  pub lines_are : lines_in new ≡ lines_in old ++ lines
+  pub more : length old + 1 ≤ length new

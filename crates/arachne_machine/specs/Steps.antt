@@ -21,7 +21,7 @@ use Rattle.arachne_machine.specs.declared.state.Stop.{Stop}
 use Rattle.arachne_machine.specs.declared.state.Stop.TheVariants as stop
 use Rattle.arachne_machine.specs.declared.state.Progress.{Progress}
 use Rattle.arachne_machine.specs.declared.state.Progress.TheVariants.{Value, Made}
-use Rattle.arachne_machine.specs.Branches.{lines_in}
+use Rattle.arachne_machine.specs.Branches.{Gains, lines_in}
 use Rattle.arachne_machine.specs.Outcome.{Finished}
 use Rattle.arachne_machine.specs.Account.{Account, untouched, after, with_fork}
 use Rattle.arachne_machine.specs.Suspended.{Suspended}
@@ -249,7 +249,7 @@ pub record TakesIn (old : State) (outcome : Finished) (new : State) : Type 0 whe
   pub environment : new.environment ≡ old.environment
   pub frames : new.frames ≡ old.frames
   pub control : new.control ≡ old.control
-  pub below : new.below.list.items ≡ old.below.list.items ++ outcome.lines ∷ []
+  pub below : Gains old.below.list.items outcome.lines new.below.list.items
   pub sums : (n : ℕ) (own childs : ℕ → ℕ) → old.sums.items ≡ tabulated n own → outcome.sums ≡ tabulated n childs → new.sums.items ≡ tabulated n (λ ledger. own ledger + childs ledger)
 
 -- The thread comes to the same, now that the child of this number is counted.
@@ -270,7 +270,7 @@ pub record Joins (old : State) (outcome : Finished) (new : State) : Type 0 where
   pub name : outcome.name ≡ old.own.name ++ number ∷ []
   pub unjoined : unjoined_of old ≡ number ∷ unjoined_of new
   pub locks : locks_of new ≡ locks_of old
-  pub below : new.below.list.items ≡ old.below.list.items ++ outcome.lines ∷ []
+  pub below : Gains old.below.list.items outcome.lines new.below.list.items
   pub sums : (n : ℕ) (own childs : ℕ → ℕ) → old.sums.items ≡ tabulated n own → outcome.sums ≡ tabulated n childs → new.sums.items ≡ tabulated n (λ ledger. own ledger + childs ledger)
   pub keeps : outcome.value ≡ task_value (source_of old.program.now).arrays (child_task (source_of old.program.now) old.own.name number) → KeepsOverJoin old new number
 

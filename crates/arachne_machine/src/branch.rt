@@ -1,12 +1,15 @@
 ghost use Rattle.std.specs.Prelude.{◌≡◌, ◌+◌, ◌≤◌, [], ◌∷◌, ◌++◌, length, vec_len, vec_capacity, OnOk};
-ghost use Rattle.arachne_machine.specs.Branches.{Counts, lines_in};
+ghost use Rattle.arachne_machine.specs.Branches.{Counts, Gains, lines_in};
 
 use crate::line::ThreadLine;
 use std::alloc::{AllocError, Global};
 use std::marker::Model;
 
+/// How many branches at most are put behind the line that they are below.
+const MOST_LEVELLED: usize = 32;
+
 /// The line of a thread that has ended, and the branches of the threads that it has joined, in order. So a join
-/// moves one branch, however many lines are below it.
+/// moves few branches, however many lines are below it.
 #[derive(Debug, Drop)]
 pub struct Branch {
     pub own: ThreadLine,
@@ -49,27 +52,36 @@ impl Branches {
         }
     }
 
-    /// Room for one more branch. A full list is given as much again, and an empty one room for one.
-    pub fn reserve(&mut self) -> Result<(), AllocError>
+    /// Room for one more branch with these below it. A full list is given as much again, if that is more.
+    pub fn reserve(&mut self, below: &Branches) -> Result<(), AllocError>
         ensures items { self.new.list.items ≡ self.old.list.items }
         ensures room { OnOk result (vec_len self.new.list + 1 ≤ vec_capacity self.new.list) }
     {
+        let more = 1 + below.list.len().min(MOST_LEVELLED);
         let length = self.list.len();
-        if length < self.list.capacity() {
+        if more <= self.list.capacity() - length {
             return Ok(());
         }
-        self.list.try_reserve_exact(length.max(1))
+        self.list.try_reserve_exact(length.max(more))
     }
 
-    /// One more: this line, with those of the branches below it.
+    /// One more: this line, with those of the branches below it. Where these are few, and there is room for them, they are
+    /// put behind the line, so that one block of memory has the lines of many threads.
     #[inline(always)]
     pub fn push(&mut self, own: ThreadLine, below: Branches)
         requires { vec_len self.old.list + 1 ≤ vec_capacity self.old.list }
-        ensures { self.new.list.items ≡ self.old.list.items ++ (own ∷ lines_in below.list.items) ∷ [] }
+        ensures { Gains self.old.list.items (own ∷ lines_in below.list.items) self.new.list.items }
     {
-        let Branches { list, count } = below;
+        let Branches { mut list, count } = below;
         self.count = self.count.saturating_add(1).saturating_add(count);
-        self.list.push_reserved(Branch { own, below: list });
+        let room = self.list.capacity() - self.list.len();
+        if list.len() <= MOST_LEVELLED && list.len() < room {
+            let none = Vec::new(*list.allocator());
+            self.list.push_reserved(Branch { own, below: none });
+            let _ = self.list.append(&mut list);
+        } else {
+            self.list.push_reserved(Branch { own, below: list });
+        }
     }
 
     /// None any more. It keeps its room.
@@ -91,6 +103,8 @@ pub fn move_lines(branches: Vec<Branch>, lines: &mut Vec<ThreadLine>)
     for branch in branches {
         let Branch { own, below } = branch;
         lines.push_reserved(own);
-        move_lines(below, lines);
+        if !below.is_empty() {
+            move_lines(below, lines);
+        }
     }
 }

@@ -1,3 +1,4 @@
+use crate::branch::Branches;
 use crate::frame::{Control, Frame};
 use crate::outcome::Outcome;
 use crate::state::State;
@@ -34,7 +35,7 @@ impl<'p> State<'p> {
         ensures err { OnErr result (IsUnchanged self.old self.new) }
         ensures handed_back { IfErr result (λ e. e ≡ outcome.entry) }
     {
-        if self.make_room().is_err() {
+        if self.make_room(&outcome.below).is_err() {
             return Err(outcome);
         }
         self.join_with_room(outcome);
@@ -73,18 +74,18 @@ impl<'p> State<'p> {
         }
     }
 
-    /// Room for what a join adds.
-    pub fn make_room(&mut self) -> Result<(), AllocError>
+    /// Room for what a join of a child with these branches adds.
+    pub fn make_room(&mut self, below: &Branches) -> Result<(), AllocError>
         ensures same { IsUnchanged self.old self.new }
         ensures environment { OnOk result (vec_len self.new.environment + 2 ≤ vec_capacity self.new.environment) }
         ensures frames { OnOk result (vec_len self.new.frames + 1 ≤ vec_capacity self.new.frames) }
         ensures below { OnOk result (vec_len self.new.below.list + 1 ≤ vec_capacity self.new.below.list) }
     {
         self.reserve_turn()?;
-        self.below.reserve()
+        self.below.reserve(below)
     }
 
-    /// Takes in the child's sums, and its lines as one branch, and gives its value.
+    /// Takes in the child's sums and lines, and gives its value.
     #[inline(always)]
     fn take_in(&mut self, outcome: Outcome<'p>) -> u64
         requires sums { length outcome.sums ≡ length self.old.sums.items }

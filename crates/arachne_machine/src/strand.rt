@@ -216,7 +216,7 @@ impl<'p> Strand<'p> {
         ensures err { OnErr result (self.new ≡ self.old) }
         ensures handed_back { IfErr result (λ c. c ≡ child.entry) }
     {
-        if self.state.make_room().is_err() {
+        if self.state.make_room(&child.state.below).is_err() {
             return Err(child);
         }
         let outcome = child.finish(spares);
