@@ -4,6 +4,7 @@ ghost use Rattle.arachne_machine.specs.Branches.{Counts, Gains, lines_in};
 use crate::line::ThreadLine;
 use std::alloc::{AllocError, Global};
 use std::marker::Model;
+use std::mem::replace;
 
 /// How many branches at most are put behind the line that they are below.
 const MOST_LEVELLED: usize = 32;
@@ -65,21 +66,22 @@ impl Branches {
         self.list.try_reserve_exact(length.max(more))
     }
 
-    /// One more: this line, with those of the branches below it. Where these are few, and there is room for them, they are
-    /// put behind the line, so that one block of memory has the lines of many threads.
+    /// One more: this line, with those of the branches below it, of which none are left. Where these are few, and there is
+    /// room for them, they are put behind the line, so that one block of memory has the lines of many threads.
     #[inline(always)]
-    pub fn push(&mut self, own: ThreadLine, below: Branches)
+    pub fn push(&mut self, own: ThreadLine, below: &mut Branches)
         requires { vec_len self.old.list + 1 ≤ vec_capacity self.old.list }
-        ensures { Gains self.old.list.items (own ∷ lines_in below.list.items) self.new.list.items }
+        ensures { Gains self.old.list.items (own ∷ lines_in below.old.list.items) self.new.list.items }
     {
-        let Branches { mut list, count } = below;
-        self.count = self.count.saturating_add(1).saturating_add(count);
+        let none = Vec::new(*below.list.allocator());
         let room = self.list.capacity() - self.list.len();
-        if list.len() <= MOST_LEVELLED && list.len() < room {
-            let none = Vec::new(*list.allocator());
+        self.count = self.count.saturating_add(1).saturating_add(below.count);
+        below.count = 0;
+        if below.list.len() <= MOST_LEVELLED && below.list.len() < room {
             self.list.push_reserved(Branch { own, below: none });
-            let _ = self.list.append(&mut list);
+            let _ = self.list.append(&mut below.list);
         } else {
+            let list = replace(&mut below.list, none);
             self.list.push_reserved(Branch { own, below: list });
         }
     }

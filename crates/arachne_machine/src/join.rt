@@ -38,13 +38,13 @@ impl<'p> State<'p> {
         if self.make_room(&outcome.below).is_err() {
             return Err(outcome);
         }
-        self.join_with_room(outcome);
+        let _ = self.join_with_room(outcome);
         Ok(())
     }
 
-    /// Joins the child that it awaits, for which there is room.
+    /// Joins the child that it awaits, for which there is room. The room of the child's own branches comes back.
     #[inline(always)]
-    pub fn join_with_room(&mut self, outcome: Outcome<'p>)
+    pub fn join_with_room(&mut self, outcome: Outcome<'p>) -> Branches
         requires awaits { pending_of self.old.control ≡ Some pause.Joins }
         requires child { awaited (suspended self.old) ≡ Some outcome.name }
         requires sums { length outcome.sums ≡ length self.old.sums.items }
@@ -56,19 +56,21 @@ impl<'p> State<'p> {
         match self.control {
             Control::Awaits { during, after, .. } => {
                 let length = self.environment.len();
-                let value = self.take_in(outcome);
+                let (value, room) = self.take_in(outcome);
                 self.environment.push_reserved(value);
                 self.environment.push_reserved(during);
                 self.frames.push_reserved(Frame::Restore(length));
                 self.control = Control::Begin(after);
+                room
             }
             Control::AwaitsHalf {
                 right,
                 reduction,
                 ..
             } => {
-                let left = self.take_in(outcome);
+                let (left, room) = self.take_in(outcome);
                 self.control = Control::Give(reduction.operation().apply(left, right));
+                room
             }
             _ => unreachable!(),
         }
@@ -85,12 +87,12 @@ impl<'p> State<'p> {
         self.below.reserve(below)
     }
 
-    /// Takes in the child's sums and lines, and gives its value.
+    /// Takes in the child's sums and lines, and gives its value and the room of its branches.
     #[inline(always)]
-    fn take_in(&mut self, outcome: Outcome<'p>) -> u64
+    fn take_in(&mut self, outcome: Outcome<'p>) -> (u64, Branches)
         requires sums { length outcome.sums ≡ length self.old.sums.items }
         requires room { vec_len self.old.below.list + 1 ≤ vec_capacity self.old.below.list }
-        ensures value { result ≡ outcome.entry.value }
+        ensures value { result.0 ≡ outcome.entry.value }
         ensures taken { TakesIn self.old outcome.entry self.new }
     {
         let Outcome {
@@ -98,10 +100,10 @@ impl<'p> State<'p> {
             value,
             sums,
             own,
-            below,
+            mut below,
         } = outcome;
         add_each(&mut self.sums, &sums);
-        self.below.push(own, below);
-        value
+        self.below.push(own, &mut below);
+        (value, below)
     }
 }

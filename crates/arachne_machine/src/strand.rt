@@ -219,9 +219,10 @@ impl<'p> Strand<'p> {
         if self.state.make_room(&child.state.below).is_err() {
             return Err(child);
         }
-        let outcome = child.finish(spares);
+        let (outcome, mut state) = child.end();
         let _ = &outcome.value;
-        self.state.join_with_room(outcome);
+        state.below = self.state.join_with_room(outcome);
+        spares.keep(state);
         Ok(())
     }
 
@@ -263,10 +264,23 @@ impl<'p> Strand<'p> {
         ensures sums { result.sums ≡ self.entry.sums }
         ensures lines { result.lines ≡ own_line_of self.entry ∷ self.entry.below }
     {
-        let mut state = self.state;
-        let outcome = state.finish();
+        let (outcome, state) = self.end();
         spares.keep(state);
         outcome
+    }
+
+    /// The outcome of a thread that has ended, and the state that it leaves.
+    #[inline(always)]
+    fn end(self) -> (Outcome<'p>, Box<State<'p>>)
+        requires { self.pending ≡ Some pause.Ended }
+        ensures program { result.0.program ≡ self.entry.program }
+        ensures name { result.0.name ≡ self.entry.name }
+        ensures sums { result.0.sums ≡ self.entry.sums }
+        ensures lines { result.0.lines ≡ own_line_of self.entry ∷ self.entry.below }
+    {
+        let mut state = self.state;
+        let outcome = state.finish();
+        (outcome, state)
     }
 }
 

@@ -1,7 +1,7 @@
 use Rattle.std.proofs.Common.{◌≡◌, ◌∷◌, ap, ◌∙◌}
 use Rattle.arachne_machine.specs.Suspended.{own_line_of}
 use Rattle.arachne_machine.specs.Steps.{suspended}
-use Rattle.arachne_machine.proofs.strand.Strand.finish.Goals as goal
+use Rattle.arachne_machine.proofs.strand.Strand.end.Goals as goal
 
 pub returns-clause-lines : goal.returns-clause-lines
 returns-clause-lines c =
