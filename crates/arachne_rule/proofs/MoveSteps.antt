@@ -21,10 +21,11 @@ use Rattle.arachne_rule.specs.Views.{with_context, noted}
 use Rattle.arachne_rule.specs.Rule.{settled, carried_of, Board, Phase, Shows}
 use Rattle.arachne_rule.specs.Changes.{with_name, left_context, marked_free, moved_phase}
 use Rattle.arachne_rule.specs.Layout.{contexts_in, name_index, board_of}
+use Rattle.arachne_rule.specs.History.{IsMarkOf}
 use Rattle.arachne_rule.specs.Table.{Table, Mine, Holds}
 use Rattle.arachne_rule.specs.Plays.{Carries, IsRestMark, IsLive, Moves, NamesTarget, Replaces, NamesSource}
 use Rattle.arachne_rule.proofs.Shares.{my-share}
-use Rattle.arachne_rule.proofs.Seen.{seen, rest-coherent}
+use Rattle.arachne_rule.proofs.Seen.{seen, rest-coherent, is-mark-of}
 use Rattle.arachne_rule.proofs.Slots.{carried-says}
 use Rattle.arachne_rule.proofs.Move.{move}
 use Rattle.arachne_rule.proofs.Naming.{name_target, replace, name_source}
@@ -68,12 +69,16 @@ module _ {T : Type 0} (tag_in : T → ℕ) (bits : ℕ) (shape : Shape) where
       let k' : Known = with_context k (left_context c m.place) in
       let e : Event = event.Move id x y in
       let d : ℕ → Phase = moved_phase hs.phase x y c.place in
-      let was : (marked_of bits (get_or s.words x 0)).place ≡ w.at x = ap (λ (u : Marked). u.place) (seen tag_in bits w hs.phase b hs.shows x x_is) ∙ (rest-coherent (w.state x) (w.at x) (hs.phase x) r.0.at_rest (hs.shows.contexts x x_is).coherent).1 in (
+      let was : (marked_of bits (get_or s.words x 0)).place ≡ w.at x = ap (λ (u : Marked). u.place) (seen tag_in bits w hs.phase b hs.shows x x_is) ∙ (rest-coherent (w.state x) (w.at x) (hs.phase x) r.0.at_rest (hs.shows.contexts x x_is).coherent).1 in
+      let b' : Board T = record b { mark = with_at b.mark x new; views = set s.views id (held weight k') } in
+      let shows : Shows tag_in bits (after w e) d b' =
+      subst (λ (q : ℕ). Shows tag_in bits (after w e) d (record b { mark = with_at b.mark x q; views = set s.views id (held weight k') })) (sym new_is) r.1 in
+      let word : IsMarkOf bits (after w e) x new = is-mark-of tag_in bits (after w e) d b' shows b.mark x new refl x_is
+      (rest-coherent (w.state x) ((after w e).at x) (d x) r.0.at_rest (shows.contexts x x_is).coherent).1 in (
         held weight (noted kind.Move x (b.mark x) new k'),
         keeps,
         tt,
-        mark-made tag_in bits shape s hs id weight k mine kind.Move x new l keeps e d k' b.home x_in refl r.0 (inr (y, was, reads ∙ place_is, refl)) refl (λ z _. refl)
-            (subst (λ (q : ℕ). Shows tag_in bits (after w e) d (record b { mark = with_at b.mark x q; views = set s.views id (held weight k') })) (sym new_is) r.1),
+        mark-made tag_in bits shape s hs id weight k mine kind.Move x new l keeps e d k' b.home x_in refl r.0 (inr (y, was, reads ∙ place_is, refl, word)) refl (λ z _. refl) shows,
         λ f f_in f_has f_at. let one : c ≡ f = only f f_in f_has f_at in
             ((λ _. λ j. (held weight (noted kind.Move x (b.mark x) new (with_context k (left_context (one j) m.place))), l)), (λ miss. absurd (miss hit))),
       ))

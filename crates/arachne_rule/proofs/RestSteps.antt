@@ -30,7 +30,7 @@ use Rattle.arachne_rule.specs.Plays.{Carries, IsLive, RestsReady, RestsBlocked, 
 use Rattle.arachne_rule.proofs.LookSteps.{mark-packed}
 use Rattle.arachne_rule.proofs.Resting.{rest_ready, rest_blocked}
 use Rattle.arachne_rule.proofs.Waking.{wake_blocked, wake_held}
-use Rattle.arachne_rule.proofs.Seen.{held-shown, is-mark-of}
+use Rattle.arachne_rule.proofs.Seen.{held-shown, waiting-shown, is-mark-of}
 use Rattle.arachne_rule.proofs.Boards.{home-set}
 use Rattle.arachne_rule.proofs.Stepping.{sees, mark-made, for-seat}
 use Rattle.arachne_rule.proofs.OwnWords.{same-carried, says-carried}
@@ -135,7 +135,8 @@ module _ {T : Type 0} (tag_in : T → ℕ) (bits : ℕ) (shape : Shape) where
 
   wakes : (id weight : ℕ) (k : Known) (l : List (ℕ × Option T)) (x old new : ℕ) (how : Kind) → x < n → IsExchange how
       → ((s : Table T) (hs : Holds tag_in bits shape s) → get_elem? s.views id ≡ some (held weight k) → get_or s.words x 0 ≡ old
-      → EventOf bits hs.world id how x (get_or s.words x 0) new (event.Wake (record { context = x; generation = (marked_of bits (get_or s.words x 0)).generation }))
+      → (IsMarkOf bits (after hs.world (event.Wake (record { context = x; generation = (marked_of bits (get_or s.words x 0)).generation }))) x new
+      → EventOf bits hs.world id how x (get_or s.words x 0) new (event.Wake (record { context = x; generation = (marked_of bits (get_or s.words x 0)).generation })))
       × Allowed hs.world (event.Wake (record { context = x; generation = (marked_of bits (get_or s.words x 0)).generation }))
       × Shows tag_in bits (after hs.world (event.Wake (record { context = x; generation = (marked_of bits (get_or s.words x 0)).generation }))) hs.phase
       (record (board_of n s) { mark = with_at (board_of n s).mark x new; views = set s.views id (held weight k) }))
@@ -147,11 +148,15 @@ module _ {T : Type 0} (tag_in : T → ℕ) (bits : ℕ) (shape : Shape) where
       × Wakes how (step n x old new none) (held weight k, l) (get_or s.words x 0) (u, carried_after l a) in
       exchanged (get_or s.words x 0) old new F
       (λ hit.
-      let r = law s hs mine hit in (
+      let r = law s hs mine hit in
+      let x_is : IsContext hs.world x = is-context tag_in bits shape s hs x x_in in
+      let b' : Board T = record b { mark = with_at b.mark x new; views = set s.views id (held weight k) } in
+      let word : IsMarkOf bits (after hs.world e) x new = is-mark-of tag_in bits (after hs.world e) hs.phase b' r.2 b.mark x new refl x_is
+      (waiting-shown (hs.world.state x) (hs.world.at x) (hs.phase x) (r.1).waits (hs.shows.contexts x x_is).coherent) in (
         held weight (noted how x (b.mark x) new k),
         keeps,
         tt,
-        mark-made tag_in bits shape s hs id weight k mine how x new l keeps e hs.phase k b.home x_in refl r.1 (inr r.0) refl (λ y _. refl) r.2,
+        mark-made tag_in bits shape s hs id weight k mine how x new l keeps e hs.phase k b.home x_in refl r.1 (inr (r.0 word)) refl (λ y _. refl) r.2,
         ((λ _. refl), (λ miss. absurd (miss hit))),
       ))
       (λ miss. (
@@ -173,7 +178,7 @@ module _ {T : Type 0} (tag_in : T → ℕ) (bits : ℕ) (shape : Shape) where
       let at : u ≡ m = ap (marked_of bits) hit ∙ read in
       let r = wake_blocked tag_in bits hs.world hs.phase (board_of n s) hs.shows id me.0.weight me.0.known mine x u (is-context tag_in bits shape s hs x x_is) refl (ap (λ (q : Marked). q.mark) at ∙ is_blocked) in
       let becomes : mark_word bits (record u { mark = mark.Ready }) ≡ new = ap (λ (q : Marked). mark_word bits (record q { mark = mark.Ready })) at ∙ sym new_is in (
-        refl,
+        (λ word. (refl, word)),
         r.0,
         subst (λ (q : ℕ). Shows tag_in bits (after hs.world (event.Wake (record { context = x; generation = u.generation }))) hs.phase
             (record (board_of n s) { mark = with_at (board_of n s).mark x q; views = set s.views id (held me.0.weight me.0.known) })) becomes r.1,
@@ -190,7 +195,7 @@ module _ {T : Type 0} (tag_in : T → ℕ) (bits : ℕ) (shape : Shape) where
       let at : u ≡ m = ap (marked_of bits) hit ∙ read in
       let r = wake_held tag_in bits hs.world hs.phase (board_of n s) hs.shows id me.0.weight me.0.known mine x u (is-context tag_in bits shape s hs x x_is) refl (ap (λ (q : Marked). q.mark) at ∙ is_held) in
       let becomes : mark_word bits (record u { mark = mark.Woken }) ≡ new = ap (λ (q : Marked). mark_word bits (record q { mark = mark.Woken })) at ∙ sym new_is in (
-        refl,
+        (λ word. (refl, word)),
         r.0,
         subst (λ (q : ℕ). Shows tag_in bits (after hs.world (event.Wake (record { context = x; generation = u.generation }))) hs.phase
             (record (board_of n s) { mark = with_at (board_of n s).mark x q; views = set s.views id (held me.0.weight me.0.known) })) becomes r.1,

@@ -5,7 +5,7 @@ use Rattle.arachne_core.specs.declared.state.State.{State}
 use Rattle.arachne_core.specs.declared.state.State.TheVariants.{Free, Claimed, Ready, Blocked, Held, Spent}
 use Rattle.arachne_core.specs.declared.mark.Mark.TheVariants as mark
 use Rattle.arachne_core.specs.Marked.{mark_word, marked_of}
-use Rattle.arachne_core.specs.World.{World, IsContext, IsAtRest, IsReady, IsHeldBy, with_at, taken}
+use Rattle.arachne_core.specs.World.{World, IsContext, IsAtRest, IsReady, IsHeldBy, CanBeWoken, with_at, taken}
 use Rattle.arachne_core.specs.ContextTable.{mark_of, is_live_state, marked}
 use Rattle.arachne_core.proofs.Changes.{with_at-same}
 use Rattle.arachne_core.proofs.MarkWords.{marked_of-mark_word}
@@ -59,6 +59,11 @@ named-shown Spent p a c n = c.1
 pub held-shown : (s : State) (p : Place) (a : Phase) (h : ℕ) → Coherent s p a → IsHeldBy h s → a.shown ≡ p
 held-shown (Held k w t) p a h c e = c
 held-shown s p a h c e = absurd e
+
+pub waiting-shown : (s : State) (p : Place) (a : Phase) → CanBeWoken s → Coherent s p a → a.shown ≡ p
+waiting-shown (Blocked t) p a u c = c.1
+waiting-shown (Held h false t) p a u c = c
+waiting-shown s p a u c = absurd u
 
 pub taken-held : (h : ℕ) (s : State) → IsReady s → IsHeldBy h (taken h s)
 taken-held h (Ready t) r = refl

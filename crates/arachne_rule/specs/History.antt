@@ -53,11 +53,11 @@ EventOf bits w h kind.Release i b a e = (x : ℕ) × (i ≡ occ_index (w.cores *
     × (a ≡ b - (if w.alone (core_of w x) then 2 ^ 63 + index_sum (w.at x).index else index_sum (w.at x).index)) × (e ≡ event.Release h x)
 EventOf bits w h kind.RestReady i b a e = (e ≡ event.Rest h i rest.Ready) × IsMarkOf bits (after w e) i a
 EventOf bits w h kind.RestBlocked i b a e = (e ≡ event.Rest h i rest.Blocked) × IsMarkOf bits (after w e) i a
-EventOf bits w h kind.Wake i b a e = e ≡ event.Wake (record { context = i; generation = (marked_of bits b).generation })
-EventOf bits w h kind.MarkWoken i b a e = e ≡ event.Wake (record { context = i; generation = (marked_of bits b).generation })
+EventOf bits w h kind.Wake i b a e = (e ≡ event.Wake (record { context = i; generation = (marked_of bits b).generation })) × IsMarkOf bits (after w e) i a
+EventOf bits w h kind.MarkWoken i b a e = (e ≡ event.Wake (record { context = i; generation = (marked_of bits b).generation })) × IsMarkOf bits (after w e) i a
 EventOf bits w h kind.Close i b a e = (c : ℕ) × (i ≡ occ_index (w.cores * w.slots) c) × (a ≡ bit_or b (2 ^ 62)) × (e ≡ event.CloseCore c)
 EventOf bits w h kind.Open i b a e = (c : ℕ) × (i ≡ occ_index (w.cores * w.slots) c) × (a ≡ bit_and b (2 ^ 64 - 1 - 2 ^ 62)) × (e ≡ event.OpenCore c)
-EventOf bits w h kind.Move i b a e = (y : ℕ) × ((marked_of bits b).place ≡ w.at i) × ((marked_of bits a).place ≡ w.at y) × (e ≡ event.Move h i y)
+EventOf bits w h kind.Move i b a e = (y : ℕ) × ((marked_of bits b).place ≡ w.at i) × ((marked_of bits a).place ≡ w.at y) × (e ≡ event.Move h i y) × IsMarkOf bits (after w e) i a
 EventOf bits w h kind.NameTarget i b a e = e ≡ event.Still
 EventOf bits w h kind.Replace i b a e = e ≡ event.Still
 EventOf bits w h kind.NameSource i b a e = e ≡ event.Still

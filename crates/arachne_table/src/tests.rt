@@ -23,13 +23,13 @@ impl Tagged for Job {
 #[test]
 fn a_table_behind_a_lock_gives_each_row(rt: HostRuntime) -> Result<(), Fail> {
     let runs = rows::give::<LockedContexts<Job>, HostRuntime>(&rt, rt.alloc())?;
-    assert!(rt; runs == 11);
+    assert!(rt; runs == 10);
     Ok(())
 }
 
 #[test]
 fn a_table_of_words_gives_each_row(rt: HostRuntime) -> Result<(), Fail> {
     let runs = rows::give::<WordContexts<Job>, HostRuntime>(&rt, rt.alloc())?;
-    assert!(rt; runs == 11);
+    assert!(rt; runs == 10);
     Ok(())
 }

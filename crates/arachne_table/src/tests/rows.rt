@@ -278,7 +278,7 @@ fn take<C: Contexts<Job> + Drop, R: Wait>(rt: &R, alloc: Global, run: &Run) -> R
 const RUNS: &[Run] = &[
     // A claim takes the lowest free index.
     Run {
-        cores: 2,
+        cores: 1,
         first_generation: 0,
         parts: &[
             Part::Claim(
@@ -324,7 +324,7 @@ const RUNS: &[Run] = &[
     },
     // A place that is given back is free.
     Run {
-        cores: 2,
+        cores: 1,
         first_generation: 0,
         parts: &[
             Part::Claim(
@@ -447,9 +447,9 @@ const RUNS: &[Run] = &[
         ],
         left: None,
     },
-    // A thread is woken while it is held.
+    // A thread is woken while it is held. When it has ended it is gone.
     Run {
-        cores: 2,
+        cores: 1,
         first_generation: 0,
         parts: &[
             Part::Steps(&[
@@ -475,15 +475,6 @@ const RUNS: &[Run] = &[
                 (Step::Wake(0, 0), ("already", 0x1, 0)),
                 (Step::Mark(0), ("word", 0x1, 0)),
             ]),
-        ],
-        left: None,
-    },
-    // An ended thread is gone.
-    Run {
-        cores: 2,
-        first_generation: 0,
-        parts: &[
-            Part::Steps(&[(Step::Post(0, 3), ("id", 0, 0))]),
             Part::Thread(
                 0,
                 0,
@@ -499,7 +490,9 @@ const RUNS: &[Run] = &[
                 (Step::Look(0), ("word", 0x0, 0)),
                 (Step::Wake(0, 0), ("gone", 0, 0)),
                 (Step::Mark(0), ("word", 0x4000, 0)),
+                (Step::Look(0), ("word", 0x0, 0)),
                 (Step::Post(0, 4), ("id", 0, 1)),
+                (Step::Mark(0), ("word", 0x4001, 0)),
                 (Step::Wake(0, 0), ("gone", 0, 0)),
                 (Step::Mark(0), ("word", 0x4001, 0)),
             ]),
@@ -508,7 +501,7 @@ const RUNS: &[Run] = &[
     },
     // The last generation is spent.
     Run {
-        cores: 2,
+        cores: 1,
         first_generation: LAST_GENERATION,
         parts: &[
             Part::Steps(&[
@@ -575,7 +568,10 @@ const RUNS: &[Run] = &[
                         (Step::Move(1, 2, 0), ("unposted", 0, 0)),
                         (Step::Look(1), ("word", 0x4100000000000004, 0)),
                         (Step::Look(0), ("word", 0x200000000000003, 0)),
+                        (Step::Mark(56), ("word", 0x1, 0)),
                         (Step::Mark(57), ("word", 0x12, 0)),
+                        (Step::Mark(0), ("word", 0x400, 0)),
+                        (Step::Mark(1), ("word", 0x410, 0)),
                         (Step::Wake(57, 0), ("woken", 0, 0)),
                     ],
                     spend: Spend::Post(7),
