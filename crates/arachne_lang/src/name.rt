@@ -51,14 +51,29 @@ impl Name {
         ensures named { IfOk result (λ name. name ≡ self.now ++ number ∷ []) }
         ensures inline { FitsInline (self.now ++ number ∷ []) → IsOk result }
     {
+        if let Forks::Inline(list) = &self.forks {
+            if let Some(longer) = list.with(number) {
+                return Ok(Name {
+                    forks: Forks::Inline(longer),
+                });
+            }
+        }
+        self.long_child(alloc, number)
+    }
+
+    /// The name of such a thread that does not fit inline.
+    #[inline(never)]
+    fn long_child(&self, alloc: Global, number: u64) -> Result<Name, AllocError>
+        requires { ¬ FitsInline (self.now ++ number ∷ []) }
+        ensures { IfOk result (λ name. name ≡ self.now ++ number ∷ []) }
+    {
         let forks = match &self.forks {
-            Forks::Inline(list) => match list.with(number) {
-                Some(longer) => Forks::Inline(longer),
-                None => Forks::Heap(list.widened(alloc, number)?),
-            },
-            Forks::Heap(list) => Forks::Heap(with_number(alloc, list.as_slice(), number)?),
+            Forks::Inline(list) => list.widened(alloc, number)?,
+            Forks::Heap(list) => with_number(alloc, list.as_slice(), number)?,
         };
-        Ok(Name { forks })
+        Ok(Name {
+            forks: Forks::Heap(forks),
+        })
     }
 
     /// How many numbers it has.
