@@ -33,11 +33,12 @@ fn part<'t>(
     levels: u8,
     text: &'t [u8],
     end: &[u8],
-) -> Result<(Expr, &'t [u8]), Stop<'t>>
-    ensures { Gives (λ read. (tree_of read.0, read.1.now)) result (part_at (expression_at levels) end.now text.now) }
+) -> Result<(Box<Expr>, &'t [u8]), Stop<'t>>
+    ensures { Gives (λ read. (tree_of read.0.value, read.1.now)) result (part_at (expression_at levels) end.now text.now) }
 {
     let (part, rest) = expression(alloc, levels, text)?;
     let rest = word(rest, end)?;
+    let part = Box::new(alloc, part)?;
     Ok((part, rest))
 }
 
@@ -95,7 +96,6 @@ fn item(alloc: Global, levels: u8, text: &[u8]) -> Result<(Expr, &[u8]), Stop<'_
 {
     let (array, rest) = number(text, b" ")?;
     let (index, rest) = part(alloc, levels, rest, b")")?;
-    let index = Box::new(alloc, index)?;
     Ok((Expr::Item(array, index), rest))
 }
 
@@ -111,8 +111,6 @@ fn binary(
 {
     let (first, rest) = part(alloc, levels, text, b" ")?;
     let (second, rest) = part(alloc, levels, rest, b")")?;
-    let first = Box::new(alloc, first)?;
-    let second = Box::new(alloc, second)?;
     Ok((Expr::Binary(operation, first, second), rest))
 }
 
@@ -124,9 +122,6 @@ fn choice(alloc: Global, levels: u8, text: &[u8]) -> Result<(Expr, &[u8]), Stop<
     let (condition, rest) = part(alloc, levels, text, b" ")?;
     let (first, rest) = part(alloc, levels, rest, b" ")?;
     let (second, rest) = part(alloc, levels, rest, b")")?;
-    let condition = Box::new(alloc, condition)?;
-    let first = Box::new(alloc, first)?;
-    let second = Box::new(alloc, second)?;
     Ok((Expr::If(condition, first, second), rest))
 }
 
@@ -137,8 +132,6 @@ fn binding(alloc: Global, levels: u8, text: &[u8]) -> Result<(Expr, &[u8]), Stop
 {
     let (bound, rest) = part(alloc, levels, text, b" ")?;
     let (body, rest) = part(alloc, levels, rest, b")")?;
-    let bound = Box::new(alloc, bound)?;
-    let body = Box::new(alloc, body)?;
     Ok((Expr::Let(bound, body), rest))
 }
 
@@ -150,8 +143,6 @@ fn tally(alloc: Global, levels: u8, text: &[u8]) -> Result<(Expr, &[u8]), Stop<'
     let (ledger, rest) = number(text, b" ")?;
     let (amount, rest) = part(alloc, levels, rest, b" ")?;
     let (body, rest) = part(alloc, levels, rest, b")")?;
-    let amount = Box::new(alloc, amount)?;
-    let body = Box::new(alloc, body)?;
     Ok((Expr::Tally(ledger, amount, body), rest))
 }
 
@@ -162,7 +153,6 @@ fn hold(alloc: Global, levels: u8, text: &[u8]) -> Result<(Expr, &[u8]), Stop<'_
 {
     let (lock, rest) = number(text, b" ")?;
     let (body, rest) = part(alloc, levels, rest, b")")?;
-    let body = Box::new(alloc, body)?;
     Ok((Expr::Hold(lock, body), rest))
 }
 
@@ -174,9 +164,6 @@ fn fork(alloc: Global, levels: u8, class: Class, text: &[u8]) -> Result<(Expr, &
     let (child, rest) = part(alloc, levels, text, b" ")?;
     let (during, rest) = part(alloc, levels, rest, b" ")?;
     let (after, rest) = part(alloc, levels, rest, b")")?;
-    let child = Box::new(alloc, child)?;
-    let during = Box::new(alloc, during)?;
-    let after = Box::new(alloc, after)?;
     Ok((Expr::Fork(class, child, during, after), rest))
 }
 
@@ -189,10 +176,6 @@ fn fold(alloc: Global, levels: u8, text: &[u8]) -> Result<(Expr, &[u8]), Stop<'_
     let (to, rest) = part(alloc, levels, rest, b" ")?;
     let (first, rest) = part(alloc, levels, rest, b" ")?;
     let (body, rest) = part(alloc, levels, rest, b")")?;
-    let from = Box::new(alloc, from)?;
-    let to = Box::new(alloc, to)?;
-    let first = Box::new(alloc, first)?;
-    let body = Box::new(alloc, body)?;
     Ok((Expr::Fold(from, to, first, body), rest))
 }
 
@@ -210,8 +193,5 @@ fn sweep(
     let (from, rest) = part(alloc, levels, rest, b" ")?;
     let (to, rest) = part(alloc, levels, rest, b" ")?;
     let (body, rest) = part(alloc, levels, rest, b")")?;
-    let from = Box::new(alloc, from)?;
-    let to = Box::new(alloc, to)?;
-    let body = Box::new(alloc, body)?;
     Ok((Expr::Sweep(reduction, grain, from, to, body), rest))
 }
