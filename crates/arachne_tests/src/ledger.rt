@@ -76,8 +76,22 @@ fn four_threads_add_up(rt: HostRuntime) -> Result<(), Fail> {
     let share = add_in_four_threads(&rt, &ledgers, share);
     assert!(rt; share.is_whole());
     let sums = sums(rt.alloc(), ledgers, share).ok_or("no memory")?;
-    assert_eq!(rt; sums.as_slice(), [12000].as_slice());
+    assert!(rt; sums.as_slice() == [12000].as_slice());
     Ok(())
+}
+
+/// What is read by each of two shares of two ledgers, to both of which they add, with the whole share.
+fn add_apart(ledgers: &Ledgers, share: Share) -> (bool, (u64, u64), Share)
+    requires share { IsShareOf ledgers.now share }
+    requires two { ledgers.now.count ≡ 2 }
+    ensures { IsShareOf ledgers.now result.2 }
+{
+    let (mut share, mut other) = ledgers.split(share);
+    let is_apart = !share.is_whole() && !other.is_whole();
+    ledgers.add(&mut share, 1, 5);
+    ledgers.add(&mut other, 0, 3);
+    let read = (ledgers.read(&mut share, 0), ledgers.read(&mut other, 1));
+    (is_apart, read, ledgers.join_shares(other, share))
 }
 
 #[test]
@@ -85,18 +99,12 @@ fn each_call_on_two_ledgers(rt: HostRuntime) -> Result<(), Fail> {
     let (ledgers, mut share) = make_ledgers(rt.alloc(), 2)?;
     assert!(rt; ledgers.count() == 2);
     ledgers.add(&mut share, 0, u64::MAX);
-    let (mut share, mut other) = ledgers.split(share);
-    assert!(rt; !share.is_whole() && !other.is_whole());
-    ledgers.add(&mut share, 1, 5);
-    ledgers.add(&mut other, 0, 3);
-    let read = (ledgers.read(&mut share, 0), ledgers.read(&mut other, 1));
-    assert!(rt; read == (2, 5));
-    let mut share = ledgers.join_shares(other, share);
+    let (is_apart, read, mut share) = add_apart(&ledgers, share);
+    assert!(rt; is_apart && read == (2, 5));
     let read = (ledgers.read(&mut share, 0), ledgers.read(&mut share, 1));
-    assert!(rt; read == (2, 5));
-    assert!(rt; share.is_whole());
+    assert!(rt; read == (2, 5) && share.is_whole());
     let sums = sums(rt.alloc(), ledgers, share).ok_or("no memory")?;
-    assert_eq!(rt; sums.as_slice(), [2, 5].as_slice());
+    assert!(rt; sums.as_slice() == [2, 5].as_slice());
     Ok(())
 }
 

@@ -4,6 +4,8 @@ ghost use Rattle.arachne_lang.specs.Program.{source_of};
 ghost use Rattle.arachne_machine.specs.declared.pause.Pending.TheVariants as pause;
 ghost use Rattle.arachne_machine.specs.Nested.{Nested, IsChildOf, SameWhole, pending_in, whole};
 
+mod ways;
+
 use arachne_lang::{Class, Meaning, Name, Program, TextFault, parse};
 use arachne_machine::{
     NotJoined, Outcome, OutcomeParts, Pause, Pending, Thread, ThreadLine, run_alone,
@@ -214,6 +216,12 @@ const IN_PLACE: &[(u8, &str, u64, &str)] = &[
     ),
 ];
 
+/// What is told of a program's threads that all run in one place, and the sum of the tags that asked for a lock.
+fn told_in_place(alloc: Global, program: &Program, budget: u32) -> Result<(String, u64), Fail> {
+    let (parts, heard) = all_in_place(alloc, program, budget, budget)?;
+    Ok((told(alloc, &parts)?, heard.asked))
+}
+
 /// Each budget gives what is expected.
 fn expect_in_place(
     rt: &impl Abort,
@@ -223,9 +231,8 @@ fn expect_in_place(
     expected: &str,
 ) -> Result<(), Fail> {
     for budget in [1, 2, 3, 7, 100, 1000] {
-        let (parts, heard) = all_in_place(alloc, program, budget, budget)?;
-        assert_eq!(rt; told(alloc, &parts)?.as_str(), expected);
-        assert_eq!(rt; heard.asked, asked);
+        let (told, heard) = told_in_place(alloc, program, budget)?;
+        assert!(rt; told.as_str() == expected && heard == asked, "{expected}");
     }
     Ok(())
 }
@@ -453,15 +460,19 @@ fn foreign_outcome_comes_back(rt: HostRuntime) -> Result<(), Fail> {
     let program = program(rt.alloc(), 1, ONE_FORK)?;
     let (is_refused, told) = second_root(rt.alloc(), &program)?;
     assert!(rt; is_refused);
-    assert_eq!(rt; told.as_str(), "5 [0] []2-[0] [0]0-[0]");
+    assert!(rt; told.as_str() == "5 [0] []2-[0] [0]0-[0]");
     Ok(())
 }
 
-/// A thread tells its tag and its program.
+/// Whether a thread tells its tag and its program.
+fn tells_what_it_is(alloc: Global, program: &Program) -> Result<bool, Fail> {
+    let thread = start(alloc, program, 9)?;
+    Ok(thread.tag() == 9 && thread.program().root == program.root)
+}
+
 #[test]
 fn a_thread_tells_what_it_is(rt: HostRuntime) -> Result<(), Fail> {
     let program = program(rt.alloc(), 0, ONE_FORK)?;
-    let thread = start(rt.alloc(), &program, 9)?;
-    assert!(rt; thread.tag() == 9 && thread.program().root == program.root);
+    assert!(rt; tells_what_it_is(rt.alloc(), &program)?);
     Ok(())
 }

@@ -172,14 +172,21 @@ fn stands(lock: &LockState, who: Who) -> (bool, bool) {
     (lock.holds(who), lock.waits(who))
 }
 
+/// Whether the calls of three threads in turn answer as the rows say.
+fn is_in_turn(lock: &mut LockState) -> bool {
+    lock.history().is_empty()
+        && first_wrong(lock, asked_rows()).is_none()
+        && stands(lock, A) == (true, false)
+        && stands(lock, B) == (false, true)
+        && first_wrong(lock, freed_rows()).is_none()
+        && stands(lock, B) == (false, false)
+        && stands(lock, C) == (false, false)
+}
+
 #[test]
 fn three_threads_in_turn(rt: HostRuntime) {
     let mut lock = LockState::new(rt.alloc(), 5);
-    assert!(rt; lock.history().is_empty());
-    assert_eq!(rt; first_wrong(&mut lock, asked_rows()), None);
-    assert!(rt; stands(&lock, A) == (true, false) && stands(&lock, B) == (false, true));
-    assert_eq!(rt; first_wrong(&mut lock, freed_rows()), None);
-    assert!(rt; stands(&lock, B) == (false, false) && stands(&lock, C) == (false, false));
+    assert!(rt; is_in_turn(&mut lock));
     assert!(rt; lock.history() == whole_history());
     assert!(rt; lock.into_history().as_slice() == whole_history());
 }
@@ -189,28 +196,36 @@ fn carried<T: Send>(value: T) -> T {
     value
 }
 
+/// How many threads are in the crowd.
+const CROWD: u64 = 900;
+
+/// Whether only the first thread of the crowd is let in at once.
+fn comes(lock: &mut LockState, tag: u64) -> Result<bool, AskFault> {
+    let asked = ask(lock, thread(tag, 0))?;
+    Ok(matches!(asked, Asked::Granted(_)) == (tag == 0))
+}
+
+/// Whether a thread of the crowd has the lock, and frees it for the one that came behind it.
+fn leaves(lock: &mut LockState, tag: u64) -> bool {
+    let due = tag.wrapping_add(1);
+    let next = if due < CROWD {
+        Some(thread(due, 0))
+    } else {
+        None
+    };
+    lock.check(thread(tag, 0)).is_some()
+        && matches!(lock.free(thread(tag, 0)), Ok(freed) if freed.next == next)
+}
+
 #[test]
 fn a_crowd_leaves_in_the_order_in_which_it_came(rt: HostRuntime) -> Result<(), Fail> {
-    let crowd = 900;
     let mut lock = carried(LockState::new(rt.alloc(), 0));
-    for round in 0..3 {
-        for tag in 0..crowd {
-            let asked = ask(&mut lock, thread(tag, 0))?;
-            assert_eq!(rt;
-                matches!(asked, Asked::Granted(_)),
-                tag == 0,
-                "in round {round}"
-            );
+    for _ in 0..3 {
+        for tag in 0..CROWD {
+            assert!(rt; comes(&mut lock, tag)?, "{tag}");
         }
-        for tag in 0..crowd {
-            assert!(rt; lock.check(thread(tag, 0)).is_some(), "at {tag}");
-            let next = lock.free(thread(tag, 0))?.next;
-            let due = if tag + 1 < crowd {
-                Some(thread(tag + 1, 0))
-            } else {
-                None
-            };
-            assert!(rt; next == due);
+        for tag in 0..CROWD {
+            assert!(rt; leaves(&mut lock, tag), "{tag}");
         }
     }
     assert!(rt; lock.history().len() == 8100);

@@ -1,11 +1,51 @@
-//! How a run of the program ends. All tests of the program's commands come here, with words as one text.
+//! How a run of the program ends. Every row of words, an input and what is told comes here.
 use super::fakes::{Script, Tray};
+use super::spelling::spelled;
 use arachne_commands::drive;
-use std::alloc::Global;
+use std::alloc::{AllocError, Global};
 use std::process::Abort;
 use std::sync::Wait;
-use std::test::Fail;
 use std::thread::Threads;
+
+/// How a run is to end: its status, its output and its faults, where `usage` stands for a text of `clap`'s.
+#[derive(Clone, Copy)]
+pub(super) struct Told<'a> {
+    pub(super) status: u8,
+    pub(super) output: &'a [u8],
+    pub(super) faults: &'a [u8],
+}
+
+/// The end of a run that tells this fault.
+pub(super) fn fault(line: &[u8]) -> Told<'_> {
+    Told {
+        status: 1,
+        output: b"",
+        faults: line,
+    }
+}
+
+/// What a row says of an end: the status, the output, and the faults behind a `!`.
+fn told_by(row: &str) -> Told<'_> {
+    let (status, streams) = row.split_once(' ').unwrap_or((row, ""));
+    let (output, faults) = streams.split_once('!').unwrap_or((streams, ""));
+    Told {
+        status: match status {
+            "0" => 0,
+            "1" => 1,
+            _ => 2,
+        },
+        output: output.as_bytes(),
+        faults: faults.as_bytes(),
+    }
+}
+
+/// The faults as a row tells them.
+fn shown(status: u8, faults: &[u8]) -> &[u8] {
+    if status == 2 && !faults.is_empty() && !faults.starts_with(b"fault") {
+        return b"usage";
+    }
+    faults
+}
 
 /// The status with which the program ends. It says nothing of what is read and written, which makes the proofs of the tests short.
 fn status_of<R: Threads + Wait + Sync>(
@@ -19,118 +59,98 @@ fn status_of<R: Threads + Wait + Sync>(
     drive(rt, alloc, words, input, output, faults)
 }
 
-/// What a run of the program left: its status, its output and its faults.
-#[derive(Drop)]
-pub(super) struct Ended {
-    pub(super) status: u8,
-    pub(super) output: Tray,
-    pub(super) faults: Tray,
-}
-
-/// Runs the program on these words and streams.
-pub(super) fn outcome<R: Threads + Wait + Sync>(
+/// Runs the program on these words and streams, and answers whether it ends as is told. Where all went well the output is flushed once,
+/// at its end, and where the words are refused nothing is read.
+pub(super) fn ends<R: Threads + Wait + Sync>(
     rt: &R,
     alloc: Global,
     words: &str,
     input: &mut Script<'_>,
-    mut output: Tray,
-    mut faults: Tray,
-) -> Result<Ended, Fail> {
+    output: &mut Tray,
+    faults: &mut Tray,
+    told: Told<'_>,
+) -> Result<bool, AllocError> {
     let words: Vec<&str> = words.split(' ').collect(alloc)?;
-    let status = status_of(rt, alloc, words.as_slice(), input, &mut output, &mut faults);
-    Ok(Ended {
-        status,
-        output,
-        faults,
-    })
+    let status = status_of(rt, alloc, words.as_slice(), input, output, faults);
+    Ok(
+        status == told.status
+            && output.kept.as_slice() == told.output
+            && shown(status, faults.kept.as_slice()) == told.faults
+            && (status != 0 || output.is_flushed_once())
+            && (status != 2 || input.reads == 0),
+    )
 }
 
-/// Runs the program on these words and bytes.
-fn run<R: Threads + Wait + Sync>(
-    rt: &R,
-    alloc: Global,
-    words: &str,
-    input: &[u8],
-) -> Result<Ended, Fail> {
-    let (output, faults) = (Tray::new(alloc), Tray::new(alloc));
-    outcome(rt, alloc, words, &mut Script::of(input), output, faults)
-}
-
-impl Ended {
-    /// The output where all went well, and else the faults; and the other one.
-    fn streams(&self) -> (&[u8], &[u8]) {
-        let (output, faults) = (self.output.kept.as_slice(), self.faults.kept.as_slice());
-        if self.status == 0 {
-            (output, faults)
-        } else {
-            (faults, output)
-        }
-    }
-}
-
-/// The run ends with this status, and tells this: on the output where all went well, and else on the faults stream. On the
-/// other one there is nothing.
+/// The program ends so on these words and bytes.
 pub(super) fn assert_ends<R: Abort + Threads + Wait + Sync>(
     rt: &R,
     alloc: Global,
     words: &str,
-    input: &[u8],
-    status: u8,
-    told: &str,
-) -> Result<(), Fail> {
-    let ended = run(rt, alloc, words, input)?;
-    let (written, other) = ended.streams();
-    assert_eq!(rt; ended.status, status, "{words}: {told}");
-    assert_eq!(rt; written, told.as_bytes(), "{words}: {told}");
-    assert!(rt; other.is_empty(), "{words}: {told}");
+    input: &mut Script<'_>,
+    told: Told<'_>,
+) -> Result<(), AllocError> {
+    let (mut output, mut faults) = (Tray::new(alloc), Tray::new(alloc));
+    let is_right = ends(rt, alloc, words, input, &mut output, &mut faults, told)?;
+    assert!(rt; is_right, "{words}");
     Ok(())
 }
 
-/// Each of these words ends with this status on each input, and tells what stands beside that.
+/// The program ends on these words and an input as is told, both as rows spell them.
+fn assert_row<R: Abort + Threads + Wait + Sync>(
+    rt: &R,
+    alloc: Global,
+    words: &str,
+    input: &str,
+    told: &str,
+) -> Result<(), AllocError> {
+    let input = spelled(alloc, input)?;
+    let told = spelled(alloc, told)?;
+    let mut input = Script::of(input.as_bytes());
+    assert_ends(rt, alloc, words, &mut input, told_by(told.as_str()))
+}
+
+/// The program ends on these words as each row of a block says. It counts the rows.
+fn assert_rows<R: Abort + Threads + Wait + Sync>(
+    rt: &R,
+    alloc: Global,
+    words: &str,
+    block: &str,
+) -> Result<u64, AllocError> {
+    let mut count = 0u64;
+    for line in block.lines() {
+        if let Some((input, told)) = line.split_once(" => ") {
+            assert_row(rt, alloc, words, input, told)?;
+            count = count.wrapping_add(1);
+        }
+    }
+    Ok(count)
+}
+
+/// Each line of words of a block, which begins with a `$`, ends on each of its rows as that says. It counts the runs.
+fn assert_block<R: Abort + Threads + Wait + Sync>(
+    rt: &R,
+    alloc: Global,
+    block: &str,
+) -> Result<u64, AllocError> {
+    let mut count = 0u64;
+    for line in block.lines() {
+        if let Some(words) = line.strip_prefix("$ ") {
+            count = count.wrapping_add(assert_rows(rt, alloc, words, block)?);
+        }
+    }
+    Ok(count)
+}
+
+/// Blocks with an empty line between them: lines of words, and rows of an input, an arrow and how each of the words ends on it. It counts
+/// the runs.
 pub(super) fn all_end<R: Abort + Threads + Wait + Sync>(
     rt: &R,
     alloc: Global,
-    commands: &[&str],
-    status: u8,
-    rows: &[(&str, &str)],
-) -> Result<(), Fail> {
-    for &words in commands {
-        for &(input, told) in rows {
-            assert_ends(rt, alloc, words, input.as_bytes(), status, told)?;
-        }
+    blocks: &str,
+) -> Result<u64, AllocError> {
+    let mut count = 0u64;
+    for block in blocks.split("\n\n") {
+        count = count.wrapping_add(assert_block(rt, alloc, block)?);
     }
-    Ok(())
-}
-
-/// Words that end with this status on an input, and what they tell.
-pub(super) fn each_ends<R: Abort + Threads + Wait + Sync>(
-    rt: &R,
-    alloc: Global,
-    status: u8,
-    rows: &[(&str, &str, &str)],
-) -> Result<(), Fail> {
-    for &(words, input, told) in rows {
-        assert_ends(rt, alloc, words, input.as_bytes(), status, told)?;
-    }
-    Ok(())
-}
-
-/// Words that `clap` refuses: its text is no fault's line.
-pub(super) fn none_is_understood<R: Abort + Threads + Wait + Sync>(
-    rt: &R,
-    alloc: Global,
-    commands: &[&str],
-    input: &str,
-) -> Result<(), Fail> {
-    for &words in commands {
-        let ended = run(rt, alloc, words, input.as_bytes())?;
-        let faults = ended.faults.kept.as_slice();
-        assert_eq!(rt; ended.status, 2, "{words}");
-        assert!(rt; ended.output.kept.is_empty(), "{words}");
-        assert!(rt;
-            !faults.is_empty() && !faults.starts_with(b"fault"),
-            "{words}"
-        );
-    }
-    Ok(())
+    Ok(count)
 }

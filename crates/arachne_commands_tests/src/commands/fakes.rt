@@ -91,6 +91,11 @@ impl Tray {
             flushes: 0,
         }
     }
+
+    /// Whether it was flushed once, behind all that it keeps.
+    pub(super) fn is_flushed_once(&self) -> bool {
+        self.flushes == 1 && self.flushed == self.kept.len()
+    }
 }
 
 impl Write for Tray {

@@ -17,7 +17,7 @@ const ORDERS: &[(&str, u64, OrderKind, u64)] = &[
 fn orders_are_read(rt: HostRuntime) {
     for &(spelled, after, kind, core) in ORDERS {
         let order = CoreOrder { after, kind, core };
-        assert_eq!(rt; read_order(spelled), Some(order), "{spelled}");
+        assert!(rt; read_order(spelled) == Some(order), "{spelled}");
     }
 }
 
@@ -59,6 +59,6 @@ const NO_ORDERS: &[&str] = &[
 #[test]
 fn other_words_are_refused(rt: HostRuntime) {
     for &spelled in NO_ORDERS {
-        assert_eq!(rt; read_order(spelled), None, "{spelled}");
+        assert!(rt; read_order(spelled).is_none(), "{spelled}");
     }
 }

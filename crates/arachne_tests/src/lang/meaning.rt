@@ -22,7 +22,7 @@ const FAULTS: &[(CheckFault, &str)] = &[
 #[test]
 fn faults_are_written(rt: HostRuntime) -> Result<(), Fail> {
     for &(fault, text) in FAULTS {
-        assert_eq!(rt; fault.to_string(rt.alloc())?.as_str(), text);
+        assert!(rt; fault.to_string(rt.alloc())?.as_str() == text);
     }
     Ok(())
 }
@@ -47,32 +47,50 @@ fn meaning_of(alloc: Global, program: &Program) -> Result<Meaning, Fail> {
     Ok(eval(alloc, program)?)
 }
 
+/// The meaning of the program of a row.
+fn meaning_of_row(alloc: Global, row: &str) -> Result<Meaning, Fail> {
+    let program = row_of(alloc, row)?;
+    meaning_of(alloc, &program)
+}
+
+/// Whether each of 901 threads has held a lock once, the first being the root, and the last having this name.
+fn is_of_many(meaning: &Meaning, last: &Name) -> bool {
+    let lines = meaning.threads.as_slice();
+    if lines.len() != 901 {
+        return false;
+    }
+    for line in lines {
+        if line.holds.as_slice() != [1].as_slice() {
+            return false;
+        }
+    }
+    lines[0].name.len() == 0 && lines[900].name == *last
+}
+
 /// A thread for each of 901 numbers. The child of each fork has the left half, so the last line's name is of the halves 450, 225, 112, 56, 28, 14, 7, 3, 1.
 #[test]
 fn many_threads_have_a_line_each(rt: HostRuntime) -> Result<(), Fail> {
-    let alloc = rt.alloc();
-    let sweep = "(sweep add 1 (num 0) (num 901) (hold 0 (tally 0 (num 5) (var 0))))";
-    let meaning = meaning_of(alloc, &program_of(alloc, "1", "1", sweep)?)?;
-    assert_eq!(rt; meaning.value, 405_450);
-    assert_eq!(rt; meaning.totals.as_slice(), [4505].as_slice());
-    let lines = meaning.threads.as_slice();
-    assert_eq!(rt; lines.len(), 901);
-    for line in lines {
-        assert_eq!(rt; line.holds.as_slice(), [1].as_slice());
-    }
-    assert!(rt; lines[0].name.len() == 0);
-    assert!(rt; lines[900].name == name_of(alloc, &[0; 9])?);
+    let sweep = "1 1 (sweep add 1 (num 0) (num 901) (hold 0 (tally 0 (num 5) (var 0))))";
+    let last = name_of(rt.alloc(), &[0; 9])?;
+    let meaning = meaning_of_row(rt.alloc(), sweep)?;
+    assert!(rt; meaning.value == 405_450 && meaning.totals.as_slice() == [4505].as_slice());
+    assert!(rt; is_of_many(&meaning, &last));
     Ok(())
+}
+
+/// Puts 63 arrays of 15,625 items, and one more of so many, in place of the first array.
+fn fill(alloc: Global, arrays: &mut Vec<Vec<u64>>, items: usize) -> Result<(), AllocError> {
+    arrays.pop();
+    for _ in 0..63 {
+        arrays.push(vec![in alloc; 1; 15_625]?)?;
+    }
+    Ok(arrays.push(vec![in alloc; 1; items]?)?)
 }
 
 /// What is judged of a program with 63 arrays of 15,625 items, and one more of so many.
 fn judged_with_arrays(alloc: Global, items: usize) -> Result<Result<(), CheckFault>, Fail> {
     let mut program = program_of(alloc, "0", "0", "(num 7)")?;
-    program.arrays.pop();
-    for _ in 0..63 {
-        program.arrays.push(vec![in alloc; 1; 15_625]?)?;
-    }
-    program.arrays.push(vec![in alloc; 1; items]?)?;
+    fill(alloc, &mut program.arrays, items)?;
     Ok(check(&program))
 }
 
@@ -84,7 +102,7 @@ const ARRAYS: &[(usize, Result<(), CheckFault>)] = &[
 #[test]
 fn limits_on_arrays(rt: HostRuntime) -> Result<(), Fail> {
     for &(items, verdict) in ARRAYS {
-        assert_eq!(rt; judged_with_arrays(rt.alloc(), items)?, verdict);
+        assert!(rt; judged_with_arrays(rt.alloc(), items)? == verdict);
     }
     Ok(())
 }
@@ -120,7 +138,7 @@ const AROUND_SUMS: &[(&str, &str, Result<(), CheckFault>)] = &[
 fn limits_on_nodes(rt: HostRuntime) -> Result<(), Fail> {
     let sums = sums(rt.alloc())?;
     for &(front, end, verdict) in AROUND_SUMS {
-        assert_eq!(rt; judged(rt.alloc(), front, sums.as_str(), end)?, verdict);
+        assert!(rt; judged(rt.alloc(), front, sums.as_str(), end)? == verdict);
     }
     Ok(())
 }
@@ -171,7 +189,7 @@ const NESTED: &[(u8, u64, Result<(), CheckFault>)] = &[
 fn nesting_is_judged_before_all_else(rt: HostRuntime) -> Result<(), Fail> {
     for &(ledgers, sums, verdict) in NESTED {
         let judged = judged_when_nested(rt.alloc(), ledgers, sums)?;
-        assert_eq!(rt; judged, verdict, "{sums}");
+        assert!(rt; judged == verdict, "{sums}");
     }
     Ok(())
 }
@@ -189,8 +207,13 @@ const PROGRAMS: &str = "\
 0 0 (var 1)
 0 0 (len 1)";
 
-fn are_same(alloc: Global, some: &str, other: &str) -> Result<bool, Fail> {
-    Ok(row_of(alloc, some)? == row_of(alloc, other)?)
+/// Whether two programs are the same, of which the first may lose its array.
+fn are_same(alloc: Global, some: &str, other: &str, has_array: bool) -> Result<bool, Fail> {
+    let (mut some, other) = (row_of(alloc, some)?, row_of(alloc, other)?);
+    if !has_array {
+        some.arrays.pop();
+    }
+    Ok(some == other)
 }
 
 /// The program that each of the rows is compared with too.
@@ -200,11 +223,8 @@ const FORKED: &str = "1 0 (fork n (num 2) (num 3) (add (var 0) (var 1)))";
 fn equality_is_that_of_the_trees(rt: HostRuntime) -> Result<(), Fail> {
     for row in PROGRAMS.lines() {
         for (other, expected) in [(row, true), ("0 0 (num 1)", false), (FORKED, false)] {
-            assert_eq!(rt;
-                are_same(rt.alloc(), row, other)?,
-                expected,
-                "{row} {other}"
-            );
+            let are_same = are_same(rt.alloc(), row, other, true)?;
+            assert!(rt; are_same == expected, "{row} {other}");
         }
     }
     Ok(())
@@ -213,9 +233,7 @@ fn equality_is_that_of_the_trees(rt: HostRuntime) -> Result<(), Fail> {
 /// A program is not the same as one with no array.
 #[test]
 fn equality_is_that_of_the_arrays(rt: HostRuntime) -> Result<(), Fail> {
-    let mut program = row_of(rt.alloc(), "0 0 (num 1)")?;
-    program.arrays.pop();
-    assert!(rt; program != row_of(rt.alloc(), "0 0 (num 1)")?);
+    assert!(rt; !are_same(rt.alloc(), "0 0 (num 1)", "0 0 (num 1)", false)?);
     Ok(())
 }
 
@@ -243,39 +261,54 @@ const NUMBERS: &[&[u64]] = &[
 ];
 
 /// Whether the names of these numbers are the same, and whether their sequences are.
-fn compared(alloc: Global, some: &[u64], others: &[u64]) -> Result<(bool, bool), Fail> {
+fn compared(alloc: Global, some: &[u64], others: &[u64]) -> Result<(bool, bool), AllocError> {
     let are_same = name_of(alloc, some)? == name_of(alloc, others)?;
     let sequence = Sequence::from(some.to_vec(alloc)?);
     Ok((are_same, sequence == Sequence::from(others.to_vec(alloc)?)))
 }
 
-#[test]
-fn names_and_sequences_are_compared(rt: HostRuntime) -> Result<(), Fail> {
-    for &some in NUMBERS {
-        let name = name_of(rt.alloc(), some)?;
-        assert_eq!(rt; name.len(), some.len());
-        for k in 0..name.len() {
-            assert_eq!(rt; Some(&name.number(k)), some.get(k));
+/// Whether these are the numbers of a name.
+fn has_numbers(name: &Name, numbers: &[u64]) -> bool {
+    for k in 0..name.len() {
+        if Some(&name.number(k)) != numbers.get(k) {
+            return false;
         }
+    }
+    name.len() == numbers.len()
+}
+
+#[test]
+fn names_and_sequences_are_compared(rt: HostRuntime) -> Result<(), AllocError> {
+    for &some in NUMBERS {
         for &others in NUMBERS {
             let is_same = some == others;
-            let compared = compared(rt.alloc(), some, others)?;
-            assert_eq!(rt; compared, (is_same, is_same), "{some:?} {others:?}");
+            assert!(rt; compared(rt.alloc(), some, others)? == (is_same, is_same));
         }
+        let name = name_of(rt.alloc(), some)?;
+        assert!(rt; has_numbers(&name, some));
     }
     Ok(())
 }
 
+/// Whether a parent's child by this number is known by its name, and no other name is.
+fn is_known(alloc: Global, parent: &Name, number: u64) -> Result<bool, AllocError> {
+    let child = parent.child(alloc, number)?;
+    Ok(
+        child.is_child_of(parent, number)
+            && !parent.is_child_of(&child, number)
+            && !child.is_child_of(parent, number.wrapping_add(256))
+            && !child.is_child_of(&child, number)
+            && child != *parent,
+    )
+}
+
 /// A parent of 30 numbers has a child that is longer than what stands inline, and 256 is no byte.
 #[test]
-fn children_are_known_by_their_names(rt: HostRuntime) -> Result<(), Fail> {
+fn children_are_known_by_their_names(rt: HostRuntime) -> Result<(), AllocError> {
     for &numbers in NUMBERS {
         let parent = name_of(rt.alloc(), numbers)?;
         for number in [0, 255, 256] {
-            let child = parent.child(rt.alloc(), number)?;
-            assert!(rt; child.is_child_of(&parent, number) && !parent.is_child_of(&child, number));
-            assert!(rt; !child.is_child_of(&parent, number + 256));
-            assert!(rt; !child.is_child_of(&child, number) && child != parent);
+            assert!(rt; is_known(rt.alloc(), &parent, number)?, "{number}");
         }
     }
     Ok(())
@@ -285,8 +318,7 @@ const SWEEP: &str = "0 0 (sweep add 2 (num 0) (num 8) (var 0))";
 
 /// Whether two programs have the same meaning.
 fn mean_the_same(alloc: Global, some: &str, other: &str) -> Result<bool, Fail> {
-    let meaning = meaning_of(alloc, &row_of(alloc, some)?)?;
-    Ok(meaning == meaning_of(alloc, &row_of(alloc, other)?)?)
+    Ok(meaning_of_row(alloc, some)? == meaning_of_row(alloc, other)?)
 }
 
 #[test]

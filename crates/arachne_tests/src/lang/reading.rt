@@ -354,18 +354,24 @@ fn shown(alloc: Global, program: &Program) -> Result<String, Fail> {
 }
 
 /// Whether a program is printed as this text.
-fn is_printed_as(alloc: Global, program: &Program, text: &[u8]) -> Result<bool, Fail>
+fn is_printed_as(alloc: Global, program: &Program, text: &[u8]) -> Result<bool, TextFault>
     requires { nesting (tree_of program.now.root) ≤ 64 }
 {
-    Ok(print(alloc, program)?.as_slice() == text)
+    match print(alloc, program) {
+        Ok(printed) => Ok(printed.as_slice() == text),
+        Err(_) => Err(TextFault::Memory),
+    }
 }
 
-/// What is shown of the program of a text, which has to be printed as that text.
+/// Whether a text is read, and printed as it was read.
+fn is_read_and_printed(alloc: Global, text: &[u8]) -> Result<bool, TextFault> {
+    let program = parse(alloc, text)?;
+    is_printed_as(alloc, &program, text)
+}
+
+/// What is shown of the program of a text.
 fn read(alloc: Global, text: &[u8]) -> Result<String, Fail> {
     let program = parse(alloc, text)?;
-    if !is_printed_as(alloc, &program, text)? {
-        return Err("printed as another text")?;
-    }
     shown(alloc, &program)
 }
 
@@ -373,7 +379,9 @@ fn read(alloc: Global, text: &[u8]) -> Result<String, Fail> {
 fn texts_are_read_and_printed(rt: HostRuntime) -> Result<(), Fail> {
     for &(lines, expr, expected) in READ {
         let text = format!(in rt.alloc(); "arachne 1\n{lines}\n{expr}\n")?;
-        assert_eq!(rt; read(rt.alloc(), text.as_bytes())?.as_str(), expected);
+        assert!(rt; is_read_and_printed(rt.alloc(), text.as_bytes())?, "{expr}");
+        let read = read(rt.alloc(), text.as_bytes())?;
+        assert!(rt; read.as_str() == expected, "{expr}");
     }
     Ok(())
 }
@@ -386,7 +394,7 @@ fn each_front_of_a_text_is_cut_short(rt: HostRuntime) {
         } else {
             TextFault::Syntax { at: n }
         };
-        assert_eq!(rt; fault_of(rt.alloc(), &WHOLE[..n]), Some(fault));
+        assert!(rt; fault_of(rt.alloc(), &WHOLE[..n]) == Some(fault));
     }
 }
 
@@ -400,7 +408,7 @@ fn fault_behind_lines(alloc: Global, expression: &[u8]) -> Result<Option<TextFau
 #[test]
 fn faults_stand_at_their_bytes(rt: HostRuntime) {
     for &(text, fault) in FAULTS {
-        assert_eq!(rt; fault_of(rt.alloc(), text), Some(fault), "{text:?}");
+        assert!(rt; fault_of(rt.alloc(), text) == Some(fault));
     }
 }
 
@@ -408,7 +416,7 @@ fn faults_stand_at_their_bytes(rt: HostRuntime) {
 fn faults_of_expressions_stand_at_their_bytes(rt: HostRuntime) -> Result<(), Fail> {
     for &(text, fault) in FAULTS_OF_EXPRESSIONS {
         let found = fault_behind_lines(rt.alloc(), text)?;
-        assert_eq!(rt; found, Some(fault), "{text:?}");
+        assert!(rt; found == Some(fault));
     }
     Ok(())
 }
@@ -428,90 +436,68 @@ fn repeated(
 }
 
 /// Fronts, openings, how often each opening stands, middles, closings, and the faults of these texts.
-const LONG: &[(&str, (&str, usize), &str, &str, Option<TextFault>)] = &[
-    (LINES, ("(let (num 0) ", 63), "(num 0)", ")", None),
-    (LINES, ("(let ", 63), "(num 0)", " (num 1))", None),
+const LONG: &[(&str, (&str, usize), &str, &str, Result<bool, TextFault>)] = &[
+    (LINES, ("(let (num 0) ", 63), "(num 0)", ")", Ok(true)),
+    (LINES, ("(let ", 63), "(num 0)", " (num 1))", Ok(true)),
     (
         LINES,
         ("(let (num 0) ", 64),
         "(num 0)",
         ")",
-        Some(TextFault::Nesting { at: 852 }),
+        Err(TextFault::Nesting { at: 852 }),
     ),
     (
         LINES,
         ("(let (num 0) ", 63),
         "(let x",
         "",
-        Some(TextFault::Syntax { at: 852 }),
+        Err(TextFault::Syntax { at: 852 }),
     ),
     (
         LINES,
         ("(add ", 1_000_000),
         "",
         "",
-        Some(TextFault::Nesting { at: 348 }),
+        Err(TextFault::Nesting { at: 348 }),
     ),
     (
         "arachne 1\nledgers 0\nlocks 0\n(num ",
         ("9", 1_000_000),
         "",
         "",
-        Some(TextFault::Number { at: 52 }),
+        Err(TextFault::Number { at: 52 }),
     ),
     (
         "arachne 1\narray",
         (" 12345678901234567890", 100_000),
         "\nledgers 0\nlocks 0\n(len 0)",
         "",
-        None,
+        Ok(true),
     ),
 ];
-
-/// The fault of a text, where it is not printed as it was read.
-fn fault_or_printed(alloc: Global, text: &str) -> Result<Option<TextFault>, Fail> {
-    match parse(alloc, text.as_bytes()) {
-        Ok(program) => {
-            if !is_printed_as(alloc, &program, text.as_bytes())? {
-                return Err("printed as another text")?;
-            }
-            Ok(None)
-        }
-        Err(fault) => Ok(Some(fault)),
-    }
-}
 
 #[test]
 fn long_texts_are_read_and_printed_or_end_at_their_first_fault(
     rt: HostRuntime,
 ) -> Result<(), Fail> {
-    for &(front, opening, middle, closing, fault) in LONG {
+    for &(front, opening, middle, closing, expected) in LONG {
         let text = repeated(rt.alloc(), front, opening, middle, closing)?;
-        assert_eq!(rt; fault_or_printed(rt.alloc(), text.as_str())?, fault);
+        assert!(rt; is_read_and_printed(rt.alloc(), text.as_bytes()) == expected);
     }
     Ok(())
 }
 
-/// Run with each allocation refused in turn.
-#[test]
-fn a_refused_allocation_is_no_fault_of_the_text(rt: HostRuntime) {
-    assert!(rt; matches!(parse(rt.alloc(), WHOLE), Ok(_) | Err(TextFault::Memory)));
-}
+/// Texts that are read and printed where memory is not refused.
+const RIGHT: &[&[u8]] = &[
+    WHOLE,
+    b"arachne 1\nledgers 3\nlocks 4\n(xor (num 18446744073709551615) (len 18446744073709551615))\n",
+];
 
-/// Run with each allocation refused in turn.
+/// Run with each allocation refused in turn: that is no fault of the text, and makes no other text.
 #[test]
-fn a_refused_allocation_makes_no_other_text(rt: HostRuntime) {
-    let alloc = rt.alloc();
-    let expected =
-        b"arachne 1\nledgers 3\nlocks 4\n(xor (num 18446744073709551615) (len 18446744073709551615))\n";
-    let program = match parse(alloc, expected) {
-        Ok(program) => program,
-        Err(fault) => {
-            assert_eq!(rt; fault, TextFault::Memory);
-            return;
-        }
-    };
-    if let Ok(text) = print(alloc, &program) {
-        assert_eq!(rt; text.as_slice(), expected.as_slice());
+fn a_refused_allocation_is_no_fault_of_the_text_and_makes_no_other(rt: HostRuntime) {
+    for &text in RIGHT {
+        let answer = is_read_and_printed(rt.alloc(), text);
+        assert!(rt; answer == Ok(true) || answer == Err(TextFault::Memory));
     }
 }

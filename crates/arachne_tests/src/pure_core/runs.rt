@@ -519,7 +519,7 @@ fn first_wrong(world: &mut World, steps: &[(Step, Shown)]) -> Option<usize> {
 fn runs_show_their_words(rt: HostRuntime) -> Result<(), Fail> {
     for run in RUNS {
         let mut world = begun(rt.alloc(), run)?;
-        assert_eq!(rt; first_wrong(&mut world, run.steps), None);
+        assert!(rt; first_wrong(&mut world, run.steps) == None);
     }
     Ok(())
 }

@@ -66,18 +66,11 @@ fn at_the_last_place(number: u64) -> Option<u64> {
 #[test]
 fn mark_words(rt: HostRuntime) -> Result<(), Fail> {
     for &(number, shown) in MARKS {
-        assert_eq!(rt;
-            shown_mark(rt.alloc(), number)?.as_str(),
-            shown,
-            "{number:#x}"
-        );
+        assert!(rt; shown_mark(rt.alloc(), number)?.as_str() == shown);
     }
     for &(number, mark, code, changed) in WITH_MARK {
         assert!(rt; mark.code() == code && (code > 5 || Mark::from_code(code) == mark));
-        assert!(rt;
-            with_mark(number, mark) == Some(changed),
-            "{number:#x} {mark:?}"
-        );
+        assert!(rt; with_mark(number, mark) == Some(changed), "{number} {code}");
     }
     assert!(rt; at_the_last_place(0x4001) == Some(0x7f71));
     Ok(())
@@ -211,22 +204,18 @@ fn with_flags(number: u64, closed: bool, exclusive: bool) -> Option<u64> {
 #[test]
 fn occupancy_words(rt: HostRuntime) -> Result<(), Fail> {
     for &(number, shown) in OCCUPANCIES {
-        assert_eq!(rt;
-            shown_occupancy(rt.alloc(), number)?.as_str(),
-            shown,
-            "{number:#x}"
-        );
+        assert!(rt; shown_occupancy(rt.alloc(), number)?.as_str() == shown);
     }
     for &(number, index, occupied, with, without) in INDEXES {
         assert!(rt;
             at_index(number, index) == Some((occupied, with, without)),
-            "{number:#x} {index}"
+            "{number} {index}"
         );
     }
     for &(number, closed, exclusive, word) in FLAGS {
         assert!(rt;
             with_flags(number, closed, exclusive) == Some(word),
-            "{number:#x} {word:#x}"
+            "{number} {word}"
         );
     }
     assert!(rt; OccWord::empty().word() == 0);
@@ -241,16 +230,15 @@ fn numbers_of_places(rt: HostRuntime) {
     }
 }
 
+const REFUSALS: &[(NotApplied, &str)] = &[
+    (NotApplied::NotAllowed, "the event isn't allowed here"),
+    (NotApplied::Memory, "memory for the event was refused"),
+];
+
 #[test]
 fn refusals_are_written(rt: HostRuntime) -> Result<(), Fail> {
-    let alloc = rt.alloc();
-    assert_eq!(rt;
-        NotApplied::NotAllowed.to_string(alloc)?.as_str(),
-        "the event isn't allowed here"
-    );
-    assert_eq!(rt;
-        NotApplied::Memory.to_string(alloc)?.as_str(),
-        "memory for the event was refused"
-    );
+    for &(refusal, text) in REFUSALS {
+        assert!(rt; refusal.to_string(rt.alloc())?.as_str() == text);
+    }
     Ok(())
 }

@@ -92,19 +92,33 @@ fn first_wrong<R: Wait>(
     None
 }
 
-/// The calls on lock 2 go by that lock alone.
+/// Whether the calls of three threads in turn answer as the rows say, and go by lock 2 alone.
+fn is_in_turn<R: Wait>(rt: &R, locks: &SleepLocks, seats: &mut LockSeats) -> bool
+    requires own { AreSeatsOf locks.now seats.old }
+    requires lock { 2 < length locks.now }
+    ensures { AreSeatsOf locks.now seats.new }
+{
+    first_wrong(rt, locks, seats, asked_rows()).is_none()
+        && called(rt, locks, seats, 1, Call::Check, A) == Some(("no pass", 0, None))
+        && first_wrong(rt, locks, seats, freed_rows()).is_none()
+}
+
+/// Whether lock 2 alone of three has a history.
+fn is_of_the_last(histories: &[Vec<LockEvent>]) -> bool {
+    histories.len() == 3
+        && histories[0].is_empty()
+        && histories[1].is_empty()
+        && histories[2].as_slice() == whole_history()
+}
+
 #[test]
 fn each_call_on_three_locks(rt: HostRuntime) -> Result<(), Fail> {
     let (locks, mut seats) = make(rt.alloc(), 3)?;
     assert!(rt; locks.count() == 3 && locks.are_whole(&seats));
-    assert_eq!(rt; first_wrong(&rt, &locks, &mut seats, asked_rows()), None);
-    let other = called(&rt, &locks, &mut seats, 1, Call::Check, A);
-    assert!(rt; other == Some(("no pass", 0, None)));
-    assert_eq!(rt; first_wrong(&rt, &locks, &mut seats, freed_rows()), None);
+    assert!(rt; is_in_turn(&rt, &locks, &mut seats));
     let seats = parted_and_joined(rt.alloc(), &locks, seats).ok_or("no memory")?;
     let histories = closed(rt.alloc(), locks, seats).ok_or("not closed")?;
-    assert!(rt; histories.len() == 3 && histories[0].is_empty() && histories[1].is_empty());
-    assert!(rt; histories[2].as_slice() == whole_history());
+    assert!(rt; is_of_the_last(histories.as_slice()));
     Ok(())
 }
 

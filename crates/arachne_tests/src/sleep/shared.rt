@@ -152,6 +152,15 @@ fn called<R: Wait>(
     }
 }
 
+/// Whether the calls of three threads in turn answer as the rows say.
+fn is_in_turn<R: Wait>(rt: &R, lock: &SleepLock, seat: &mut LockSeat) -> bool
+    requires { IsSeatOf lock.now seat.old }
+    ensures { IsSeatOf lock.now seat.new }
+{
+    first_wrong(rt, lock, seat, asked_rows()).is_none()
+        && first_wrong(rt, lock, seat, freed_rows()).is_none()
+}
+
 /// The number of the first call that answers something else, from 0.
 fn first_wrong<R: Wait>(rt: &R, lock: &SleepLock, seat: &mut LockSeat, rows: Rows) -> Option<usize>
     requires { IsSeatOf lock.now seat.old }
@@ -169,9 +178,7 @@ fn first_wrong<R: Wait>(rt: &R, lock: &SleepLock, seat: &mut LockSeat, rows: Row
 #[test]
 fn each_call_of_a_shared_lock(rt: HostRuntime) -> Result<(), Fail> {
     let (lock, mut seat) = make(rt.alloc(), 5)?;
-    assert!(rt; lock.number() == 5);
-    assert_eq!(rt; first_wrong(&rt, &lock, &mut seat, asked_rows()), None);
-    assert_eq!(rt; first_wrong(&rt, &lock, &mut seat, freed_rows()), None);
+    assert!(rt; lock.number() == 5 && is_in_turn(&rt, &lock, &mut seat));
     let (seat, other) = lock.split(seat);
     assert!(rt; !lock.is_whole(&seat) && !lock.is_whole(&other));
     let seat = lock.join_seats(other, seat);
