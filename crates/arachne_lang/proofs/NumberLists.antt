@@ -1,7 +1,9 @@
 -- Lists of numbers that are told apart by their last number and those before it.
-use Rattle.std.proofs.Common.{◌≡◌, ℕ, List, [], ◌∷◌, ◌++◌, ap, sym, ◌∙◌, Bool, reverse}
+use Rattle.std.proofs.Common.{◌≡◌, ℕ, List, [], ◌∷◌, ◌++◌, ap, sym, ◌∙◌, Bool, true, false, rules, reverse}
 use Rattle.std.proofs.lemmas.List.{reverse-append, reverse-reverse}
-use Rattle.std.specs.Prelude.{IsTrue}
+use lib.Pointwise.{pointwise}
+use Rattle.std.specs.Prelude.{IsTrue, nat_eq}
+use Rattle.std.specs.Cmp.Lexicographic.{same_text, other_text}
 
 -- what two lists with a last number each have in common
 same_parts : (xs ys : List ℕ) (x y : ℕ) → xs ++ x ∷ [] ≡ ys ++ y ∷ [] → (xs ≡ ys) × (x ≡ y)
@@ -11,7 +13,9 @@ same_parts xs ys x y e =
     (sym (reverse-reverse xs) ∙ ap reverse t ∙ reverse-reverse ys, cc)
 
 -- what the comparison of a list but for its last number says
-pub decides_longer : (r : Bool) (list others front : List ℕ) (last number : ℕ) → list ≡ others ++ last ∷ [] → last ≡ number → (IsTrue r → others ≡ front) × (others ≡ front → IsTrue r) →
+pub decides_longer : (r : Bool) (list others front : List ℕ) (last number : ℕ) → list ≡ others ++ last ∷ [] → last ≡ number → r ≡ pointwise nat_eq others front →
     (IsTrue r → list ≡ front ++ number ∷ []) × (list ≡ front ++ number ∷ [] → IsTrue r)
-decides_longer r list others front last number e l h =
-    (λ t. e ∙ ap (λ xs. xs ++ last ∷ []) (h.0 t) ∙ ap (λ k. front ++ k ∷ []) l, λ q. h.1 (same_parts others front last number (sym e ∙ q)).0)
+decides_longer true list others front last number e l h =
+    (λ t. e ∙ ap (λ xs. xs ++ last ∷ []) (same_text others front h) ∙ ap (λ k. front ++ k ∷ []) l, λ q. search rules)
+decides_longer false list others front last number e l h =
+    (λ t. absurd (search rules), λ q. absurd (other_text others front h (same_parts others front last number (sym e ∙ q)).0))

@@ -56,15 +56,12 @@ impl ByteList {
             bytes,
         })
     }
-
     /// Whether it is the other list with this number behind it.
     pub fn is_longer_by(&self, front: &ByteList, number: u64) -> bool
         ensures { IsTrue result ↔ (self.now ≡ front.now ++ number ∷ []) }
     {
         match self.as_slice().split_last() {
-            Some((last, others)) => {
-                u64::from(*last) == number && are_same(others, front.as_slice())
-            }
+            Some((last, others)) => u64::from(*last) == number && others == front.as_slice(),
             None => false,
         }
     }
@@ -81,20 +78,4 @@ impl ByteList {
         longer.push(number)?;
         Ok(longer)
     }
-}
-
-/// Whether both are the same. For the few bytes of a name this is faster than the comparison of slices.
-#[inline(always)]
-fn are_same(some: &[u8], others: &[u8]) -> bool
-    ensures { IsTrue result ↔ (some.now ≡ others.now) }
-{
-    if some.len() != others.len() {
-        return false;
-    }
-    for (k, byte) in some.iter().enumerate() {
-        if others[k] != *byte {
-            return false;
-        }
-    }
-    true
 }
