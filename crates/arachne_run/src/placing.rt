@@ -57,7 +57,7 @@ impl<'a, H: Wait, T: RunJob, C: Contexts<T>, R: Rng, G: Gate> Worker<'a, H, T, C
         ensures answered { OnOk result (T.pause_of held.new.value ≡ None) }
     {
         let me = held.id();
-        let tag = self.machine.shared.next_tag();
+        let tag = kit.tags.take(&self.machine.shared);
         let job = held
             .value
             .fork_off(self.alloc, me, child, tag, &mut kit.spares)?;
@@ -77,8 +77,7 @@ impl<'a, H: Wait, T: RunJob, C: Contexts<T>, R: Rng, G: Gate> Worker<'a, H, T, C
         ensures thread { IsSameThread T.tag_of held.old held.new }
         ensures answered { OnOk result (T.pause_of held.new.value ≡ None) }
     {
-        let _ = kit;
-        let tag = self.machine.shared.next_tag();
+        let tag = kit.tags.take(&self.machine.shared);
         held.value.fork_in_place(child, tag)
     }
 
