@@ -1,7 +1,7 @@
-ghost use Rattle.std.specs.Prelude.{◌≡◌, ◌≢◌, ◌↔◌, ◌≤◌, ◌+◌, ◌-◌, ℕ, ◌∷◌, [], ◌++◌, false, None, Some, IfOk, OnOk, IfErr, OnErr, IsTrue};
+ghost use Rattle.std.specs.Prelude.{◌≡◌, ◌≢◌, ◌↔◌, ◌≤◌, ◌+◌, ◌-◌, ℕ, ◌∷◌, [], ◌++◌, false, None, Some, IsNone, IfSome, IfOk, OnOk, IfErr, OnErr, IsTrue};
 ghost use Rattle.arachne_machine.specs.Suspended.{IsAnswered, IsAsk, IsFree, IsFresh, IsNext, IsTally, Joined, SameThread, awaited, own_line_of, raised};
 ghost use Rattle.arachne_machine.specs.Advance.{AdvancedAlone, Moves, RefusedAlone, IsForeign, IsPassed, IsSpentAt, PausesAt, handed_back, pending_at, shown};
-ghost use Rattle.arachne_machine.specs.Nested.{FallsBy, IsAlone, IsChildOf, IsNested, Nested, SameWhole, alone, in_place_of, pending_in, whole, with_tag, work_in};
+ghost use Rattle.arachne_machine.specs.Nested.{FallsBy, GivesAway, IsAlone, IsChildOf, IsNested, Nested, SameWhole, alone, in_place_of, pending_in, whole, with_tag, work_in};
 ghost use Rattle.arachne_machine.specs.Faultless.{PausesWithin};
 ghost use Rattle.arachne_machine.specs.Trace.{At, trace_of};
 ghost use Rattle.arachne_machine.specs.Work.{work_of};
@@ -309,6 +309,25 @@ impl<'p> Thread<'p> {
         self.placed.push_reserved(child);
         self.running.forked();
         Ok(())
+    }
+
+    /// The oldest child that was placed here and has not begun, which is here no longer: it may run at a place of its
+    /// own, and its outcome is joined as any other's. It takes no memory.
+    pub fn give_away(&mut self) -> Option<Thread<'p>>
+        ensures none { IsNone result ↔ (self.old.placed ≡ []) }
+        ensures unchanged { IsNone result → self.new ≡ self.old }
+        ensures given { IfSome result (GivesAway self.old self.new) }
+        ensures whole { SameWhole self.old self.new }
+        ensures pending { pending_in self.new ≡ pending_in self.old }
+        ensures work { IfSome result (λ child. work_in self.old ≡ work_in self.new + work_in child) }
+        ensures forked { (t : Nested) → IsChildOf self.old t → IsChildOf self.new t }
+    {
+        if self.placed.is_empty() {
+            return None;
+        }
+        let mut child = self.placed.remove(0);
+        child.run_at_its_own();
+        Some(thread_of(self.alloc, child))
     }
 
     /// The one that goes on next.
