@@ -1,5 +1,6 @@
 -- The lines of threads as they are kept until a run is over.
-use Rattle.std.specs.Prelude.{◌≡◌, ◌≤◌, ◌<◌, ℕ, ◌+◌, ◌-◌, ◌^◌, Bool, true, false, List, [], ◌∷◌, ◌++◌, length, drop}
+use Rattle.std.specs.Prelude.{◌≡◌, ◌≤◌, ◌<◌, ℕ, ◌+◌, ◌-◌, ◌^◌, min, List, [], ◌∷◌, ◌++◌, length, drop}
+use Rattle.std.specs.Global.{Vec}
 use Rattle.arachne_machine.specs.declared.line.ThreadLine.{ThreadLine}
 
 -- lines in a list, and room for so many more
@@ -7,10 +8,19 @@ pub record Lined : Type 0 where
   pub lines : List ThreadLine
   pub room : ℕ
 
--- the lines behind a place for another, where there is one
-abbrev pub behind_place : Bool → List ThreadLine → List ThreadLine
-behind_place true lines = drop 1 lines
-behind_place false lines = lines
+-- the lines in these lists
+abbrev pub lines_in : List (Vec ThreadLine) → List ThreadLine
+lines_in [] = []
+lines_in (list ∷ lists) = list.items ++ lines_in lists
+
+-- how many more there may be, with so many in earlier lists and in the last one
+abbrev pub room_for : ℕ → ℕ → ℕ → ℕ
+room_for count last capacity = min (capacity - last) (2 ^ 63 - 1 - count - last)
+
+-- so many lines are in these lists, and with those in the last one there are few enough to be counted
+pub record IsCounted (earlier : List (Vec ThreadLine)) (count last : ℕ) : Type 0 where
+  pub counted : count ≡ length (lines_in earlier)
+  pub few : count + last < 2 ^ 63
 
 -- so many at the end
 abbrev pub last_lines : ℕ → List ThreadLine → List ThreadLine

@@ -1,4 +1,4 @@
-ghost use Rattle.std.specs.Prelude.{◌≡◌, ◌≢◌, ◌↔◌, ◌≤◌, ◌<◌, ◌+◌, ◌-◌, ◌^◌, ℕ, List, [], ◌∷◌, ◌++◌, None, Some, IfOk, OnOk, IfErr, OnErr, IsTrue};
+ghost use Rattle.std.specs.Prelude.{◌≡◌, ◌≢◌, ◌↔◌, ◌≤◌, ◌+◌, ◌-◌, ℕ, List, [], ◌∷◌, ◌++◌, None, Some, IfOk, OnOk, IfErr, OnErr, IsTrue};
 ghost use Rattle.arachne_machine.specs.Suspended.{SameThread, MakesSteps, IsFresh, IsNext, IsAnswered, Joined, IsAsk, IsFree, IsTally, awaited, own_line_of, raised};
 ghost use Rattle.arachne_machine.specs.Advance.{Advanced, IsForeign, IsSpentAt, TakesAllAt, handed_back, pending_at, shown};
 ghost use Rattle.arachne_machine.specs.Nested.{at_its_own, in_place_of, with_tag};
@@ -196,7 +196,6 @@ impl<'p> Strand<'p> {
         requires pending { self.old.pending ≡ Some pause.Joins }
         requires program { source_of outcome.program ≡ source_of self.old.program }
         requires behind { IsBehind self.old.below lines.old.lines }
-        requires few { placed < 2 ^ 63 }
         requires placed { placed ≤ lines.old.room }
         ensures ok { OnOk result (Joined self.old outcome.entry self.new) }
         ensures lines { OnOk result (lines.new.lines ≡ lines.old.lines ++ outcome.entry.lines) }
@@ -209,18 +208,26 @@ impl<'p> Strand<'p> {
         if !self.state.awaits(&outcome.own.name) {
             return Err(NotJoined::Foreign(outcome));
         }
-        let count = outcome.below.len() + 1;
-        if self.state.make_room().is_err() || lines.reserve(placed + count).is_err() {
+        if self.state.make_room().is_err() {
             return Err(NotJoined::Memory(outcome));
         }
+        let count = outcome.below.len() + 1;
         let Outcome {
-            program: _,
+            program,
             value,
             sums,
             own,
             below,
         } = outcome;
-        lines.append(own, below);
+        if let Err((own, below)) = lines.append(own, below, placed) {
+            return Err(NotJoined::Memory(Outcome {
+                program,
+                value,
+                sums,
+                own,
+                below,
+            }));
+        }
         self.state.join_with_room(value, &sums, lines, count);
         Ok(())
     }

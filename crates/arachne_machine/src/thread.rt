@@ -62,8 +62,7 @@ impl<'p> Thread<'p> {
         ensures trace { IfOk result (λ thread. thread.running.trace ≡ trace_of (source_of program.now).arrays (source_of program.now).root [] ++ At pause.Ended ∷ []) }
     {
         let strand = Strand::start(alloc, program, tag)?;
-        let lines = Lines::with_place(alloc)?;
-        Ok(thread_of(alloc, strand, lines))
+        Ok(thread_of(alloc, strand, Lines::new(alloc)))
     }
 
     /// The tag.

@@ -1,6 +1,5 @@
 use Rattle.std.proofs.Common.{◌≡◌, ◌+◌, [], ◌∷◌, ◌++◌, Some, length, refl, sym, ap, ◌∙◌, subst, arith}
 use Rattle.arachne_lang.specs.Program.{source_of}
-use Rattle.arachne_machine.specs.declared.frame.Control.TheVariants.{Ended}
 use Rattle.arachne_machine.specs.Outcome.{Finished, IsOfItsName}
 use Rattle.arachne_machine.specs.Suspended.{Joined, awaited, own_line_of}
 use Rattle.arachne_machine.specs.Steps.{IsBrought, IsUnchanged, Joins, suspended}

@@ -1,7 +1,6 @@
 use Rattle.std.proofs.Common.{rules, ◌≡◌, ◌+◌, [], ◌∷◌, ◌++◌, Some, length, sym, ap, ◌∙◌, subst, arith}
 use Rattle.arachne_lang.specs.Program.{source_of}
-use Rattle.arachne_machine.specs.declared.state.State.{State}
-use Rattle.arachne_machine.specs.Outcome.{Finished, IsOfItsName}
+use Rattle.arachne_machine.specs.Outcome.{IsOfItsName}
 use Rattle.arachne_machine.specs.Suspended.{Joined, awaited}
 use Rattle.arachne_machine.specs.Steps.{IsBrought, IsUnchanged, Joins, suspended}
 use Rattle.arachne_machine.specs.Sound.{IsSound}
@@ -33,7 +32,7 @@ brought c =
     let mid = c.deref_mut-2.result.now in
     let below = ap (λ v. v.below) (looks c) in
     let lines : c.append.new.self.lines ≡ (c.requires.behind.before ++ mid.below) ++ c.args.outcome.lines =
-    c.append.ensures.lines ∙ ap (λ l. l ++ c.outcome.inside.own ∷ c.outcome.inside.below.lines) (c.reserve.ensures.lines ∙ c.requires.behind.lines_are ∙ ap (λ l. c.requires.behind.before ++ l) (sym below))
+    c.in_default.ensures.lines ∙ ap (λ l. l ++ c.outcome.inside.own ∷ c.outcome.inside.below.lines) (c.requires.behind.lines_are ∙ ap (λ l. c.requires.behind.before ++ l) (sym below))
     ∙ ap (λ v. (c.requires.behind.before ++ mid.below) ++ v.lines) c.outcome.view_is in
     record {
       of_child = ap awaited (looks c ∙ sym (ap suspended c.deref.ensures ∙ c.self.view_is)) ∙ awaits c ∙ ap (λ v. Some v.name) c.outcome.view_is;
