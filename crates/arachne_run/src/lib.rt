@@ -20,7 +20,6 @@ mod setup;
 mod shared;
 mod slice;
 mod spares;
-mod tags;
 mod tokens;
 mod waking;
 mod wanted;
