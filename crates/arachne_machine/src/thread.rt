@@ -1,14 +1,16 @@
-ghost use Rattle.std.specs.Prelude.{◌≡◌, ◌≢◌, ◌↔◌, ◌≤◌, ◌+◌, ◌-◌, ℕ, ◌∷◌, [], ◌++◌, false, None, Some, IfOk, OnOk, IfErr, OnErr, IsTrue};
+ghost use Rattle.std.specs.Prelude.{◌≡◌, ◌≢◌, ◌↔◌, ◌≤◌, ◌+◌, ◌-◌, ℕ, ◌∷◌, [], ◌++◌, false, None, Some, IsNone, IfSome, IfOk, OnOk, IfErr, OnErr, IsTrue};
 ghost use Rattle.arachne_machine.specs.Suspended.{IsAnswered, IsAsk, IsFree, IsFresh, IsNext, IsTally, Joined, SameThread, awaited, own_line_of, raised};
 ghost use Rattle.arachne_machine.specs.Advance.{AdvancedAlone, Moves, RefusedAlone, IsForeign, IsPassed, IsSpentAt, PausesAt, handed_back, pending_at, shown};
-ghost use Rattle.arachne_machine.specs.Nested.{FallsBy, IsAlone, IsChildOf, IsNested, Nested, SameWhole, alone, in_place_of, pending_in, whole, with_tag, work_in};
+ghost use Rattle.arachne_machine.specs.Nested.{FallsBy, GivesAway, IsAlone, IsChildOf, IsNested, Nested, SameWhole, alone, in_place_of, pending_in, whole, with_tag, work_in};
 ghost use Rattle.arachne_machine.specs.Faultless.{PausesWithin};
+ghost use Rattle.arachne_machine.specs.Stops.{HasJoinedNone};
 ghost use Rattle.arachne_machine.specs.Trace.{At, trace_of};
 ghost use Rattle.arachne_machine.specs.Work.{work_of};
 ghost use Rattle.arachne_lang.specs.Checked.{IsChecked};
 ghost use Rattle.arachne_lang.specs.Program.{source_of};
 ghost use Rattle.arachne_machine.specs.declared.pause.Pending.TheVariants as pause;
 
+use crate::lines::Lines;
 use crate::outcome::Outcome;
 use crate::pause::{NotJoined, Pause, Pending};
 use crate::spares::Spares;
@@ -31,11 +33,13 @@ pub struct Thread<'p> {
     /// Children that were placed here and have not begun, the newest last. For each of them there is room
     /// among the parents.
     placed: Vec<Strand<'p>>,
+    /// The lines of all threads that were joined here: those below the outermost, then for each that runs in its place its own place and those below it. For each placed one there is room.
+    lines: Lines,
 }
 
 impl<'p> Model for Thread<'p> {
-    ghost use Rattle.std.specs.Prelude.{◌+◌, ◌≤◌, reverse, vec_len, vec_capacity};
-    ghost use Rattle.arachne_machine.specs.Nested.{Nested, IsNested};
+    ghost use Rattle.std.specs.Prelude.{reverse, vec_len, vec_capacity};
+    ghost use Rattle.arachne_machine.specs.Nested.{Nested, IsKept};
 
     ghost Value = { Nested };
 
@@ -46,7 +50,7 @@ impl<'p> Model for Thread<'p> {
 
     ghost view = { λ t. record { running = t.running; parents = reverse t.parents.items; placed = reverse t.placed.items } };
 
-    ghost invariant = { λ t. IsNested (record { running = t.running; parents = reverse t.parents.items; placed = reverse t.placed.items }) × (vec_len t.parents + vec_len t.placed ≤ vec_capacity t.parents) };
+    ghost invariant = { λ t. IsKept (record { running = t.running; parents = reverse t.parents.items; placed = reverse t.placed.items }) t.lines (vec_len t.parents) (vec_len t.placed) (vec_capacity t.parents) };
 }
 
 impl<'p> Thread<'p> {
@@ -58,7 +62,7 @@ impl<'p> Thread<'p> {
         ensures trace { IfOk result (λ thread. thread.running.trace ≡ trace_of (source_of program.now).arrays (source_of program.now).root [] ++ At pause.Ended ∷ []) }
     {
         let strand = Strand::start(alloc, program, tag)?;
-        Ok(thread_of(alloc, strand))
+        Ok(thread_of(alloc, strand, Lines::new(alloc)))
     }
 
     /// The tag.
@@ -236,7 +240,7 @@ impl<'p> Thread<'p> {
             unreachable!()
         };
         let child = replace(&mut self.running, parent);
-        if let Err(child) = self.running.join_ended(child, spares) {
+        if let Err(child) = self.running.join_ended(child, &mut self.lines, spares) {
             let parent = replace(&mut self.running, child);
             self.parents.push_reserved(parent);
             return Err(AllocError);
@@ -260,6 +264,7 @@ impl<'p> Thread<'p> {
             self.placed.push_reserved(child);
             return false;
         }
+        self.lines.push_place(self.alloc);
         let parent = replace(&mut self.running, child);
         self.parents.push_reserved(parent);
         true
@@ -301,6 +306,7 @@ impl<'p> Thread<'p> {
     {
         if self.parents.try_reserve(self.placed.len() + 1).is_err()
             || self.placed.try_reserve(1).is_err()
+            || self.lines.reserve(self.placed.len() + 1).is_err()
         {
             return Err(child);
         }
@@ -309,6 +315,25 @@ impl<'p> Thread<'p> {
         self.placed.push_reserved(child);
         self.running.forked();
         Ok(())
+    }
+
+    /// The oldest child that was placed here and has not begun, which is here no longer: it may run at a place of its
+    /// own, and its outcome is joined as any other's. It takes no memory.
+    pub fn give_away(&mut self) -> Option<Thread<'p>>
+        ensures none { IsNone result ↔ (self.old.placed ≡ []) }
+        ensures unchanged { IsNone result → self.new ≡ self.old }
+        ensures given { IfSome result (GivesAway self.old self.new) }
+        ensures whole { SameWhole self.old self.new }
+        ensures pending { pending_in self.new ≡ pending_in self.old }
+        ensures work { IfSome result (λ child. work_in self.old ≡ work_in self.new + work_in child) }
+        ensures forked { (t : Nested) → IsChildOf self.old t → IsChildOf self.new t }
+    {
+        if self.placed.is_empty() {
+            return None;
+        }
+        let mut child = self.placed.remove(0);
+        child.run_at_its_own();
+        Some(thread_of(self.alloc, child, Lines::new(self.alloc)))
     }
 
     /// The one that goes on next.
@@ -321,6 +346,7 @@ impl<'p> Thread<'p> {
             running,
             parents: _,
             placed: _,
+            lines: _,
         } = self;
         running
     }
@@ -387,7 +413,8 @@ impl<'p> Thread<'p> {
         ensures err { OnErr result (self.new ≡ self.old) }
         ensures handed_back { IfErr result (λ e. handed_back e ≡ outcome.entry) }
     {
-        self.running.joined(outcome)
+        self.running
+            .joined(outcome, &mut self.lines, self.placed.len())
     }
 
     /// The outcome of a thread that has ended. It takes no memory.
@@ -410,12 +437,20 @@ impl<'p> Thread<'p> {
         ensures sums { result.sums ≡ (whole self.entry).sums }
         ensures lines { result.lines ≡ own_line_of (whole self.entry) ∷ (whole self.entry).below }
     {
-        self.into_running().finish(spares)
+        let Thread {
+            alloc: _,
+            running,
+            parents: _,
+            placed: _,
+            lines,
+        } = self;
+        running.finish(lines, spares)
     }
 }
 
 /// A thread in whose place no other is.
-fn thread_of<'p>(alloc: Global, strand: Strand<'p>) -> Thread<'p>
+fn thread_of<'p>(alloc: Global, strand: Strand<'p>, lines: Lines) -> Thread<'p>
+    requires { lines.lines ≡ strand.below }
     ensures { result ≡ alone strand.entry }
 {
     Thread {
@@ -423,16 +458,20 @@ fn thread_of<'p>(alloc: Global, strand: Strand<'p>) -> Thread<'p>
         running: strand,
         parents: Vec::new(alloc),
         placed: Vec::new(alloc),
+        lines,
     }
 }
 
 /// What callers see of why the innermost thread stops.
 fn pause_at<'p>(alloc: Global, halt: Halt<'p>) -> Pause<'p>
+    requires { HasJoinedNone halt }
     ensures { result ≡ shown halt.entry }
 {
     match halt {
         Halt::Budget => Pause::Budget,
-        Halt::Forks(class, child) => Pause::Forks(class, thread_of(alloc, child)),
+        Halt::Forks(class, child) => {
+            Pause::Forks(class, thread_of(alloc, child, Lines::new(alloc)))
+        }
         Halt::Joins => Pause::Joins,
         Halt::Asks(lock) => Pause::Asks(lock),
         Halt::Frees(lock) => Pause::Frees(lock),

@@ -9,15 +9,19 @@ use arachne_machine::ThreadLine;
 use arachne_sleep::LockEvent;
 use std::alloc::{AllocError, Global};
 
-/// The marks of the numbers, each below 2^64 - 1, if no two are the same. They take a byte for each number up to the
-/// greatest.
-pub(crate) fn marks_of(alloc: Global, numbers: &[u64]) -> Result<Option<Vec<bool>>, AllocError>
-    ensures distinct { IfOk result (λ found. IfSome found (λ marks. AreDistinct numbers.now)) }
-    ensures marks { IfOk result (λ found. IfSome found (λ marks. AreMarksOf numbers.now marks.items)) }
+/// The marks of the threads' tags, each below 2^64 - 1, if no two are the same. They take a byte for each tag up to the
+/// greatest, and for each thread at least.
+pub(crate) fn marks_of(
+    alloc: Global,
+    threads: &[ThreadLine],
+) -> Result<Option<Vec<bool>>, AllocError>
+    ensures distinct { IfOk result (λ found. IfSome found (λ marks. AreDistinct (map (λ line. line.tag) threads.now))) }
+    ensures marks { IfOk result (λ found. IfSome found (λ marks. AreMarksOf (map (λ line. line.tag) threads.now) marks.items)) }
 {
     let mut marks = Vec::new(alloc);
-    for number in numbers {
-        let place = *number as usize;
+    marks.resize(threads.len(), false)?;
+    for line in threads {
+        let place = line.tag as usize;
         if place == usize::MAX {
             return Ok(None);
         }

@@ -12,7 +12,7 @@ use crate::spares::Spares;
 use crate::wanted::{OutcomeReceiver, OutcomeSender, Wanted};
 use arachne_contexts::Tagged;
 use arachne_core::ThreadId;
-use arachne_lang::Program;
+use arachne_lang::{Class, Program};
 use arachne_machine::{NotJoined, Outcome, Pause, Pending, Thread};
 use std::alloc::{AllocError, Global};
 use std::marker::Model;
@@ -28,6 +28,8 @@ pub struct Job<'p> {
     end: OutcomeSender<'p>,
     awaited: Vec<OutcomeReceiver<'p>>,
     parent: Option<ThreadId>,
+    /// Whether it has forked an exclusive child, which may have got a place before older ones that still wait in this one.
+    has_exclusive: bool,
 }
 
 impl<'p> Model for Job<'p> {
@@ -104,10 +106,24 @@ impl<'p> RunJob for Job<'p> {
     ) -> Result<Job<'p>, WorkerFault> {
         let mut child = child;
         child.set_tag(tag);
-        let (job, receiver) = Job::of(alloc, child, Some(me), spares)?;
-        self.expect(receiver)?;
+        let job = self.part_with(alloc, me, child, spares)?;
         self.thread.forked();
         Ok(job)
+    }
+
+    fn give_away(
+        &mut self,
+        alloc: Global,
+        me: ThreadId,
+        spares: &mut Spares<'p>,
+    ) -> Result<Option<Job<'p>>, WorkerFault> {
+        if self.has_exclusive {
+            return Ok(None);
+        }
+        match self.thread.give_away() {
+            Some(child) => Ok(Some(self.part_with(alloc, me, child, spares)?)),
+            None => Ok(None),
+        }
     }
 
     fn fork_in_place(&mut self, child: Thread<'p>, tag: u64) -> Result<(), WorkerFault> {
@@ -137,6 +153,7 @@ impl<'p> RunJob for Job<'p> {
             end,
             awaited,
             parent,
+            has_exclusive: _,
         } = self;
         spares.keep_awaited(awaited);
         end.leave(thread.finish_into(&mut spares.threads));
@@ -176,6 +193,7 @@ impl<'p> Job<'p> {
             end,
             awaited: spares.take_awaited(alloc),
             parent,
+            has_exclusive: false,
         };
         Ok((job, receiver))
     }
@@ -195,7 +213,10 @@ impl<'p> Job<'p> {
     {
         match self.thread.advance_within(left, &mut spares.threads)? {
             Pause::Budget => Ok(Slice::Goes),
-            Pause::Forks(class, child) => Ok(Slice::Forks(class, child)),
+            Pause::Forks(class, child) => {
+                self.has_exclusive |= class == Class::Exclusive;
+                Ok(Slice::Forks(class, child))
+            }
             Pause::Joins => {
                 if self.join(spares)? {
                     Ok(Slice::Goes)
@@ -208,6 +229,23 @@ impl<'p> Job<'p> {
             Pause::Tallies(ledger, amount) => Ok(Slice::Tallies(ledger, amount)),
             Pause::Ended => Ok(Slice::Ends),
         }
+    }
+
+    /// The job of a child, whose outcome this one expects. Its parent runs under this id.
+    fn part_with(
+        &mut self,
+        alloc: Global,
+        me: ThreadId,
+        child: Thread<'p>,
+        spares: &mut Spares<'p>,
+    ) -> Result<Job<'p>, WorkerFault>
+        requires { source_of (program_of child) ≡ source_of (program_of self.old.thread) }
+        ensures same { self.new ≡ self.old }
+        ensures job { IfOk result (λ job. job ≡ record { thread = child.entry; parent = Some me }) }
+    {
+        let (job, receiver) = Job::of(alloc, child, Some(me), spares)?;
+        self.expect(receiver)?;
+        Ok(job)
     }
 
     /// Expects the outcome of a child.

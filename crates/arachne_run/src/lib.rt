@@ -20,6 +20,7 @@ mod setup;
 mod shared;
 mod slice;
 mod spares;
+mod tags;
 mod tokens;
 mod waking;
 mod wanted;

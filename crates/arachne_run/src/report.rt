@@ -12,7 +12,7 @@ use crate::machine::Remains;
 use arachne_lang::Sequence;
 use arachne_machine::{Outcome, ThreadLine};
 use arachne_sleep::LockEvent;
-use std::alloc::{AllocError, Global};
+use std::alloc::Global;
 
 /// What a run brings.
 #[derive(Debug, Drop)]
@@ -56,8 +56,7 @@ impl Report {
             return Err(WorkerFault::Ledgers);
         }
         let lines = parts.lines.as_slice();
-        let tags = tags_in(alloc, lines)?;
-        let Some(marks) = marks_of(alloc, tags.as_slice())? else {
+        let Some(marks) = marks_of(alloc, lines)? else {
             return Err(WorkerFault::Threads);
         };
         if !are_grants_holds(alloc, lines, marks.as_slice(), histories.as_slice())? {
@@ -71,11 +70,4 @@ impl Report {
             applied,
         })
     }
-}
-
-/// The tags of these lines, in their order.
-fn tags_in(alloc: Global, lines: &[ThreadLine]) -> Result<Vec<u64>, AllocError>
-    ensures { IfOk result (λ tags. tags.items ≡ map (λ line. line.tag) lines.now) }
-{
-    lines.iter().map(|line| line.tag).collect(alloc)
 }

@@ -12,7 +12,7 @@ use std::sync::atomic::{AtomicU64, Ordering};
 use std::sync::{Mutex, Wait};
 use std::time::Duration;
 
-/// The word that stops all workers, the next thread's tag, the first fault, and for each core where threads may be ready,
+/// The word that stops all workers, the next tag that is not drawn, the first fault, and for each core where threads may be ready,
 /// the parker of its kernel thread and the count of its slices. The tag and what is there for each core have cache lines of
 /// their own.
 #[derive(Drop)]
@@ -95,9 +95,9 @@ impl Shared {
         }
     }
 
-    /// A tag that no other thread of the run has, as long as there are fewer than 2^64.
-    pub(crate) fn next_tag(&self) -> u64 {
-        self.next_tag.fetch_add(1, Ordering::SeqCst)
+    /// The first of so many tags in a row that no other thread of the run has, as long as fewer than 2^64 are drawn.
+    pub(crate) fn next_tags(&self, count: u64) -> u64 {
+        self.next_tag.fetch_add(count, Ordering::SeqCst)
     }
 
     /// Stops all workers for a fault, which is recorded if it is the first.

@@ -1,5 +1,5 @@
 //! What a worker does with a job: it runs a slice, and answers what the slice asks for.
-ghost use Rattle.std.specs.Prelude.{◌≡◌, ◌≤◌, [], IfOk, OnOk};
+ghost use Rattle.std.specs.Prelude.{◌≡◌, ◌≤◌, [], IfOk, IfSome, IsNone, OnOk};
 ghost use Rattle.arachne_lang.specs.Program.{source_of};
 ghost use Rattle.arachne_lang.specs.Checked.{IsChecked};
 ghost use Rattle.std.specs.Prelude.{ℕ, Option, None, Some};
@@ -91,6 +91,21 @@ pub trait RunJob: Tagged + Drop {
         ensures child { IfOk result (λ job. Self.tag_of job ≡ tag) }
         ensures childs_parent { IfOk result (λ job. parent_of job ≡ Some me) }
         ensures answered { OnOk result (pause_of self.new ≡ None) };
+
+    /// The oldest child that was to run in this job's place and has not begun, as a job of its own whose parent runs under
+    /// this id. None where no child waits so, or where one given now would be joined out of turn.
+    fn give_away(
+        &mut self,
+        alloc: Global,
+        me: ThreadId,
+        spares: &mut Self::Spares,
+    ) -> Result<Option<Self>, WorkerFault>
+        ensures tag { Self.tag_of self.new ≡ Self.tag_of self.old }
+        ensures parent { parent_of self.new ≡ parent_of self.old }
+        ensures pause { pause_of self.new ≡ pause_of self.old }
+        ensures forks { (child : Self.Child) → forks self.old child → forks self.new child }
+        ensures childs_parent { IfOk result (λ given. IfSome given (λ job. parent_of job ≡ Some me)) }
+        ensures none { IfOk result (λ given. IsNone given → self.new ≡ self.old) };
 
     /// The child will run in this job's place, once it is awaited.
     fn fork_in_place(&mut self, child: Self::Child, tag: u64) -> Result<(), WorkerFault>

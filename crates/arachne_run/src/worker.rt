@@ -14,6 +14,7 @@ use crate::machine::Machine;
 use crate::readiness::bit_of;
 use crate::reserve::Reserve;
 use crate::slice::{RunJob, Slice};
+use crate::tags::Tags;
 use crate::tokens::Tokens;
 use crate::waking::Cause;
 use arachne_arbiter::Cores;
@@ -51,6 +52,8 @@ pub(crate) struct Kit<S, R, P> {
     pub(crate) spares: P,
     /// How many places its threads have left since it last kept some.
     pub(crate) vacated: u32,
+    /// The tags for threads that it forks.
+    pub(crate) tags: Tags,
 }
 
 impl<S, R, P> Kit<S, R, P> {
@@ -67,6 +70,7 @@ impl<S, R, P> Kit<S, R, P> {
             deferred: Deferred::new(alloc),
             spares,
             vacated: 0,
+            tags: Tags::new(),
         }
     }
 }

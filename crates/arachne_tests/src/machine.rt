@@ -476,3 +476,51 @@ fn a_thread_tells_what_it_is(rt: HostRuntime) -> Result<(), Fail> {
     assert!(rt; tells_what_it_is(rt.alloc(), &program)?);
     Ok(())
 }
+
+const TWO_FORKS: &str =
+    "(fork n (num 1) (fork n (num 2) (num 3) (add (var 0) (var 1))) (add (var 0) (var 1)))";
+
+/// Goes on to a fork, and puts its child in place.
+fn place_next(thread: &mut Thread, heard: &mut Heard) -> Result<(), Fail>
+    requires { pending_in thread.old ≡ None }
+    ensures { OnOk result (pending_in thread.new ≡ None) }
+{
+    if turn(thread, 100, heard)? {
+        return Err("it ended")?;
+    }
+    Ok(())
+}
+
+/// The outcome of the child that is given away, once it has run by itself.
+fn given_away<'p>(thread: &mut Thread<'p>) -> Result<Outcome<'p>, Fail> {
+    match thread.give_away() {
+        Some(child) => ended(child),
+        None => Err("no child is placed")?,
+    }
+}
+
+/// What is told of a root with the tag 9 that places its two children, of which it gives the older away.
+fn told_given_away(alloc: Global, program: &Program) -> Result<String, Fail> {
+    let mut thread = start(alloc, program, 9)?;
+    let mut heard = Heard {
+        pauses: 0,
+        asked: 0,
+        next: 10,
+    };
+    place_next(&mut thread, &mut heard)?;
+    place_next(&mut thread, &mut heard)?;
+    let outcome = given_away(&mut thread)?;
+    go_on(&mut thread)?;
+    join_child(&mut thread, outcome);
+    told(alloc, &parts(ended(thread)?)?)
+}
+
+/// The younger child stays, and is told as one that ran in place. Run with each allocation refused in turn (`rt try --test --fail-alloc N`)
+/// this gives the same outcome.
+#[test]
+fn the_older_child_is_given_away(rt: HostRuntime) -> Result<(), Fail> {
+    let program = program(rt.alloc(), 0, TWO_FORKS)?;
+    let told = told_given_away(rt.alloc(), &program)?;
+    assert!(rt; told.as_str() == "6 [] []9-[] [1]11+[] [0]10-[]", "{told}");
+    Ok(())
+}

@@ -28,6 +28,15 @@ const COUNTING: Source = Source {
     expr: "(fork n (fold (num 0) (num 3000) (num 0) (var 0)) (fork n (fold (num 0) (num 3000) (num 0) (var 0)) (fold (num 0) (num 1000) (num 0) (var 0)) (add (var 0) (var 1))) (add (var 0) (var 1)))",
 };
 
+/// 300 threads, of which the root forks nine and then counts to 3,000. Behind that it forks one that is to be alone, and one
+/// more meanwhile.
+const WAITING: Source = Source {
+    ledgers: 0,
+    locks: 0,
+    forks: 0,
+    expr: "(sweep add 1 (num 0) (num 300) (if (eq (var 0) (num 299)) (let (fold (num 0) (num 3000) (num 0) (num 0)) (fork x (num 1) (fork n (num 2) (num 3) (add (var 2) (var 3))) (add (var 2) (var 3)))) (num 0)))",
+};
+
 /// So many orders, each due a slice after the one before: releases and grants of cores 1 to 3 in turn.
 fn orders(alloc: Global, count: u64) -> Result<Vec<CoreOrder>, AllocError> {
     let mut orders = Vec::new(alloc);
@@ -83,6 +92,41 @@ fn cores_come_and_go(rt: HostRuntime) -> Result<(), Fail> {
 }
 
 const ROWS: &[Row] = &[
+    // The root forks while core 0 is full and the others are closed, so that children wait in its place. Once those are open
+    // it forks one that is to be alone, which gets a core at once, and then another.
+    Row {
+        shows: "an exclusive child among those that wait is joined in turn",
+        source: WAITING,
+        forms: FORMS,
+        machines: &[(3, 1, 3)],
+        draws: SPREAD,
+        orders: &[
+            CoreOrder {
+                after: 0,
+                kind: OrderKind::Release,
+                core: 1,
+            },
+            CoreOrder {
+                after: 0,
+                kind: OrderKind::Release,
+                core: 2,
+            },
+            CoreOrder {
+                after: 4000,
+                kind: OrderKind::Grant,
+                core: 1,
+            },
+            CoreOrder {
+                after: 4000,
+                kind: OrderKind::Grant,
+                core: 2,
+            },
+        ],
+        watching: Watching::Nothing,
+        facts: &[(Fact::Value, 6), (Fact::Threads, 302), (Fact::Applied, 4)],
+        telling: Telling::Nothing,
+        told: "",
+    },
     // Three orders, and with the last one, which is never due.
     // A report tells how many orders were applied: one that is never due was not.
     Row {
