@@ -102,28 +102,23 @@ impl<'p> RunJob for Job<'p> {
         me: ThreadId,
         child: Thread<'p>,
         tag: u64,
+        oldest_first: bool,
         spares: &mut Spares<'p>,
     ) -> Result<Job<'p>, WorkerFault> {
         let mut child = child;
         child.set_tag(tag);
+        if oldest_first && !self.has_exclusive {
+            if let Some(oldest) = self.thread.give_away() {
+                let job = self.part_with(alloc, me, oldest, spares)?;
+                return match self.thread.in_place(child) {
+                    Ok(()) => Ok(job),
+                    Err(_) => Err(WorkerFault::Memory),
+                };
+            }
+        }
         let job = self.part_with(alloc, me, child, spares)?;
         self.thread.forked();
         Ok(job)
-    }
-
-    fn give_away(
-        &mut self,
-        alloc: Global,
-        me: ThreadId,
-        spares: &mut Spares<'p>,
-    ) -> Result<Option<Job<'p>>, WorkerFault> {
-        if self.has_exclusive {
-            return Ok(None);
-        }
-        match self.thread.give_away() {
-            Some(child) => Ok(Some(self.part_with(alloc, me, child, spares)?)),
-            None => Ok(None),
-        }
     }
 
     fn fork_in_place(&mut self, child: Thread<'p>, tag: u64) -> Result<(), WorkerFault> {

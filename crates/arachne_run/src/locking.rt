@@ -11,7 +11,7 @@ use crate::waking::Cause;
 use crate::worker::{Kit, Worker};
 use arachne_contexts::{Contexts, Held, Identified};
 use arachne_core::ThreadId;
-use arachne_sleep::{AskFault, Asked, Pass, Tried, Who};
+use arachne_sleep::{AskFault, Asked, Freed, Pass, Tried, Who};
 use rand_core::Rng;
 use std::sync::Wait;
 
@@ -102,7 +102,10 @@ impl<'a, H: Wait, T: RunJob, C: Contexts<T>, R: Rng, G: Gate> Worker<'a, H, T, C
         if lock >= self.machine.locks.count() as u64 {
             return Err(WorkerFault::Foreign);
         }
-        u8::try_from(lock).map_err(|_| WorkerFault::Foreign)
+        match u8::try_from(lock) {
+            Ok(number) => Ok(number),
+            Err(_) => Err(WorkerFault::Foreign),
+        }
     }
 
     /// The pass of a thread that asks and holds the lock at once.
@@ -171,7 +174,15 @@ impl<'a, H: Wait, T: RunJob, C: Contexts<T>, R: Rng, G: Gate> Worker<'a, H, T, C
         for _ in self.rt.forever() {
             let locks = &self.machine.locks;
             match locks.free(self.rt, &mut kit.tokens.lock_seats, lock, who) {
-                Tried::Answered(Ok(freed)) => return Ok(freed.next.map(|next| next.id)),
+                Tried::Answered(
+                    Ok(
+                        Freed {
+                            next: Some(next),
+                            ..
+                        },
+                    ),
+                ) => return Ok(Some(next.id)),
+                Tried::Answered(Ok(Freed { next: None, .. })) => return Ok(None),
                 Tried::Answered(Err(_)) => return Err(WorkerFault::Threads),
                 Tried::Contended => {}
             }

@@ -13,8 +13,8 @@ use rand_core::Rng;
 use std::sync::Wait;
 
 impl<'a, H: Wait, T: RunJob, C: Contexts<T>, R: Rng, G: Gate> Worker<'a, H, T, C, R, G> {
-    /// Answers a fork: where a core has a place for a thread of the child's class, the child gets it, or in its stead an older
-    /// one that waits to run in place; else the child runs in place.
+    /// Answers a fork: where a core has a place for a thread of the child's class, the child gets it, or in its stead the oldest
+    /// that waits to run in place; else the child runs in place.
     pub(crate) fn fork(
         &self,
         kit: &mut Kit<C::Seat, R, T::Spares>,
@@ -30,53 +30,27 @@ impl<'a, H: Wait, T: RunJob, C: Contexts<T>, R: Rng, G: Gate> Worker<'a, H, T, C
         ensures answered { OnOk result (T.pause_of held.new.value ≡ None) }
     {
         match self.claim(kit, class)? {
-            Some(claim) if class == Class::Normal => self.give_place(kit, held, claim, child),
             Some(claim) => {
-                self.fork_off(kit, held, claim, child)?;
+                self.fork_off(kit, held, claim, class, child)?;
                 // One that is to be alone on its core can't be taken back.
-                self.tell(kit);
+                if class == Class::Exclusive {
+                    self.tell(kit);
+                }
                 Ok(())
             }
             None => self.fork_in_place(kit, held, child),
         }
     }
 
-    /// The oldest child that waits to run in place becomes a thread at the claimed place, and the new one waits in its stead;
-    /// where none waits the new one gets the place, and in a run with locks always: the oldest is mostly the largest, and
-    /// several large ones at places of their own only queue for the locks.
-    fn give_place(
-        &self,
-        kit: &mut Kit<C::Seat, R, T::Spares>,
-        held: &mut Held<T, C::Hold>,
-        claim: C::Claim,
-        child: T::Child,
-    ) -> Result<(), WorkerFault>
-        requires tokens { AreOf C.sits self.now.machine.now kit.old.tokens }
-        requires claim { HasOut (C.has self.now.machine.now.table) (a_claim claim) kit.old.tokens.seat }
-        requires forks { T.forks held.old.value child }
-        ensures tokens { OnOk result (AreLess C.sits C.has self.now.machine.now (a_claim claim) kit.old.tokens kit.new.tokens) }
-        ensures thread { OnOk result (IsSameThread T.tag_of held.old held.new) }
-        ensures answered { OnOk result (T.pause_of held.new.value ≡ None) }
-    {
-        if self.machine.locks.count() > 0 {
-            return self.fork_off(kit, held, claim, child);
-        }
-        let me = held.id();
-        match held.value.give_away(self.alloc, me, &mut kit.spares)? {
-            Some(oldest) => {
-                self.post(kit, claim, oldest, me)?;
-                self.fork_in_place(kit, held, child)
-            }
-            None => self.fork_off(kit, held, claim, child),
-        }
-    }
-
-    /// The child becomes a thread at the claimed place.
+    /// The child becomes a thread at the claimed place, or the oldest that waits to run in place does so in its stead. In a
+    /// run with locks the child always: the oldest is mostly the largest, and large ones at places of their own only queue
+    /// for the locks.
     fn fork_off(
         &self,
         kit: &mut Kit<C::Seat, R, T::Spares>,
         held: &mut Held<T, C::Hold>,
         claim: C::Claim,
+        class: Class,
         child: T::Child,
     ) -> Result<(), WorkerFault>
         requires tokens { AreOf C.sits self.now.machine.now kit.old.tokens }
@@ -88,9 +62,10 @@ impl<'a, H: Wait, T: RunJob, C: Contexts<T>, R: Rng, G: Gate> Worker<'a, H, T, C
     {
         let me = held.id();
         let tag = kit.tags.take(&self.machine.shared);
+        let oldest_first = class == Class::Normal && self.machine.locks.count() == 0;
         let job = held
             .value
-            .fork_off(self.alloc, me, child, tag, &mut kit.spares)?;
+            .fork_off(self.alloc, me, child, tag, oldest_first, &mut kit.spares)?;
         self.post(kit, claim, job, me)
     }
 

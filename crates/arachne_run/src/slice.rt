@@ -1,5 +1,5 @@
 //! What a worker does with a job: it runs a slice, and answers what the slice asks for.
-ghost use Rattle.std.specs.Prelude.{◌≡◌, ◌≤◌, [], IfOk, IfSome, IsNone, OnOk};
+ghost use Rattle.std.specs.Prelude.{◌≡◌, ◌≤◌, [], false, IfOk, OnOk};
 ghost use Rattle.arachne_lang.specs.Program.{source_of};
 ghost use Rattle.arachne_lang.specs.Checked.{IsChecked};
 ghost use Rattle.std.specs.Prelude.{ℕ, Option, None, Some};
@@ -76,36 +76,23 @@ pub trait RunJob: Tagged + Drop {
         ensures parent { parent_of self.new ≡ parent_of self.old }
         ensures left { IfOk result (λ slice. IsLeft forks pause_of slice self.new) };
 
-    /// The child becomes a job of its own with this tag, whose parent runs under this id.
+    /// The child becomes a job of its own with this tag, whose parent runs under this id. Where the oldest comes first and
+    /// children wait to run in this job's place, the oldest of them becomes one, and this child waits in its stead.
     fn fork_off(
         &mut self,
         alloc: Global,
         me: ThreadId,
         child: Self::Child,
         tag: u64,
+        oldest_first: bool,
         spares: &mut Self::Spares,
     ) -> Result<Self, WorkerFault>
         requires { forks self.old child }
         ensures tag { Self.tag_of self.new ≡ Self.tag_of self.old }
         ensures parent { parent_of self.new ≡ parent_of self.old }
-        ensures child { IfOk result (λ job. Self.tag_of job ≡ tag) }
+        ensures child { oldest_first ≡ false → IfOk result (λ job. Self.tag_of job ≡ tag) }
         ensures childs_parent { IfOk result (λ job. parent_of job ≡ Some me) }
         ensures answered { OnOk result (pause_of self.new ≡ None) };
-
-    /// The oldest child that was to run in this job's place and has not begun, as a job of its own whose parent runs under
-    /// this id. None where no child waits so, or where one given now would be joined out of turn.
-    fn give_away(
-        &mut self,
-        alloc: Global,
-        me: ThreadId,
-        spares: &mut Self::Spares,
-    ) -> Result<Option<Self>, WorkerFault>
-        ensures tag { Self.tag_of self.new ≡ Self.tag_of self.old }
-        ensures parent { parent_of self.new ≡ parent_of self.old }
-        ensures pause { pause_of self.new ≡ pause_of self.old }
-        ensures forks { (child : Self.Child) → forks self.old child → forks self.new child }
-        ensures childs_parent { IfOk result (λ given. IfSome given (λ job. parent_of job ≡ Some me)) }
-        ensures none { IfOk result (λ given. IsNone given → self.new ≡ self.old) };
 
     /// The child will run in this job's place, once it is awaited.
     fn fork_in_place(&mut self, child: Self::Child, tag: u64) -> Result<(), WorkerFault>
