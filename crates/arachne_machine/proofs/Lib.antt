@@ -1,4 +1,4 @@
-pub mod Laying
+pub mod Branches
 pub mod Accounts
 pub mod Tabulated
 pub mod Names

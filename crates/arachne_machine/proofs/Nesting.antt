@@ -13,12 +13,9 @@ use Rattle.arachne_machine.specs.declared.strand.Halt.{Halt}
 use Rattle.arachne_machine.specs.declared.strand.Halt.TheVariants as halts
 use Rattle.arachne_machine.specs.Faultless.{PausesWithin}
 use Rattle.arachne_machine.specs.Suspended.{Suspended, SameThread, MakesSteps, Forked, Joined, IsAsk, IsFree, IsFresh, IsTally, awaited}
-use Rattle.arachne_machine.specs.Lines.{Lined}
 use Rattle.arachne_machine.specs.Outcome.{Finished}
-use Rattle.arachne_machine.specs.Stops.{HasJoinedNone}
 use Rattle.arachne_machine.specs.Advance.{Advanced, IsPassed, IsSpentAt, Moves, PausesAt, TakesAllAt, pending_at, shown}
-use Rattle.arachne_machine.specs.Nested.{Nested, FallsBy, GivesAway, IsNested, IsPlaced, Await, ArePlaced, SameWhole, IsChildOf, IsForked, IsKept, Laid, Stops, alone, at_its_own, in_place_of, whole, outermost, pending_below, pending_in, with_tag, works, work_in}
-use Rattle.arachne_machine.proofs.Laying.{laid_joined, laid_same}
+use Rattle.arachne_machine.specs.Nested.{Nested, FallsBy, GivesAway, IsNested, IsPlaced, Await, ArePlaced, SameWhole, IsChildOf, IsForked, Stops, alone, at_its_own, in_place_of, whole, outermost, pending_below, pending_in, with_tag, works, work_in}
 
 -- A pause that callers see is that of the thread that goes on.
 pub pending_is : (next : Option Pending) (parents : List Suspended) (p : Pending) → pending_below next parents ≡ Some p → next ≡ Some p
@@ -163,7 +160,6 @@ tagged_child t child tagged tag none e h =
       awaits = h.awaits ∙ ap (λ v. Some v.name) was ∙ sym (ap (λ v. Some v.name) is);
       same_source = ap (λ v. source_of v.program) is ∙ sym (ap (λ v. source_of v.program) was) ∙ h.same_source;
       not_paused = h.not_paused;
-      none_below = ap (λ v. v.below) is ∙ sym (ap (λ v. v.below) was) ∙ h.none_below;
       alone = h.alone;
     })
 
@@ -187,12 +183,12 @@ nested_joined child parent new parents placed program name label h = record {
 }
 
 pub nested_placed : (a b child : Suspended) (parents placed : List Suspended) → SameThread a b → source_of child.program ≡ source_of a.program →
-    child.pending ≡ None → child.below ≡ [] → child.label.in_place ≡ true →
+    child.pending ≡ None → child.label.in_place ≡ true →
     IsNested (record { running = a; parents = parents; placed = placed }) → IsNested (record { running = b; parents = parents; placed = child ∷ placed })
-nested_placed a b child parents placed same source pending none here h = record {
+nested_placed a b child parents placed same source pending here h = record {
   awaiting = await_same a b parents same.program same.name same.label h.awaiting;
   waiting = (
-    record { same_source = source ∙ sym (ap source_of same.program); not_paused = pending; none_below = none; in_place = here },
+    record { same_source = source ∙ sym (ap source_of same.program); not_paused = pending; in_place = here },
     subst (λ p. ArePlaced (source_of p) placed) (sym same.program) h.waiting,
   );
 }
@@ -210,14 +206,13 @@ pub record SameLook (a b : Suspended) : Type 0 where
   pub program : b.program ≡ a.program
   pub name : b.name ≡ a.name
   pub label : b.label ≡ a.label
-  pub below : b.below ≡ a.below
 
 pub look : (a b : Suspended) → SameThread a b → SameLook a b
-look a b s = record { program = s.program; name = s.name; label = s.label; below = s.below }
+look a b s = record { program = s.program; name = s.name; label = s.label }
 
 pub advanced_look : (n : ℕ) (a b : Suspended) (halt : Halt) → Advanced n a (shown halt) b → SameLook a b
 advanced_look n a b halts.Budget h = look a b h.0
-advanced_look n a b (halts.Forks class child) h = record { program = h.program; name = h.name; label = h.label; below = h.below }
+advanced_look n a b (halts.Forks class child) h = record { program = h.program; name = h.name; label = h.label }
 advanced_look n a b halts.Joins h = look a b h.0
 advanced_look n a b (halts.Asks lock) h = look a b h.0
 advanced_look n a b (halts.Frees lock) h = look a b h.0
@@ -284,7 +279,6 @@ forked_child budget class a b child parents placed h f = record {
       ∙ ap (λ n. Some (n ++ a.forks ∷ [])) f.name ∙ ap Some (sym f.fresh.has_name);
   same_source = ap source_of (f.fresh.same_program ∙ sym f.program) ∙ sym (outer_source b parents (await_same a b parents f.program f.name f.label h));
   not_paused = pending_none child.pending [] f.fresh.not_paused;
-  none_below = f.fresh.none_below;
   alone = (refl, refl);
 }
 
@@ -484,42 +478,3 @@ given_away running x parents others h =
 pub given_work : (running x : Suspended) (parents others : List Suspended) →
     work_in (record { running = running; parents = parents; placed = others ++ x ∷ [] }) ≡ work_in (record { running = running; parents = parents; placed = others }) + work_in (alone (at_its_own x))
 given_work running x parents others = omega (arith, works_apart others x)
-
--- A thread that goes on in the place of others keeps what is so of them.
-pub kept_look : (a b : Suspended) (parents placed : List Suspended) (lines : Lined) (l p capacity : ℕ) → SameLook a b →
-    IsKept (record { running = a; parents = parents; placed = placed }) lines l p capacity → IsKept (record { running = b; parents = parents; placed = placed }) lines l p capacity
-kept_look a b parents placed lines l p capacity s h = record {
-  nested = nested_same a b parents placed s.program s.name s.label h.nested;
-  laid = laid_same a b parents lines.lines s.below h.laid;
-  room = h.room;
-  places = h.places;
-}
-
-pub kept_thread : (a b : Suspended) (parents placed : List Suspended) (lines : Lined) (l p capacity : ℕ) → SameThread a b →
-    IsKept (record { running = a; parents = parents; placed = placed }) lines l p capacity → IsKept (record { running = b; parents = parents; placed = placed }) lines l p capacity
-kept_thread a b parents placed lines l p capacity s h = kept_look a b parents placed lines l p capacity (look a b s) h
-
-pub joined_none : (n : ℕ) (a b : Suspended) (halt : Halt) → Advanced n a (shown halt) b → HasJoinedNone halt
-joined_none n a b halts.Budget h = tt
-joined_none n a b (halts.Forks class child) h = h.fresh.none_below
-joined_none n a b halts.Joins h = tt
-joined_none n a b (halts.Asks lock) h = tt
-joined_none n a b (halts.Frees lock) h = tt
-joined_none n a b (halts.Tallies ledger amount) h = tt
-joined_none n a b halts.Ended h = tt
-
-pub kept_answered : {E : Type 0} (r : Result (Unit {0}) E) (a b : Suspended) (outcome : Finished) (parents placed : List Suspended) (lines more : Lined) (l p capacity : ℕ) →
-    OnOk r (Joined a outcome b) → OnErr r (b ≡ a) → OnOk r (more.lines ≡ lines.lines ++ outcome.lines) → OnErr r (more.lines ≡ lines.lines) → p ≤ more.room →
-    IsKept (record { running = a; parents = parents; placed = placed }) lines l p capacity → IsKept (record { running = b; parents = parents; placed = placed }) more l p capacity
-kept_answered (Ok done) a b outcome parents placed lines more l p capacity j e gained same places h = record {
-  nested = nested_same a b parents placed j.program j.name j.label h.nested;
-  laid = subst (λ m. Laid b parents m) (sym gained) (laid_joined a b parents lines.lines outcome.lines j.below h.laid);
-  room = h.room;
-  places = places;
-}
-kept_answered (Err refused) a b outcome parents placed lines more l p capacity j e gained same places h = record {
-  nested = nested_same a b parents placed (ap (λ v. v.program) e) (ap (λ v. v.name) e) (ap (λ v. v.label) e) h.nested;
-  laid = subst (λ m. Laid b parents m) (sym same) (laid_same a b parents lines.lines (ap (λ v. v.below) e) h.laid);
-  room = h.room;
-  places = places;
-}

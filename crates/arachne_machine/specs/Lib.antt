@@ -1,4 +1,4 @@
-pub mod Lines
+pub mod Branches
 pub mod Outcome
 pub mod Suspended
 pub mod Nested

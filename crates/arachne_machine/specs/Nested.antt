@@ -5,8 +5,6 @@ use Rattle.arachne_lang.specs.Effects.{Task}
 use Rattle.arachne_lang.specs.Meaning.{child_of}
 use Rattle.arachne_lang.specs.Tree.{Source}
 use Rattle.arachne_lang.specs.Program.{source_of}
-use Rattle.arachne_machine.specs.declared.line.ThreadLine.{ThreadLine}
-use Rattle.arachne_machine.specs.Lines.{Lined}
 use Rattle.arachne_machine.specs.declared.pause.Pending.{Pending}
 use Rattle.arachne_machine.specs.declared.pause.Pending.TheVariants as pause
 use Rattle.arachne_machine.specs.Suspended.{Suspended, IsFresh, awaited}
@@ -85,7 +83,6 @@ Await child (parent ∷ parents) = IsAwaiting child parent × Await parent paren
 pub record IsPlaced (source : Source) (child : Suspended) : Type 0 where
   pub same_source : source_of child.program ≡ source
   pub not_paused : child.pending ≡ None
-  pub none_below : child.below ≡ []
   pub in_place : child.label.in_place ≡ true
 
 abbrev pub ArePlaced : Source → List Suspended → Type 0
@@ -96,31 +93,17 @@ pub record IsNested (t : Nested) : Type 0 where
   pub awaiting : Await t.running t.parents
   pub waiting : ArePlaced (source_of t.running.program) t.placed
 
--- The lines of the threads that were joined are in one list: behind those below a thread come a place for the line of the one that runs in its place, and those below that one.
-abbrev pub Laid : Suspended → List Suspended → List ThreadLine → Type 0
-Laid thread [] lines = lines ≡ thread.below
-Laid thread (parent ∷ parents) lines = (before : List ThreadLine) × (place : ThreadLine) × (lines ≡ before ++ place ∷ thread.below) × Laid parent parents before
-
--- what is so of a thread with its lines, between two calls
-pub record IsKept (t : Nested) (lines : Lined) (parents placed capacity : ℕ) : Type 0 where
-  pub nested : IsNested t
-  pub laid : Laid t.running t.parents lines.lines
-  -- there is room for the beginning of each child that was placed
-  pub room : parents + placed ≤ capacity
-  pub places : placed ≤ lines.room
-
 -- both are of one program, and have one name and label
 pub record SameWhole (old new : Nested) : Type 0 where
   pub program : (whole new).program ≡ (whole old).program
   pub name : (whole new).name ≡ (whole old).name
   pub label : (whole new).label ≡ (whole old).label
 
--- The child is the one that the innermost thread has just forked, of an equal program, has no pause that is not answered, has joined none, and no other thread is in its place.
+-- The child is the one that the innermost thread has just forked, of an equal program, has no pause that is not answered, and no other thread is in its place.
 pub record IsChildOf (t child : Nested) : Type 0 where
   pub awaits : awaited t.running ≡ Some (whole child).name
   pub same_source : source_of (whole child).program ≡ source_of (whole t).program
   pub not_paused : pending_in child ≡ None
-  pub none_below : (whole child).below ≡ []
   pub alone : IsAlone child
 
 -- The oldest of the children that were placed there and have not begun is there no longer, and may run at a place of its own.

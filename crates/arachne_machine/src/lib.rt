@@ -4,12 +4,12 @@
 mod alone;
 mod answer;
 mod begin;
+mod branch;
 mod fork;
 mod frame;
 mod give;
 mod join;
 mod line;
-mod lines;
 mod outcome;
 mod pause;
 mod spares;

@@ -3,14 +3,12 @@ ghost use Rattle.arachne_machine.specs.Suspended.{IsAnswered, IsAsk, IsFree, IsF
 ghost use Rattle.arachne_machine.specs.Advance.{AdvancedAlone, Moves, RefusedAlone, IsForeign, IsPassed, IsSpentAt, PausesAt, handed_back, pending_at, shown};
 ghost use Rattle.arachne_machine.specs.Nested.{FallsBy, GivesAway, IsAlone, IsChildOf, IsNested, Nested, SameWhole, alone, in_place_of, pending_in, whole, with_tag, work_in};
 ghost use Rattle.arachne_machine.specs.Faultless.{PausesWithin};
-ghost use Rattle.arachne_machine.specs.Stops.{HasJoinedNone};
 ghost use Rattle.arachne_machine.specs.Trace.{At, trace_of};
 ghost use Rattle.arachne_machine.specs.Work.{work_of};
 ghost use Rattle.arachne_lang.specs.Checked.{IsChecked};
 ghost use Rattle.arachne_lang.specs.Program.{source_of};
 ghost use Rattle.arachne_machine.specs.declared.pause.Pending.TheVariants as pause;
 
-use crate::lines::Lines;
 use crate::outcome::Outcome;
 use crate::pause::{NotJoined, Pause, Pending};
 use crate::spares::Spares;
@@ -33,13 +31,11 @@ pub struct Thread<'p> {
     /// Children that were placed here and have not begun, the newest last. For each of them there is room
     /// among the parents.
     placed: Vec<Strand<'p>>,
-    /// The lines of all threads that were joined here: those below the outermost, then for each that runs in its place its own place and those below it. For each placed one there is room.
-    lines: Lines,
 }
 
 impl<'p> Model for Thread<'p> {
-    ghost use Rattle.std.specs.Prelude.{reverse, vec_len, vec_capacity};
-    ghost use Rattle.arachne_machine.specs.Nested.{Nested, IsKept};
+    ghost use Rattle.std.specs.Prelude.{◌+◌, ◌≤◌, reverse, vec_len, vec_capacity};
+    ghost use Rattle.arachne_machine.specs.Nested.{Nested, IsNested};
 
     ghost Value = { Nested };
 
@@ -50,7 +46,7 @@ impl<'p> Model for Thread<'p> {
 
     ghost view = { λ t. record { running = t.running; parents = reverse t.parents.items; placed = reverse t.placed.items } };
 
-    ghost invariant = { λ t. IsKept (record { running = t.running; parents = reverse t.parents.items; placed = reverse t.placed.items }) t.lines (vec_len t.parents) (vec_len t.placed) (vec_capacity t.parents) };
+    ghost invariant = { λ t. IsNested (record { running = t.running; parents = reverse t.parents.items; placed = reverse t.placed.items }) × (vec_len t.parents + vec_len t.placed ≤ vec_capacity t.parents) };
 }
 
 impl<'p> Thread<'p> {
@@ -62,7 +58,7 @@ impl<'p> Thread<'p> {
         ensures trace { IfOk result (λ thread. thread.running.trace ≡ trace_of (source_of program.now).arrays (source_of program.now).root [] ++ At pause.Ended ∷ []) }
     {
         let strand = Strand::start(alloc, program, tag)?;
-        Ok(thread_of(alloc, strand, Lines::new(alloc)))
+        Ok(thread_of(alloc, strand))
     }
 
     /// The tag.
@@ -240,7 +236,7 @@ impl<'p> Thread<'p> {
             unreachable!()
         };
         let child = replace(&mut self.running, parent);
-        if let Err(child) = self.running.join_ended(child, &mut self.lines, spares) {
+        if let Err(child) = self.running.join_ended(child, spares) {
             let parent = replace(&mut self.running, child);
             self.parents.push_reserved(parent);
             return Err(AllocError);
@@ -264,7 +260,6 @@ impl<'p> Thread<'p> {
             self.placed.push_reserved(child);
             return false;
         }
-        self.lines.push_place(self.alloc);
         let parent = replace(&mut self.running, child);
         self.parents.push_reserved(parent);
         true
@@ -306,7 +301,6 @@ impl<'p> Thread<'p> {
     {
         if self.parents.try_reserve(self.placed.len() + 1).is_err()
             || self.placed.try_reserve(1).is_err()
-            || self.lines.reserve(self.placed.len() + 1).is_err()
         {
             return Err(child);
         }
@@ -333,7 +327,7 @@ impl<'p> Thread<'p> {
         }
         let mut child = self.placed.remove(0);
         child.run_at_its_own();
-        Some(thread_of(self.alloc, child, Lines::new(self.alloc)))
+        Some(thread_of(self.alloc, child))
     }
 
     /// The one that goes on next.
@@ -346,7 +340,6 @@ impl<'p> Thread<'p> {
             running,
             parents: _,
             placed: _,
-            lines: _,
         } = self;
         running
     }
@@ -413,8 +406,7 @@ impl<'p> Thread<'p> {
         ensures err { OnErr result (self.new ≡ self.old) }
         ensures handed_back { IfErr result (λ e. handed_back e ≡ outcome.entry) }
     {
-        self.running
-            .joined(outcome, &mut self.lines, self.placed.len())
+        self.running.joined(outcome)
     }
 
     /// The outcome of a thread that has ended. It takes no memory.
@@ -437,20 +429,12 @@ impl<'p> Thread<'p> {
         ensures sums { result.sums ≡ (whole self.entry).sums }
         ensures lines { result.lines ≡ own_line_of (whole self.entry) ∷ (whole self.entry).below }
     {
-        let Thread {
-            alloc: _,
-            running,
-            parents: _,
-            placed: _,
-            lines,
-        } = self;
-        running.finish(lines, spares)
+        self.into_running().finish(spares)
     }
 }
 
 /// A thread in whose place no other is.
-fn thread_of<'p>(alloc: Global, strand: Strand<'p>, lines: Lines) -> Thread<'p>
-    requires { lines.lines ≡ strand.below }
+fn thread_of<'p>(alloc: Global, strand: Strand<'p>) -> Thread<'p>
     ensures { result ≡ alone strand.entry }
 {
     Thread {
@@ -458,20 +442,16 @@ fn thread_of<'p>(alloc: Global, strand: Strand<'p>, lines: Lines) -> Thread<'p>
         running: strand,
         parents: Vec::new(alloc),
         placed: Vec::new(alloc),
-        lines,
     }
 }
 
 /// What callers see of why the innermost thread stops.
 fn pause_at<'p>(alloc: Global, halt: Halt<'p>) -> Pause<'p>
-    requires { HasJoinedNone halt }
     ensures { result ≡ shown halt.entry }
 {
     match halt {
         Halt::Budget => Pause::Budget,
-        Halt::Forks(class, child) => {
-            Pause::Forks(class, thread_of(alloc, child, Lines::new(alloc)))
-        }
+        Halt::Forks(class, child) => Pause::Forks(class, thread_of(alloc, child)),
         Halt::Joins => Pause::Joins,
         Halt::Asks(lock) => Pause::Asks(lock),
         Halt::Frees(lock) => Pause::Frees(lock),

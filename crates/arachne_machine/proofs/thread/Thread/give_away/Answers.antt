@@ -2,7 +2,7 @@ use Rattle.std.proofs.Common.{◌≡◌, ◌+◌, ◌<◌, ◌∷◌, ◌++◌, 
 use Rattle.std.specs.Prelude.{vec_len}
 use Rattle.arachne_lang.specs.Program.{source_of}
 use Rattle.arachne_machine.specs.Suspended.{Suspended}
-use Rattle.arachne_machine.specs.Nested.{ArePlaced, GivesAway, IsNested, IsPlaced, Nested, alone, at_its_own, work_in}
+use Rattle.arachne_machine.specs.Nested.{ArePlaced, GivesAway, IsNested, Nested, alone, at_its_own, work_in}
 use Rattle.arachne_machine.proofs.Nesting.{given_away, given_work, nonzero, oldest_last, placed_apart}
 use Rattle.arachne_machine.proofs.thread.Thread.give_away.Goals as goal
 
@@ -24,16 +24,15 @@ seen c = ap (λ l. record { running = c.self.inside.running; parents = reverse c
 child_is : (c : goal.After-thread_of) → alone (at_its_own c.remove-child.result) ≡ c.thread_of.result
 child_is c = sym (c.thread_of.ensures ∙ ap alone c.run_at_its_own.ensures)
 
-apart : (c : goal.After-thread_of) → ArePlaced (source_of c.self.inside.running.program) (reverse c.remove-child.new.self.items) × IsPlaced (source_of c.self.inside.running.program) c.remove-child.result
-apart c = placed_apart _ _ _ (subst (λ l. ArePlaced (source_of c.self.inside.running.program) l) (placed_were c) c.self.invariant.nested.waiting)
-
 pub invariant_of-self : goal.invariant_of-self
-invariant_of-self c = record {
-  nested = record { awaiting = c.self.invariant.nested.awaiting; waiting = (apart c).0 };
-  laid = c.self.invariant.laid;
-  room = omega (arith, c.remove-child.ensures.len, c.self.invariant.room);
-  places = omega (arith, c.remove-child.ensures.len, c.self.invariant.places);
-}
+invariant_of-self c = (
+  record {
+    awaiting = c.self.invariant.0.awaiting;
+    waiting =
+        (placed_apart _ _ _ (subst (λ l. ArePlaced (source_of c.self.inside.running.program) l) (placed_were c) c.self.invariant.0.waiting)).0;
+  },
+  omega (arith, c.remove-child.ensures.len, c.self.invariant.1),
+)
 
 pub returns-clause-given : goal.returns-clause-given
 returns-clause-given c =
@@ -42,7 +41,7 @@ returns-clause-given c =
     let new : Nested = record { running = c.self.inside.running; parents = parents; placed = rest } in
     subst (λ child. GivesAway c.args.self.now new child) (child_is c)
     (subst (λ old. GivesAway old new (alone (at_its_own c.remove-child.result))) (seen c)
-    (given_away c.self.inside.running c.remove-child.result parents rest (subst IsNested (c.self.view_is ∙ sym (seen c)) c.self.invariant.nested)))
+    (given_away c.self.inside.running c.remove-child.result parents rest (subst IsNested (c.self.view_is ∙ sym (seen c)) c.self.invariant.0)))
 
 pub returns-clause-work : goal.returns-clause-work
 returns-clause-work c =
@@ -50,12 +49,3 @@ returns-clause-work c =
     let rest : List Suspended = reverse c.remove-child.new.self.items in
     let new : Nested = record { running = c.self.inside.running; parents = parents; placed = rest } in
     sym (ap work_in (seen c)) ∙ given_work c.self.inside.running c.remove-child.result parents rest ∙ ap (λ child. work_in new + work_in child) (child_is c)
-
-pub thread_of-requires : goal.thread_of-requires
-thread_of-requires c =
-    let x : Suspended = c.remove-child.result in
-    let source = source_of c.self.inside.running.program in
-    let some : 0 < length c.self.inside.placed.items = omega (arith, nonzero (vec_len c.self.inside.placed) (sym c.if-is_empty.false ∙ c.is_empty.ensures), c.self.inside.placed.ok.0) in
-    let were = oldest_last x c.self.inside.placed.items c.remove-child.new.self.items some c.remove-child.ensures.value c.remove-child.ensures.by_index.2 in
-    let oldest = (placed_apart source _ x (subst (λ l. ArePlaced source l) were c.self.invariant.nested.waiting)).1 in
-    c.new.ensures ∙ sym (ap (λ v. v.below) c.run_at_its_own.ensures ∙ oldest.none_below)
