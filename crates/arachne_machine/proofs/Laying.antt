@@ -91,10 +91,10 @@ pub laid_same : (a b : Suspended) (parents : List Suspended) (lines : List Threa
 laid_same a b [] lines same h = h ∙ sym same
 laid_same a b (parent ∷ parents) lines same (before, place, is, rest) = (before, place, is ∙ ap (λ l. before ++ place ∷ l) (sym same), rest)
 
--- a child that has joined none begins
-pub laid_taken : (a child : Suspended) (parents : List Suspended) (lines more : List ThreadLine) (place : ThreadLine) → child.below ≡ [] → more ≡ lines ++ place ∷ [] →
-    Laid a parents lines → Laid child (a ∷ parents) more
-laid_taken a child parents lines more place none is h = (lines, place, is ∙ ap (λ l. lines ++ place ∷ l) (sym none), h)
+-- in whose place no other is, below that one are all lines
+pub laid_alone : (a : Suspended) (parents : List Suspended) (lines : List ThreadLine) → parents ≡ [] → Laid a parents lines → lines ≡ a.below
+laid_alone a [] lines none h = h
+laid_alone a (parent ∷ parents) lines none h = cc
 
 pub laid_behind : (a : Suspended) (parents : List Suspended) (lines : List ThreadLine) → Laid a parents lines → IsBehind a.below lines
 laid_behind a [] lines h = record { before = []; lines_are = h }

@@ -1,6 +1,6 @@
 -- The lines of threads as they are kept until a run is over.
-use Rattle.std.specs.Prelude.{◌≡◌, ◌≤◌, ◌<◌, ℕ, ◌+◌, ◌-◌, ◌^◌, min, List, [], ◌∷◌, ◌++◌, length, drop}
-use Rattle.std.specs.Global.{Vec}
+use Rattle.std.specs.Prelude.{◌≡◌, ◌≤◌, ◌<◌, ℕ, ◌+◌, ◌-◌, ◌^◌, min, List, [], ◌∷◌, ◌++◌, length, drop, Option, None, Some}
+use Rattle.std.specs.Global.{Box, Vec}
 use Rattle.arachne_machine.specs.declared.line.ThreadLine.{ThreadLine}
 
 -- lines in a list, and room for so many more
@@ -12,6 +12,11 @@ pub record Lined : Type 0 where
 abbrev pub lines_in : List (Vec ThreadLine) → List ThreadLine
 lines_in [] = []
 lines_in (list ∷ lists) = list.items ++ lines_in lists
+
+-- the lines in this box, if there is one
+abbrev pub lines_of : Option (Box Lined) → List ThreadLine
+lines_of None = []
+lines_of (Some list) = list.value.lines
 
 -- how many more there may be, with so many in earlier lists and in the last one
 abbrev pub room_for : ℕ → ℕ → ℕ → ℕ

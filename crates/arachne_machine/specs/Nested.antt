@@ -1,5 +1,5 @@
 -- What callers see of a thread with the threads that run in its place.
-use Rattle.std.specs.Prelude.{◌≡◌, ◌≤◌, ℕ, ◌+◌, true, false, List, [], ◌∷◌, ◌++◌, Option, None, Some}
+use Rattle.std.specs.Prelude.{◌≡◌, ◌≤◌, ◌<◌, ℕ, ◌+◌, ◌^◌, true, false, List, [], ◌∷◌, ◌++◌, length, Option, None, Some}
 use Rattle.arachne_lang.specs.declared.program.Class.{Class}
 use Rattle.arachne_lang.specs.Effects.{Task}
 use Rattle.arachne_lang.specs.Meaning.{child_of}
@@ -85,7 +85,6 @@ Await child (parent ∷ parents) = IsAwaiting child parent × Await parent paren
 pub record IsPlaced (source : Source) (child : Suspended) : Type 0 where
   pub same_source : source_of child.program ≡ source
   pub not_paused : child.pending ≡ None
-  pub none_below : child.below ≡ []
   pub in_place : child.label.in_place ≡ true
 
 abbrev pub ArePlaced : Source → List Suspended → Type 0
@@ -101,13 +100,21 @@ abbrev pub Laid : Suspended → List Suspended → List ThreadLine → Type 0
 Laid thread [] lines = lines ≡ thread.below
 Laid thread (parent ∷ parents) lines = (before : List ThreadLine) × (place : ThreadLine) × (lines ≡ before ++ place ∷ thread.below) × Laid parent parents before
 
+-- how many lines are below these threads
+abbrev pub lines_below : List Suspended → ℕ
+lines_below [] = 0
+lines_below (thread ∷ threads) = length thread.below + lines_below threads
+
 -- what is so of a thread with its lines, between two calls
-pub record IsKept (t : Nested) (lines : Lined) (parents placed capacity : ℕ) : Type 0 where
+pub record IsKept (t : Nested) (lines : Lined) (parents placed aside capacity : ℕ) : Type 0 where
   pub nested : IsNested t
   pub laid : Laid t.running t.parents lines.lines
-  -- there is room for the beginning of each child that was placed
+  -- so many lines are below the children that were placed
+  pub counted : aside ≡ lines_below t.placed
+  -- there is room for the beginning of each of them, for its line and for those below it
   pub room : parents + placed ≤ capacity
-  pub places : placed ≤ lines.room
+  pub places : placed + aside ≤ lines.room
+  pub few : placed + aside < 2 ^ 63
 
 -- both are of one program, and have one name and label
 pub record SameWhole (old new : Nested) : Type 0 where
@@ -115,12 +122,11 @@ pub record SameWhole (old new : Nested) : Type 0 where
   pub name : (whole new).name ≡ (whole old).name
   pub label : (whole new).label ≡ (whole old).label
 
--- The child is the one that the innermost thread has just forked, of an equal program, has no pause that is not answered, has joined none, and no other thread is in its place.
+-- The child is the one that the innermost thread has just forked, of an equal program, has no pause that is not answered, and no other thread is in its place.
 pub record IsChildOf (t child : Nested) : Type 0 where
   pub awaits : awaited t.running ≡ Some (whole child).name
   pub same_source : source_of (whole child).program ≡ source_of (whole t).program
   pub not_paused : pending_in child ≡ None
-  pub none_below : (whole child).below ≡ []
   pub alone : IsAlone child
 
 -- The oldest of the children that were placed there and have not begun is there no longer, and may run at a place of its own.

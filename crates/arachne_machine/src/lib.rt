@@ -12,6 +12,7 @@ mod line;
 mod lines;
 mod outcome;
 mod pause;
+mod placed;
 mod spares;
 mod state;
 mod strand;

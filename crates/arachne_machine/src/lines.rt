@@ -59,6 +59,7 @@ impl Lines {
     pub fn reserve(&mut self, more: usize) -> Result<(), AllocError>
         ensures lines { self.new.lines ≡ self.old.lines }
         ensures room { OnOk result (more ≤ self.new.room) }
+        ensures few { OnOk result (more < 2 ^ 63) }
         ensures kept { self.old.room ≤ self.new.room }
     {
         if more > MOST - self.count - self.last.len() {
@@ -74,6 +75,23 @@ impl Lines {
         ensures room { self.new.room + 1 ≡ self.old.room }
     {
         self.last.push_reserved(ThreadLine::vacant(alloc));
+    }
+
+    /// These lines, behind those that there were, where there is room for them. Each is moved.
+    #[cold]
+    #[inline(never)]
+    pub fn extend(&mut self, more: Lines)
+        requires { length more.lines ≤ self.old.room }
+        ensures lines { self.new.lines ≡ self.old.lines ++ more.lines }
+        ensures room { self.old.room ≤ self.new.room + length more.lines }
+    {
+        let Lines {
+            earlier,
+            count: _,
+            mut last,
+        } = more;
+        move_lines(earlier, &mut self.last);
+        let _ = self.last.append(&mut last);
     }
 
     /// Writes this line at the place that has so many lines behind it.
@@ -109,6 +127,9 @@ impl Lines {
         let _ = &self.last;
         let mut below = below;
         if !below.earlier.is_empty() || below.last.len() > MOST_MOVED {
+            if room > below.len() {
+                return self.append_moved(own, below, room);
+            }
             return self.append_many(own, below, room);
         }
         if self.reserve(below.last.len() + 1 + room).is_err() {
@@ -150,6 +171,31 @@ impl Lines {
         let list = replace(&mut self.last, last);
         self.earlier.push_reserved(list);
         let _ = self.earlier.append(&mut earlier);
+        Ok(())
+    }
+
+    /// The same, with each line moved. It is for room for more lines than come: a list of their own would need that room once
+    /// more.
+    #[cold]
+    #[inline(never)]
+    fn append_moved(
+        &mut self,
+        own: ThreadLine,
+        below: Lines,
+        room: usize,
+    ) -> Result<(), (ThreadLine, Lines)>
+        requires { room ≤ self.old.room }
+        ensures lines { OnOk result (self.new.lines ≡ self.old.lines ++ own ∷ below.lines) }
+        ensures err { OnErr result (self.new.lines ≡ self.old.lines) }
+        ensures handed_back { IfErr result (λ back. (back.0 ≡ own) × (back.1.lines ≡ below.lines)) }
+        ensures room { room ≤ self.new.room }
+    {
+        let _ = &self.last;
+        if self.reserve(below.len() + 1 + room).is_err() {
+            return Err((own, below));
+        }
+        self.last.push_reserved(own);
+        self.extend(below);
         Ok(())
     }
 

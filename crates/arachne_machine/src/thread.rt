@@ -13,6 +13,7 @@ ghost use Rattle.arachne_machine.specs.declared.pause.Pending.TheVariants as pau
 use crate::lines::Lines;
 use crate::outcome::Outcome;
 use crate::pause::{NotJoined, Pause, Pending};
+use crate::placed::Placed;
 use crate::spares::Spares;
 use crate::strand::{Halt, Strand};
 use arachne_lang::{Name, Program};
@@ -32,8 +33,10 @@ pub struct Thread<'p> {
     parents: Vec<Strand<'p>>,
     /// Children that were placed here and have not begun, the newest last. For each of them there is room
     /// among the parents.
-    placed: Vec<Strand<'p>>,
-    /// The lines of all threads that were joined here: those below the outermost, then for each that runs in its place its own place and those below it. For each placed one there is room.
+    placed: Vec<Placed<'p>>,
+    /// How many lines are below the placed ones.
+    aside: usize,
+    /// The lines of all threads that were joined here: those below the outermost, then for each that runs in its place its own place and those below it. For each placed one there is room, and for the lines below it.
     lines: Lines,
 }
 
@@ -50,7 +53,7 @@ impl<'p> Model for Thread<'p> {
 
     ghost view = { λ t. record { running = t.running; parents = reverse t.parents.items; placed = reverse t.placed.items } };
 
-    ghost invariant = { λ t. IsKept (record { running = t.running; parents = reverse t.parents.items; placed = reverse t.placed.items }) t.lines (vec_len t.parents) (vec_len t.placed) (vec_capacity t.parents) };
+    ghost invariant = { λ t. IsKept (record { running = t.running; parents = reverse t.parents.items; placed = reverse t.placed.items }) t.lines (vec_len t.parents) (vec_len t.placed) t.aside (vec_capacity t.parents) };
 }
 
 impl<'p> Thread<'p> {
@@ -265,6 +268,7 @@ impl<'p> Thread<'p> {
             return false;
         }
         self.lines.push_place(self.alloc);
+        let child = child.begin(&mut self.lines, &mut self.aside);
         let parent = replace(&mut self.running, child);
         self.parents.push_reserved(parent);
         true
@@ -304,15 +308,21 @@ impl<'p> Thread<'p> {
         ensures err { OnErr result (self.new ≡ self.old) }
         ensures handed_back { IfErr result (λ c. c ≡ child.entry) }
     {
+        let below = child.lines.len();
+        let room = self.placed.len() + self.aside + below + 1;
         if self.parents.try_reserve(self.placed.len() + 1).is_err()
             || self.placed.try_reserve(1).is_err()
-            || self.lines.reserve(self.placed.len() + 1).is_err()
+            || self.lines.reserve(room).is_err()
         {
             return Err(child);
         }
-        let mut child = child.into_running();
+        let mut child = match child.into_placed() {
+            Ok(child) => child,
+            Err(child) => return Err(child),
+        };
         child.run_in_place();
         self.placed.push_reserved(child);
+        self.aside += below;
         self.running.forked();
         Ok(())
     }
@@ -333,22 +343,30 @@ impl<'p> Thread<'p> {
         }
         let mut child = self.placed.remove(0);
         child.run_at_its_own();
-        Some(thread_of(self.alloc, child, Lines::new(self.alloc)))
+        let (child, lines) = child.into_parts(self.alloc);
+        self.aside -= lines.len();
+        Some(thread_of(self.alloc, child, lines))
     }
 
-    /// The one that goes on next.
+    /// A thread in whose place no other is, as a child that is placed. Where memory is refused it comes back.
     #[inline(always)]
-    fn into_running(self) -> Strand<'p>
-        ensures { result ≡ self.entry.running }
+    fn into_placed(self) -> Result<Placed<'p>, Thread<'p>>
+        requires { IsAlone self }
+        ensures ok { IfOk result (λ child. child ≡ self.entry.running) }
+        ensures handed_back { IfErr result (λ thread. thread ≡ self.entry) }
     {
         let Thread {
-            alloc: _,
+            alloc,
             running,
             parents: _,
             placed: _,
-            lines: _,
+            aside: _,
+            lines,
         } = self;
-        running
+        match Placed::new(alloc, running, lines) {
+            Ok(child) => Ok(child),
+            Err((running, lines)) => Err(thread_of(alloc, running, lines)),
+        }
     }
 
     /// Answers that the thread holds the lock that it asked for. It takes no memory.
@@ -414,7 +432,7 @@ impl<'p> Thread<'p> {
         ensures handed_back { IfErr result (λ e. handed_back e ≡ outcome.entry) }
     {
         self.running
-            .joined(outcome, &mut self.lines, self.placed.len())
+            .joined(outcome, &mut self.lines, self.placed.len() + self.aside)
     }
 
     /// The outcome of a thread that has ended. It takes no memory.
@@ -442,6 +460,7 @@ impl<'p> Thread<'p> {
             running,
             parents: _,
             placed: _,
+            aside: _,
             lines,
         } = self;
         running.finish(lines, spares)
@@ -458,6 +477,7 @@ fn thread_of<'p>(alloc: Global, strand: Strand<'p>, lines: Lines) -> Thread<'p>
         running: strand,
         parents: Vec::new(alloc),
         placed: Vec::new(alloc),
+        aside: 0,
         lines,
     }
 }

@@ -13,7 +13,7 @@ returns-in_err-rejoin-clause-err_work c =
     (refused_join c.args.self.now c.loop-left.self c.rejoin.new.self c.args.budget c.loop-left.left c.loop-left.invariant.work c.rejoin.ensures.work some c.loop-left.invariant.some)
 
 pub invariant_of-self : goal.invariant_of-self
-invariant_of-self c = kept_thread _ _ _ _ _ _ _ _ c.in_err-halt.ensures.err_same c.self.invariant
+invariant_of-self c = kept_thread _ _ _ _ _ _ _ _ _ c.in_err-halt.ensures.err_same c.self.invariant
 
 pub returns-in_err-halt-clause-err_same : goal.returns-in_err-halt-clause-err_same
 returns-in_err-halt-clause-err_same c =
@@ -37,7 +37,7 @@ returns-in_err-halt-clause-err_work c =
 
 pub invariant_of-self-in-loop-left : goal.invariant_of-self-in-loop-left
 invariant_of-self-in-loop-left c =
-    kept_look _ _ _ _ _ _ _ _ (advanced_look c.loop-left.left c.self.inside.running c.advance.new.self c.in_ok-halt.halt c.in_ok-halt.ensures.ok) c.self.invariant
+    kept_look _ _ _ _ _ _ _ _ _ (advanced_look c.loop-left.left c.self.inside.running c.advance.new.self c.in_ok-halt.halt c.in_ok-halt.ensures.ok) c.self.invariant
 
 pub returns-then-not-goes_on-clause-ok : goal.returns-then-not-goes_on-clause-ok
 returns-then-not-goes_on-clause-ok c =

@@ -4,7 +4,7 @@ use Rattle.arachne_machine.proofs.Nesting.{kept_thread, whole_thread}
 use Rattle.arachne_machine.proofs.thread.Thread.granted.Goals as goal
 
 pub invariant_of-self : goal.invariant_of-self
-invariant_of-self c = kept_thread _ _ _ _ _ _ _ _ c.granted.ensures.same c.self.invariant
+invariant_of-self c = kept_thread _ _ _ _ _ _ _ _ _ c.granted.ensures.same c.self.invariant
 
 pub returns-clause-whole : goal.returns-clause-whole
 returns-clause-whole c =

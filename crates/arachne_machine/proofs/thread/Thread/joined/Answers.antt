@@ -14,7 +14,7 @@ joined-requires-clause-program c =
 pub invariant_of-self : goal.invariant_of-self
 invariant_of-self c =
     kept_answered c.joined.result c.self.inside.running c.joined.new.self c.args.outcome (reverse c.self.inside.parents.items) (reverse c.self.inside.placed.items)
-    c.self.inside.lines c.joined.new.lines (vec_len c.self.inside.parents) (vec_len c.self.inside.placed) (vec_capacity c.self.inside.parents)
+    c.self.inside.lines c.joined.new.lines (vec_len c.self.inside.parents) (vec_len c.self.inside.placed) c.self.inside.aside (vec_capacity c.self.inside.parents)
     c.joined.ensures.ok c.joined.ensures.err c.joined.ensures.lines c.joined.ensures.err_lines (omega (arith, c.joined.ensures.room, c.len.ensures)) c.self.invariant
 
 pub joined-requires-clause-behind : goal.joined-requires-clause-behind

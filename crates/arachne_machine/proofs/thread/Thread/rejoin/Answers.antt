@@ -29,8 +29,10 @@ invariant_of-self-in_default-join_ended c =
       nested = nested_joined child parent new rest placed (joined.program ∙ ap (λ v. v.program) after) (joined.name ∙ ap (λ v. v.name) after) (joined.label ∙ ap (λ v. v.label) after) nested;
       laid = laid_rejoined child parent new rest c.self.inside.lines.lines c.join_ended.new.lines.lines own below
           (λ before place is. c.in_default-join_ended.ensures.lines before place (is ∙ ap (λ v. before ++ place ∷ v.below) (sym value)) ∙ ap (λ v. before ++ own_line_of v ∷ v.below) value) laid;
+      counted = c.self.invariant.counted;
       room = omega (arith, c.in-Some.ensures.cases, c.pop.ensures.capacity, c.self.invariant.room);
       places = omega (arith, c.in_default-join_ended.ensures.room, c.self.invariant.places);
+      few = c.self.invariant.few;
     }
 
 pub join_ended-requires-clause-behind : goal.join_ended-requires-clause-behind
