@@ -1,21 +1,21 @@
 -- The laws of threads that run in another's place.
-use Rattle.std.proofs.Common.{ℕ, ◌+◌, ◌-◌, List, [], ◌∷◌, ◌++◌, length, Option, None, Some, reverse, take, drop, ◌≡◌, ◌≢◌, ◌≤◌, ◌<◌, refl, ap, sym, subst, ◌∙◌, arith}
-use Rattle.std.specs.Prelude.{option_map, slice_get, slice_index_or, zero, suc, Bool, true, false, ◌==◌, Result, Ok, Err, OnOk, OnErr}
+use Rattle.std.proofs.Common.{ℕ, ◌+◌, ◌-◌, List, [], ◌∷◌, ◌++◌, length, Option, None, Some, reverse, ◌≡◌, ◌≢◌, ◌≤◌, ◌<◌, refl, ap, sym, subst, ◌∙◌, arith}
+use Rattle.std.specs.Prelude.{option_map, slice_get, slice_index_or, zero, suc, true, false, ◌==◌, Result, Ok, Err, OnOk, OnErr}
 use Rattle.std.proofs.lemmas.List.{reverse-append}
 use Rattle.arachne_lang.specs.declared.program.Class.{Class}
 use Rattle.arachne_lang.specs.Meaning.{child_of}
-use Rattle.arachne_lang.specs.Tree.{Source}
 use Rattle.arachne_lang.specs.Program.{source_of}
 use Rattle.arachne_machine.specs.declared.pause.Pending.{Pending}
 use Rattle.arachne_machine.specs.declared.pause.Pending.TheVariants as pause
 use Rattle.arachne_machine.specs.declared.pause.Pause.{Pause}
+use Rattle.arachne_machine.specs.declared.pause.Pause.TheVariants as pauses
 use Rattle.arachne_machine.specs.declared.strand.Halt.{Halt}
 use Rattle.arachne_machine.specs.declared.strand.Halt.TheVariants as halts
 use Rattle.arachne_machine.specs.Faultless.{PausesWithin}
 use Rattle.arachne_machine.specs.Suspended.{Suspended, SameThread, MakesSteps, Forked, Joined, IsAsk, IsFree, IsFresh, IsTally, awaited}
 use Rattle.arachne_machine.specs.Outcome.{Finished}
-use Rattle.arachne_machine.specs.Advance.{Advanced, IsPassed, IsSpentAt, Moves, PausesAt, TakesAllAt, pending_at, shown}
-use Rattle.arachne_machine.specs.Nested.{Nested, FallsBy, GivesAway, IsNested, IsPlaced, Await, ArePlaced, SameWhole, IsChildOf, IsForked, Stops, alone, at_its_own, in_place_of, whole, outermost, pending_below, pending_in, with_tag, works, work_in}
+use Rattle.arachne_machine.specs.Advance.{Advanced, AwaitsAt, IsPassed, IsSpentAt, Moves, PausesAt, TakesAllAt, pending_at, shown}
+use Rattle.arachne_machine.specs.Nested.{Nested, AwaitsElsewhere, FallsBy, IsNested, Await, ArePlaced, SameWhole, IsChildOf, IsForked, Stops, alone, whole, outermost, pending_below, pending_in, with_tag, works, work_in}
 
 -- A pause that callers see is that of the thread that goes on.
 pub pending_is : (next : Option Pending) (parents : List Suspended) (p : Pending) → pending_below next parents ≡ Some p → next ≡ Some p
@@ -100,6 +100,16 @@ outer_name a b (parent ∷ parents) e = refl
 pub outer_label : (a b : Suspended) (parents : List Suspended) → b.label ≡ a.label → (outermost b parents).label ≡ (outermost a parents).label
 outer_label a b [] e = e
 outer_label a b (parent ∷ parents) e = refl
+
+-- where no child was placed, none that was placed is awaited
+pub elsewhere_alone : (p : Pause) (t : Nested) → t.placed ≡ [] → AwaitsAt p t
+elsewhere_alone pauses.Budget t e = tt
+elsewhere_alone (pauses.Forks class child) t e = tt
+elsewhere_alone pauses.Joins t e = subst (AwaitsElsewhere t.running) (sym e) tt
+elsewhere_alone (pauses.Asks lock) t e = tt
+elsewhere_alone (pauses.Frees lock) t e = tt
+elsewhere_alone (pauses.Tallies ledger amount) t e = tt
+elsewhere_alone pauses.Ended t e = tt
 
 -- the last of the parents is the first of the list
 outer_last : (a p : Suspended) (parents : List Suspended) → outermost a (parents ++ p ∷ []) ≡ p
@@ -441,40 +451,3 @@ pub whole_answered : {E : Type 0} (r : Result (Unit {0}) E) (a b : Suspended) (o
     SameWhole (record { running = a; parents = parents; placed = placed }) (record { running = b; parents = parents; placed = placed })
 whole_answered (Ok done) a b outcome parents placed j e = whole_same a b parents placed placed j.program j.name j.label
 whole_answered (Err refused) a b outcome parents placed j e = whole_same a b parents placed placed (ap (λ v. v.program) e) (ap (λ v. v.name) e) (ap (λ v. v.label) e)
-
--- the oldest of those that were placed here is the last
-pub oldest_last : (x : Suspended) (items rest : List Suspended) → 0 < length items → x ≡ slice_index_or items 0 x → rest ≡ take 0 items ++ drop 1 items →
-    reverse items ≡ reverse rest ++ x ∷ []
-oldest_last x [] rest some first others = absurd (omega (arith, some))
-oldest_last x (y ∷ ys) rest some first others = reverse-append (y ∷ []) ys ∙ ap (λ l. reverse l ++ y ∷ []) (sym others) ∙ ap (λ v. reverse rest ++ v ∷ []) (sym first)
-
-pub placed_apart : (source : Source) (others : List Suspended) (oldest : Suspended) → ArePlaced source (others ++ oldest ∷ []) → ArePlaced source others × IsPlaced source oldest
-placed_apart source [] oldest h = (tt, h.0)
-placed_apart source (child ∷ others) oldest h = let rest = placed_apart source others oldest h.1 in ((h.0, rest.0), rest.1)
-
-works_apart : (others : List Suspended) (oldest : Suspended) → works (others ++ oldest ∷ []) ≡ works others + oldest.work
-works_apart [] oldest = omega arith
-works_apart (child ∷ others) oldest = omega (arith, works_apart others oldest)
-
--- as it was before it was told that it runs at a place of its own
-placed_again : (x : Suspended) → x.label.in_place ≡ true → x ≡ in_place_of (at_its_own x)
-placed_again x here = ap (λ (v : Bool). record x { label = record x.label { in_place = v } }) here
-
-pub given_away : (running x : Suspended) (parents others : List Suspended) →
-    IsNested (record { running = running; parents = parents; placed = others ++ x ∷ [] }) →
-    GivesAway (record { running = running; parents = parents; placed = others ++ x ∷ [] }) (record { running = running; parents = parents; placed = others }) (alone (at_its_own x))
-given_away running x parents others h =
-    let oldest = (placed_apart (source_of running.program) others x h.waiting).1 in
-    record {
-      running = refl;
-      parents = refl;
-      oldest = ap (λ v. others ++ v ∷ []) (placed_again x oldest.in_place);
-      alone = (refl, refl);
-      at_its_own = refl;
-      not_paused = pending_none x.pending [] oldest.not_paused;
-      same_source = oldest.same_source ∙ sym (outer_source running parents h.awaiting);
-    }
-
-pub given_work : (running x : Suspended) (parents others : List Suspended) →
-    work_in (record { running = running; parents = parents; placed = others ++ x ∷ [] }) ≡ work_in (record { running = running; parents = parents; placed = others }) + work_in (alone (at_its_own x))
-given_work running x parents others = omega (arith, works_apart others x)

@@ -9,7 +9,7 @@ use Rattle.arachne_machine.specs.declared.pause.NotJoined.TheVariants as refused
 use Rattle.arachne_machine.specs.declared.strand.Halt.{Halt}
 use Rattle.arachne_machine.specs.declared.strand.Halt.TheVariants as halts
 use Rattle.arachne_machine.specs.Faultless.{PausesWithin}
-use Rattle.arachne_machine.specs.Nested.{Nested, FallsBy, IsChildOf, IsForked, SameWhole, Stops, alone, pending_in, work_in}
+use Rattle.arachne_machine.specs.Nested.{Nested, AwaitsElsewhere, FallsBy, IsChildOf, IsForked, SameWhole, Stops, alone, pending_in, work_in}
 use Rattle.arachne_machine.specs.Outcome.{Finished}
 use Rattle.arachne_machine.specs.Suspended.{Suspended, SameThread, MakesSteps, Forked, awaited}
 
@@ -63,6 +63,11 @@ Moves budget old (pauses.Asks lock) new = Stops budget old new (pause.Asks lock)
 Moves budget old (pauses.Frees lock) new = Stops budget old new (pause.Frees lock)
 Moves budget old (pauses.Tallies ledger amount) new = Stops budget old new (pause.Tallies ledger amount)
 Moves budget old pauses.Ended new = Stops budget old new pause.Ended × (new.parents ≡ [])
+
+-- Callers are asked for an outcome only of a child at a place of its own: one that was placed here runs as soon as it is awaited.
+abbrev pub AwaitsAt : Pause → Nested → Type 0
+AwaitsAt pauses.Joins thread = AwaitsElsewhere thread.running thread.placed
+AwaitsAt _ thread = Unit {0}
 
 -- what a pause names is there
 abbrev pub PausesAt : Pause → Suspended → Type 0

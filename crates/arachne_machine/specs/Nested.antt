@@ -1,5 +1,5 @@
 -- What callers see of a thread with the threads that run in its place.
-use Rattle.std.specs.Prelude.{◌≡◌, ◌≤◌, ℕ, ◌+◌, true, false, List, [], ◌∷◌, ◌++◌, Option, None, Some}
+use Rattle.std.specs.Prelude.{◌≡◌, ◌≢◌, ◌≤◌, ℕ, ◌+◌, true, List, [], ◌∷◌, ◌++◌, Option, None, Some}
 use Rattle.arachne_lang.specs.declared.program.Class.{Class}
 use Rattle.arachne_lang.specs.Effects.{Task}
 use Rattle.arachne_lang.specs.Meaning.{child_of}
@@ -64,10 +64,6 @@ with_tag tag thread = record thread { label = record thread.label { tag = tag } 
 abbrev pub in_place_of : Suspended → Suspended
 in_place_of thread = record thread { label = record thread.label { in_place = true } }
 
--- as one that runs at a place of its own
-abbrev pub at_its_own : Suspended → Suspended
-at_its_own thread = record thread { label = record thread.label { in_place = false } }
-
 -- The parent awaits this child, which runs in its place.
 pub record IsAwaiting (child parent : Suspended) : Type 0 where
   pub joins : parent.pending ≡ Some pause.Joins
@@ -93,6 +89,11 @@ pub record IsNested (t : Nested) : Type 0 where
   pub awaiting : Await t.running t.parents
   pub waiting : ArePlaced (source_of t.running.program) t.placed
 
+-- What a thread awaits is not the newest child that was placed here.
+abbrev pub AwaitsElsewhere : Suspended → List Suspended → Type 0
+AwaitsElsewhere thread [] = Unit {0}
+AwaitsElsewhere thread (child ∷ children) = awaited thread ≢ Some child.name
+
 -- both are of one program, and have one name and label
 pub record SameWhole (old new : Nested) : Type 0 where
   pub program : (whole new).program ≡ (whole old).program
@@ -105,16 +106,6 @@ pub record IsChildOf (t child : Nested) : Type 0 where
   pub same_source : source_of (whole child).program ≡ source_of (whole t).program
   pub not_paused : pending_in child ≡ None
   pub alone : IsAlone child
-
--- The oldest of the children that were placed there and have not begun is there no longer, and may run at a place of its own.
-pub record GivesAway (old new child : Nested) : Type 0 where
-  pub running : new.running ≡ old.running
-  pub parents : new.parents ≡ old.parents
-  pub oldest : old.placed ≡ new.placed ++ in_place_of child.running ∷ []
-  pub alone : IsAlone child
-  pub at_its_own : child.running.label.in_place ≡ false
-  pub not_paused : pending_in child ≡ None
-  pub same_source : source_of (whole child).program ≡ source_of (whole new).program
 
 -- The child is new, and its class and task are those that the program gives to the thread's newest fork.
 pub record IsForked (class : Class) (thread : Suspended) (child : Nested) : Type 0 where

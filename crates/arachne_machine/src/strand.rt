@@ -1,7 +1,7 @@
 ghost use Rattle.std.specs.Prelude.{◌≡◌, ◌≢◌, ◌↔◌, ◌≤◌, ◌+◌, ◌-◌, ℕ, [], ◌∷◌, ◌++◌, None, Some, IfOk, OnOk, IfErr, OnErr, IsTrue};
 ghost use Rattle.arachne_machine.specs.Suspended.{SameThread, MakesSteps, IsFresh, IsNext, IsAnswered, Joined, IsAsk, IsFree, IsTally, awaited, own_line_of, raised};
 ghost use Rattle.arachne_machine.specs.Advance.{Advanced, IsForeign, IsSpentAt, TakesAllAt, handed_back, pending_at, shown};
-ghost use Rattle.arachne_machine.specs.Nested.{at_its_own, in_place_of, with_tag};
+ghost use Rattle.arachne_machine.specs.Nested.{in_place_of, with_tag};
 ghost use Rattle.arachne_machine.specs.Stops.{halt_of, IsSoundStop};
 ghost use Rattle.arachne_lang.specs.Program.{source_of};
 ghost use Rattle.arachne_machine.specs.Outcome.{Finished};
@@ -238,13 +238,6 @@ impl<'p> Strand<'p> {
         ensures { self.new ≡ in_place_of self.old }
     {
         self.state.own.label.in_place = true;
-    }
-
-    /// Notes that it runs at a place of its own.
-    pub fn run_at_its_own(&mut self)
-        ensures { self.new ≡ at_its_own self.old }
-    {
-        self.state.own.label.in_place = false;
     }
 
     /// Its name.

@@ -1,7 +1,7 @@
-ghost use Rattle.std.specs.Prelude.{◌≡◌, ◌≢◌, ◌↔◌, ◌≤◌, ◌+◌, ◌-◌, ℕ, ◌∷◌, [], ◌++◌, false, None, Some, IsNone, IfSome, IfOk, OnOk, IfErr, OnErr, IsTrue};
+ghost use Rattle.std.specs.Prelude.{◌≡◌, ◌≢◌, ◌↔◌, ◌≤◌, ◌+◌, ◌-◌, ℕ, ◌∷◌, [], ◌++◌, false, None, Some, IfOk, OnOk, IfErr, OnErr, IsTrue};
 ghost use Rattle.arachne_machine.specs.Suspended.{IsAnswered, IsAsk, IsFree, IsFresh, IsNext, IsTally, Joined, SameThread, awaited, own_line_of, raised};
-ghost use Rattle.arachne_machine.specs.Advance.{AdvancedAlone, Moves, RefusedAlone, IsForeign, IsPassed, IsSpentAt, PausesAt, handed_back, pending_at, shown};
-ghost use Rattle.arachne_machine.specs.Nested.{FallsBy, GivesAway, IsAlone, IsChildOf, IsNested, Nested, SameWhole, alone, in_place_of, pending_in, whole, with_tag, work_in};
+ghost use Rattle.arachne_machine.specs.Advance.{AdvancedAlone, AwaitsAt, Moves, RefusedAlone, IsForeign, IsPassed, IsSpentAt, PausesAt, handed_back, pending_at, shown};
+ghost use Rattle.arachne_machine.specs.Nested.{AwaitsElsewhere, FallsBy, IsAlone, IsChildOf, IsNested, Nested, SameWhole, alone, in_place_of, pending_in, whole, with_tag, work_in};
 ghost use Rattle.arachne_machine.specs.Faultless.{PausesWithin};
 ghost use Rattle.arachne_machine.specs.Trace.{At, trace_of};
 ghost use Rattle.arachne_machine.specs.Work.{work_of};
@@ -130,6 +130,7 @@ impl<'p> Thread<'p> {
         requires not_paused { pending_in self.old ≡ None }
         requires some { 1 ≤ budget }
         ensures ok { IfOk result (λ pause. Moves budget self.old pause self.new) }
+        ensures elsewhere { IfOk result (λ pause. AwaitsAt pause self.new) }
         ensures within { IfOk result (λ pause. IsChecked (source_of (whole self.old).program) → PausesAt pause self.new.running) }
         ensures alone { IfOk result (λ pause. IsAlone self.old → AdvancedAlone budget self.old pause self.new) }
         ensures err_same { OnErr result (SameWhole self.old self.new) }
@@ -153,6 +154,7 @@ impl<'p> Thread<'p> {
         requires some { 1 ≤ left.old }
         ensures ok { IfOk result (λ pause. Moves left.old self.old pause self.new) }
         ensures spent { IfOk result (λ pause. IsSpentAt pause left.old left.new) }
+        ensures elsewhere { IfOk result (λ pause. AwaitsAt pause self.new) }
         ensures within { IfOk result (λ pause. IsChecked (source_of (whole self.old).program) → PausesAt pause self.new.running) }
         ensures alone { IfOk result (λ pause. IsAlone self.old → AdvancedAlone left.old self.old pause self.new) }
         ensures err_same { OnErr result (SameWhole self.old self.new) }
@@ -186,6 +188,7 @@ impl<'p> Thread<'p> {
         requires some { 1 ≤ budget }
         ensures ok { IfOk result (λ gives. Moves budget self.old gives.0 self.new) }
         ensures spent { IfOk result (λ gives. IsSpentAt gives.0 budget gives.1) }
+        ensures elsewhere { IfOk result (λ gives. AwaitsAt gives.0 self.new) }
         ensures within { IfOk result (λ gives. IsChecked (source_of (whole self.old).program) → PausesAt gives.0 self.new.running) }
         ensures err_same { OnErr result (SameWhole self.old self.new) }
         ensures err_work { OnErr result (FallsBy 0 (budget - 1) (work_in self.old) (work_in self.new)) }
@@ -210,6 +213,7 @@ impl<'p> Thread<'p> {
         ensures work { work_in self.new ≡ work_in self.old }
         ensures on { IsTrue result → (pending_in self.new ≡ None) × IsPassed (shown halt.now) }
         ensures stays { result ≡ false → self.new ≡ self.old }
+        ensures elsewhere { result ≡ false → AwaitsAt (shown halt.now) self.new }
         ensures pauses { result ≡ false → (pending_in self.new ≡ pending_at (shown halt.now)) × (pending_in self.new ≢ None) }
     {
         match halt {
@@ -252,6 +256,7 @@ impl<'p> Thread<'p> {
         ensures work { work_in self.new ≡ work_in self.old }
         ensures taken { IsTrue result → self.new.running.pending ≡ None }
         ensures left { result ≡ false → self.new ≡ self.old }
+        ensures elsewhere { result ≡ false → AwaitsElsewhere self.new.running self.new.placed }
     {
         let Some(child) = self.placed.pop() else {
             return false;
@@ -309,25 +314,6 @@ impl<'p> Thread<'p> {
         self.placed.push_reserved(child);
         self.running.forked();
         Ok(())
-    }
-
-    /// The oldest child that was placed here and has not begun, which is here no longer: it may run at a place of its
-    /// own, and its outcome is joined as any other's. It takes no memory.
-    pub fn give_away(&mut self) -> Option<Thread<'p>>
-        ensures none { IsNone result ↔ (self.old.placed ≡ []) }
-        ensures unchanged { IsNone result → self.new ≡ self.old }
-        ensures given { IfSome result (GivesAway self.old self.new) }
-        ensures whole { SameWhole self.old self.new }
-        ensures pending { pending_in self.new ≡ pending_in self.old }
-        ensures work { IfSome result (λ child. work_in self.old ≡ work_in self.new + work_in child) }
-        ensures forked { (t : Nested) → IsChildOf self.old t → IsChildOf self.new t }
-    {
-        if self.placed.is_empty() {
-            return None;
-        }
-        let mut child = self.placed.remove(0);
-        child.run_at_its_own();
-        Some(thread_of(self.alloc, child))
     }
 
     /// The one that goes on next.

@@ -12,7 +12,7 @@ use crate::spares::Spares;
 use crate::wanted::{OutcomeReceiver, OutcomeSender, Wanted};
 use arachne_contexts::Tagged;
 use arachne_core::ThreadId;
-use arachne_lang::{Class, Program};
+use arachne_lang::Program;
 use arachne_machine::{NotJoined, Outcome, Pause, Pending, Thread};
 use std::alloc::{AllocError, Global};
 use std::marker::Model;
@@ -28,8 +28,6 @@ pub struct Job<'p> {
     end: OutcomeSender<'p>,
     awaited: Vec<OutcomeReceiver<'p>>,
     parent: Option<ThreadId>,
-    /// Whether it has forked an exclusive child, which may have got a place before older ones that still wait in this one.
-    has_exclusive: bool,
 }
 
 impl<'p> Model for Job<'p> {
@@ -102,21 +100,12 @@ impl<'p> RunJob for Job<'p> {
         me: ThreadId,
         child: Thread<'p>,
         tag: u64,
-        oldest_first: bool,
         spares: &mut Spares<'p>,
     ) -> Result<Job<'p>, WorkerFault> {
         let mut child = child;
         child.set_tag(tag);
-        if oldest_first && !self.has_exclusive {
-            if let Some(oldest) = self.thread.give_away() {
-                let job = self.part_with(alloc, me, oldest, spares)?;
-                return match self.thread.in_place(child) {
-                    Ok(()) => Ok(job),
-                    Err(_) => Err(WorkerFault::Memory),
-                };
-            }
-        }
-        let job = self.part_with(alloc, me, child, spares)?;
+        let (job, receiver) = Job::of(alloc, child, Some(me), spares)?;
+        self.expect(receiver)?;
         self.thread.forked();
         Ok(job)
     }
@@ -148,7 +137,6 @@ impl<'p> RunJob for Job<'p> {
             end,
             awaited,
             parent,
-            has_exclusive: _,
         } = self;
         spares.keep_awaited(awaited);
         end.leave(thread.finish_into(&mut spares.threads));
@@ -188,7 +176,6 @@ impl<'p> Job<'p> {
             end,
             awaited: spares.take_awaited(alloc),
             parent,
-            has_exclusive: false,
         };
         Ok((job, receiver))
     }
@@ -208,10 +195,7 @@ impl<'p> Job<'p> {
     {
         match self.thread.advance_within(left, &mut spares.threads)? {
             Pause::Budget => Ok(Slice::Goes),
-            Pause::Forks(class, child) => {
-                self.has_exclusive |= class == Class::Exclusive;
-                Ok(Slice::Forks(class, child))
-            }
+            Pause::Forks(class, child) => Ok(Slice::Forks(class, child)),
             Pause::Joins => {
                 if self.join(spares)? {
                     Ok(Slice::Goes)
@@ -224,23 +208,6 @@ impl<'p> Job<'p> {
             Pause::Tallies(ledger, amount) => Ok(Slice::Tallies(ledger, amount)),
             Pause::Ended => Ok(Slice::Ends),
         }
-    }
-
-    /// The job of a child, whose outcome this one expects. Its parent runs under this id.
-    fn part_with(
-        &mut self,
-        alloc: Global,
-        me: ThreadId,
-        child: Thread<'p>,
-        spares: &mut Spares<'p>,
-    ) -> Result<Job<'p>, WorkerFault>
-        requires { source_of (program_of child) ≡ source_of (program_of self.old.thread) }
-        ensures same { self.new ≡ self.old }
-        ensures job { IfOk result (λ job. job ≡ record { thread = child.entry; parent = Some me }) }
-    {
-        let (job, receiver) = Job::of(alloc, child, Some(me), spares)?;
-        self.expect(receiver)?;
-        Ok(job)
     }
 
     /// Expects the outcome of a child.

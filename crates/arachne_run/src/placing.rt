@@ -13,8 +13,7 @@ use rand_core::Rng;
 use std::sync::Wait;
 
 impl<'a, H: Wait, T: RunJob, C: Contexts<T>, R: Rng, G: Gate> Worker<'a, H, T, C, R, G> {
-    /// Answers a fork: where a core has a place for a thread of the child's class, the child gets it, or in its stead the oldest
-    /// that waits to run in place; else the child runs in place.
+    /// Answers a fork: the child gets a place on a core that has one for a thread of its class, else it runs in place.
     pub(crate) fn fork(
         &self,
         kit: &mut Kit<C::Seat, R, T::Spares>,
@@ -31,7 +30,7 @@ impl<'a, H: Wait, T: RunJob, C: Contexts<T>, R: Rng, G: Gate> Worker<'a, H, T, C
     {
         match self.claim(kit, class)? {
             Some(claim) => {
-                self.fork_off(kit, held, claim, class, child)?;
+                self.fork_off(kit, held, claim, child)?;
                 // One that is to be alone on its core can't be taken back.
                 if class == Class::Exclusive {
                     self.tell(kit);
@@ -42,15 +41,12 @@ impl<'a, H: Wait, T: RunJob, C: Contexts<T>, R: Rng, G: Gate> Worker<'a, H, T, C
         }
     }
 
-    /// The child becomes a thread at the claimed place, or the oldest that waits to run in place does so in its stead. In a
-    /// run with locks the child always: the oldest is mostly the largest, and large ones at places of their own only queue
-    /// for the locks.
+    /// The child becomes a thread at the claimed place.
     fn fork_off(
         &self,
         kit: &mut Kit<C::Seat, R, T::Spares>,
         held: &mut Held<T, C::Hold>,
         claim: C::Claim,
-        class: Class,
         child: T::Child,
     ) -> Result<(), WorkerFault>
         requires tokens { AreOf C.sits self.now.machine.now kit.old.tokens }
@@ -62,10 +58,9 @@ impl<'a, H: Wait, T: RunJob, C: Contexts<T>, R: Rng, G: Gate> Worker<'a, H, T, C
     {
         let me = held.id();
         let tag = kit.tags.take(&self.machine.shared);
-        let oldest_first = class == Class::Normal && self.machine.locks.count() == 0;
         let job = held
             .value
-            .fork_off(self.alloc, me, child, tag, oldest_first, &mut kit.spares)?;
+            .fork_off(self.alloc, me, child, tag, &mut kit.spares)?;
         self.post(kit, claim, job, me)
     }
 

@@ -1,5 +1,5 @@
 //! What a worker does with a job: it runs a slice, and answers what the slice asks for.
-ghost use Rattle.std.specs.Prelude.{◌≡◌, ◌≤◌, [], false, IfOk, OnOk};
+ghost use Rattle.std.specs.Prelude.{◌≡◌, ◌≤◌, [], IfOk, OnOk};
 ghost use Rattle.arachne_lang.specs.Program.{source_of};
 ghost use Rattle.arachne_lang.specs.Checked.{IsChecked};
 ghost use Rattle.std.specs.Prelude.{ℕ, Option, None, Some};
@@ -76,21 +76,19 @@ pub trait RunJob: Tagged + Drop {
         ensures parent { parent_of self.new ≡ parent_of self.old }
         ensures left { IfOk result (λ slice. IsLeft forks pause_of slice self.new) };
 
-    /// The child becomes a job of its own with this tag, whose parent runs under this id. Where the oldest comes first and
-    /// children wait to run in this job's place, the oldest of them becomes one, and this child waits in its stead.
+    /// The child becomes a job of its own with this tag, whose parent runs under this id.
     fn fork_off(
         &mut self,
         alloc: Global,
         me: ThreadId,
         child: Self::Child,
         tag: u64,
-        oldest_first: bool,
         spares: &mut Self::Spares,
     ) -> Result<Self, WorkerFault>
         requires { forks self.old child }
         ensures tag { Self.tag_of self.new ≡ Self.tag_of self.old }
         ensures parent { parent_of self.new ≡ parent_of self.old }
-        ensures child { oldest_first ≡ false → IfOk result (λ job. Self.tag_of job ≡ tag) }
+        ensures child { IfOk result (λ job. Self.tag_of job ≡ tag) }
         ensures childs_parent { IfOk result (λ job. parent_of job ≡ Some me) }
         ensures answered { OnOk result (pause_of self.new ≡ None) };
 

@@ -33,7 +33,7 @@ impl Tags {
             self.left = BLOCK;
         }
         let tag = self.next;
-        self.next = tag.saturating_add(1);
+        self.next = tag.wrapping_add(1);
         self.left -= 1;
         tag
     }

@@ -367,7 +367,7 @@ impl<'a, H: Wait, T: RunJob, C: Contexts<T>, R: Rng, G: Gate> Worker<'a, H, T, C
         Ok(Some(Rest::Ready))
     }
 
-    /// Runs the child of a waiting thread that was posted last, if no worker was told of the child and none has taken it.
+    /// Runs the child that a thread has forked last, and waits for, if no worker was told of the child and none has taken it.
     /// It goes on for the steps that the thread has left but two: one of them counts for this, and one is left. Whether the
     /// child has ended.
     #[cycle(stretch)]
@@ -406,7 +406,7 @@ impl<'a, H: Wait, T: RunJob, C: Contexts<T>, R: Rng, G: Gate> Worker<'a, H, T, C
         Ok(true)
     }
 
-    /// The child of a thread that was posted last, if it is kept back and still ready.
+    /// The child that a thread has forked last, if it is kept back and still ready.
     fn take_child(
         &self,
         kit: &mut Kit<C::Seat, R, T::Spares>,
