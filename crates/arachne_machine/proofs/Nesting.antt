@@ -8,14 +8,13 @@ use Rattle.arachne_lang.specs.Program.{source_of}
 use Rattle.arachne_machine.specs.declared.pause.Pending.{Pending}
 use Rattle.arachne_machine.specs.declared.pause.Pending.TheVariants as pause
 use Rattle.arachne_machine.specs.declared.pause.Pause.{Pause}
-use Rattle.arachne_machine.specs.declared.pause.Pause.TheVariants as pauses
 use Rattle.arachne_machine.specs.declared.strand.Halt.{Halt}
 use Rattle.arachne_machine.specs.declared.strand.Halt.TheVariants as halts
 use Rattle.arachne_machine.specs.Faultless.{PausesWithin}
 use Rattle.arachne_machine.specs.Suspended.{Suspended, SameThread, MakesSteps, Forked, Joined, IsAsk, IsFree, IsFresh, IsTally, awaited}
 use Rattle.arachne_machine.specs.Outcome.{Finished}
-use Rattle.arachne_machine.specs.Advance.{Advanced, AwaitsAt, IsPassed, IsSpentAt, Moves, PausesAt, TakesAllAt, pending_at, shown}
-use Rattle.arachne_machine.specs.Nested.{Nested, AwaitsElsewhere, FallsBy, IsNested, Await, ArePlaced, SameWhole, IsChildOf, IsForked, Stops, alone, whole, outermost, pending_below, pending_in, with_tag, works, work_in}
+use Rattle.arachne_machine.specs.Advance.{Advanced, IsPassed, IsSpentAt, Moves, PausesAt, TakesAllAt, pending_at, shown}
+use Rattle.arachne_machine.specs.Nested.{Nested, FallsBy, IsNested, Await, ArePlaced, SameWhole, IsChildOf, IsForked, Stops, alone, whole, outermost, pending_below, pending_in, with_tag, works, work_in}
 
 -- A pause that callers see is that of the thread that goes on.
 pub pending_is : (next : Option Pending) (parents : List Suspended) (p : Pending) → pending_below next parents ≡ Some p → next ≡ Some p
@@ -100,16 +99,6 @@ outer_name a b (parent ∷ parents) e = refl
 pub outer_label : (a b : Suspended) (parents : List Suspended) → b.label ≡ a.label → (outermost b parents).label ≡ (outermost a parents).label
 outer_label a b [] e = e
 outer_label a b (parent ∷ parents) e = refl
-
--- where no child was placed, none that was placed is awaited
-pub elsewhere_alone : (p : Pause) (t : Nested) → t.placed ≡ [] → AwaitsAt p t
-elsewhere_alone pauses.Budget t e = tt
-elsewhere_alone (pauses.Forks class child) t e = tt
-elsewhere_alone pauses.Joins t e = subst (AwaitsElsewhere t.running) (sym e) tt
-elsewhere_alone (pauses.Asks lock) t e = tt
-elsewhere_alone (pauses.Frees lock) t e = tt
-elsewhere_alone (pauses.Tallies ledger amount) t e = tt
-elsewhere_alone pauses.Ended t e = tt
 
 -- the last of the parents is the first of the list
 outer_last : (a p : Suspended) (parents : List Suspended) → outermost a (parents ++ p ∷ []) ≡ p
