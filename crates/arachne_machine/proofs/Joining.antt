@@ -1,9 +1,9 @@
 -- Joins, and the answers to pauses that count.
-use Rattle.std.proofs.Common.{◌≡◌, ℕ, ◌+◌, List, [], ◌∷◌, ◌++◌, length, None, Some, refl, ap, sym, ◌∙◌, subst, arith, append_assoc, take}
+use Rattle.std.proofs.Common.{◌≡◌, ℕ, ◌+◌, List, [], ◌∷◌, ◌++◌, length, None, Some, refl, ap, sym, ◌∙◌, subst, arith, append_assoc, take, drop}
 use Rattle.std.specs.Prelude.{slice_get, option_map}
 use Rattle.std.specs.Borrow.{Bor}
 use Rattle.std.proofs.lemmas.List.{append-nil}
-use Rattle.std.proofs.Math.Seq.{take-append_seam}
+use Rattle.std.proofs.Math.Seq.{drop-length, take-append_seam, take-length}
 use Rattle.arachne_lang.specs.declared.program.Expr.{Expr}
 use Rattle.arachne_lang.specs.declared.program.Reduction.{Reduction}
 use Rattle.arachne_lang.specs.Tree.{Source}
@@ -20,7 +20,7 @@ use Rattle.arachne_machine.specs.declared.state.State.{State}
 use Rattle.arachne_machine.specs.Trace.{At}
 use Rattle.arachne_machine.specs.Outcome.{Finished}
 use Rattle.arachne_machine.specs.Account.{after}
-use Rattle.arachne_machine.specs.Branches.{Gains}
+use Rattle.arachne_machine.specs.Lines.{Gains}
 use Rattle.arachne_machine.specs.Ending.{child_task, joined_env, account_joined, fork_awaited, lock_freed, forks_of, releases, frames_left}
 use Rattle.arachne_machine.specs.Steps.{Joins, Counts, pending_of, suspended}
 use Rattle.arachne_machine.specs.Suspended.{awaited}
@@ -29,7 +29,7 @@ use Rattle.arachne_machine.proofs.Outlooks.{SameOutlook, IsAt, Any, unjoined_at,
 joins_by : (old new : State) (outcome : Finished) (n : ℕ) (k k' : Control) (gs' : List Frame) (env' : List ℕ) → old.control ≡ k → outcome.name ≡ old.own.name ++ n ∷ [] →
     new.program ≡ old.program → new.own ≡ old.own → new.forks ≡ old.forks → new.control ≡ k' →
     new.frames.items ≡ old.frames.items ++ gs' → new.environment.items ≡ env' →
-    Gains old.below.list.items outcome.lines new.below.list.items →
+    Gains old.below outcome.lines new.below →
     ((m : ℕ) (own childs : ℕ → ℕ) → old.sums.items ≡ tabulated m own → outcome.sums ≡ tabulated m childs → new.sums.items ≡ tabulated m (λ ledger. own ledger + childs ledger)) →
     ((fs : List Frame) → frames_left k fs ≡ fs) → ((fs : List Frame) → frames_left k' fs ≡ fs) →
     fork_awaited k ++ [] ≡ n ∷ (fork_awaited k' ++ forks_of gs') → lock_freed k' ++ releases gs' ≡ lock_freed k ++ [] → pending_of k' ≡ None →
@@ -88,7 +88,7 @@ pub joins_fork : (old new : State) (outcome : Finished) (n v : ℕ) (next : Bor 
     new.program ≡ old.program → new.own ≡ old.own → new.forks ≡ old.forks → new.control ≡ Begin next →
     new.frames.items ≡ old.frames.items ++ Restore (length old.environment.items) ∷ [] →
     new.environment.items ≡ with_newest (with_newest old.environment.items outcome.value) v →
-    Gains old.below.list.items outcome.lines new.below.list.items →
+    Gains old.below outcome.lines new.below →
     ((m : ℕ) (own childs : ℕ → ℕ) → old.sums.items ≡ tabulated m own → outcome.sums ≡ tabulated m childs → new.sums.items ≡ tabulated m (λ ledger. own ledger + childs ledger)) →
     Joins old outcome new
 joins_fork old new outcome n v next awaits is_name program own forks control frames environment below sums =
@@ -103,7 +103,7 @@ joins_fork old new outcome n v next awaits is_name program own forks control fra
 pub joins_half : (old new : State) (outcome : Finished) (n right w : ℕ) (reduction : Reduction) → old.control ≡ AwaitsHalf n right reduction → outcome.name ≡ old.own.name ++ n ∷ [] →
     new.program ≡ old.program → new.own ≡ old.own → new.forks ≡ old.forks → new.control ≡ Give w → w ≡ apply (operation_of reduction) outcome.value right →
     new.frames.items ≡ old.frames.items → new.environment.items ≡ old.environment.items →
-    Gains old.below.list.items outcome.lines new.below.list.items →
+    Gains old.below outcome.lines new.below →
     ((m : ℕ) (own childs : ℕ → ℕ) → old.sums.items ≡ tabulated m own → outcome.sums ≡ tabulated m childs → new.sums.items ≡ tabulated m (λ ledger. own ledger + childs ledger)) →
     Joins old outcome new
 joins_half old new outcome n right w reduction awaits is_name program own forks control is frames environment below sums =
@@ -120,6 +120,11 @@ joins_half old new outcome n right w reduction awaits is_name program own forks 
       faultless = λ held h. (tt, tt);
     })
 
+-- numbers that were written over as many
+pub written-back : (xs items : List ℕ) (n : ℕ) → n ≡ length items → length xs ≡ length items → take n (xs ++ drop (length xs) items) ≡ xs
+written-back xs items n is same =
+    ap (λ k. take n (xs ++ drop k items)) same ∙ ap (λ l. take n (xs ++ l)) (drop-length items) ∙ ap (take n) (append-nil xs) ∙ ap (λ k. take k xs) (is ∙ sym same) ∙ take-length xs
+
 -- the name of the child that is awaited
 pub awaited_child : (t : State) (n : ℕ) (k : Control) (name : List ℕ) → t.control ≡ k → fork_awaited k ≡ n ∷ [] → awaited (suspended t) ≡ Some name → name ≡ t.own.name ++ n ∷ []
 awaited_child t n k name is_control one is_awaited =
@@ -129,7 +134,7 @@ awaited_child t n k name is_control one is_awaited =
 
 -- An answer that counts, and goes on.
 counts_by : (old new : State) (answered : Pending) (effects : Effects) (k k' : Control) → old.control ≡ k → new.control ≡ k' →
-    new.program ≡ old.program → new.own.name ≡ old.own.name → new.own.label ≡ old.own.label → new.below.list.items ≡ old.below.list.items → new.forks ≡ old.forks →
+    new.program ≡ old.program → new.own.name ≡ old.own.name → new.own.label ≡ old.own.label → new.below ≡ old.below → new.forks ≡ old.forks →
     new.frames.items ≡ old.frames.items → new.environment.items ≡ old.environment.items →
     ((n : ℕ) (own : ℕ → ℕ) → old.sums.items ≡ tabulated n own → new.sums.items ≡ tabulated n (λ ledger. own ledger + effects.sums ledger)) →
     ((n : ℕ) (own : ℕ → ℕ) → old.own.holds.items ≡ tabulated n own → new.own.holds.items ≡ tabulated n (λ lock. own lock + effects.holds lock)) →
@@ -172,7 +177,7 @@ counts_by old new answered effects k k' is_k is_k' program is_name label below f
     }
 
 pub counts_hold : (old new : State) (lock : ℕ) (body : Bor Expr) → old.control ≡ Asks lock body → new.control ≡ Begin body →
-    new.program ≡ old.program → new.own.name ≡ old.own.name → new.own.label ≡ old.own.label → new.below.list.items ≡ old.below.list.items → new.forks ≡ old.forks →
+    new.program ≡ old.program → new.own.name ≡ old.own.name → new.own.label ≡ old.own.label → new.below ≡ old.below → new.forks ≡ old.forks →
     new.frames.items ≡ old.frames.items → new.environment.items ≡ old.environment.items →
     ((n : ℕ) (own : ℕ → ℕ) → old.sums.items ≡ tabulated n own → new.sums.items ≡ tabulated n (λ ledger. own ledger + (held lock).sums ledger)) →
     ((n : ℕ) (own : ℕ → ℕ) → old.own.holds.items ≡ tabulated n own → new.own.holds.items ≡ tabulated n (λ other. own other + (held lock).holds other)) →
@@ -182,7 +187,7 @@ counts_hold old new lock body asks begins program is_name label below forks fram
     (λ fs. refl) (λ fs. refl) refl refl refl (record { ending = refl; account = λ a any. refl; work = omega arith; trace = refl; faultless = λ held h. (tt, h.1.1) })
 
 pub counts_tally : (old new : State) (ledger amount : ℕ) (body : Bor Expr) → old.control ≡ Tallies ledger amount body → new.control ≡ Begin body →
-    new.program ≡ old.program → new.own.name ≡ old.own.name → new.own.label ≡ old.own.label → new.below.list.items ≡ old.below.list.items → new.forks ≡ old.forks →
+    new.program ≡ old.program → new.own.name ≡ old.own.name → new.own.label ≡ old.own.label → new.below ≡ old.below → new.forks ≡ old.forks →
     new.frames.items ≡ old.frames.items → new.environment.items ≡ old.environment.items →
     ((n : ℕ) (own : ℕ → ℕ) → old.sums.items ≡ tabulated n own → new.sums.items ≡ tabulated n (λ other. own other + (tallied ledger amount).sums other)) →
     ((n : ℕ) (own : ℕ → ℕ) → old.own.holds.items ≡ tabulated n own → new.own.holds.items ≡ tabulated n (λ lock. own lock + (tallied ledger amount).holds lock)) →

@@ -1,4 +1,4 @@
-pub mod Branches
+pub mod Laying
 pub mod Accounts
 pub mod Tabulated
 pub mod Names

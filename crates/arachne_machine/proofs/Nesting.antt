@@ -11,10 +11,13 @@ use Rattle.arachne_machine.specs.declared.pause.Pause.{Pause}
 use Rattle.arachne_machine.specs.declared.strand.Halt.{Halt}
 use Rattle.arachne_machine.specs.declared.strand.Halt.TheVariants as halts
 use Rattle.arachne_machine.specs.Faultless.{PausesWithin}
-use Rattle.arachne_machine.specs.Suspended.{Suspended, SameThread, MakesSteps, Forked, Joined, IsAsk, IsFree, IsFresh, IsTally, awaited}
+use Rattle.arachne_machine.specs.Suspended.{Suspended, SameThread, MakesSteps, Forked, Joined, IsAsk, IsFree, IsFresh, IsTally}
+use Rattle.arachne_machine.specs.Lines.{Lined}
 use Rattle.arachne_machine.specs.Outcome.{Finished}
+use Rattle.arachne_machine.specs.Stops.{HasJoinedNone}
 use Rattle.arachne_machine.specs.Advance.{Advanced, IsPassed, IsSpentAt, Moves, PausesAt, TakesAllAt, pending_at, shown}
-use Rattle.arachne_machine.specs.Nested.{Nested, FallsBy, IsNested, Await, ArePlaced, SameWhole, IsChildOf, IsForked, Stops, alone, whole, outermost, pending_below, pending_in, with_tag, works, work_in}
+use Rattle.arachne_machine.specs.Nested.{Nested, FallsBy, IsNested, Await, ArePlaced, SameWhole, IsChildOf, IsForked, IsKept, Laid, Stops, alone, whole, outermost, pending_below, pending_in, with_tag, lines_below, works, work_in}
+use Rattle.arachne_machine.proofs.Laying.{laid_joined, laid_same}
 
 -- A pause that callers see is that of the thread that goes on.
 pub pending_is : (next : Option Pending) (parents : List Suspended) (p : Pending) → pending_below next parents ≡ Some p → next ≡ Some p
@@ -162,18 +165,7 @@ tagged_child t child tagged tag none e h =
       alone = h.alone;
     })
 
--- the newest child that was placed here goes on in the place of the thread that awaits it
-pub nested_taken : (a child : Suspended) (parents placed : List Suspended) → a.pending ≡ Some pause.Joins → awaited a ≡ Some child.name →
-    IsNested (record { running = a; parents = parents; placed = child ∷ placed }) → IsNested (record { running = child; parents = a ∷ parents; placed = placed })
-nested_taken a child parents placed joins awaits h = record {
-  awaiting = (
-    record { joins = joins; of_child = awaits; same_source = h.waiting.0.same_source; in_place = h.waiting.0.in_place },
-    h.awaiting,
-  );
-  waiting = subst (λ s. ArePlaced s placed) (sym h.waiting.0.same_source) h.waiting.1;
-}
-
--- and is joined
+-- a child that ran in its parent's place is joined
 pub nested_joined : (child parent new : Suspended) (parents placed : List Suspended) → new.program ≡ parent.program → new.name ≡ parent.name → new.label ≡ parent.label →
     IsNested (record { running = child; parents = parent ∷ parents; placed = placed }) → IsNested (record { running = new; parents = parents; placed = placed })
 nested_joined child parent new parents placed program name label h = record {
@@ -205,13 +197,14 @@ pub record SameLook (a b : Suspended) : Type 0 where
   pub program : b.program ≡ a.program
   pub name : b.name ≡ a.name
   pub label : b.label ≡ a.label
+  pub below : b.below ≡ a.below
 
 pub look : (a b : Suspended) → SameThread a b → SameLook a b
-look a b s = record { program = s.program; name = s.name; label = s.label }
+look a b s = record { program = s.program; name = s.name; label = s.label; below = s.below }
 
 pub advanced_look : (n : ℕ) (a b : Suspended) (halt : Halt) → Advanced n a (shown halt) b → SameLook a b
 advanced_look n a b halts.Budget h = look a b h.0
-advanced_look n a b (halts.Forks class child) h = record { program = h.program; name = h.name; label = h.label }
+advanced_look n a b (halts.Forks class child) h = record { program = h.program; name = h.name; label = h.label; below = h.below }
 advanced_look n a b halts.Joins h = look a b h.0
 advanced_look n a b (halts.Asks lock) h = look a b h.0
 advanced_look n a b (halts.Frees lock) h = look a b h.0
@@ -440,3 +433,48 @@ pub whole_answered : {E : Type 0} (r : Result (Unit {0}) E) (a b : Suspended) (o
     SameWhole (record { running = a; parents = parents; placed = placed }) (record { running = b; parents = parents; placed = placed })
 whole_answered (Ok done) a b outcome parents placed j e = whole_same a b parents placed placed j.program j.name j.label
 whole_answered (Err refused) a b outcome parents placed j e = whole_same a b parents placed placed (ap (λ v. v.program) e) (ap (λ v. v.name) e) (ap (λ v. v.label) e)
+
+-- A thread that goes on in the place of others keeps what is so of them.
+pub kept_look : (a b : Suspended) (parents placed : List Suspended) (lines : Lined) (l p aside capacity : ℕ) → SameLook a b →
+    IsKept (record { running = a; parents = parents; placed = placed }) lines l p aside capacity → IsKept (record { running = b; parents = parents; placed = placed }) lines l p aside capacity
+kept_look a b parents placed lines l p aside capacity s h = record {
+  nested = nested_same a b parents placed s.program s.name s.label h.nested;
+  laid = laid_same a b parents lines.lines s.below h.laid;
+  counted = h.counted;
+  room = h.room;
+  places = h.places;
+  few = h.few;
+}
+
+pub kept_thread : (a b : Suspended) (parents placed : List Suspended) (lines : Lined) (l p aside capacity : ℕ) → SameThread a b →
+    IsKept (record { running = a; parents = parents; placed = placed }) lines l p aside capacity → IsKept (record { running = b; parents = parents; placed = placed }) lines l p aside capacity
+kept_thread a b parents placed lines l p aside capacity s h = kept_look a b parents placed lines l p aside capacity (look a b s) h
+
+pub joined_none : (n : ℕ) (a b : Suspended) (halt : Halt) → Advanced n a (shown halt) b → HasJoinedNone halt
+joined_none n a b halts.Budget h = tt
+joined_none n a b (halts.Forks class child) h = h.fresh.none_below
+joined_none n a b halts.Joins h = tt
+joined_none n a b (halts.Asks lock) h = tt
+joined_none n a b (halts.Frees lock) h = tt
+joined_none n a b (halts.Tallies ledger amount) h = tt
+joined_none n a b halts.Ended h = tt
+
+pub kept_answered : {E : Type 0} (r : Result (Unit {0}) E) (a b : Suspended) (outcome : Finished) (parents placed : List Suspended) (lines more : Lined) (l p aside capacity : ℕ) →
+    OnOk r (Joined a outcome b) → OnErr r (b ≡ a) → OnOk r (more.lines ≡ lines.lines ++ outcome.lines) → OnErr r (more.lines ≡ lines.lines) → p + aside ≤ more.room →
+    IsKept (record { running = a; parents = parents; placed = placed }) lines l p aside capacity → IsKept (record { running = b; parents = parents; placed = placed }) more l p aside capacity
+kept_answered (Ok done) a b outcome parents placed lines more l p aside capacity j e gained same places h = record {
+  nested = nested_same a b parents placed j.program j.name j.label h.nested;
+  laid = subst (λ m. Laid b parents m) (sym gained) (laid_joined a b parents lines.lines outcome.lines j.below h.laid);
+  counted = h.counted;
+  room = h.room;
+  places = places;
+  few = h.few;
+}
+kept_answered (Err refused) a b outcome parents placed lines more l p aside capacity j e gained same places h = record {
+  nested = nested_same a b parents placed (ap (λ v. v.program) e) (ap (λ v. v.name) e) (ap (λ v. v.label) e) h.nested;
+  laid = subst (λ m. Laid b parents m) (sym same) (laid_same a b parents lines.lines (ap (λ v. v.below) e) h.laid);
+  counted = h.counted;
+  room = h.room;
+  places = places;
+  few = h.few;
+}

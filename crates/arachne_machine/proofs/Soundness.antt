@@ -17,7 +17,7 @@ use Rattle.arachne_machine.specs.Suspended.{own_line_of, SameThread, MakesSteps,
 use Rattle.arachne_machine.specs.declared.state.State.{State}
 use Rattle.arachne_machine.specs.declared.state.Stop.{Stop}
 use Rattle.arachne_machine.specs.declared.state.Stop.TheVariants as stop
-use Rattle.arachne_machine.specs.Branches.{Gains, lines_in}
+use Rattle.arachne_machine.specs.Lines.{Gains}
 use Rattle.arachne_machine.specs.Outcome.{Finished, named_holds, meaning_as, meaning_in, outcome_of, IsOfItsName}
 use Rattle.arachne_machine.specs.Account.{Account, untouched, after, with_fork, with_join}
 use Rattle.arachne_machine.specs.Ending.{child_task, account_joined, ending, account_at_end, trace_left, unjoined_of, locks_of, resume, resume_account, frames_left, begun, begun_account, fork_awaited, forks_of, lock_freed, releases}
@@ -129,12 +129,12 @@ sound_new program name tag task t new has faultless =
       account = untouched;
       sums = subst (λ x. t.sums.items ≡ tabulated (source_of x).ledgers (λ ledger. 0)) program_is new.sums;
       holds = subst (λ x. t.own.holds.items ≡ tabulated (source_of x).locks (λ lock. 0)) program_is new.holds;
-      lines = ap (λ b. map named_holds (lines_in b)) new.below;
+      lines = ap (map named_holds) new.below;
       forks = new.forks;
       value = subst (λ x. (ending t).value ≡ task_value (source_of x).arrays task) program_is new.value;
       whole = subst (λ x. account_at_end t untouched ≡ after x (task_effects (source_of t.program.now).arrays (source_of t.program.now).locks task) untouched) name_is
           (subst (λ x. account_at_end t untouched ≡ after name (task_effects (source_of x).arrays (source_of x).locks task) untouched) program_is new.account);
-      numbered = omega (arith, new.forks);
+      numbered = (omega (arith, new.forks), omega (arith, ap length new.below));
       faultless = λ checked. faultless (subst (λ x. IsChecked (source_of x)) new.same_program checked);
     }
 
@@ -148,12 +148,12 @@ sound_goes n answered old new s g =
       account = s.account;
       sums = g.sums ∙ subst (λ x. old.sums.items ≡ tabulated x.ledgers s.account.sums) program_is s.sums;
       holds = subst (λ x. x.holds.items ≡ tabulated (source_of new.program.now).locks s.account.holds) own_is (subst (λ x. old.own.holds.items ≡ tabulated x.locks s.account.holds) program_is s.holds);
-      lines = ap (λ b. map named_holds (lines_in b)) g.below ∙ s.lines;
+      lines = ap (map named_holds) g.below ∙ s.lines;
       forks = g.forks ∙ s.forks;
       value = ap (λ x. x.value) g.ending ∙ subst (λ x. (ending old).value ≡ task_value x.arrays s.task) program_is s.value;
       whole = g.account s.account ∙ subst (λ x. account_at_end old s.account ≡ after x.name (task_effects (source_of new.program.now).arrays (source_of new.program.now).locks s.task) untouched) own_is
           (subst (λ x. account_at_end old s.account ≡ after old.own.name (task_effects x.arrays x.locks s.task) untouched) program_is s.whole);
-      numbered = omega (arith, s.numbered, g.forks, ap length g.below, ap length g.unjoined);
+      numbered = (omega (arith, s.numbered.0, g.forks, ap length g.below, ap length g.unjoined), omega (arith, s.numbered.1, ap length g.below));
       faultless = λ checked. g.faultless (s.faultless (subst IsChecked (sym program_is) checked));
     }
 
@@ -213,12 +213,12 @@ sound_fork n old new child made s g =
       sums = g.sums ∙ subst (λ x. old.sums.items ≡ tabulated x.ledgers s.account.sums) program_is s.sums ∙ ap (tabulated (source_of new.program.now).ledgers) (sym (with_fork-sums made s.account));
       holds = subst (λ x. x.holds.items ≡ tabulated (source_of new.program.now).locks s.account.holds) own_is (subst (λ x. old.own.holds.items ≡ tabulated x.locks s.account.holds) program_is s.holds)
           ∙ ap (tabulated (source_of new.program.now).locks) (sym (with_fork-holds made s.account));
-      lines = ap (λ b. map named_holds (lines_in b)) g.below ∙ s.lines ∙ sym (with_fork-lines made s.account);
+      lines = ap (map named_holds) g.below ∙ s.lines ∙ sym (with_fork-lines made s.account);
       forks = omega (arith, g.forks, s.forks, length-append s.account.children (made ∷ []), ap length (with_fork-children made s.account));
       value = ap (λ x. x.value) kept.ending ∙ subst (λ x. (ending old).value ≡ task_value x.arrays s.task) program_is s.value;
       whole = kept.account s.account (sym s.forks) ∙ subst (λ x. account_at_end old s.account ≡ after x.name (task_effects (source_of new.program.now).arrays (source_of new.program.now).locks s.task) untouched) own_is
           (subst (λ x. account_at_end old s.account ≡ after old.own.name (task_effects x.arrays x.locks s.task) untouched) program_is s.whole);
-      numbered = omega (arith, s.numbered, g.forks, ap length g.below, ap length g.unjoined);
+      numbered = (omega (arith, s.numbered.0, g.forks, ap length g.below, ap length g.unjoined), omega (arith, s.numbered.1, ap length g.below));
       faultless = λ checked. (kept.faultless (s.faultless (subst IsChecked (sym program_is) checked))).0;
     }
 
@@ -294,13 +294,13 @@ sound_join old new outcome s of_name same_source j =
       holds = subst (λ x. x.holds.items ≡ tabulated (source_of new.program.now).locks account.holds) own_is
           (subst (λ x. old.own.holds.items ≡ tabulated x.locks account.holds) program_is (s.holds ∙ ap (tabulated source.locks) (sym (with_join-holds source.locks name n effects s.account))));
       lines = ap (map named_holds) j.below.lines_are
-          ∙ map-append named_holds (lines_in old.below.list.items) outcome.lines ∙ ap (λ l. l ++ map named_holds outcome.lines) s.lines
+          ∙ map-append named_holds old.below outcome.lines ∙ ap (λ l. l ++ map named_holds outcome.lines) s.lines
           ∙ ap (λ l. s.account.lines ++ l) lines ∙ sym (with_join-lines source.locks name n effects s.account);
       forks = j.forks ∙ s.forks ∙ ap length (sym (with_join-children source.locks name n effects s.account));
       value = ap (λ x. x.value) kept.ending ∙ subst (λ x. (ending old).value ≡ task_value x.arrays s.task) program_is s.value;
       whole = kept.account s.account ∙ subst (λ x. account_at_end old s.account ≡ after x.name (task_effects (source_of new.program.now).arrays (source_of new.program.now).locks s.task) untouched) own_is
           (subst (λ x. account_at_end old s.account ≡ after name (task_effects x.arrays x.locks s.task) untouched) program_is s.whole);
-      numbered = omega (arith, s.numbered, j.forks, j.below.more, ap length j.unjoined);
+      numbered = (omega (arith, s.numbered.0, j.forks, j.below.more, ap length j.unjoined), j.below.few);
       faultless = λ checked. kept.faultless (s.faultless (subst IsChecked (sym program_is) checked));
     }
 
@@ -326,7 +326,7 @@ same_meaning v v' t t' l l' p q r =
 
 -- A sound thread that has ended has the outcome of its name.
 pub sound_end : (t : State) (v : ℕ) → IsSound t → t.control ≡ Ended v →
-    IsOfItsName (record { program = t.program.now; name = t.own.name; value = v; sums = t.sums.items; lines = own_line_of (suspended t) ∷ lines_in t.below.list.items })
+    IsOfItsName (record { program = t.program.now; name = t.own.name; value = v; sums = t.sums.items; lines = own_line_of (suspended t) ∷ t.below })
 sound_end t v s ended =
     let source = source_of t.program.now in
     let name = t.own.name in
@@ -342,11 +342,11 @@ sound_end t v s ended =
     let holds : t.own.holds.items ≡ tabulated source.locks effects.holds =
     s.holds ∙ ap (λ a. tabulated source.locks a.holds) whole ∙ ap (tabulated source.locks) (after-holds name effects untouched)
     ∙ tabulated-same source.locks (λ l. 0 + effects.holds l) effects.holds (λ k. omega arith) in
-    let below : map named_holds (lines_in t.below.list.items) ≡ effects.lines name 0 = s.lines ∙ ap (λ a. a.lines) whole ∙ after-lines name effects untouched in
+    let below : map named_holds t.below ≡ effects.lines name 0 = s.lines ∙ ap (λ a. a.lines) whole ∙ after-lines name effects untouched in
     let line : List ℕ → Line = λ h. record { name = name; holds = h } in
     ap (option_map (meaning_as source name)) s.has_task
     ∙ ap (λ m. Some m) (same_meaning (task_value source.arrays s.task) v (tabulated source.ledgers effects.sums) t.sums.items
-    (line_of source.locks name effects ∷ effects.lines name 0) (map named_holds (own_line_of (suspended t) ∷ lines_in t.below.list.items))
+    (line_of source.locks name effects ∷ effects.lines name 0) (map named_holds (own_line_of (suspended t) ∷ t.below))
     (sym value) (sym sums)
     (ap (λ h. line h ∷ effects.lines name 0) (sym holds) ∙ ap (λ l. line t.own.holds.items ∷ l) (sym below)))
 
@@ -365,12 +365,12 @@ sound_counts old new answered effects s no_children no_lines g =
           (g.sums (source_of old.program.now).ledgers s.account.sums s.sums ∙ ap (tabulated (source_of old.program.now).ledgers) (sym (after-sums name effects s.account)));
       holds = subst (λ x. new.own.holds.items ≡ tabulated x.locks account.holds) program_is
           (g.holds (source_of old.program.now).locks s.account.holds s.holds ∙ ap (tabulated (source_of old.program.now).locks) (sym (after-holds name effects s.account)));
-      lines = ap (λ b. map named_holds (lines_in b)) g.below ∙ s.lines ∙ sym (after-lines name effects s.account ∙ ap (λ l. s.account.lines ++ l) (no_lines name (length s.account.children)) ∙ append-nil s.account.lines);
+      lines = ap (map named_holds) g.below ∙ s.lines ∙ sym (after-lines name effects s.account ∙ ap (λ l. s.account.lines ++ l) (no_lines name (length s.account.children)) ∙ append-nil s.account.lines);
       forks = g.forks ∙ s.forks ∙ sym (ap length (after-children name effects s.account ∙ ap (λ l. s.account.children ++ l) no_children ∙ append-nil s.account.children));
       value = ap (λ x. x.value) g.ending ∙ subst (λ x. (ending old).value ≡ task_value x.arrays s.task) program_is s.value;
       whole = g.account s.account ∙ subst (λ x. account_at_end old s.account ≡ after x (task_effects (source_of new.program.now).arrays (source_of new.program.now).locks s.task) untouched) name_is
           (subst (λ x. account_at_end old s.account ≡ after old.own.name (task_effects x.arrays x.locks s.task) untouched) program_is s.whole);
-      numbered = omega (arith, s.numbered, g.forks, ap length g.below, ap length g.unjoined);
+      numbered = (omega (arith, s.numbered.0, g.forks, ap length g.below, ap length g.unjoined), omega (arith, s.numbered.1, ap length g.below));
       faultless = λ checked. g.faultless (s.faultless (subst IsChecked (sym program_is) checked));
     }
 
@@ -381,7 +381,7 @@ counted_seen old new answered effects g = record {
   label = g.label;
   forks = g.forks;
   unjoined = g.unjoined;
-  below = ap lines_in g.below;
+  below = g.below;
 }
 
 -- What callers see of these steps.
@@ -392,7 +392,7 @@ same_thread n old new g = record {
   label = ap (λ o. o.label) g.own;
   forks = g.forks;
   unjoined = g.unjoined;
-  below = ap lines_in g.below;
+  below = g.below;
 }
 
 pub within_seen : (least most : ℕ) (old new : State) → GoesWithin least most old new → MakesSteps least most (suspended old) (suspended new)
@@ -417,7 +417,7 @@ forked_seen n old new child made s g =
       forks = g.forks;
       unjoined = g.unjoined;
       locks = g.locks;
-      below = ap lines_in g.below;
+      below = g.below;
       pending = g.pending;
       fresh = record {
         same_program = g.fresh.same_program;
@@ -428,7 +428,7 @@ forked_seen n old new child made s g =
         no_sums = g.fresh.sums;
         no_holds = g.fresh.holds;
         no_locks = g.fresh.locks;
-        none_below = ap lines_in g.fresh.below;
+        none_below = g.fresh.below;
         not_paused = g.fresh.pending;
       };
       task = made.task;
@@ -552,7 +552,7 @@ joins_after a b c outcome u j =
       name = j.name ∙ ap (λ n. n ++ j.number ∷ []) name_is;
       unjoined = sym g.unjoined ∙ j.unjoined;
       locks = j.locks ∙ locks_unchanged a b u;
-      below = subst (λ b. Gains b outcome.lines c.below.list.items) u.below j.below;
+      below = subst (λ b. Gains b outcome.lines c.below) u.below j.below;
       sums = λ n own childs e f. j.sums n own childs (u.sums ∙ e) f;
       keeps = λ h.
           let value : outcome.value ≡ task_value (source_of b.program.now).arrays (child_task (source_of b.program.now) b.own.name j.number) =

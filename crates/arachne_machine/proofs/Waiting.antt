@@ -6,9 +6,11 @@ use Rattle.arachne_lang.specs.declared.program.Class.{Class}
 use Rattle.arachne_lang.specs.declared.program.Program.{Program}
 use Rattle.arachne_machine.specs.Outcome.{Finished}
 use Rattle.arachne_machine.specs.Suspended.{Suspended, SameThread, IsFresh, Forked, Joined, awaited}
+use Rattle.arachne_machine.specs.Nested.{Nested, IsAlone, pending_in}
+use Rattle.arachne_machine.proofs.Nesting.{pending_none}
 use Rattle.arachne_machine.specs.Alone.{key, childs_keys, Waits, Rests}
 
-pub waits_same : (program : Program) (name name' : List ℕ) (threads : List Suspended) (keys : List (Program × List ℕ)) → name' ≡ name →
+pub waits_same : (program : Program) (name name' : List ℕ) (threads : List Nested) (keys : List (Program × List ℕ)) → name' ≡ name →
     Waits program name threads keys → Waits program name' threads keys
 waits_same program name name' threads keys e h = subst (λ n. Waits program n threads keys) (sym e) h
 
@@ -28,41 +30,45 @@ brought_same program old new keys rest same e =
     e ∙ ap (λ n. childs_keys program n old.unjoined ++ rest) (sym same.name) ∙ ap (λ l. childs_keys program new.name l ++ rest) (sym same.unjoined)
 
 -- the thread is the same to those that wait for it
-pub rests_same : (program : Program) (old new : Suspended) (threads : List Suspended) (keys : List (Program × List ℕ)) →
-    SameThread old new → new.pending ≡ None → Rests program (old ∷ threads) keys → Rests program (new ∷ threads) keys
-rests_same program old new threads keys same running (newest, waits) = (
+pub rests_same : (program : Program) (old new : Nested) (threads : List Nested) (keys : List (Program × List ℕ)) →
+    SameThread old.running new.running → IsAlone new → pending_in new ≡ None → Rests program (old ∷ threads) keys → Rests program (new ∷ threads) keys
+rests_same program old new threads keys same alone running (newest, waits) = (
   record {
+    alone = alone;
     same_program = same.program ∙ newest.same_program;
     running = running;
     rest = newest.rest;
-    brought = brought_same program old new keys newest.rest same newest.brought;
+    brought = brought_same program old.running new.running keys newest.rest same newest.brought;
   },
-  waits_same program old.name new.name threads newest.rest same.name waits,
+  waits_same program old.running.name new.running.name threads newest.rest same.name waits,
 )
 
 -- a child goes on, and the thread waits for it
-pub rests_fork : (program : Program) (budget : ℕ) (class : Class) (old mid new child : Suspended) (threads : List Suspended) (keys : List (Program × List ℕ)) →
-    Forked budget class old mid child → SameThread mid new → new.pending ≡ None → Rests program (old ∷ threads) keys → Rests program (child ∷ new ∷ threads) keys
-rests_fork program budget class old mid new child threads keys forked same running (newest, waits) =
-    let is_name : new.name ≡ old.name = same.name ∙ forked.name in (
+pub rests_fork : (program : Program) (budget : ℕ) (class : Class) (old new child : Nested) (mid : Suspended) (threads : List Nested) (keys : List (Program × List ℕ)) →
+    Forked budget class old.running mid child.running → SameThread mid new.running → IsAlone new → pending_in new ≡ None → IsAlone child → pending_in child ≡ None →
+    Rests program (old ∷ threads) keys → Rests program (child ∷ new ∷ threads) keys
+rests_fork program budget class old new child mid threads keys forked same alone running childs_place begins (newest, waits) =
+    let is_name : new.running.name ≡ old.running.name = same.name ∙ forked.name in (
       record {
+        alone = childs_place;
         same_program = forked.fresh.same_program ∙ newest.same_program;
-        running = forked.fresh.not_paused;
+        running = begins;
         rest = keys;
-        brought = ap (λ l. childs_keys program child.name l ++ keys) (sym forked.fresh.none_unjoined);
+        brought = ap (λ l. childs_keys program child.running.name l ++ keys) (sym forked.fresh.none_unjoined);
       },
       (
         record {
+          alone = alone;
           same_program = same.program ∙ forked.program ∙ newest.same_program;
           running = running;
-          number = old.forks;
-          others = old.unjoined;
+          number = old.running.forks;
+          others = old.running.unjoined;
           unjoined = same.unjoined ∙ forked.unjoined;
-          named = forked.fresh.has_name ∙ ap (λ n. n ++ old.forks ∷ []) (sym is_name);
+          named = forked.fresh.has_name ∙ ap (λ n. n ++ old.running.forks ∷ []) (sym is_name);
           rest = newest.rest;
-          brought = newest.brought ∙ ap (λ n. childs_keys program n old.unjoined ++ newest.rest) (sym is_name);
+          brought = newest.brought ∙ ap (λ n. childs_keys program n old.running.unjoined ++ newest.rest) (sym is_name);
         },
-        waits_same program old.name new.name threads newest.rest is_name waits,
+        waits_same program old.running.name new.running.name threads newest.rest is_name waits,
       ),
     )
 
@@ -74,10 +80,10 @@ first_of [] name h = absurd (not_some h)
 first_of (n ∷ others) name h = (n, others, refl)
 
 -- what a thread that joins needs, and how it goes on
-pub record IsReady (program : Program) (mid : Suspended) (threads : List Suspended) (outcome : Finished) (keys : List (Program × List ℕ)) : Type 0 where
+pub record IsReady (program : Program) (mid : Suspended) (threads : List Nested) (outcome : Finished) (keys : List (Program × List ℕ)) : Type 0 where
   pub of_program : outcome.program ≡ program
   pub of_child : awaited mid ≡ Some outcome.name
-  pub goes_on : (new : Suspended) → Joined mid outcome new → Rests program (new ∷ threads) keys
+  pub goes_on : (new : Nested) → IsAlone new → pending_in new ≡ None → Joined mid outcome new.running → Rests program (new ∷ threads) keys
 
 same_first : (x y : Program × List ℕ) (xs ys : List (Program × List ℕ)) → x ∷ xs ≡ y ∷ ys → (x ≡ y) × (xs ≡ ys)
 same_first x y xs ys h = (cc, cc)
@@ -85,62 +91,65 @@ same_first x y xs ys h = (cc, cc)
 same_tail : (x y : ℕ) (xs ys : List ℕ) → x ∷ xs ≡ y ∷ ys → xs ≡ ys
 same_tail x y xs ys h = cc
 
-pub ready : (program : Program) (old mid : Suspended) (threads : List Suspended) (outcome : Finished) (keys : List (Program × List ℕ)) →
-    SameThread old mid → IsSome (awaited mid) → Rests program (old ∷ threads) (key outcome ∷ keys) → IsReady program mid threads outcome keys
+pub ready : (program : Program) (old : Nested) (mid : Suspended) (threads : List Nested) (outcome : Finished) (keys : List (Program × List ℕ)) →
+    SameThread old.running mid → IsSome (awaited mid) → Rests program (old ∷ threads) (key outcome ∷ keys) → IsReady program mid threads outcome keys
 ready program old mid threads outcome keys same some (newest, waits) =
     let first = first_of mid.unjoined mid.name some in
     let n = first.0 in
     let others = first.1 in
     let brought : key outcome ∷ keys ≡ (program, mid.name ++ n ∷ []) ∷ (childs_keys program mid.name others ++ newest.rest) =
-    brought_same program old mid (key outcome ∷ keys) newest.rest same newest.brought ∙ ap (λ l. childs_keys program mid.name l ++ newest.rest) first.2 in
+    brought_same program old.running mid (key outcome ∷ keys) newest.rest same newest.brought ∙ ap (λ l. childs_keys program mid.name l ++ newest.rest) first.2 in
     let both = same_first (key outcome) (program, mid.name ++ n ∷ []) keys (childs_keys program mid.name others ++ newest.rest) brought in
     record {
       of_program = ap (λ k. k.0) both.0;
       of_child = ap (λ l. option_map (λ number. mid.name ++ number ∷ []) (slice_get l 0)) first.2 ∙ ap (λ k. Some k.1) (sym both.0);
-      goes_on = λ new joined.
-          let left : others ≡ new.unjoined = same_tail n joined.unjoined.0 others new.unjoined (sym first.2 ∙ joined.unjoined.1) in (
+      goes_on = λ new alone running joined.
+          let left : others ≡ new.running.unjoined = same_tail n joined.unjoined.0 others new.running.unjoined (sym first.2 ∙ joined.unjoined.1) in (
             record {
+              alone = alone;
               same_program = joined.program ∙ same.program ∙ newest.same_program;
-              running = joined.pending;
+              running = running;
               rest = newest.rest;
-              brought = both.1 ∙ ap (λ m. childs_keys program m others ++ newest.rest) (sym joined.name) ∙ ap (λ l. childs_keys program new.name l ++ newest.rest) left;
+              brought = both.1 ∙ ap (λ m. childs_keys program m others ++ newest.rest) (sym joined.name) ∙ ap (λ l. childs_keys program new.running.name l ++ newest.rest) left;
             },
-            waits_same program old.name new.name threads newest.rest (joined.name ∙ same.name) waits,
+            waits_same program old.running.name new.running.name threads newest.rest (joined.name ∙ same.name) waits,
           );
     }
 
 -- a thread has ended, and its outcome lies ready
-pub rests_end : (program : Program) (old mid : Suspended) (threads : List Suspended) (outcome : Finished) (keys : List (Program × List ℕ)) →
-    SameThread old mid → mid.unjoined ≡ [] → outcome.program ≡ mid.program → outcome.name ≡ mid.name →
+pub rests_end : (program : Program) (old : Nested) (mid : Suspended) (threads : List Nested) (outcome : Finished) (keys : List (Program × List ℕ)) →
+    SameThread old.running mid → mid.unjoined ≡ [] → outcome.program ≡ mid.program → outcome.name ≡ mid.name →
     Rests program (old ∷ threads) keys → Rests program threads (key outcome ∷ keys)
 rests_end program old mid [] outcome keys same none is_program is_name (newest, waits) =
-    let keys_are : keys ≡ newest.rest = newest.brought ∙ ap (λ l. childs_keys program old.name l ++ newest.rest) (sym same.unjoined ∙ none) in
+    let keys_are : keys ≡ newest.rest = newest.brought ∙ ap (λ l. childs_keys program old.running.name l ++ newest.rest) (sym same.unjoined ∙ none) in
     ap (λ p. (p, outcome.name) ∷ keys) (is_program ∙ same.program ∙ newest.same_program)
     ∙ ap (λ n. (program, n) ∷ keys) (is_name ∙ same.name ∙ waits.0) ∙ ap (λ l. (program, []) ∷ l) (keys_are ∙ waits.1)
 rests_end program old mid (thread ∷ threads) outcome keys same none is_program is_name (newest, waits) =
     let parent = waits.0 in
-    let keys_are : keys ≡ newest.rest = newest.brought ∙ ap (λ l. childs_keys program old.name l ++ newest.rest) (sym same.unjoined ∙ none) in (
+    let keys_are : keys ≡ newest.rest = newest.brought ∙ ap (λ l. childs_keys program old.running.name l ++ newest.rest) (sym same.unjoined ∙ none) in (
       record {
+        alone = parent.alone;
         same_program = parent.same_program;
         running = parent.running;
         rest = parent.rest;
         brought =
             ap (λ p. (p, outcome.name) ∷ keys) (is_program ∙ same.program ∙ newest.same_program)
             ∙ ap (λ n. (program, n) ∷ keys) (is_name ∙ same.name ∙ parent.named)
-            ∙ ap (λ l. (program, thread.name ++ parent.number ∷ []) ∷ l) (keys_are ∙ parent.brought)
-            ∙ ap (λ l. childs_keys program thread.name l ++ parent.rest) (sym parent.unjoined);
+            ∙ ap (λ l. (program, thread.running.name ++ parent.number ∷ []) ∷ l) (keys_are ∙ parent.brought)
+            ∙ ap (λ l. childs_keys program thread.running.name l ++ parent.rest) (sym parent.unjoined);
       },
       waits.1,
     )
 
 -- the root alone
-pub rests_root : (program : Program) (tag : ℕ) (thread : Suspended) → IsFresh program [] tag thread → Rests program (thread ∷ []) []
-rests_root program tag thread fresh = (
+pub rests_root : (program : Program) (tag : ℕ) (thread : Nested) → IsAlone thread → IsFresh program [] tag thread.running → Rests program (thread ∷ []) []
+rests_root program tag thread alone fresh = (
   record {
+    alone = alone;
     same_program = fresh.same_program;
-    running = fresh.not_paused;
+    running = pending_none thread.running.pending thread.parents fresh.not_paused;
     rest = [];
-    brought = ap (λ l. childs_keys program thread.name l ++ []) (sym fresh.none_unjoined);
+    brought = ap (λ l. childs_keys program thread.running.name l ++ []) (sym fresh.none_unjoined);
   },
   (fresh.has_name, refl),
 )
@@ -149,12 +158,12 @@ pub pushed : {A : Type 0} → (xs ys : List A) (x : A) → ys ≡ xs ++ x ∷ []
 pushed xs ys x e = ap reverse e ∙ reverse-append xs (x ∷ [])
 
 -- an outcome lies ready where a thread joins
-pub some_outcome : (program : Program) (old mid : Suspended) (threads : List Suspended) (outcomes : List Finished) → SameThread old mid → IsSome (awaited mid) →
+pub some_outcome : (program : Program) (old : Nested) (mid : Suspended) (threads : List Nested) (outcomes : List Finished) → SameThread old.running mid → IsSome (awaited mid) →
     Rests program (old ∷ threads) (map key (reverse outcomes)) → 0 < length outcomes
 some_outcome program old mid threads outcomes same some (newest, waits) =
     let first = first_of mid.unjoined mid.name some in
     let brought : map key (reverse outcomes) ≡ (program, mid.name ++ first.0 ∷ []) ∷ (childs_keys program mid.name first.1 ++ newest.rest) =
-    brought_same program old mid (map key (reverse outcomes)) newest.rest same newest.brought ∙ ap (λ l. childs_keys program mid.name l ++ newest.rest) first.2 in
+    brought_same program old.running mid (map key (reverse outcomes)) newest.rest same newest.brought ∙ ap (λ l. childs_keys program mid.name l ++ newest.rest) first.2 in
     omega (arith, ap length brought, length-map (reverse outcomes) key, length-reverse outcomes)
 
 -- and the root's lies ready in the end

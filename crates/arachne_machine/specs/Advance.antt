@@ -9,7 +9,7 @@ use Rattle.arachne_machine.specs.declared.pause.NotJoined.TheVariants as refused
 use Rattle.arachne_machine.specs.declared.strand.Halt.{Halt}
 use Rattle.arachne_machine.specs.declared.strand.Halt.TheVariants as halts
 use Rattle.arachne_machine.specs.Faultless.{PausesWithin}
-use Rattle.arachne_machine.specs.Nested.{Nested, AwaitsElsewhere, FallsBy, IsChildOf, IsForked, SameWhole, Stops, alone, pending_in, work_in}
+use Rattle.arachne_machine.specs.Nested.{Nested, AwaitsElsewhere, FallsBy, IsAlone, IsChildOf, IsForked, SameWhole, Stops, alone, pending_in, work_in}
 use Rattle.arachne_machine.specs.Outcome.{Finished}
 use Rattle.arachne_machine.specs.Suspended.{Suspended, SameThread, MakesSteps, Forked, awaited}
 
@@ -41,6 +41,7 @@ Advanced budget old pauses.Ended new =
 -- and what it leaves as it was
 pub record AdvancedAlone (budget : ℕ) (old : Nested) (gives : Pause) (new : Nested) : Type 0 where
   pub does : Advanced budget old.running gives new.running
+  pub alone : IsAlone new
   pub sums : new.running.sums ≡ old.running.sums
   pub holds : new.running.holds ≡ old.running.holds
 

@@ -1,4 +1,4 @@
-pub mod Branches
+pub mod Lines
 pub mod Outcome
 pub mod Suspended
 pub mod Nested

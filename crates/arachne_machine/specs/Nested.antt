@@ -1,10 +1,12 @@
 -- What callers see of a thread with the threads that run in its place.
-use Rattle.std.specs.Prelude.{◌≡◌, ◌≢◌, ◌≤◌, ℕ, ◌+◌, true, List, [], ◌∷◌, ◌++◌, Option, None, Some}
+use Rattle.std.specs.Prelude.{◌≡◌, ◌≢◌, ◌≤◌, ◌<◌, ℕ, ◌+◌, ◌^◌, true, List, [], ◌∷◌, ◌++◌, length, Option, None, Some}
 use Rattle.arachne_lang.specs.declared.program.Class.{Class}
 use Rattle.arachne_lang.specs.Effects.{Task}
 use Rattle.arachne_lang.specs.Meaning.{child_of}
 use Rattle.arachne_lang.specs.Tree.{Source}
 use Rattle.arachne_lang.specs.Program.{source_of}
+use Rattle.arachne_machine.specs.declared.line.ThreadLine.{ThreadLine}
+use Rattle.arachne_machine.specs.Lines.{Lined}
 use Rattle.arachne_machine.specs.declared.pause.Pending.{Pending}
 use Rattle.arachne_machine.specs.declared.pause.Pending.TheVariants as pause
 use Rattle.arachne_machine.specs.Suspended.{Suspended, IsFresh, awaited}
@@ -93,6 +95,27 @@ pub record IsNested (t : Nested) : Type 0 where
 abbrev pub AwaitsElsewhere : Suspended → List Suspended → Type 0
 AwaitsElsewhere thread [] = Unit {0}
 AwaitsElsewhere thread (child ∷ children) = awaited thread ≢ Some child.name
+
+-- The lines of the threads that were joined are in one list: behind those below a thread come a place for the line of the one that runs in its place, and those below that one.
+abbrev pub Laid : Suspended → List Suspended → List ThreadLine → Type 0
+Laid thread [] lines = lines ≡ thread.below
+Laid thread (parent ∷ parents) lines = (before : List ThreadLine) × (place : ThreadLine) × (lines ≡ before ++ place ∷ thread.below) × Laid parent parents before
+
+-- how many lines are below these threads
+abbrev pub lines_below : List Suspended → ℕ
+lines_below [] = 0
+lines_below (thread ∷ threads) = length thread.below + lines_below threads
+
+-- what is so of a thread with its lines, between two calls
+pub record IsKept (t : Nested) (lines : Lined) (parents placed aside capacity : ℕ) : Type 0 where
+  pub nested : IsNested t
+  pub laid : Laid t.running t.parents lines.lines
+  -- so many lines are below the children that were placed
+  pub counted : aside ≡ lines_below t.placed
+  -- there is room for the beginning of each of them, for its line and for those below it
+  pub room : parents + placed ≤ capacity
+  pub places : placed + aside ≤ lines.room
+  pub few : placed + aside < 2 ^ 63
 
 -- both are of one program, and have one name and label
 pub record SameWhole (old new : Nested) : Type 0 where

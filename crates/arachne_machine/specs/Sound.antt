@@ -5,7 +5,6 @@ use Rattle.arachne_lang.specs.Effects.{Task, task_value, task_effects, tabulated
 use Rattle.arachne_lang.specs.Meaning.{task_of}
 use Rattle.arachne_lang.specs.Checked.{IsChecked}
 use Rattle.arachne_machine.specs.declared.state.State.{State}
-use Rattle.arachne_machine.specs.Branches.{lines_in}
 use Rattle.arachne_machine.specs.Outcome.{named_holds}
 use Rattle.arachne_machine.specs.Account.{Account, untouched, after}
 use Rattle.arachne_machine.specs.Ending.{ending, account_at_end}
@@ -19,7 +18,7 @@ pub record IsSound (t : State) : Type 0 where
   pub account : Account
   pub sums : t.sums.items ≡ tabulated (source_of t.program.now).ledgers account.sums
   pub holds : t.own.holds.items ≡ tabulated (source_of t.program.now).locks account.holds
-  pub lines : map named_holds (lines_in t.below.list.items) ≡ account.lines
+  pub lines : map named_holds t.below ≡ account.lines
   pub forks : t.forks ≡ length account.children
   pub value : (ending t).value ≡ task_value (source_of t.program.now).arrays task
   pub whole : account_at_end t account ≡ after t.own.name (task_effects (source_of t.program.now).arrays (source_of t.program.now).locks task) untouched

@@ -1,5 +1,5 @@
 -- What the steps of a thread do.
-use Rattle.std.specs.Prelude.{◌≡◌, ◌≤◌, ◌<◌, ℕ, ◌+◌, ◌==◌, if◌then◌else◌, false, List, [], ◌∷◌, ◌++◌, length, Option, None, Some}
+use Rattle.std.specs.Prelude.{◌≡◌, ◌≤◌, ◌<◌, ℕ, ◌+◌, ◌^◌, ◌==◌, if◌then◌else◌, false, List, [], ◌∷◌, ◌++◌, length, Option, None, Some}
 use Rattle.arachne_lang.specs.declared.program.Program.{Program}
 use Rattle.arachne_lang.specs.declared.program.Reduction.{Reduction}
 use Rattle.arachne_lang.specs.declared.program.Expr.{Expr}
@@ -21,10 +21,11 @@ use Rattle.arachne_machine.specs.declared.state.Stop.{Stop}
 use Rattle.arachne_machine.specs.declared.state.Stop.TheVariants as stop
 use Rattle.arachne_machine.specs.declared.state.Progress.{Progress}
 use Rattle.arachne_machine.specs.declared.state.Progress.TheVariants.{Value, Made}
-use Rattle.arachne_machine.specs.Branches.{Gains, lines_in}
+use Rattle.arachne_machine.specs.Lines.{Gains}
 use Rattle.arachne_machine.specs.Outcome.{Finished}
 use Rattle.arachne_machine.specs.Account.{Account, untouched, after, with_fork}
-use Rattle.arachne_machine.specs.Suspended.{Suspended}
+use Rattle.arachne_machine.specs.declared.line.ThreadLine.{ThreadLine}
+use Rattle.arachne_machine.specs.Suspended.{Suspended, awaited}
 use Rattle.arachne_machine.specs.Work.{task_work}
 use Rattle.arachne_machine.specs.Trace.{Event, At, with_steps, task_trace}
 use Rattle.arachne_machine.specs.Faultless.{IsFaultlessNext, IsWithoutFault}
@@ -56,14 +57,14 @@ suspended t = record {
   pending = pending_of t.control;
   sums = t.sums.items;
   holds = t.own.holds.items;
-  below = lines_in t.below.list.items;
+  below = t.below;
   work = work_left t;
   trace = trace_left t;
 }
 
--- A fork's number fits, since each fork that was joined has its branch, and each other one its frame.
+-- A fork's number fits, since each fork that was joined has its line, and each other one its frame.
 abbrev pub IsNumbered : State → Type 0
-IsNumbered t = t.forks ≤ length t.below.list.items + length (unjoined_of t)
+IsNumbered t = (t.forks ≤ length t.below + length (unjoined_of t)) × (length t.below < 2 ^ 63)
 
 -- a thread may begin like this
 abbrev pub IsBeginning : Control → Type 0
@@ -81,7 +82,7 @@ task_begun _ env = Evaluate (Number 0) env
 pub record Becomes (old new : State) (environment : Environment) (frames : List Frame) (control : Control) : Type 0 where
   pub program : new.program ≡ old.program
   pub own : new.own ≡ old.own
-  pub below : new.below.list.items ≡ old.below.list.items
+  pub below : new.below ≡ old.below
   pub sums : new.sums.items ≡ old.sums.items
   pub forks : new.forks ≡ old.forks
   pub environment_is : new.environment.items ≡ environment
@@ -116,7 +117,7 @@ pub record TurnsSweep (old new : State) (reduction : Reduction) (next end : ℕ)
 pub record Goes (steps : ℕ) (answered : List Event) (old new : State) : Type 0 where
   pub program : new.program ≡ old.program
   pub own : new.own ≡ old.own
-  pub below : new.below.list.items ≡ old.below.list.items
+  pub below : new.below ≡ old.below
   pub sums : new.sums.items ≡ old.sums.items
   pub forks : new.forks ≡ old.forks
   pub unjoined : unjoined_of new ≡ unjoined_of old
@@ -137,7 +138,7 @@ pub record GoesWithin (least most : ℕ) (old new : State) : Type 0 where
 pub record IsRenewed (program : Bor Program) (own : Own) (sums : List ℕ) (control : Control) (environment : Environment) (t : State) : Type 0 where
   pub program_is : t.program ≡ program
   pub own_is : t.own ≡ own
-  pub below : t.below.list.items ≡ []
+  pub below : t.below ≡ []
   pub sums_are : t.sums.items ≡ sums
   pub forks : t.forks ≡ 0
   pub environment_is : t.environment.items ≡ environment
@@ -150,7 +151,7 @@ pub record IsNew (program : Program) (name : List ℕ) (tag : ℕ) (task : Task)
   pub has_name : t.own.name ≡ name
   pub has_label : t.own.label ≡ record { tag = tag; in_place = false }
   pub holds : t.own.holds.items ≡ tabulated program.locks (λ lock. 0)
-  pub below : t.below.list.items ≡ []
+  pub below : t.below ≡ []
   pub sums : t.sums.items ≡ tabulated program.ledgers (λ ledger. 0)
   pub forks : t.forks ≡ 0
   pub unjoined : unjoined_of t ≡ []
@@ -177,7 +178,7 @@ pub record KeepsOverFork (steps : ℕ) (old new child : State) (made : Child) : 
 pub record GoesToFork (steps : ℕ) (old new child : State) (made : Child) : Type 0 where
   pub program : new.program ≡ old.program
   pub own : new.own ≡ old.own
-  pub below : new.below.list.items ≡ old.below.list.items
+  pub below : new.below ≡ old.below
   pub sums : new.sums.items ≡ old.sums.items
   pub forks : new.forks ≡ old.forks + 1
   pub unjoined : unjoined_of new ≡ old.forks ∷ unjoined_of old
@@ -231,7 +232,7 @@ OnValue (Made stop) A = Unit {0}
 pub record PushesFork (old new child : State) (begins : Control) (frame : Frame) (control : Control) : Type 0 where
   pub program : new.program ≡ old.program
   pub own : new.own ≡ old.own
-  pub below : new.below.list.items ≡ old.below.list.items
+  pub below : new.below ≡ old.below
   pub sums : new.sums.items ≡ old.sums.items
   pub forks : new.forks ≡ old.forks + 1
   pub environment : new.environment.items ≡ old.environment.items
@@ -240,17 +241,6 @@ pub record PushesFork (old new child : State) (begins : Control) (frame : Frame)
   pub fresh : IsNew old.program.now (old.own.name ++ old.forks ∷ []) 0 (task_begun begins old.environment.items) child
   pub begun : task_begun child.control child.environment.items ≡ task_begun begins old.environment.items
   pub faultless : IsFaultlessNext (source_of old.program.now) false begins → IsWithoutFault child
-
--- a child's sums and lines were taken in
-pub record TakesIn (old : State) (outcome : Finished) (new : State) : Type 0 where
-  pub program : new.program ≡ old.program
-  pub own : new.own ≡ old.own
-  pub forks : new.forks ≡ old.forks
-  pub environment : new.environment ≡ old.environment
-  pub frames : new.frames ≡ old.frames
-  pub control : new.control ≡ old.control
-  pub below : Gains old.below.list.items outcome.lines new.below.list.items
-  pub sums : (n : ℕ) (own childs : ℕ → ℕ) → old.sums.items ≡ tabulated n own → outcome.sums ≡ tabulated n childs → new.sums.items ≡ tabulated n (λ ledger. own ledger + childs ledger)
 
 -- The thread comes to the same, now that the child of this number is counted.
 pub record KeepsOverJoin (old new : State) (number : ℕ) : Type 0 where
@@ -270,16 +260,25 @@ pub record Joins (old : State) (outcome : Finished) (new : State) : Type 0 where
   pub name : outcome.name ≡ old.own.name ++ number ∷ []
   pub unjoined : unjoined_of old ≡ number ∷ unjoined_of new
   pub locks : locks_of new ≡ locks_of old
-  pub below : Gains old.below.list.items outcome.lines new.below.list.items
+  pub below : Gains old.below outcome.lines new.below
   pub sums : (n : ℕ) (own childs : ℕ → ℕ) → old.sums.items ≡ tabulated n own → outcome.sums ≡ tabulated n childs → new.sums.items ≡ tabulated n (λ ledger. own ledger + childs ledger)
   pub keeps : outcome.value ≡ task_value (source_of old.program.now).arrays (child_task (source_of old.program.now) old.own.name number) → KeepsOverJoin old new number
+
+-- The outcome is that of the child that is awaited, and its lines are the last of these, so many, behind those that were joined.
+pub record IsBrought (old : State) (value : ℕ) (sums : List ℕ) (lines : List ThreadLine) (count : ℕ) (outcome : Finished) : Type 0 where
+  pub of_child : awaited (suspended old) ≡ Some outcome.name
+  pub has_value : outcome.value ≡ value
+  pub has_sums : outcome.sums ≡ sums
+  pub as_many : length outcome.lines ≡ count
+  pub before : List ThreadLine
+  pub behind : lines ≡ before ++ old.below ++ outcome.lines
 
 -- This pause was answered: the thread has counted these effects of its own, which are neither forks nor lines, and goes on.
 pub record Counts (answered : Pending) (effects : Effects) (old new : State) : Type 0 where
   pub program : new.program ≡ old.program
   pub name : new.own.name ≡ old.own.name
   pub label : new.own.label ≡ old.own.label
-  pub below : new.below.list.items ≡ old.below.list.items
+  pub below : new.below ≡ old.below
   pub forks : new.forks ≡ old.forks
   pub unjoined : unjoined_of new ≡ unjoined_of old
   pub locks : locks_of new ≡ locks_of old
@@ -297,7 +296,7 @@ pub record CountsHold (old new : State) (lock : ℕ) : Type 0 where
   pub program : new.program ≡ old.program
   pub name : new.own.name ≡ old.own.name
   pub label : new.own.label ≡ old.own.label
-  pub below : new.below.list.items ≡ old.below.list.items
+  pub below : new.below ≡ old.below
   pub sums : new.sums.items ≡ old.sums.items
   pub forks : new.forks ≡ old.forks
   pub environment : new.environment.items ≡ old.environment.items
@@ -309,7 +308,7 @@ pub record CountsHold (old new : State) (lock : ℕ) : Type 0 where
 pub record CountsTally (old new : State) (ledger amount : ℕ) : Type 0 where
   pub program : new.program ≡ old.program
   pub own : new.own ≡ old.own
-  pub below : new.below.list.items ≡ old.below.list.items
+  pub below : new.below ≡ old.below
   pub forks : new.forks ≡ old.forks
   pub environment : new.environment.items ≡ old.environment.items
   pub frames : new.frames.items ≡ old.frames.items

@@ -1,5 +1,5 @@
 -- The stops of a thread as callers see them.
-use Rattle.std.specs.Prelude.{Option, None, Some}
+use Rattle.std.specs.Prelude.{◌≡◌, [], Option, None, Some}
 use Rattle.arachne_machine.specs.declared.strand.Halt.{Halt}
 use Rattle.arachne_machine.specs.declared.strand.Halt.TheVariants as halts
 use Rattle.arachne_machine.specs.declared.state.Stop.{Stop}
@@ -21,3 +21,8 @@ halt_of (Some stop.Ended) = halts.Ended
 abbrev pub IsSoundStop : Option Stop → Type 0
 IsSoundStop (Some (stop.Forks class child)) = IsSound child.value
 IsSoundStop _ = Unit {0}
+
+-- A child that it forks has joined none.
+abbrev pub HasJoinedNone : Halt → Type 0
+HasJoinedNone (halts.Forks class child) = child.below ≡ []
+HasJoinedNone _ = Unit {0}

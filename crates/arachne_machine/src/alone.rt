@@ -6,9 +6,9 @@ ghost use Rattle.arachne_machine.specs.Alone.{Rests, key, turns_left};
 
 use crate::line::ThreadLine;
 use crate::outcome::Outcome;
-use crate::pause::NotJoined;
+use crate::pause::{NotJoined, Pause};
 use crate::spares::Spares;
-use crate::strand::{Halt, Strand};
+use crate::thread::Thread;
 use arachne_lang::{Line, Meaning, Program, Sequence};
 use std::alloc::{AllocError, Global};
 
@@ -22,7 +22,7 @@ pub fn run_alone(alloc: Global, program: &Program, budget: u32) -> Result<Meanin
     let mut threads = Vec::new(alloc);
     let mut outcomes: Vec<Outcome> = Vec::new(alloc);
     let mut spares = Spares::new(alloc);
-    threads.push(Strand::start(alloc, program, 0)?)?;
+    threads.push(Thread::start(alloc, program, 0)?)?;
     while let Some(thread) = threads.pop() {
         take_turn(&mut threads, &mut outcomes, &mut spares, thread, budget)?;
     }
@@ -32,26 +32,26 @@ pub fn run_alone(alloc: Global, program: &Program, budget: u32) -> Result<Meanin
 /// A turn of the newest thread, which is given apart from the list. An outcome lies ready until its parent
 /// joins it. The outcomes that were brought last are those of the newest thread's children, and so on.
 fn take_turn<'p>(
-    threads: &mut Vec<Strand<'p>>,
+    threads: &mut Vec<Thread<'p>>,
     outcomes: &mut Vec<Outcome<'p>>,
     spares: &mut Spares<'p>,
-    mut thread: Strand<'p>,
+    mut thread: Thread<'p>,
     budget: u32,
 ) -> Result<(), AllocError>
     requires some { 1 ≤ budget }
-    requires rests { Rests thread.program (thread ∷ reverse threads.old.items) (map key (reverse outcomes.old.items)) }
-    ensures rests { OnOk result (Rests thread.entry.program (reverse threads.new.items) (map key (reverse outcomes.new.items))) }
+    requires rests { Rests thread.running.program (thread ∷ reverse threads.old.items) (map key (reverse outcomes.old.items)) }
+    ensures rests { OnOk result (Rests thread.entry.running.program (reverse threads.new.items) (map key (reverse outcomes.new.items))) }
     ensures falls { OnOk result (sum_by turns_left threads.new.items < sum_by turns_left threads.old.items + turns_left thread.entry) }
 {
     let mut left = budget;
-    match thread.advance(&mut left, spares)? {
-        Halt::Budget => threads.push(thread)?,
-        Halt::Forks(_, child) => {
+    match thread.advance_within(&mut left, spares)? {
+        Pause::Budget => threads.push(thread)?,
+        Pause::Forks(_, child) => {
             thread.forked();
             threads.push(thread)?;
             threads.push(child)?;
         }
-        Halt::Joins => {
+        Pause::Joins => {
             let outcome = outcomes.pop().unwrap();
             match thread.joined(outcome) {
                 Ok(()) => threads.push(thread)?,
@@ -59,19 +59,19 @@ fn take_turn<'p>(
                 Err(NotJoined::Foreign(_)) => unreachable!(),
             }
         }
-        Halt::Asks(_) => {
+        Pause::Asks(_) => {
             thread.granted();
             threads.push(thread)?;
         }
-        Halt::Frees(_) => {
+        Pause::Frees(_) => {
             thread.freed();
             threads.push(thread)?;
         }
-        Halt::Tallies(_, _) => {
+        Pause::Tallies(_, _) => {
             thread.tallied();
             threads.push(thread)?;
         }
-        Halt::Ended => outcomes.push(thread.finish(spares))?,
+        Pause::Ended => outcomes.push(thread.finish_into(spares))?,
     }
     Ok(())
 }

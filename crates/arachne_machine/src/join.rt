@@ -1,6 +1,5 @@
-use crate::branch::Branches;
 use crate::frame::{Control, Frame};
-use crate::outcome::Outcome;
+use crate::lines::Lines;
 use crate::state::State;
 use crate::tables::add_each;
 use arachne_lang::Name;
@@ -8,10 +7,11 @@ use std::alloc::AllocError;
 
 /// The join of a child's outcome.
 impl<'p> State<'p> {
-    ghost use Rattle.std.specs.Prelude.{◌≡◌, ◌↔◌, ◌+◌, ◌^◌, ◌<◌, ◌≤◌, length, vec_len, vec_capacity, IsTrue, Some, OnOk, OnErr, IfErr};
+    ghost use Rattle.std.specs.Prelude.{◌≡◌, ◌↔◌, ◌+◌, ◌≤◌, length, vec_len, vec_capacity, IsTrue, Some, OnOk};
     ghost use Rattle.arachne_machine.specs.declared.pause.Pending.TheVariants as pause;
     ghost use Rattle.arachne_machine.specs.Suspended.{awaited};
-    ghost use Rattle.arachne_machine.specs.Steps.{suspended, pending_of, IsUnchanged, TakesIn, Joins};
+    ghost use Rattle.arachne_machine.specs.Outcome.{Finished};
+    ghost use Rattle.arachne_machine.specs.Steps.{suspended, pending_of, IsBrought, IsUnchanged, Joins};
 
     /// Whether it awaits the child of this name.
     pub fn awaits(&self, name: &Name) -> bool
@@ -26,84 +26,43 @@ impl<'p> State<'p> {
         }
     }
 
-    /// Joins the child that it awaits. Where memory is refused nothing has changed, and the outcome comes back.
-    pub fn join(&mut self, outcome: Outcome<'p>) -> Result<(), Outcome<'p>>
-        requires awaits { pending_of self.old.control ≡ Some pause.Joins }
-        requires child { awaited (suspended self.old) ≡ Some outcome.name }
-        requires sums { length outcome.sums ≡ length self.old.sums.items }
-        ensures ok { OnOk result (Joins self.old outcome.entry self.new) }
-        ensures err { OnErr result (IsUnchanged self.old self.new) }
-        ensures handed_back { IfErr result (λ e. e ≡ outcome.entry) }
-    {
-        if self.make_room(&outcome.below).is_err() {
-            return Err(outcome);
-        }
-        let _ = self.join_with_room(outcome);
-        Ok(())
-    }
-
-    /// Joins the child that it awaits, for which there is room. The room of the child's own branches comes back.
+    /// Joins the child that it awaits, whose lines are behind those that it has joined. There is room.
     #[inline(always)]
-    pub fn join_with_room(&mut self, outcome: Outcome<'p>) -> Branches
+    pub fn join_with_room(&mut self, value: u64, sums: &[u64], lines: &Lines, count: usize)
         requires awaits { pending_of self.old.control ≡ Some pause.Joins }
-        requires child { awaited (suspended self.old) ≡ Some outcome.name }
-        requires sums { length outcome.sums ≡ length self.old.sums.items }
         requires environment { vec_len self.old.environment + 2 ≤ vec_capacity self.old.environment }
         requires frames { vec_len self.old.frames + 1 ≤ vec_capacity self.old.frames }
-        requires below { vec_len self.old.below.list + 1 ≤ vec_capacity self.old.below.list }
-        ensures { Joins self.old outcome.entry self.new }
+        requires count { (1 ≤ count) × (length self.old.below + count ≤ length lines.now.lines) }
+        requires sums { length sums.now ≡ length self.old.sums.items }
+        ensures { (outcome : Finished) → IsBrought self.old value sums.now lines.now.lines count outcome → Joins self.old outcome self.new }
     {
+        add_each(&mut self.sums, sums);
+        self.below.gain(lines, count);
         match self.control {
             Control::Awaits { during, after, .. } => {
                 let length = self.environment.len();
-                let (value, room) = self.take_in(outcome);
                 self.environment.push_reserved(value);
                 self.environment.push_reserved(during);
                 self.frames.push_reserved(Frame::Restore(length));
                 self.control = Control::Begin(after);
-                room
             }
             Control::AwaitsHalf {
                 right,
                 reduction,
                 ..
             } => {
-                let (left, room) = self.take_in(outcome);
-                self.control = Control::Give(reduction.operation().apply(left, right));
-                room
+                self.control = Control::Give(reduction.operation().apply(value, right));
             }
             _ => unreachable!(),
         }
     }
 
-    /// Room for what a join of a child with these branches adds.
-    pub fn make_room(&mut self, below: &Branches) -> Result<(), AllocError>
+    /// Room for what a join adds.
+    pub fn make_room(&mut self) -> Result<(), AllocError>
         ensures same { IsUnchanged self.old self.new }
         ensures environment { OnOk result (vec_len self.new.environment + 2 ≤ vec_capacity self.new.environment) }
         ensures frames { OnOk result (vec_len self.new.frames + 1 ≤ vec_capacity self.new.frames) }
-        ensures below { OnOk result (vec_len self.new.below.list + 1 ≤ vec_capacity self.new.below.list) }
     {
-        self.reserve_turn()?;
-        self.below.reserve(below)
-    }
-
-    /// Takes in the child's sums and lines, and gives its value and the room of its branches.
-    #[inline(always)]
-    fn take_in(&mut self, outcome: Outcome<'p>) -> (u64, Branches)
-        requires sums { length outcome.sums ≡ length self.old.sums.items }
-        requires room { vec_len self.old.below.list + 1 ≤ vec_capacity self.old.below.list }
-        ensures value { result.0 ≡ outcome.entry.value }
-        ensures taken { TakesIn self.old outcome.entry self.new }
-    {
-        let Outcome {
-            program: _,
-            value,
-            sums,
-            own,
-            mut below,
-        } = outcome;
-        add_each(&mut self.sums, &sums);
-        self.below.push(own, &mut below);
-        (value, below)
+        self.reserve_turn()
     }
 }

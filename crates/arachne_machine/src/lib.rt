@@ -4,14 +4,15 @@
 mod alone;
 mod answer;
 mod begin;
-mod branch;
 mod fork;
 mod frame;
 mod give;
 mod join;
 mod line;
+mod lines;
 mod outcome;
 mod pause;
+mod placed;
 mod spares;
 mod state;
 mod strand;

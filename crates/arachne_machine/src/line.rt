@@ -1,4 +1,5 @@
 use arachne_lang::{Name, Sequence};
+use std::alloc::Global;
 
 /// What is told of a thread beside what it does.
 #[derive(Clone, Copy, Debug)]
@@ -19,4 +20,16 @@ pub struct ThreadLine {
     pub holds: Sequence<u64>,
     /// It ran in its parent's place.
     pub in_place: bool,
+}
+
+impl ThreadLine {
+    /// That of no thread. It allocates nothing.
+    pub(crate) fn vacant(alloc: Global) -> ThreadLine {
+        ThreadLine {
+            name: Name::root(alloc),
+            tag: 0,
+            holds: Sequence::from(Vec::new(alloc)),
+            in_place: false,
+        }
+    }
 }

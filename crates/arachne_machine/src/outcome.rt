@@ -1,8 +1,8 @@
 ghost use Rattle.std.specs.Prelude.{◌≡◌, ◌∷◌, IfOk, IfErr};
 ghost use Rattle.arachne_machine.specs.Outcome.{IsOfItsName};
 
-use crate::branch::{Branches, move_lines};
 use crate::line::ThreadLine;
+use crate::lines::Lines;
 use arachne_lang::{Name, Program, Sequence};
 use std::marker::Model;
 
@@ -14,12 +14,11 @@ pub struct Outcome<'p> {
     pub(crate) value: u64,
     pub(crate) sums: Vec<u64>,
     pub(crate) own: ThreadLine,
-    pub(crate) below: Branches,
+    pub(crate) below: Lines,
 }
 
 impl<'p> Model for Outcome<'p> {
     ghost use Rattle.std.specs.Prelude.{◌∷◌};
-    ghost use Rattle.arachne_machine.specs.Branches.{lines_in};
     ghost use Rattle.arachne_machine.specs.Outcome.{Finished, IsOfItsName};
 
     ghost Value = { Finished };
@@ -29,9 +28,9 @@ impl<'p> Model for Outcome<'p> {
 
     ghost coded = { Prim.hlevel (codes, expr.the_row.coded) };
 
-    ghost view = { λ o. record { program = o.program.now; name = o.own.name; value = o.value; sums = o.sums.items; lines = o.own ∷ lines_in o.below.list.items } };
+    ghost view = { λ o. record { program = o.program.now; name = o.own.name; value = o.value; sums = o.sums.items; lines = o.own ∷ o.below.lines } };
 
-    ghost invariant = { λ o. IsOfItsName (record { program = o.program.now; name = o.own.name; value = o.value; sums = o.sums.items; lines = o.own ∷ lines_in o.below.list.items }) };
+    ghost invariant = { λ o. IsOfItsName (record { program = o.program.now; name = o.own.name; value = o.value; sums = o.sums.items; lines = o.own ∷ o.below.lines }) };
 }
 
 /// An outcome taken apart.
@@ -76,24 +75,26 @@ impl<'p> Outcome<'p> {
         ensures handed_back { IfErr result (λ outcome. outcome ≡ self.entry) }
         ensures of_its_name { IsOfItsName self.entry }
     {
-        let alloc = *self.sums.allocator();
-        let count = self.below.count.saturating_add(1);
-        let Ok(mut lines) = Vec::with_capacity(alloc, count) else {
-            return Err(self);
-        };
         let Outcome {
-            program: _,
+            program,
             value,
             sums,
             own,
             below,
         } = self;
-        lines.push_reserved(own);
-        move_lines(below.list, &mut lines);
-        Ok(OutcomeParts {
-            value,
-            sums: Sequence::from(sums),
-            lines: Sequence::from(lines),
-        })
+        match below.complete(own) {
+            Ok(lines) => Ok(OutcomeParts {
+                value,
+                sums: Sequence::from(sums),
+                lines: Sequence::from(lines),
+            }),
+            Err((below, own)) => Err(Outcome {
+                program,
+                value,
+                sums,
+                own,
+                below,
+            }),
+        }
     }
 }

@@ -1,6 +1,6 @@
-use crate::branch::Branches;
 use crate::frame::{Control, Frame};
 use crate::line::{Label, ThreadLine};
+use crate::lines::{Below, Lines};
 use crate::outcome::Outcome;
 use crate::pause::Pending;
 use crate::spares::Spares;
@@ -38,8 +38,8 @@ pub struct State<'p> {
     pub program: &'p Program,
     pub alloc: Global,
     pub own: Own,
-    /// The threads that it has joined, in order, with those below them.
-    pub below: Branches,
+    /// The lines of the threads that it has joined, in order, with those below them.
+    pub below: Below,
     /// For each ledger the sum of what was tallied, modulo 2^64.
     pub sums: Vec<u64>,
     /// How many threads it has forked.
@@ -85,6 +85,7 @@ impl<'p> State<'p> {
     ghost use Rattle.arachne_machine.specs.Faultless.{IsFaultlessNext, IsWithoutFault};
     ghost use Rattle.arachne_machine.specs.Steps.{pending_of, suspended, task_begun, IsBeginning, IsNumbered, IsRenewed, IsUnchanged, GoesWithin, IsNew, AfterSteps, IsSpent, TakesAll};
     ghost use Rattle.arachne_machine.specs.declared.pause.Pending.TheVariants as pause;
+    ghost use Rattle.arachne_machine.specs.declared.frame.Control.TheVariants as control;
 
     /// A thread that begins like this, with a copy of the environment.
     pub fn new(
@@ -122,7 +123,7 @@ impl<'p> State<'p> {
             program,
             alloc,
             own: Own::vacant(alloc),
-            below: Branches::new(alloc),
+            below: Below::none(alloc),
             sums: Vec::new(alloc),
             forks: 0,
             environment: Vec::new(alloc),
@@ -219,9 +220,10 @@ impl<'p> State<'p> {
         }
     }
 
-    /// The outcome of a thread that has ended.
+    /// The outcome of a thread that has ended, with the lines below it.
     #[inline(always)]
-    pub fn finish(&mut self) -> Outcome<'p>
+    pub fn finish(&mut self, lines: Lines) -> Outcome<'p>
+        requires lines { lines.lines ≡ self.old.below }
         requires ended { pending_of self.old.control ≡ Some pause.Ended }
         requires sound { IsSound self.old }
         ensures program { result.program ≡ self.old.program.now }
@@ -229,22 +231,40 @@ impl<'p> State<'p> {
         ensures sums { result.sums ≡ self.old.sums.items }
         ensures lines { result.lines ≡ own_line_of (suspended self.old) ∷ (suspended self.old).below }
     {
-        let Control::Ended(value) = self.control else {
-            unreachable!()
-        };
-        let alloc = self.alloc;
-        let Own { name, label, holds } = replace(&mut self.own, Own::vacant(alloc));
+        let value = self.value();
         Outcome {
             program: self.program,
             value,
-            sums: replace(&mut self.sums, Vec::new(alloc)),
-            own: ThreadLine {
-                name,
-                tag: label.tag,
-                holds: Sequence::from(holds),
-                in_place: label.in_place,
-            },
-            below: replace(&mut self.below, Branches::new(alloc)),
+            sums: replace(&mut self.sums, Vec::new(self.alloc)),
+            own: self.take_line(),
+            below: lines,
         }
+    }
+
+    /// The own line of a thread that has ended.
+    #[inline(always)]
+    pub fn take_line(&mut self) -> ThreadLine
+        ensures line { result ≡ own_line_of (suspended self.old) }
+        ensures others { self.new ≡ record self.old { own = self.new.own } }
+    {
+        let vacant = Own::vacant(self.alloc);
+        let Own { name, label, holds } = replace(&mut self.own, vacant);
+        ThreadLine {
+            name,
+            tag: label.tag,
+            holds: Sequence::from(holds),
+            in_place: label.in_place,
+        }
+    }
+
+    /// The value of a thread that has ended.
+    pub fn value(&self) -> u64
+        requires { pending_of self.now.control ≡ Some pause.Ended }
+        ensures { self.now.control ≡ control.Ended result }
+    {
+        let Control::Ended(value) = self.control else {
+            unreachable!()
+        };
+        value
     }
 }

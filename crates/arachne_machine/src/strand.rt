@@ -1,10 +1,12 @@
-ghost use Rattle.std.specs.Prelude.{◌≡◌, ◌≢◌, ◌↔◌, ◌≤◌, ◌+◌, ◌-◌, ℕ, [], ◌∷◌, ◌++◌, None, Some, IfOk, OnOk, IfErr, OnErr, IsTrue};
+ghost use Rattle.std.specs.Prelude.{◌≡◌, ◌≢◌, ◌↔◌, ◌≤◌, ◌+◌, ◌-◌, ℕ, List, [], ◌∷◌, ◌++◌, None, Some, IfOk, OnOk, IfErr, OnErr, IsTrue};
 ghost use Rattle.arachne_machine.specs.Suspended.{SameThread, MakesSteps, IsFresh, IsNext, IsAnswered, Joined, IsAsk, IsFree, IsTally, awaited, own_line_of, raised};
 ghost use Rattle.arachne_machine.specs.Advance.{Advanced, IsForeign, IsSpentAt, TakesAllAt, handed_back, pending_at, shown};
 ghost use Rattle.arachne_machine.specs.Nested.{in_place_of, with_tag};
 ghost use Rattle.arachne_machine.specs.Stops.{halt_of, IsSoundStop};
 ghost use Rattle.arachne_lang.specs.Program.{source_of};
 ghost use Rattle.arachne_machine.specs.Outcome.{Finished};
+ghost use Rattle.arachne_machine.specs.Lines.{IsBehind, IsPlacedBehind};
+ghost use Rattle.arachne_machine.specs.declared.line.ThreadLine.{ThreadLine};
 ghost use Rattle.arachne_machine.specs.Work.{work_of};
 ghost use Rattle.arachne_machine.specs.Trace.{At, trace_of};
 ghost use Rattle.arachne_machine.specs.Faultless.{PausesWithin};
@@ -12,6 +14,7 @@ ghost use Rattle.arachne_lang.specs.Checked.{IsChecked};
 ghost use Rattle.arachne_machine.specs.declared.pause.Pending.TheVariants as pause;
 
 use crate::frame::Control;
+use crate::lines::Lines;
 use crate::outcome::Outcome;
 use crate::pause::{NotJoined, Pending};
 use crate::spares::Spares;
@@ -182,46 +185,82 @@ impl<'p> Strand<'p> {
         self.state.tallied();
     }
 
-    /// Joins the outcome of the child that is awaited. Where it answers an error nothing has changed, and the
-    /// outcome comes back.
-    pub fn joined(&mut self, outcome: Outcome<'p>) -> Result<(), NotJoined<'p>>
+    /// Joins the outcome of the child that is awaited: its lines come behind those that it has joined, and room for so
+    /// many more is kept. Where it answers an error nothing has changed but room, and the outcome comes back.
+    pub fn joined(
+        &mut self,
+        outcome: Outcome<'p>,
+        lines: &mut Lines,
+        placed: usize,
+    ) -> Result<(), NotJoined<'p>>
         requires pending { self.old.pending ≡ Some pause.Joins }
         requires program { source_of outcome.program ≡ source_of self.old.program }
+        requires behind { IsBehind self.old.below lines.old.lines }
+        requires placed { placed ≤ lines.old.room }
         ensures ok { OnOk result (Joined self.old outcome.entry self.new) }
+        ensures lines { OnOk result (lines.new.lines ≡ lines.old.lines ++ outcome.entry.lines) }
         ensures foreign { IsForeign result ↔ (awaited self.old ≢ Some outcome.entry.name) }
         ensures err { OnErr result (self.new ≡ self.old) }
+        ensures err_lines { OnErr result (lines.new.lines ≡ lines.old.lines) }
         ensures handed_back { IfErr result (λ e. handed_back e ≡ outcome.entry) }
+        ensures room { placed ≤ lines.new.room }
     {
         if !self.state.awaits(&outcome.own.name) {
             return Err(NotJoined::Foreign(outcome));
         }
-        if let Err(outcome) = self.state.join(outcome) {
+        if self.state.make_room().is_err() {
             return Err(NotJoined::Memory(outcome));
         }
+        let count = outcome.below.len() + 1;
+        let Outcome {
+            program,
+            value,
+            sums,
+            own,
+            below,
+        } = outcome;
+        if let Err((own, below)) = lines.append(own, below, placed) {
+            return Err(NotJoined::Memory(Outcome {
+                program,
+                value,
+                sums,
+                own,
+                below,
+            }));
+        }
+        self.state.join_with_room(value, &sums, lines, count);
         Ok(())
     }
 
-    /// Joins the child that it awaits and that has ended. Where memory is refused nothing has changed, and the
-    /// child comes back.
+    /// Joins the child that it awaits and that has ended in its place: the child's lines are behind those that it has
+    /// joined, each at its place. Where memory is refused nothing has changed, and the child comes back.
     pub fn join_ended(
         &mut self,
         child: Strand<'p>,
+        lines: &mut Lines,
         spares: &mut Spares<'p>,
     ) -> Result<(), Strand<'p>>
         requires pending { self.old.pending ≡ Some pause.Joins }
         requires program { source_of child.program ≡ source_of self.old.program }
         requires ended { child.pending ≡ Some pause.Ended }
         requires child { awaited self.old ≡ Some child.name }
+        requires behind { IsPlacedBehind self.old.below child.below lines.old.lines }
         ensures ok { OnOk result ((outcome : Finished) × (outcome.lines ≡ own_line_of child.entry ∷ child.entry.below) × Joined self.old outcome self.new) }
+        ensures lines { OnOk result ((before : List ThreadLine) (place : ThreadLine) → lines.old.lines ≡ before ++ place ∷ child.entry.below → lines.new.lines ≡ before ++ own_line_of child.entry ∷ child.entry.below) }
+        ensures room { lines.new.room ≡ lines.old.room }
         ensures err { OnErr result (self.new ≡ self.old) }
+        ensures err_lines { OnErr result (lines.new ≡ lines.old) }
         ensures handed_back { IfErr result (λ c. c ≡ child.entry) }
     {
-        if self.state.make_room(&child.state.below).is_err() {
+        if self.state.make_room().is_err() {
             return Err(child);
         }
-        let (outcome, mut state) = child.end();
-        let _ = &outcome.value;
-        state.below = self.state.join_with_room(outcome);
+        let mut state = child.state;
+        let behind = state.below.len();
+        let value = state.value();
+        lines.fill(behind, state.take_line());
+        self.state
+            .join_with_room(value, &state.sums, lines, behind + 1);
         spares.keep(state);
         Ok(())
     }
@@ -257,30 +296,18 @@ impl<'p> Strand<'p> {
 
     /// The outcome of a thread that has ended. It takes no memory.
     #[inline(always)]
-    pub fn finish(self, spares: &mut Spares<'p>) -> Outcome<'p>
-        requires { self.pending ≡ Some pause.Ended }
+    pub fn finish(self, lines: Lines, spares: &mut Spares<'p>) -> Outcome<'p>
+        requires lines { lines.lines ≡ self.below }
+        requires ended { self.pending ≡ Some pause.Ended }
         ensures program { result.program ≡ self.entry.program }
         ensures name { result.name ≡ self.entry.name }
         ensures sums { result.sums ≡ self.entry.sums }
         ensures lines { result.lines ≡ own_line_of self.entry ∷ self.entry.below }
     {
-        let (outcome, state) = self.end();
+        let mut state = self.state;
+        let outcome = state.finish(lines);
         spares.keep(state);
         outcome
-    }
-
-    /// The outcome of a thread that has ended, and the state that it leaves.
-    #[inline(always)]
-    fn end(self) -> (Outcome<'p>, Box<State<'p>>)
-        requires { self.pending ≡ Some pause.Ended }
-        ensures program { result.0.program ≡ self.entry.program }
-        ensures name { result.0.name ≡ self.entry.name }
-        ensures sums { result.0.sums ≡ self.entry.sums }
-        ensures lines { result.0.lines ≡ own_line_of self.entry ∷ self.entry.below }
-    {
-        let mut state = self.state;
-        let outcome = state.finish();
-        (outcome, state)
     }
 }
 

@@ -3,14 +3,17 @@ ghost use Rattle.arachne_machine.specs.Suspended.{IsAnswered, IsAsk, IsFree, IsF
 ghost use Rattle.arachne_machine.specs.Advance.{AdvancedAlone, AwaitsAt, Moves, RefusedAlone, IsForeign, IsPassed, IsSpentAt, PausesAt, handed_back, pending_at, shown};
 ghost use Rattle.arachne_machine.specs.Nested.{AwaitsElsewhere, FallsBy, IsAlone, IsChildOf, IsNested, Nested, SameWhole, alone, in_place_of, pending_in, whole, with_tag, work_in};
 ghost use Rattle.arachne_machine.specs.Faultless.{PausesWithin};
+ghost use Rattle.arachne_machine.specs.Stops.{HasJoinedNone};
 ghost use Rattle.arachne_machine.specs.Trace.{At, trace_of};
 ghost use Rattle.arachne_machine.specs.Work.{work_of};
 ghost use Rattle.arachne_lang.specs.Checked.{IsChecked};
 ghost use Rattle.arachne_lang.specs.Program.{source_of};
 ghost use Rattle.arachne_machine.specs.declared.pause.Pending.TheVariants as pause;
 
+use crate::lines::Lines;
 use crate::outcome::Outcome;
 use crate::pause::{NotJoined, Pause, Pending};
+use crate::placed::Placed;
 use crate::spares::Spares;
 use crate::strand::{Halt, Strand};
 use arachne_lang::{Name, Program};
@@ -30,12 +33,16 @@ pub struct Thread<'p> {
     parents: Vec<Strand<'p>>,
     /// Children that were placed here and have not begun, the newest last. For each of them there is room
     /// among the parents.
-    placed: Vec<Strand<'p>>,
+    placed: Vec<Placed<'p>>,
+    /// How many lines are below the placed ones.
+    aside: usize,
+    /// The lines of all threads that were joined here: those below the outermost, then for each that runs in its place its own place and those below it. For each placed one there is room, and for the lines below it.
+    lines: Lines,
 }
 
 impl<'p> Model for Thread<'p> {
-    ghost use Rattle.std.specs.Prelude.{◌+◌, ◌≤◌, reverse, vec_len, vec_capacity};
-    ghost use Rattle.arachne_machine.specs.Nested.{Nested, IsNested};
+    ghost use Rattle.std.specs.Prelude.{reverse, vec_len, vec_capacity};
+    ghost use Rattle.arachne_machine.specs.Nested.{Nested, IsKept};
 
     ghost Value = { Nested };
 
@@ -46,7 +53,7 @@ impl<'p> Model for Thread<'p> {
 
     ghost view = { λ t. record { running = t.running; parents = reverse t.parents.items; placed = reverse t.placed.items } };
 
-    ghost invariant = { λ t. IsNested (record { running = t.running; parents = reverse t.parents.items; placed = reverse t.placed.items }) × (vec_len t.parents + vec_len t.placed ≤ vec_capacity t.parents) };
+    ghost invariant = { λ t. IsKept (record { running = t.running; parents = reverse t.parents.items; placed = reverse t.placed.items }) t.lines (vec_len t.parents) (vec_len t.placed) t.aside (vec_capacity t.parents) };
 }
 
 impl<'p> Thread<'p> {
@@ -58,7 +65,7 @@ impl<'p> Thread<'p> {
         ensures trace { IfOk result (λ thread. thread.running.trace ≡ trace_of (source_of program.now).arrays (source_of program.now).root [] ++ At pause.Ended ∷ []) }
     {
         let strand = Strand::start(alloc, program, tag)?;
-        Ok(thread_of(alloc, strand))
+        Ok(thread_of(alloc, strand, Lines::new(alloc)))
     }
 
     /// The tag.
@@ -240,7 +247,7 @@ impl<'p> Thread<'p> {
             unreachable!()
         };
         let child = replace(&mut self.running, parent);
-        if let Err(child) = self.running.join_ended(child, spares) {
+        if let Err(child) = self.running.join_ended(child, &mut self.lines, spares) {
             let parent = replace(&mut self.running, child);
             self.parents.push_reserved(parent);
             return Err(AllocError);
@@ -265,6 +272,8 @@ impl<'p> Thread<'p> {
             self.placed.push_reserved(child);
             return false;
         }
+        self.lines.push_place(self.alloc);
+        let child = child.begin(&mut self.lines, &mut self.aside);
         let parent = replace(&mut self.running, child);
         self.parents.push_reserved(parent);
         true
@@ -304,30 +313,44 @@ impl<'p> Thread<'p> {
         ensures err { OnErr result (self.new ≡ self.old) }
         ensures handed_back { IfErr result (λ c. c ≡ child.entry) }
     {
+        let below = child.lines.len();
+        let room = self.placed.len() + self.aside + below + 1;
         if self.parents.try_reserve(self.placed.len() + 1).is_err()
             || self.placed.try_reserve(1).is_err()
+            || self.lines.reserve(room).is_err()
         {
             return Err(child);
         }
-        let mut child = child.into_running();
+        let mut child = match child.into_placed() {
+            Ok(child) => child,
+            Err(child) => return Err(child),
+        };
         child.run_in_place();
         self.placed.push_reserved(child);
+        self.aside += below;
         self.running.forked();
         Ok(())
     }
 
-    /// The one that goes on next.
+    /// A thread in whose place no other is, as a child that is placed. Where memory is refused it comes back.
     #[inline(always)]
-    fn into_running(self) -> Strand<'p>
-        ensures { result ≡ self.entry.running }
+    fn into_placed(self) -> Result<Placed<'p>, Thread<'p>>
+        requires { IsAlone self }
+        ensures ok { IfOk result (λ child. child ≡ self.entry.running) }
+        ensures handed_back { IfErr result (λ thread. thread ≡ self.entry) }
     {
         let Thread {
-            alloc: _,
+            alloc,
             running,
             parents: _,
             placed: _,
+            aside: _,
+            lines,
         } = self;
-        running
+        match Placed::new(alloc, running, lines) {
+            Ok(child) => Ok(child),
+            Err((running, lines)) => Err(thread_of(alloc, running, lines)),
+        }
     }
 
     /// Answers that the thread holds the lock that it asked for. It takes no memory.
@@ -392,7 +415,8 @@ impl<'p> Thread<'p> {
         ensures err { OnErr result (self.new ≡ self.old) }
         ensures handed_back { IfErr result (λ e. handed_back e ≡ outcome.entry) }
     {
-        self.running.joined(outcome)
+        self.running
+            .joined(outcome, &mut self.lines, self.placed.len() + self.aside)
     }
 
     /// The outcome of a thread that has ended. It takes no memory.
@@ -415,12 +439,21 @@ impl<'p> Thread<'p> {
         ensures sums { result.sums ≡ (whole self.entry).sums }
         ensures lines { result.lines ≡ own_line_of (whole self.entry) ∷ (whole self.entry).below }
     {
-        self.into_running().finish(spares)
+        let Thread {
+            alloc: _,
+            running,
+            parents: _,
+            placed: _,
+            aside: _,
+            lines,
+        } = self;
+        running.finish(lines, spares)
     }
 }
 
 /// A thread in whose place no other is.
-fn thread_of<'p>(alloc: Global, strand: Strand<'p>) -> Thread<'p>
+fn thread_of<'p>(alloc: Global, strand: Strand<'p>, lines: Lines) -> Thread<'p>
+    requires { lines.lines ≡ strand.below }
     ensures { result ≡ alone strand.entry }
 {
     Thread {
@@ -428,16 +461,21 @@ fn thread_of<'p>(alloc: Global, strand: Strand<'p>) -> Thread<'p>
         running: strand,
         parents: Vec::new(alloc),
         placed: Vec::new(alloc),
+        aside: 0,
+        lines,
     }
 }
 
 /// What callers see of why the innermost thread stops.
 fn pause_at<'p>(alloc: Global, halt: Halt<'p>) -> Pause<'p>
+    requires { HasJoinedNone halt }
     ensures { result ≡ shown halt.entry }
 {
     match halt {
         Halt::Budget => Pause::Budget,
-        Halt::Forks(class, child) => Pause::Forks(class, thread_of(alloc, child)),
+        Halt::Forks(class, child) => {
+            Pause::Forks(class, thread_of(alloc, child, Lines::new(alloc)))
+        }
         Halt::Joins => Pause::Joins,
         Halt::Asks(lock) => Pause::Asks(lock),
         Halt::Frees(lock) => Pause::Frees(lock),

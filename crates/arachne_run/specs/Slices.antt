@@ -2,7 +2,6 @@
 use Rattle.std.specs.Prelude.{◌≡◌, ◌<◌, ◌≤◌, ℕ, Option, None, Some}
 use Rattle.arachne_core.specs.declared.state.Rest.{Rest}
 use Rattle.arachne_core.specs.declared.state.Rest.TheVariants as rest
-use Rattle.arachne_machine.specs.Suspended.{IsTally}
 use Rattle.arachne_machine.specs.declared.pause.Pending.{Pending}
 use Rattle.arachne_machine.specs.declared.pause.Pending.TheVariants as pause
 use Rattle.arachne_run.specs.declared.slice.Slice.{Slice}
@@ -13,6 +12,13 @@ abbrev pub IsWait : Option Pending → Type 0
 IsWait (Some pause.Joins) = Unit {0}
 IsWait (Some (pause.Asks lock)) = Unit {0}
 IsWait _ = ⊥
+
+-- the pauses at which a job asks for something that is done for it: it holds a lock from then on, frees one, or adds to a ledger
+abbrev pub IsRequest : Option Pending → Type 0
+IsRequest (Some (pause.Asks lock)) = Unit {0}
+IsRequest (Some (pause.Frees lock)) = Unit {0}
+IsRequest (Some (pause.Tallies ledger amount)) = Unit {0}
+IsRequest _ = ⊥
 
 -- A job with this pause may rest so: it is ready where its pause was answered, and blocked where it waits.
 abbrev pub MayRest : Rest → Option Pending → Type 0
@@ -34,5 +40,5 @@ module _ {Job Child : Type 0} (forks : Job → Child → Type 0) (pause_of : Job
   IsLeft (Asks lock) job = pause_of job ≡ Some (pause.Asks lock)
   IsLeft (Awaits lock) job = pause_of job ≡ Some (pause.Asks lock)
   IsLeft (Frees lock) job = pause_of job ≡ Some (pause.Frees lock)
-  IsLeft (Tallies ledger amount) job = IsTally (pause_of job)
+  IsLeft (Tallies ledger amount) job = pause_of job ≡ Some (pause.Tallies ledger amount)
   IsLeft Ends job = pause_of job ≡ Some pause.Ended

@@ -119,16 +119,13 @@ impl<'p> RunJob for Job<'p> {
         }
     }
 
-    fn granted(&mut self) {
-        self.thread.granted();
-    }
-
-    fn freed(&mut self) {
-        self.thread.freed();
-    }
-
-    fn tallied(&mut self) {
-        self.thread.tallied();
+    fn answer(&mut self) {
+        match self.thread.pending() {
+            Some(Pending::Asks(_)) => self.thread.granted(),
+            Some(Pending::Frees(_)) => self.thread.freed(),
+            Some(Pending::Tallies(_, _)) => self.thread.tallied(),
+            _ => unreachable!(),
+        }
     }
 
     fn leave(self, spares: &mut Spares<'p>) -> Option<ThreadId> {

@@ -33,7 +33,7 @@ fn admit<T: RunJob>(job: &mut T, lock: u64, pass: Option<Pass>) -> bool
     if pass.is_none() {
         return false;
     }
-    job.granted();
+    job.answer();
     true
 }
 
@@ -91,7 +91,7 @@ impl<'a, H: Wait, T: RunJob, C: Contexts<T>, R: Rng, G: Gate> Worker<'a, H, T, C
         if let Some(id) = self.try_free(kit, held, number)? {
             self.wake(kit, id, Cause::HoldsLock);
         }
-        held.value.freed();
+        held.value.answer();
         Ok(())
     }
 

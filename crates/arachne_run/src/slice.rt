@@ -3,11 +3,10 @@ ghost use Rattle.std.specs.Prelude.{◌≡◌, ◌≤◌, [], IfOk, OnOk};
 ghost use Rattle.arachne_lang.specs.Program.{source_of};
 ghost use Rattle.arachne_lang.specs.Checked.{IsChecked};
 ghost use Rattle.std.specs.Prelude.{ℕ, Option, None, Some};
-ghost use Rattle.arachne_machine.specs.Suspended.{IsAsk, IsFree, IsTally};
 ghost use Rattle.arachne_core.specs.declared.thread_id.ThreadId.{ThreadId};
 ghost use Rattle.arachne_machine.specs.declared.pause.Pending.{Pending};
 ghost use Rattle.arachne_machine.specs.declared.pause.Pending.TheVariants as pause;
-ghost use Rattle.arachne_run.specs.Slices.{IsLeft, UsesSteps};
+ghost use Rattle.arachne_run.specs.Slices.{IsLeft, IsRequest, UsesSteps};
 
 use crate::fault::WorkerFault;
 use crate::wanted::OutcomeReceiver;
@@ -99,23 +98,9 @@ pub trait RunJob: Tagged + Drop {
         ensures parent { parent_of self.new ≡ parent_of self.old }
         ensures answered { OnOk result (pause_of self.new ≡ None) };
 
-    /// The thread holds the lock that it asked for.
-    fn granted(&mut self)
-        requires { IsAsk (pause_of self.old) }
-        ensures tag { Self.tag_of self.new ≡ Self.tag_of self.old }
-        ensures parent { parent_of self.new ≡ parent_of self.old }
-        ensures answered { pause_of self.new ≡ None };
-
-    /// The lock was freed.
-    fn freed(&mut self)
-        requires { IsFree (pause_of self.old) }
-        ensures tag { Self.tag_of self.new ≡ Self.tag_of self.old }
-        ensures parent { parent_of self.new ≡ parent_of self.old }
-        ensures answered { pause_of self.new ≡ None };
-
-    /// The amount was added to the ledger.
-    fn tallied(&mut self)
-        requires { IsTally (pause_of self.old) }
+    /// What it asks for is done: it holds the lock that it asked for, the lock is free, or the amount was added.
+    fn answer(&mut self)
+        requires { IsRequest (pause_of self.old) }
         ensures tag { Self.tag_of self.new ≡ Self.tag_of self.old }
         ensures parent { parent_of self.new ≡ parent_of self.old }
         ensures answered { pause_of self.new ≡ None };

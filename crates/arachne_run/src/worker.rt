@@ -1,6 +1,5 @@
 //! The loop of one core's kernel thread.
 ghost use Rattle.std.specs.Prelude.{◌≡◌, ◌<◌, ◌≤◌, ◌∷◌, true, None, Some, OnOk, IfOk, MatchOption, map};
-ghost use Rattle.arachne_machine.specs.Suspended.{IsTally};
 ghost use Rattle.arachne_machine.specs.declared.pause.Pending.TheVariants as pause;
 ghost use Rattle.arachne_contexts.specs.Out.{HasOut, KeepsOut, Claim as a_claim};
 ghost use Rattle.arachne_run.specs.Slices.{MayRest};
@@ -432,7 +431,7 @@ impl<'a, H: Wait, T: RunJob, C: Contexts<T>, R: Rng, G: Gate> Worker<'a, H, T, C
         amount: u64,
     ) -> Result<(), WorkerFault>
         requires tokens { AreOf C.sits self.now.machine.now kit.old.tokens }
-        requires tallies { IsTally (T.pause_of held.old.value) }
+        requires tallies { T.pause_of held.old.value ≡ Some (pause.Tallies ledger amount) }
         ensures tokens { AreKept C.sits C.has self.now.machine.now kit.old.tokens kit.new.tokens }
         ensures thread { IsSameThread T.tag_of held.old held.new }
         ensures answered { OnOk result (T.pause_of held.new.value ≡ None) }
@@ -442,7 +441,7 @@ impl<'a, H: Wait, T: RunJob, C: Contexts<T>, R: Rng, G: Gate> Worker<'a, H, T, C
             return Err(WorkerFault::Foreign);
         }
         ledgers.add(&mut kit.tokens.share, ledger as usize, amount);
-        held.value.tallied();
+        held.value.answer();
         Ok(())
     }
 

@@ -10,7 +10,7 @@ loop-thread-init c =
     let alone : reverse c.push.new.self.items ≡ root ∷ [] =
     pushed c.new-threads.result.items c.push.new.self.items root c.in_ok-push.ensures.items ∙ ap (λ l. root ∷ reverse l) c.new-threads.ensures.items in
     subst (λ l. Rests p l (map key (reverse c.new-outcomes.result.items))) (sym alone)
-    (subst (λ o. Rests p (root ∷ []) (map key (reverse o))) (sym c.new-outcomes.ensures.items) (rests_root p 0 root c.in_ok-start.ensures.fresh))
+    (subst (λ o. Rests p (root ∷ []) (map key (reverse o))) (sym c.new-outcomes.ensures.items) (rests_root p 0 root c.in_ok-start.ensures.alone c.in_ok-start.ensures.fresh))
 
 pub take_turn-requires-clause-rests : goal.take_turn-requires-clause-rests
 take_turn-requires-clause-rests c =

@@ -19,7 +19,7 @@ fork-requires c =
     let t = c.args.self.now in
     let few : length (unjoined_of t) ≤ length t.frames.items =
     rw c.requires.begins (length-forks_of t.frames.items) in
-    omega (arith, few, c.requires.numbered, t.below.list.ok.0, t.below.list.ok.1, t.below.list.small, t.frames.ok.0, t.frames.ok.1, t.frames.small)
+    omega (arith, few, c.requires.numbered.0, c.requires.numbered.1, t.frames.ok.0, t.frames.ok.1, t.frames.small)
 
 pub returns-in-Num-clause-ok : goal.returns-in-Num-clause-ok
 returns-in-Num-clause-ok c =

@@ -11,7 +11,7 @@ halve-requires c =
     let t = c.args.self.now in
     let few : length (unjoined_of t) ≤ length t.frames.items =
     rw c.requires.covers (length-forks_of t.frames.items) in
-    omega (arith, few, c.requires.numbered, t.below.list.ok.0, t.below.list.ok.1, t.below.list.small, t.frames.ok.0, t.frames.ok.1, t.frames.small)
+    omega (arith, few, c.requires.numbered.0, c.requires.numbered.1, t.frames.ok.0, t.frames.ok.1, t.frames.small)
 
 pub returns-then-count-max-clause-ok : goal.returns-then-count-max-clause-ok
 returns-then-count-max-clause-ok c =

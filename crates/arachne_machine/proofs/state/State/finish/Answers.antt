@@ -1,25 +1,19 @@
-use Rattle.std.proofs.Common.{ℕ, List, ◌∷◌, sym, subst}
+use Rattle.std.proofs.Common.{ℕ, ◌≡◌, List, ◌∷◌, sym, subst}
 use Rattle.arachne_machine.specs.declared.line.ThreadLine.{ThreadLine}
-use Rattle.arachne_machine.specs.declared.state.Own.{Own}
-use Rattle.arachne_machine.specs.Branches.{lines_in}
 use Rattle.arachne_machine.specs.Outcome.{IsOfItsName}
+use Rattle.arachne_machine.specs.Steps.{suspended}
+use Rattle.arachne_machine.specs.Suspended.{own_line_of}
 use Rattle.arachne_machine.proofs.Soundness.{sound_end}
 use Rattle.arachne_machine.proofs.state.State.finish.Goals as goal
 
 pub invariant_of-result : goal.invariant_of-result
 invariant_of-result c =
     let t = c.args.self.now in
-    let Told : Own → List ℕ → List (List ThreadLine) → List ℕ → Type 0 = λ own sums below holds.
-    IsOfItsName (record {
-      program = t.program.now;
-      name = own.name;
-      value = c.in-Ended.value;
-      sums = sums;
-      lines = (record { name = own.name; tag = own.label.tag; holds = holds; in_place = own.label.in_place }) ∷ lines_in below;
-    }) in
-    let own = c.replace-name.result in
-    subst (λ holds. Told own c.replace.result.items c.replace-2.result.list.items holds) (sym c.from.ensures)
-    (subst (λ below. Told own c.replace.result.items below.list.items own.holds.items) (sym c.replace-2.ensures.value)
-    (subst (λ sums. Told own sums.items t.below.list.items own.holds.items) (sym c.replace.ensures.value)
-    (subst (λ o. Told o t.sums.items t.below.list.items o.holds.items) (sym c.replace-name.ensures.value)
-    (sound_end t c.in-Ended.value c.requires.sound c.in-Ended.is))))
+    let v = c.value-value.result in
+    let line : c.take_line.result ≡ own_line_of (suspended t) = c.take_line.ensures.line in
+    let Told : ThreadLine → List ℕ → List ThreadLine → Type 0 = λ own sums below.
+    IsOfItsName (record { program = t.program.now; name = own.name; value = v; sums = sums; lines = own ∷ below }) in
+    subst (λ own. Told own c.replace.result.items c.args.lines.lines) (sym line)
+    (subst (λ below. Told (own_line_of (suspended t)) c.replace.result.items below) (sym c.requires.lines)
+    (subst (λ sums. Told (own_line_of (suspended t)) sums.items t.below) (sym c.replace.ensures.value)
+    (sound_end t v c.requires.sound c.value-value.ensures)))

@@ -2,7 +2,7 @@ use Rattle.std.proofs.Common.{List, reverse, refl, sym, ap, ◌∙◌, subst}
 use Rattle.arachne_machine.specs.Suspended.{Suspended}
 use Rattle.arachne_machine.specs.Advance.{Moves}
 use Rattle.arachne_machine.specs.Nested.{Nested, IsAlone}
-use Rattle.arachne_machine.proofs.Nesting.{alone_at, alone_moves}
+use Rattle.arachne_machine.proofs.Nesting.{alone_at, alone_moves, joined_none}
 use Rattle.arachne_machine.proofs.thread.Thread.advance_within.Goals as goal
 
 pub returns-clause-ok : goal.returns-clause-ok
@@ -17,3 +17,6 @@ returns-clause-ok c =
     (subst (λ p. Moves c.args.left.now (record { running = a; parents = ps; placed = qs }) p new) (sym c.pause_at.ensures)
     (alone_at c.args.left.now a b _ ps qs (ap (λ v. v.parents) c.self.view_is ∙ is.0) (ap (λ v. v.placed) c.self.view_is ∙ is.1)
     (alone_moves c.args.left.now a b c.in_ok-halt.halt c.in_ok-halt.ensures.ok c.in_ok-halt.ensures.pending)))
+
+pub pause_at-requires : goal.pause_at-requires
+pause_at-requires c = joined_none _ _ _ c.in_ok-halt.halt c.in_ok-halt.ensures.ok

@@ -10,7 +10,7 @@ use Rattle.arachne_machine.proofs.thread.Thread.pending.Goals as goal
 pub returns-in-Some-Ended-clause-within : goal.returns-in-Some-Ended-clause-within
 returns-in-Some-Ended-clause-within c = λ checked.
     subst (λ v. PausesWithin v.running) c.self.view_is (c.pending-pending.ensures.within
-    (subst IsChecked (ap (λ v. source_of (whole v).program) (sym c.self.view_is) ∙ outer_source c.self.inside.running (reverse c.self.inside.parents.items) c.self.invariant.0.awaiting) checked))
+    (subst IsChecked (ap (λ v. source_of (whole v).program) (sym c.self.view_is) ∙ outer_source c.self.inside.running (reverse c.self.inside.parents.items) c.self.invariant.nested.awaiting) checked))
 
 pub returns-in_default-2 : goal.returns-in_default-2
 returns-in_default-2 c = record {
@@ -18,11 +18,11 @@ returns-in_default-2 c = record {
   next = subst (λ v. IsNext v.running.pending v.running.trace) c.self.view_is c.pending-pending.ensures.next;
   within = λ checked.
       subst (λ v. PausesWithin v.running) c.self.view_is (c.pending-pending.ensures.within
-      (subst IsChecked (ap (λ v. source_of (whole v).program) (sym c.self.view_is) ∙ outer_source c.self.inside.running (reverse c.self.inside.parents.items) c.self.invariant.0.awaiting) checked));
-  nested = subst IsNested c.self.view_is c.self.invariant.0;
+      (subst IsChecked (ap (λ v. source_of (whole v).program) (sym c.self.view_is) ∙ outer_source c.self.inside.running (reverse c.self.inside.parents.items) c.self.invariant.nested.awaiting) checked));
+  nested = subst IsNested c.self.view_is c.self.invariant.nested;
 }
 
 pub returns-in_default-3-clause-within : goal.returns-in_default-3-clause-within
 returns-in_default-3-clause-within c = λ checked.
     subst (λ v. PausesWithin v.running) c.self.view_is (c.pending-pending.ensures.within
-    (subst IsChecked (ap (λ v. source_of (whole v).program) (sym c.self.view_is) ∙ outer_source c.self.inside.running (reverse c.self.inside.parents.items) c.self.invariant.0.awaiting) checked))
+    (subst IsChecked (ap (λ v. source_of (whole v).program) (sym c.self.view_is) ∙ outer_source c.self.inside.running (reverse c.self.inside.parents.items) c.self.invariant.nested.awaiting) checked))

@@ -1,10 +1,10 @@
 use Rattle.std.proofs.Common.{reverse, subst}
 use Rattle.arachne_machine.specs.Nested.{SameWhole}
-use Rattle.arachne_machine.proofs.Nesting.{nested_thread, whole_thread}
+use Rattle.arachne_machine.proofs.Nesting.{kept_thread, whole_thread}
 use Rattle.arachne_machine.proofs.thread.Thread.tallied.Goals as goal
 
 pub invariant_of-self : goal.invariant_of-self
-invariant_of-self c = (nested_thread _ _ _ _ c.tallied.ensures.same c.self.invariant.0, c.self.invariant.1)
+invariant_of-self c = kept_thread _ _ _ _ _ _ _ _ _ c.tallied.ensures.same c.self.invariant
 
 pub returns-clause-whole : goal.returns-clause-whole
 returns-clause-whole c =
