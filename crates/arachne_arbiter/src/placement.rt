@@ -29,8 +29,13 @@ impl<'a, H: Wait, T: Tagged, C: Contexts<T>> Cores<'a, H, T, C> {
         ensures drawn { R.stream chooser.new ≡ (next_u64 (R.stream chooser.old)).1 }
     {
         let occupancies = self.look_at_all(seat);
+        let seen = &occupancies[..usize::from(self.count)];
         let word = chooser.next_u64();
-        let Some(first) = first_core(word, &occupancies[..usize::from(self.count)]) else {
+        // No core has a place for most forks of a large program.
+        if !seen.iter().any(|core| has_place(*core)) {
+            return Ok(None);
+        }
+        let Some(first) = first_core(word, seen) else {
             return Ok(None);
         };
         match self.claim_on(seat, first)? {

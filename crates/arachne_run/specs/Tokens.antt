@@ -1,6 +1,6 @@
 -- Whose tokens they are, and what is out with them.
-use Rattle.std.specs.Prelude.{◌≡◌, ◌≤◌, ℕ, List, ◌∷◌, Option, IfSome, length}
-use Rattle.arachne_contexts.specs.Out.{Out, Thread, KeepsOut}
+use Rattle.std.specs.Prelude.{◌≡◌, ◌≤◌, ℕ, List, ◌∷◌, Option, IfSome, length, map}
+use Rattle.arachne_contexts.specs.Out.{Out, Claim, Thread, KeepsOut}
 use Rattle.arachne_contexts.specs.declared.held.Held.{Held}
 use Rattle.arachne_ledger.specs.Views.{IsShareOf}
 use Rattle.arachne_sleep.specs.SleepLocks.{AreSeatsOf}
@@ -8,6 +8,7 @@ use Rattle.arachne_arbiter.specs.Orders.{Progress}
 use Rattle.arachne_core.specs.declared.layout.TheConstants.{CORES}
 use Rattle.arachne_run.specs.declared.machine.Machine.{Machine}
 use Rattle.arachne_run.specs.declared.tokens.Tokens.{Tokens}
+use Rattle.arachne_run.specs.declared.reserve.Reserve.{Reserve}
 
 -- the arbiter, if there is one, has as many orders as the machine, for its cores
 abbrev pub IsArbiterOf : {Table : Type 0} → Machine Table → Option Progress → Type 0
@@ -37,6 +38,10 @@ AreMore {Table} {Seat} {C} {H} sits has machine out old new = AreOf sits machine
 -- the same, but this is out no more
 abbrev pub AreLess : {Table Seat C H : Type 0} → (Table → Seat → Type 0) → (Table → Seat → List (Out C H) → Type 0) → Machine Table → Out C H → Tokens Seat → Tokens Seat → Type 0
 AreLess {Table} {Seat} {C} {H} sits has machine out old new = AreOf sits machine new × ((outs : List (Out C H)) → has machine.table old.seat (out ∷ outs) → has machine.table new.seat outs)
+
+-- the reserve's seat sits at the machine's table, and the places that are kept, and no other, are out with it
+abbrev pub AreClaimed : {Table Seat C H : Type 0} → (Table → Seat → Type 0) → (Table → Seat → List (Out C H) → Type 0) → Machine Table → Reserve Seat C → Type 0
+AreClaimed sits has machine places = sits machine.table places.seat × has machine.table places.seat (map Claim places.claims)
 
 -- the thread that is held, as the table knows it
 abbrev pub thread_in : {C T H : Type 0} → (T → ℕ) → Held T H → Out C H

@@ -6,6 +6,7 @@ ghost use Rattle.arachne_run.specs.Tokens.{AreIdle, IsSetUp};
 use crate::fault::WorkerFault;
 use crate::gate::Gate;
 use crate::machine::Machine;
+use crate::reserve::Reserve;
 use crate::slice::RunJob;
 use crate::tokens::Tokens;
 use crate::worker::{Kit, Worker};
@@ -173,6 +174,8 @@ fn work_from_root<H: Wait, T: RunJob, C: Contexts<T>, R: Rng + Drop, G: Gate>(
         machine.shared.fail(rt, WorkerFault::KernelThread);
         return None;
     };
+    let (tokens, seat) = tokens.split_seat::<H, C>(rt, machine);
+    let mut places = Reserve::new(alloc, seat);
     let mut kit = Kit::new(alloc, tokens, chooser, T::spares(alloc));
     let worker: Worker<'_, H, T, C, R, G> = Worker {
         rt,
@@ -182,11 +185,11 @@ fn work_from_root<H: Wait, T: RunJob, C: Contexts<T>, R: Rng + Drop, G: Gate>(
         core: 0,
         of: PhantomData,
     };
-    if let Err(fault) = worker.begin(&mut kit, root) {
+    if let Err(fault) = worker.begin(&mut kit, &mut places, root) {
         machine.shared.fail(rt, fault);
         return None;
     }
-    Some(kit.tokens)
+    Some(kit.tokens.join_seat::<H, C>(rt, machine, places.seat))
 }
 
 /// Works on one core until all stop. The tokens, unless something is out with them after a fault.
@@ -205,6 +208,8 @@ fn work_on<H: Wait, T: RunJob, C: Contexts<T>, R: Rng + Drop, G: Gate>(
     requires core { core < machine.now.cores }
     ensures { IfSome result (AreIdle C.sits C.idle machine.now) }
 {
+    let (tokens, seat) = tokens.split_seat::<H, C>(rt, machine);
+    let mut places = Reserve::new(alloc, seat);
     let mut kit = Kit::new(alloc, tokens, chooser, T::spares(alloc));
     let worker: Worker<'_, H, T, C, R, G> = Worker {
         rt,
@@ -214,9 +219,9 @@ fn work_on<H: Wait, T: RunJob, C: Contexts<T>, R: Rng + Drop, G: Gate>(
         core,
         of,
     };
-    if let Err(fault) = worker.work(&mut kit) {
+    if let Err(fault) = worker.work(&mut kit, &mut places) {
         machine.shared.fail(rt, fault);
         return None;
     }
-    Some(kit.tokens)
+    Some(kit.tokens.join_seat::<H, C>(rt, machine, places.seat))
 }

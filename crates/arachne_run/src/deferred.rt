@@ -20,8 +20,8 @@ pub(crate) struct Post {
     pub(crate) parent: ThreadId,
 }
 
-/// The threads that a worker has posted on other cores without telling the workers of those, and after how many steps more it
-/// tells of all of them.
+/// The threads that a worker has posted without telling any worker of them, and after how many steps more it tells of all of
+/// them.
 ///
 /// Contracts see the threads, the newest last.
 #[derive(Drop)]
@@ -64,6 +64,11 @@ impl Deferred {
         let oldest = self.posts.remove(0);
         self.posts.push_reserved(post);
         Some(oldest)
+    }
+
+    /// How many are kept back.
+    pub(crate) fn count(&self) -> usize {
+        self.posts.len()
     }
 
     /// Whether one is kept back.

@@ -40,7 +40,12 @@ impl Idle {
     /// Whether it looks at all that is occupied, and not at what was hinted alone: when it has nothing to run, and before
     /// each sleep.
     pub(crate) fn looks_at_all(self) -> bool {
-        self.rounds == 0 || self.rounds > LAST_YIELD
+        self.rounds == 0 || self.is_about_to_sleep()
+    }
+
+    /// Whether it sleeps if it finds nothing.
+    pub(crate) fn is_about_to_sleep(self) -> bool {
+        self.rounds > LAST_YIELD
     }
 
     /// Waits, longer the more often nothing was found: it spins, then yields the processor, then sleeps. Each of these ends

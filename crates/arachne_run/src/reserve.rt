@@ -4,15 +4,35 @@ ghost use Rattle.std.specs.Prelude.{◌≡◌, [], ◌∷◌, IfErr, MatchOption
 use std::alloc::Global;
 use std::marker::Model;
 
-/// The places of its core that a worker has claimed, and that no thread has.
-///
-/// Contracts see the claims, the newest first.
+/// The places of its core that a worker has claimed, and that no thread has, and the seat that they are out with.
 #[derive(Drop)]
-pub(crate) struct Reserve<K> {
+pub(crate) struct Reserve<S, K> {
+    pub(crate) seat: S,
+    pub(crate) claims: Claims<K>,
+}
+
+impl<S, K> Reserve<S, K> {
+    /// Nothing is kept. It takes no memory.
+    pub(crate) fn new(alloc: Global, seat: S) -> Reserve<S, K>
+        ensures seat { result.seat ≡ seat }
+        ensures none { result.claims ≡ [] }
+    {
+        Reserve {
+            seat,
+            claims: Claims::new(alloc),
+        }
+    }
+}
+
+/// Claims that are kept.
+///
+/// Contracts see them, the newest first.
+#[derive(Drop)]
+pub(crate) struct Claims<K> {
     claims: Vec<K>,
 }
 
-impl<K> Model for Reserve<K> {
+impl<K> Model for Claims<K> {
     ghost use Rattle.std.specs.Prelude.{List, reverse};
 
     ghost Value = { List K };
@@ -20,17 +40,17 @@ impl<K> Model for Reserve<K> {
     ghost view = { λ r. reverse r.claims.items };
 }
 
-impl<K> Reserve<K> {
+impl<K> Claims<K> {
     /// Nothing is kept. It takes no memory.
-    pub(crate) fn new(alloc: Global) -> Reserve<K>
+    pub(crate) fn new(alloc: Global) -> Claims<K>
         ensures { result ≡ [] }
     {
-        Reserve {
+        Claims {
             claims: Vec::new(alloc),
         }
     }
 
-    /// How many places are kept.
+    /// How many are kept.
     pub(crate) fn count(&self) -> usize {
         self.claims.len()
     }

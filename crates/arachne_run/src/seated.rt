@@ -2,18 +2,18 @@
 ghost use Rattle.std.specs.Prelude.{◌≡◌, ◌<◌, [], ◌∷◌, OnOk, IfOk, MatchOption, map};
 ghost use Rattle.arachne_contexts.specs.Out.{HasOut, KeepsOut, Claim as a_claim};
 ghost use Rattle.arachne_run.specs.Slices.{MayRest};
-ghost use Rattle.arachne_run.specs.Tokens.{AreIdle, AreKept, AreLess, AreMore, AreOf, AreWith, thread_in};
+ghost use Rattle.arachne_run.specs.Tokens.{AreClaimed, AreIdle, AreKept, AreLess, AreMore, AreOf, AreWith, thread_in};
 
 use crate::deferred::Post;
 use crate::fault::WorkerFault;
 use crate::gate::Gate;
+use crate::readiness::bit_of;
 use crate::reserve::Reserve;
 use crate::slice::RunJob;
 use crate::worker::{Kit, Worker};
 use arachne_contexts::{Claimed, Contexts, Held, Placed, Rested, Taken};
 use arachne_core::{Place, Rest, SLOTS, ThreadId};
 use rand_core::Rng;
-use std::mem::replace;
 use std::sync::Wait;
 
 impl<'a, H: Wait, T: RunJob, C: Contexts<T>, R: Rng, G: Gate> Worker<'a, H, T, C, R, G> {
@@ -65,6 +65,9 @@ impl<'a, H: Wait, T: RunJob, C: Contexts<T>, R: Rng, G: Gate> Worker<'a, H, T, C
         let table = &self.machine.table;
         match table.put_back(self.rt, &mut kit.tokens.seat, held, rest) {
             Ok(rested) => {
+                if place.core == self.core {
+                    kit.begun |= bit_of(place.index);
+                }
                 if rest == Rest::Ready || rested == Rested::WokenMeanwhile {
                     self.hint(kit, place);
                 }
@@ -95,64 +98,67 @@ impl<'a, H: Wait, T: RunJob, C: Contexts<T>, R: Rng, G: Gate> Worker<'a, H, T, C
         }
     }
 
-    /// Keeps a place of the core for each that its threads have left, as far as there are some that are free. So threads that
-    /// begin after others have ended run in place, as long as there is something to run. None is kept where orders may close a
-    /// core, or threads may wait for locks: room is wanted then for threads that are moved.
+    /// Keeps a place of the core for each that its threads have left and that it has given back, as far as there are some that
+    /// are free. So threads that begin after others have ended run in place, as long as there is something to run. None is kept
+    /// where orders may close a core, or threads may wait for locks: room is wanted then for threads that are moved.
     pub(crate) fn keep_places(
         &self,
         kit: &mut Kit<C::Seat, R, T::Spares>,
-        places: &mut Reserve<C::Claim>,
+        places: &mut Reserve<C::Seat, C::Claim>,
     ) -> Result<(), WorkerFault>
-        requires { AreWith C.sits C.has self.now.machine.now (map a_claim places.old) kit.old.tokens }
-        ensures { OnOk result (AreWith C.sits C.has self.now.machine.now (map a_claim places.new) kit.new.tokens) }
+        requires { AreClaimed C.sits C.has self.now.machine.now places.old }
+        ensures places { OnOk result (AreClaimed C.sits C.has self.now.machine.now places.new) }
+        ensures tokens { kit.new.tokens ≡ kit.old.tokens }
     {
-        let vacated = replace(&mut kit.vacated, 0);
         if self.machine.orders > 0 || self.machine.locks.count() > 0 {
             return Ok(());
         }
-        for _ in 0..vacated {
-            if !self.keep_place(kit, places)? {
+        for _ in 0..SLOTS {
+            if kit.vacated == 0 || !self.keep_place(places)? {
                 break;
             }
+            kit.vacated -= 1;
         }
         Ok(())
     }
 
     /// Keeps a place of the core, if there is one that is free. Whether it did.
-    fn keep_place(
-        &self,
-        kit: &mut Kit<C::Seat, R, T::Spares>,
-        places: &mut Reserve<C::Claim>,
-    ) -> Result<bool, WorkerFault>
-        requires { AreWith C.sits C.has self.now.machine.now (map a_claim places.old) kit.old.tokens }
-        ensures { OnOk result (AreWith C.sits C.has self.now.machine.now (map a_claim places.new) kit.new.tokens) }
+    fn keep_place(&self, places: &mut Reserve<C::Seat, C::Claim>) -> Result<bool, WorkerFault>
+        requires { AreClaimed C.sits C.has self.now.machine.now places.old }
+        ensures { OnOk result (AreClaimed C.sits C.has self.now.machine.now places.new) }
     {
         let table = &self.machine.table;
-        let claimed = table.claim(self.rt, &mut kit.tokens.seat, self.core);
+        let claimed = table.claim(self.rt, &mut places.seat, self.core);
         let Ok(Claimed::Place(claim)) = claimed else {
             return Ok(false);
         };
-        match places.keep(claim) {
+        match places.claims.keep(claim) {
             Ok(()) => Ok(true),
-            Err(claim) => {
-                self.give_back(kit, claim)?;
-                Ok(false)
-            }
+            Err(claim) => match table.give_back(self.rt, &mut places.seat, claim) {
+                Ok(()) => Ok(false),
+                Err(_) => Err(WorkerFault::Token),
+            },
         }
     }
 
-    /// Gives back the newest place that is kept, so that a thread can be moved here.
+    /// Gives back the newest place that is kept, so that a thread can be moved there or begin there.
     pub(crate) fn give_one_back(
         &self,
         kit: &mut Kit<C::Seat, R, T::Spares>,
-        places: &mut Reserve<C::Claim>,
+        places: &mut Reserve<C::Seat, C::Claim>,
     ) -> Result<(), WorkerFault>
-        requires { AreWith C.sits C.has self.now.machine.now (map a_claim places.old) kit.old.tokens }
-        ensures { OnOk result (AreWith C.sits C.has self.now.machine.now (map a_claim places.new) kit.new.tokens) }
+        requires { AreClaimed C.sits C.has self.now.machine.now places.old }
+        ensures places { OnOk result (AreClaimed C.sits C.has self.now.machine.now places.new) }
+        ensures tokens { kit.new.tokens ≡ kit.old.tokens }
     {
-        match places.take() {
-            Some(claim) => self.give_back(kit, claim),
-            None => Ok(()),
+        let Some(claim) = places.claims.take() else {
+            return Ok(());
+        };
+        kit.vacated = kit.vacated.saturating_add(1);
+        let table = &self.machine.table;
+        match table.give_back(self.rt, &mut places.seat, claim) {
+            Ok(()) => Ok(()),
+            Err(_) => Err(WorkerFault::Token),
         }
     }
 
@@ -160,33 +166,21 @@ impl<'a, H: Wait, T: RunJob, C: Contexts<T>, R: Rng, G: Gate> Worker<'a, H, T, C
     pub(crate) fn give_all_back(
         &self,
         kit: &mut Kit<C::Seat, R, T::Spares>,
-        places: &mut Reserve<C::Claim>,
+        places: &mut Reserve<C::Seat, C::Claim>,
     ) -> Result<(), WorkerFault>
-        requires { AreWith C.sits C.has self.now.machine.now (map a_claim places.old) kit.old.tokens }
-        ensures none { OnOk result (places.new ≡ []) }
-        ensures idle { OnOk result (AreIdle C.sits C.idle self.now.machine.now kit.new.tokens) }
+        requires { AreClaimed C.sits C.has self.now.machine.now places.old }
+        ensures none { OnOk result (places.new.claims ≡ []) }
+        ensures places { OnOk result (AreClaimed C.sits C.has self.now.machine.now places.new) }
+        ensures tokens { kit.new.tokens ≡ kit.old.tokens }
     {
-        while let Some(claim) = places.take() {
-            self.give_back(kit, claim)?;
+        while let Some(claim) = places.claims.take() {
+            kit.vacated = kit.vacated.saturating_add(1);
+            let table = &self.machine.table;
+            if table.give_back(self.rt, &mut places.seat, claim).is_err() {
+                return Err(WorkerFault::Token);
+            }
         }
         Ok(())
-    }
-
-    /// Gives back a place.
-    fn give_back(
-        &self,
-        kit: &mut Kit<C::Seat, R, T::Spares>,
-        claim: C::Claim,
-    ) -> Result<(), WorkerFault>
-        requires tokens { AreOf C.sits self.now.machine.now kit.old.tokens }
-        requires claim { HasOut (C.has self.now.machine.now.table) (a_claim claim) kit.old.tokens.seat }
-        ensures { OnOk result (AreLess C.sits C.has self.now.machine.now (a_claim claim) kit.old.tokens kit.new.tokens) }
-    {
-        let table = &self.machine.table;
-        match table.give_back(self.rt, &mut kit.tokens.seat, claim) {
-            Ok(()) => Ok(()),
-            Err(_) => Err(WorkerFault::Token),
-        }
     }
 
     /// Posts a thread that the one of this id has forked.

@@ -3,6 +3,7 @@ ghost use Rattle.std.specs.Prelude.{◌≡◌, IfOk};
 ghost use Rattle.arachne_arbiter.specs.KernelThreads.{counted_cores, parked_cores};
 
 use crate::fault::WorkerFault;
+use crate::offers::Offers;
 use crate::readiness::Readiness;
 use arachne_arbiter::{Parking, SliceCounts};
 use crossbeam_utils::CachePadded;
@@ -13,7 +14,7 @@ use std::sync::{Mutex, Wait};
 use std::time::Duration;
 
 /// The word that stops all workers, the next tag that is not drawn, the first fault, and for each core where threads may be ready,
-/// the parker of its kernel thread and the count of its slices. The tag and what is there for each core have cache lines of
+/// which of them any worker may take over, the parker of its kernel thread and the count of its slices. The tag and what is there for each core have cache lines of
 /// their own.
 #[derive(Drop)]
 pub(crate) struct Shared {
@@ -21,6 +22,7 @@ pub(crate) struct Shared {
     next_tag: CachePadded<AtomicU64>,
     first_fault: Mutex<Option<WorkerFault>>,
     readiness: Readiness,
+    offers: Offers,
     parking: Parking,
     slices: SliceCounts,
 }
@@ -43,6 +45,7 @@ impl Shared {
         ensures { IfOk result (λ shared. shared ≡ cores) }
     {
         let readiness = Readiness::new(alloc, cores)?;
+        let offers = Offers::new(alloc, cores)?;
         let parking = Parking::new(alloc, cores)?;
         let slices = SliceCounts::new(alloc, cores)?;
         Ok(Shared {
@@ -50,6 +53,7 @@ impl Shared {
             next_tag: CachePadded::new(AtomicU64::new(1)),
             first_fault: Mutex::new(None),
             readiness,
+            offers,
             parking,
             slices,
         })
@@ -60,6 +64,11 @@ impl Shared {
         ensures { result.now ≡ self.now }
     {
         &self.readiness
+    }
+
+    /// Which threads any worker may take over.
+    pub(crate) fn offers(&self) -> &Offers {
+        &self.offers
     }
 
     /// The parkers of the kernel threads.

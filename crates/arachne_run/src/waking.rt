@@ -112,7 +112,7 @@ impl<'a, H: Wait, T: RunJob, C: Contexts<T>, R: Rng, G: Gate> Worker<'a, H, T, C
     }
 
     /// Moves the thread at a place of another core to this one, if it is at rest and there is room. Whether it was moved.
-    fn pull(&self, kit: &mut Kit<C::Seat, R, T::Spares>, place: Place) -> bool
+    pub(crate) fn pull(&self, kit: &mut Kit<C::Seat, R, T::Spares>, place: Place) -> bool
         requires tokens { AreOf C.sits self.now.machine.now kit.old.tokens }
         requires index { place.index < slots }
         ensures tokens { AreOf C.sits self.now.machine.now kit.new.tokens }
@@ -126,14 +126,14 @@ impl<'a, H: Wait, T: RunJob, C: Contexts<T>, R: Rng, G: Gate> Worker<'a, H, T, C
         matches!(moved, Moved::Moved)
     }
 
-    /// A thread was posted. The worker of its core is told of it later, unless it is taken back until then.
+    /// A thread was posted. Others are told of it later, unless it is taken back until then.
     pub(crate) fn defer(&self, kit: &mut Kit<C::Seat, R, T::Spares>, post: Post)
         ensures { kit.new.tokens ≡ kit.old.tokens }
     {
-        if post.place.core == self.core {
+        if post.place.core == self.core && !self.may_steal() {
             self.hint(kit, post.place);
         } else if let Some(oldest) = kit.deferred.keep(post) {
-            self.hint(kit, oldest.place);
+            self.announce(kit, oldest.place);
         }
     }
 
@@ -143,7 +143,7 @@ impl<'a, H: Wait, T: RunJob, C: Contexts<T>, R: Rng, G: Gate> Worker<'a, H, T, C
         ensures all { kit.new.deferred ≡ [] }
     {
         while let Some(post) = kit.deferred.take_newest() {
-            self.hint(kit, post.place);
+            self.announce(kit, post.place);
         }
     }
 
@@ -167,15 +167,15 @@ impl<'a, H: Wait, T: RunJob, C: Contexts<T>, R: Rng, G: Gate> Worker<'a, H, T, C
                 if let Some(index) = self.take_back(kit, post.id.context, place) {
                     return Some(index);
                 }
-                self.hint(kit, place);
+                self.announce(kit, place);
             }
         }
         self.tell(kit);
         None
     }
 
-    /// Moves the thread in a context, which is at this place, to this core, if it is at rest and there is room. Its index
-    /// then.
+    /// Moves the thread in a context, which is at this place, to this core, unless it is there, if it is at rest and there is
+    /// room. Its index then.
     fn take_back(
         &self,
         kit: &mut Kit<C::Seat, R, T::Spares>,
@@ -188,6 +188,9 @@ impl<'a, H: Wait, T: RunJob, C: Contexts<T>, R: Rng, G: Gate> Worker<'a, H, T, C
         ensures out { KeepsOut (C.has self.now.machine.now.table) kit.old.tokens.seat kit.new.tokens.seat }
         ensures index { IfSome result (λ index. index < slots) }
     {
+        if place.core == self.core {
+            return Some(place.index);
+        }
         if !self.pull(kit, place) {
             return None;
         }

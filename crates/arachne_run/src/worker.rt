@@ -1,9 +1,9 @@
 //! The loop of one core's kernel thread.
-ghost use Rattle.std.specs.Prelude.{◌≡◌, ◌<◌, ◌≤◌, ◌∷◌, true, None, Some, OnOk, IfOk, MatchOption, map};
+ghost use Rattle.std.specs.Prelude.{◌≡◌, ◌<◌, ◌≤◌, [], ◌∷◌, true, None, Some, OnOk, IfOk, IfSome, MatchOption};
 ghost use Rattle.arachne_machine.specs.declared.pause.Pending.TheVariants as pause;
-ghost use Rattle.arachne_contexts.specs.Out.{HasOut, KeepsOut, Claim as a_claim};
+ghost use Rattle.arachne_contexts.specs.Out.{HasOut, KeepsOut};
 ghost use Rattle.arachne_run.specs.Slices.{MayRest};
-ghost use Rattle.arachne_run.specs.Tokens.{AreIdle, AreKept, AreMore, AreOf, AreWith, IsSameThread, IsSetUp, thread_in};
+ghost use Rattle.arachne_run.specs.Tokens.{AreClaimed, AreIdle, AreKept, AreMore, AreOf, AreWith, IsSameThread, IsSetUp, thread_in};
 
 use crate::deferred::Deferred;
 use crate::fault::WorkerFault;
@@ -49,8 +49,10 @@ pub(crate) struct Kit<S, R, P> {
     pub(crate) deferred: Deferred,
     /// What it keeps of ended threads for those that begin.
     pub(crate) spares: P,
-    /// How many places its threads have left since it last kept some.
+    /// How many places its threads have left, or it has given back, for which it has kept none since.
     pub(crate) vacated: u32,
+    /// The indexes of its core at which a thread was put back and is to go on, a bit for each.
+    pub(crate) begun: u64,
     /// The tags for threads that it forks.
     pub(crate) tags: Tags,
 }
@@ -69,6 +71,7 @@ impl<S, R, P> Kit<S, R, P> {
             deferred: Deferred::new(alloc),
             spares,
             vacated: 0,
+            begun: 0,
             tags: Tags::new(),
         }
     }
@@ -92,28 +95,40 @@ impl<'a, H: Wait, T: RunJob, C: Contexts<T>, R: Rng, G: Gate> Worker<'a, H, T, C
     pub(crate) fn begin(
         &self,
         kit: &mut Kit<C::Seat, R, T::Spares>,
+        places: &mut Reserve<C::Seat, C::Claim>,
         root: T,
     ) -> Result<(), WorkerFault>
-        requires { AreIdle C.sits C.idle self.now.machine.now kit.old.tokens }
-        ensures { OnOk result (AreIdle C.sits C.idle self.now.machine.now kit.new.tokens) }
+        requires tokens { AreIdle C.sits C.idle self.now.machine.now kit.old.tokens }
+        requires places { AreClaimed C.sits C.has self.now.machine.now places.old }
+        ensures tokens { OnOk result (AreIdle C.sits C.idle self.now.machine.now kit.new.tokens) }
+        ensures places { OnOk result (AreClaimed C.sits C.has self.now.machine.now places.new) }
+        ensures none { OnOk result (places.new.claims ≡ []) }
     {
         self.post_root(kit, root)?;
-        self.work(kit)
+        self.work(kit, places)
     }
 
-    /// Runs threads until all workers stop. After an error something may be out with the seat.
-    pub(crate) fn work(&self, kit: &mut Kit<C::Seat, R, T::Spares>) -> Result<(), WorkerFault>
-        requires { AreIdle C.sits C.idle self.now.machine.now kit.old.tokens }
-        ensures { OnOk result (AreIdle C.sits C.idle self.now.machine.now kit.new.tokens) }
+    /// Runs threads until all workers stop, and gives back the places that it keeps. After an error something may be out with
+    /// the seats.
+    pub(crate) fn work(
+        &self,
+        kit: &mut Kit<C::Seat, R, T::Spares>,
+        places: &mut Reserve<C::Seat, C::Claim>,
+    ) -> Result<(), WorkerFault>
+        requires tokens { AreIdle C.sits C.idle self.now.machine.now kit.old.tokens }
+        requires places { AreClaimed C.sits C.has self.now.machine.now places.old }
+        ensures tokens { OnOk result (AreIdle C.sits C.idle self.now.machine.now kit.new.tokens) }
+        ensures places { OnOk result (AreClaimed C.sits C.has self.now.machine.now places.new) }
+        ensures none { OnOk result (places.new.claims ≡ []) }
     {
-        let mut places = Reserve::new(self.alloc);
         let mut idle = Idle::new();
         for _ in self.rt.forever() {
             if self.machine.shared.is_stopped() {
-                return self.give_all_back(kit, &mut places);
+                return self.give_all_back(kit, places);
             }
-            if self.run_hinted(kit, &mut places)?
-                || idle.looks_at_all() && self.run_occupied(kit, &mut places)?
+            if self.run_hinted(kit, places)?
+                || self.run_stolen(kit, places)?
+                || idle.looks_at_all() && self.run_occupied(kit, places, idle)?
             {
                 idle.reset();
             } else {
@@ -133,28 +148,55 @@ impl<'a, H: Wait, T: RunJob, C: Contexts<T>, R: Rng, G: Gate> Worker<'a, H, T, C
     fn run_hinted(
         &self,
         kit: &mut Kit<C::Seat, R, T::Spares>,
-        places: &mut Reserve<C::Claim>,
+        places: &mut Reserve<C::Seat, C::Claim>,
     ) -> Result<bool, WorkerFault>
-        requires { AreWith C.sits C.has self.now.machine.now (map a_claim places.old) kit.old.tokens }
-        ensures { OnOk result (AreWith C.sits C.has self.now.machine.now (map a_claim places.new) kit.new.tokens) }
+        requires tokens { AreWith C.sits C.has self.now.machine.now [] kit.old.tokens }
+        requires places { AreClaimed C.sits C.has self.now.machine.now places.old }
+        ensures tokens { OnOk result (AreWith C.sits C.has self.now.machine.now [] kit.new.tokens) }
+        ensures places { OnOk result (AreClaimed C.sits C.has self.now.machine.now places.new) }
     {
         let hinted = self.machine.shared.readiness().take(self.core);
         let indexes = kit.ready | hinted;
         kit.ready = 0;
+        self.run_each(kit, places, self.share(indexes))
+    }
+
+    /// Runs a thread that another core offers, for which a place is given back. Whether there was one.
+    fn run_stolen(
+        &self,
+        kit: &mut Kit<C::Seat, R, T::Spares>,
+        places: &mut Reserve<C::Seat, C::Claim>,
+    ) -> Result<bool, WorkerFault>
+        requires tokens { AreWith C.sits C.has self.now.machine.now [] kit.old.tokens }
+        requires places { AreClaimed C.sits C.has self.now.machine.now places.old }
+        ensures tokens { OnOk result (AreWith C.sits C.has self.now.machine.now [] kit.new.tokens) }
+        ensures places { OnOk result (AreClaimed C.sits C.has self.now.machine.now places.new) }
+    {
+        if !self.may_steal() || !self.machine.shared.offers().is_any() {
+            return Ok(false);
+        }
+        self.give_one_back(kit, places)?;
+        let indexes = self.steal(kit);
         self.run_each(kit, places, indexes)
     }
 
-    /// Gives back the places that it keeps, runs the threads that are ready of all that are on the core, and parks where the
-    /// core is closed and there is none. Whether there was one, or it has parked.
+    /// Runs the threads that are ready of all that are on the core, and parks where the core is closed and there is none. The
+    /// places that it keeps are given back before, unless it is still to look what others offer. Whether there was one, or it
+    /// has parked.
     fn run_occupied(
         &self,
         kit: &mut Kit<C::Seat, R, T::Spares>,
-        places: &mut Reserve<C::Claim>,
+        places: &mut Reserve<C::Seat, C::Claim>,
+        idle: Idle,
     ) -> Result<bool, WorkerFault>
-        requires { AreWith C.sits C.has self.now.machine.now (map a_claim places.old) kit.old.tokens }
-        ensures { OnOk result (AreWith C.sits C.has self.now.machine.now (map a_claim places.new) kit.new.tokens) }
+        requires tokens { AreWith C.sits C.has self.now.machine.now [] kit.old.tokens }
+        requires places { AreClaimed C.sits C.has self.now.machine.now places.old }
+        ensures tokens { OnOk result (AreWith C.sits C.has self.now.machine.now [] kit.new.tokens) }
+        ensures places { OnOk result (AreClaimed C.sits C.has self.now.machine.now places.new) }
     {
-        self.give_all_back(kit, places)?;
+        if idle.is_about_to_sleep() || !self.may_steal() {
+            self.give_all_back(kit, places)?;
+        }
         let occupied = self.look(kit);
         if self.run_each(kit, places, occupied)? {
             return Ok(true);
@@ -163,25 +205,28 @@ impl<'a, H: Wait, T: RunJob, C: Contexts<T>, R: Rng, G: Gate> Worker<'a, H, T, C
         Ok(self.park(kit))
     }
 
-    /// Runs each thread that is ready at one of these indexes of the core, for a turn, unless all workers stop. Whether
-    /// there was one.
+    /// Runs each thread that is ready at one of these indexes of the core, or that it offers, for a turn, unless all workers
+    /// stop. Whether there was one.
     fn run_each(
         &self,
         kit: &mut Kit<C::Seat, R, T::Spares>,
-        places: &mut Reserve<C::Claim>,
+        places: &mut Reserve<C::Seat, C::Claim>,
         indexes: u64,
     ) -> Result<bool, WorkerFault>
-        requires { AreWith C.sits C.has self.now.machine.now (map a_claim places.old) kit.old.tokens }
-        ensures { OnOk result (AreWith C.sits C.has self.now.machine.now (map a_claim places.new) kit.new.tokens) }
+        requires tokens { AreWith C.sits C.has self.now.machine.now [] kit.old.tokens }
+        requires places { AreClaimed C.sits C.has self.now.machine.now places.old }
+        ensures tokens { OnOk result (AreWith C.sits C.has self.now.machine.now [] kit.new.tokens) }
+        ensures places { OnOk result (AreClaimed C.sits C.has self.now.machine.now places.new) }
     {
         let mut indexes = indexes;
         let mut found = false;
         for _ in 0..SLOTS {
-            let index = indexes.trailing_zeros() as u8;
-            if index >= SLOTS || self.machine.shared.is_stopped() {
+            if self.machine.shared.is_stopped() {
                 break;
             }
-            indexes ^= 1 << u32::from(index);
+            let Some(index) = self.next_index(&mut indexes) else {
+                break;
+            };
             if self.run_at(kit, places, index)? {
                 found = true;
             }
@@ -189,17 +234,31 @@ impl<'a, H: Wait, T: RunJob, C: Contexts<T>, R: Rng, G: Gate> Worker<'a, H, T, C
         Ok(found)
     }
 
+    /// The lowest of these indexes, which is among them no longer, else one that the core offers.
+    fn next_index(&self, indexes: &mut u64) -> Option<u8>
+        ensures { IfSome result (λ index. index < SLOTS) }
+    {
+        let index = indexes.trailing_zeros() as u8;
+        if index < SLOTS {
+            *indexes ^= 1 << u32::from(index);
+            return Some(index);
+        }
+        self.machine.shared.offers().take(self.core)
+    }
+
     /// Runs the thread at an index of the core for a turn, if it is ready, and then each that is to go on next. Whether there
     /// was one that was ready.
     fn run_at(
         &self,
         kit: &mut Kit<C::Seat, R, T::Spares>,
-        places: &mut Reserve<C::Claim>,
+        places: &mut Reserve<C::Seat, C::Claim>,
         index: u8,
     ) -> Result<bool, WorkerFault>
-        requires tokens { AreWith C.sits C.has self.now.machine.now (map a_claim places.old) kit.old.tokens }
+        requires tokens { AreWith C.sits C.has self.now.machine.now [] kit.old.tokens }
+        requires places { AreClaimed C.sits C.has self.now.machine.now places.old }
         requires index { index < SLOTS }
-        ensures { OnOk result (AreWith C.sits C.has self.now.machine.now (map a_claim places.new) kit.new.tokens) }
+        ensures tokens { OnOk result (AreWith C.sits C.has self.now.machine.now [] kit.new.tokens) }
+        ensures places { OnOk result (AreClaimed C.sits C.has self.now.machine.now places.new) }
     {
         let mut index = index;
         let mut found = false;
@@ -211,6 +270,7 @@ impl<'a, H: Wait, T: RunJob, C: Contexts<T>, R: Rng, G: Gate> Worker<'a, H, T, C
             };
             if let Some(held) = self.take(kit, place) {
                 found = true;
+                self.open_places(kit, places, index)?;
                 self.turn(kit, places, held)?;
             }
             if kit.deferred.is_any() {
@@ -229,21 +289,23 @@ impl<'a, H: Wait, T: RunJob, C: Contexts<T>, R: Rng, G: Gate> Worker<'a, H, T, C
     fn turn(
         &self,
         kit: &mut Kit<C::Seat, R, T::Spares>,
-        places: &mut Reserve<C::Claim>,
+        places: &mut Reserve<C::Seat, C::Claim>,
         held: Held<T, C::Hold>,
     ) -> Result<(), WorkerFault>
-        requires { AreWith C.sits C.has self.now.machine.now (thread_in T.tag_of held ∷ map a_claim places.old) kit.old.tokens }
-        ensures { OnOk result (AreWith C.sits C.has self.now.machine.now (map a_claim places.new) kit.new.tokens) }
+        requires tokens { AreWith C.sits C.has self.now.machine.now (thread_in T.tag_of held ∷ []) kit.old.tokens }
+        requires places { AreClaimed C.sits C.has self.now.machine.now places.old }
+        ensures tokens { OnOk result (AreWith C.sits C.has self.now.machine.now [] kit.new.tokens) }
+        ensures places { OnOk result (AreClaimed C.sits C.has self.now.machine.now places.new) }
     {
         let index = held.place().index;
         let mut held = held;
         for _ in self.rt.forever() {
-            let rest = self.slice(kit, &mut held)?;
+            let rest = self.slice(kit, places, &mut held)?;
             self.gate.slice_ended(self.core);
             self.machine.shared.slices().count(self.core);
             match rest {
                 None => return self.finish(kit, places, held),
-                Some(Rest::Ready) if self.has_core_to_itself(kit, index, places.count()) => {
+                Some(Rest::Ready) if self.has_core_to_itself(kit, index, places.claims.count()) => {
                     self.tend(kit);
                 }
                 Some(rest) => {
@@ -285,10 +347,13 @@ impl<'a, H: Wait, T: RunJob, C: Contexts<T>, R: Rng, G: Gate> Worker<'a, H, T, C
     fn slice(
         &self,
         kit: &mut Kit<C::Seat, R, T::Spares>,
+        places: &mut Reserve<C::Seat, C::Claim>,
         held: &mut Held<T, C::Hold>,
     ) -> Result<Option<Rest>, WorkerFault>
+        requires places { AreClaimed C.sits C.has self.now.machine.now places.old }
         requires tokens { AreOf C.sits self.now.machine.now kit.old.tokens }
         requires held { HasOut (C.has self.now.machine.now.table) (thread_in T.tag_of held.old) kit.old.tokens.seat }
+        ensures places { OnOk result (AreClaimed C.sits C.has self.now.machine.now places.new) }
         ensures tokens { OnOk result (AreKept C.sits C.has self.now.machine.now kit.old.tokens kit.new.tokens) }
         ensures thread { OnOk result (IsSameThread T.tag_of held.old held.new) }
         ensures rest { IfOk result (λ rest. MatchOption rest (T.pause_of held.new.value ≡ Some pause.Ended) (λ rest. MayRest rest (T.pause_of held.new.value))) }
@@ -300,7 +365,7 @@ impl<'a, H: Wait, T: RunJob, C: Contexts<T>, R: Rng, G: Gate> Worker<'a, H, T, C
         while left > 0 {
             let most = left.min(kit.deferred.most_steps());
             let mut steps = most;
-            let rest = self.stretch(kit, held, &mut steps, MOST_NESTED)?;
+            let rest = self.stretch(kit, places, held, &mut steps, MOST_NESTED)?;
             if kit.deferred.spend(most.saturating_sub(steps)) {
                 self.tell(kit);
             }
@@ -320,13 +385,16 @@ impl<'a, H: Wait, T: RunJob, C: Contexts<T>, R: Rng, G: Gate> Worker<'a, H, T, C
     fn stretch(
         &self,
         kit: &mut Kit<C::Seat, R, T::Spares>,
+        places: &mut Reserve<C::Seat, C::Claim>,
         held: &mut Held<T, C::Hold>,
         left: &mut u32,
         levels: u32,
     ) -> Result<Option<Rest>, WorkerFault>
+        requires places { AreClaimed C.sits C.has self.now.machine.now places.old }
         requires tokens { AreOf C.sits self.now.machine.now kit.old.tokens }
         requires held { HasOut (C.has self.now.machine.now.table) (thread_in T.tag_of held.old) kit.old.tokens.seat }
         requires some { 1 ≤ left.old }
+        ensures places { OnOk result (AreClaimed C.sits C.has self.now.machine.now places.new) }
         ensures tokens { OnOk result (AreKept C.sits C.has self.now.machine.now kit.old.tokens kit.new.tokens) }
         ensures left { OnOk result (left.new ≤ left.old) }
         ensures thread { OnOk result (IsSameThread T.tag_of held.old held.new) }
@@ -337,7 +405,7 @@ impl<'a, H: Wait, T: RunJob, C: Contexts<T>, R: Rng, G: Gate> Worker<'a, H, T, C
                 Slice::Goes => {}
                 Slice::Forks(class, child) => self.fork(kit, held, class, child)?,
                 Slice::Blocks => {
-                    if levels == 0 || !self.run_child(kit, held, left, levels - 1)? {
+                    if levels == 0 || !self.run_child(kit, places, held, left, levels - 1)? {
                         return Ok(Some(Rest::Blocked));
                     }
                 }
@@ -373,12 +441,15 @@ impl<'a, H: Wait, T: RunJob, C: Contexts<T>, R: Rng, G: Gate> Worker<'a, H, T, C
     fn run_child(
         &self,
         kit: &mut Kit<C::Seat, R, T::Spares>,
+        places: &mut Reserve<C::Seat, C::Claim>,
         held: &Held<T, C::Hold>,
         left: &mut u32,
         levels: u32,
     ) -> Result<bool, WorkerFault>
+        requires places { AreClaimed C.sits C.has self.now.machine.now places.old }
         requires tokens { AreOf C.sits self.now.machine.now kit.old.tokens }
         requires held { HasOut (C.has self.now.machine.now.table) (thread_in T.tag_of held.now) kit.old.tokens.seat }
+        ensures places { OnOk result (AreClaimed C.sits C.has self.now.machine.now places.new) }
         ensures tokens { OnOk result (AreKept C.sits C.has self.now.machine.now kit.old.tokens kit.new.tokens) }
         ensures left { OnOk result (left.new ≤ left.old) }
         ensures used { IfOk result (λ has_ended. has_ended ≡ true → (1 ≤ left.new) × (left.new < left.old)) }
@@ -390,7 +461,7 @@ impl<'a, H: Wait, T: RunJob, C: Contexts<T>, R: Rng, G: Gate> Worker<'a, H, T, C
         let Some(mut child) = self.take_child(kit, held.id()) else {
             return Ok(false);
         };
-        let rest = self.stretch(kit, &mut child, &mut steps, levels)?;
+        let rest = self.stretch(kit, places, &mut child, &mut steps, levels)?;
         *left = steps + 1;
         if let Some(rest) = rest {
             self.put_back(kit, child, rest)?;
@@ -402,6 +473,7 @@ impl<'a, H: Wait, T: RunJob, C: Contexts<T>, R: Rng, G: Gate> Worker<'a, H, T, C
             Some(parent) => self.wake(kit, parent, Cause::ChildEnded),
             None => self.machine.shared.stop(),
         }
+        self.keep_places(kit, places)?;
         Ok(true)
     }
 
@@ -449,12 +521,14 @@ impl<'a, H: Wait, T: RunJob, C: Contexts<T>, R: Rng, G: Gate> Worker<'a, H, T, C
     fn finish(
         &self,
         kit: &mut Kit<C::Seat, R, T::Spares>,
-        places: &mut Reserve<C::Claim>,
+        places: &mut Reserve<C::Seat, C::Claim>,
         held: Held<T, C::Hold>,
     ) -> Result<(), WorkerFault>
-        requires tokens { AreWith C.sits C.has self.now.machine.now (thread_in T.tag_of held ∷ map a_claim places.old) kit.old.tokens }
+        requires tokens { AreWith C.sits C.has self.now.machine.now (thread_in T.tag_of held ∷ []) kit.old.tokens }
+        requires places { AreClaimed C.sits C.has self.now.machine.now places.old }
         requires over { T.pause_of held.value ≡ Some pause.Ended }
-        ensures { OnOk result (AreWith C.sits C.has self.now.machine.now (map a_claim places.new) kit.new.tokens) }
+        ensures tokens { OnOk result (AreWith C.sits C.has self.now.machine.now [] kit.new.tokens) }
+        ensures places { OnOk result (AreClaimed C.sits C.has self.now.machine.now places.new) }
     {
         let job = self.end(kit, held)?;
         match job.leave(&mut kit.spares) {
