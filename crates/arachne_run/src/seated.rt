@@ -123,7 +123,10 @@ impl<'a, H: Wait, T: RunJob, C: Contexts<T>, R: Rng, G: Gate> Worker<'a, H, T, C
     }
 
     /// Keeps a place of the core, if there is one that is free. Whether it did.
-    fn keep_place(&self, places: &mut Reserve<C::Seat, C::Claim>) -> Result<bool, WorkerFault>
+    pub(crate) fn keep_place(
+        &self,
+        places: &mut Reserve<C::Seat, C::Claim>,
+    ) -> Result<bool, WorkerFault>
         requires { AreClaimed C.sits C.has self.now.machine.now places.old }
         ensures { OnOk result (AreClaimed C.sits C.has self.now.machine.now places.new) }
     {

@@ -10,7 +10,7 @@ use crate::readiness::bit_of;
 use crate::reserve::Reserve;
 use crate::slice::RunJob;
 use crate::worker::{Kit, Worker};
-use arachne_contexts::Contexts;
+use arachne_contexts::{Contexts, Moved};
 use arachne_core::Place;
 use rand_core::Rng;
 use std::sync::Wait;
@@ -53,8 +53,8 @@ impl<'a, H: Wait, T: RunJob, C: Contexts<T>, R: Rng, G: Gate> Worker<'a, H, T, C
         }
     }
 
-    /// A thread begins at this index, or goes on. For one that begins a place is given back, or two where few threads wait for
-    /// others to take over. So the children that it forks first, in a tree the largest, have places, and most others run in
+    /// A thread begins at this index, or goes on. For one that begins a place is given back, or two where the worker keeps none
+    /// back and offers none. So the children that it forks first, in a tree the largest, have places, and most others run in
     /// its own.
     pub(crate) fn open_places(
         &self,
@@ -82,7 +82,8 @@ impl<'a, H: Wait, T: RunJob, C: Contexts<T>, R: Rng, G: Gate> Worker<'a, H, T, C
         Ok(())
     }
 
-    /// Moves a thread that another core offers to this one. The indexes of the core at which a thread is since.
+    /// Moves a thread that another core offers to this one. The indexes of the core that are occupied then; none where it was
+    /// not moved. One for which there was no room, or whose place changed meanwhile, is offered again.
     pub(crate) fn steal(&self, kit: &mut Kit<C::Seat, R, T::Spares>) -> u64
         requires { AreOf C.sits self.now.machine.now kit.old.tokens }
         ensures tokens { AreOf C.sits self.now.machine.now kit.new.tokens }
@@ -91,15 +92,17 @@ impl<'a, H: Wait, T: RunJob, C: Contexts<T>, R: Rng, G: Gate> Worker<'a, H, T, C
         let Some(place) = self.offered() else {
             return 0;
         };
-        let before = self.look(kit);
-        if !self.pull(kit, place) {
-            self.machine
-                .shared
-                .offers()
-                .offer(place.core, bit_of(place.index));
-            return 0;
+        match self.try_pull(kit, place) {
+            Moved::Moved => self.look(kit),
+            Moved::NoRoom(_) | Moved::Lost(_) => {
+                self.machine
+                    .shared
+                    .offers()
+                    .offer(place.core, bit_of(place.index));
+                0
+            }
+            Moved::Unposted | Moved::Running | Moved::Alone => 0,
         }
-        self.look(kit) & !before
     }
 
     /// The place of a thread that another core offers, and offers no longer.

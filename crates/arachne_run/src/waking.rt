@@ -112,18 +112,27 @@ impl<'a, H: Wait, T: RunJob, C: Contexts<T>, R: Rng, G: Gate> Worker<'a, H, T, C
     }
 
     /// Moves the thread at a place of another core to this one, if it is at rest and there is room. Whether it was moved.
-    pub(crate) fn pull(&self, kit: &mut Kit<C::Seat, R, T::Spares>, place: Place) -> bool
+    fn pull(&self, kit: &mut Kit<C::Seat, R, T::Spares>, place: Place) -> bool
+        requires tokens { AreOf C.sits self.now.machine.now kit.old.tokens }
+        requires index { place.index < slots }
+        ensures tokens { AreOf C.sits self.now.machine.now kit.new.tokens }
+        ensures out { KeepsOut (C.has self.now.machine.now.table) kit.old.tokens.seat kit.new.tokens.seat }
+    {
+        matches!(self.try_pull(kit, place), Moved::Moved)
+    }
+
+    /// Tries to move the thread at a place of another core to this one. At other places there is none.
+    pub(crate) fn try_pull(&self, kit: &mut Kit<C::Seat, R, T::Spares>, place: Place) -> Moved
         requires tokens { AreOf C.sits self.now.machine.now kit.old.tokens }
         requires index { place.index < slots }
         ensures tokens { AreOf C.sits self.now.machine.now kit.new.tokens }
         ensures out { KeepsOut (C.has self.now.machine.now.table) kit.old.tokens.seat kit.new.tokens.seat }
     {
         if place.core == self.core || place.core >= self.machine.cores {
-            return false;
+            return Moved::Unposted;
         }
         let table = &self.machine.table;
-        let moved = table.move_one(self.rt, &mut kit.tokens.seat, place, self.core);
-        matches!(moved, Moved::Moved)
+        table.move_one(self.rt, &mut kit.tokens.seat, place, self.core)
     }
 
     /// A thread was posted. Others are told of it later, unless it is taken back until then.

@@ -161,7 +161,8 @@ impl<'a, H: Wait, T: RunJob, C: Contexts<T>, R: Rng, G: Gate> Worker<'a, H, T, C
         self.run_each(kit, places, self.share(indexes))
     }
 
-    /// Runs a thread that another core offers, for which a place is given back. Whether there was one.
+    /// Runs a thread that another core offers, for which a place of this one is given back that it keeps or claims. Whether
+    /// there was one, and a place.
     fn run_stolen(
         &self,
         kit: &mut Kit<C::Seat, R, T::Spares>,
@@ -175,7 +176,15 @@ impl<'a, H: Wait, T: RunJob, C: Contexts<T>, R: Rng, G: Gate> Worker<'a, H, T, C
         if !self.may_steal() || !self.machine.shared.offers().is_any() {
             return Ok(false);
         }
+        let vacated = kit.vacated;
+        let keeps_one = places.claims.count() > 0;
+        if !keeps_one && !self.keep_place(places)? {
+            return Ok(false);
+        }
         self.give_one_back(kit, places)?;
+        if !keeps_one {
+            kit.vacated = vacated;
+        }
         let indexes = self.steal(kit);
         self.run_each(kit, places, indexes)
     }
