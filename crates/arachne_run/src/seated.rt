@@ -1,6 +1,6 @@
 //! The calls of the table that a worker makes, with what is out with its seat.
 ghost use Rattle.std.specs.Prelude.{◌≡◌, ◌<◌, [], ◌∷◌, OnOk, IfOk, MatchOption, map};
-ghost use Rattle.arachne_contexts.specs.Out.{HasOut, KeepsOut, Claim as a_claim};
+ghost use Rattle.arachne_contexts.specs.Out.{HasOut, KeepsOut, Spends, Claim as a_claim};
 ghost use Rattle.arachne_run.specs.Slices.{MayRest};
 ghost use Rattle.arachne_run.specs.Tokens.{AreClaimed, AreIdle, AreKept, AreLess, AreMore, AreOf, AreWith, thread_in};
 
@@ -137,10 +137,10 @@ impl<'a, H: Wait, T: RunJob, C: Contexts<T>, R: Rng, G: Gate> Worker<'a, H, T, C
         };
         match places.claims.keep(claim) {
             Ok(()) => Ok(true),
-            Err(claim) => match table.give_back(self.rt, &mut places.seat, claim) {
-                Ok(()) => Ok(false),
-                Err(_) => Err(WorkerFault::Token),
-            },
+            Err(claim) => {
+                self.give_back(&mut places.seat, claim)?;
+                Ok(false)
+            }
         }
     }
 
@@ -158,11 +158,7 @@ impl<'a, H: Wait, T: RunJob, C: Contexts<T>, R: Rng, G: Gate> Worker<'a, H, T, C
             return Ok(());
         };
         kit.vacated = kit.vacated.saturating_add(1);
-        let table = &self.machine.table;
-        match table.give_back(self.rt, &mut places.seat, claim) {
-            Ok(()) => Ok(()),
-            Err(_) => Err(WorkerFault::Token),
-        }
+        self.give_back(&mut places.seat, claim)
     }
 
     /// Gives back all places that are kept.
@@ -178,12 +174,23 @@ impl<'a, H: Wait, T: RunJob, C: Contexts<T>, R: Rng, G: Gate> Worker<'a, H, T, C
     {
         while let Some(claim) = places.claims.take() {
             kit.vacated = kit.vacated.saturating_add(1);
-            let table = &self.machine.table;
-            if table.give_back(self.rt, &mut places.seat, claim).is_err() {
-                return Err(WorkerFault::Token);
-            }
+            self.give_back(&mut places.seat, claim)?;
         }
         Ok(())
+    }
+
+    /// Gives back a place.
+    fn give_back(&self, seat: &mut C::Seat, claim: C::Claim) -> Result<(), WorkerFault>
+        requires seat { C.sits self.now.machine.now.table seat.old }
+        requires claim { HasOut (C.has self.now.machine.now.table) (a_claim claim) seat.old }
+        ensures seat { C.sits self.now.machine.now.table seat.new }
+        ensures spent { Spends (C.has self.now.machine.now.table) (a_claim claim) seat.old seat.new result }
+    {
+        let table = &self.machine.table;
+        match table.give_back(self.rt, seat, claim) {
+            Ok(()) => Ok(()),
+            Err(_) => Err(WorkerFault::Token),
+        }
     }
 
     /// Posts a thread that the one of this id has forked.
