@@ -243,16 +243,18 @@ impl<'a, H: Wait, T: RunJob, C: Contexts<T>, R: Rng, G: Gate> Worker<'a, H, T, C
         Ok(found)
     }
 
-    /// The lowest of these indexes, which is among them no longer, else one that the core offers.
+    /// The lowest of these indexes, which is among them no longer; where there is none, one that the core offers. None where the
+    /// lowest is past the last of a core.
     fn next_index(&self, indexes: &mut u64) -> Option<u8>
-        ensures { IfSome result (λ index. index < SLOTS) }
+        ensures index { IfSome result (λ index. index < SLOTS) }
+        ensures fewer { 0 < indexes.old → indexes.new < indexes.old }
     {
-        let index = indexes.trailing_zeros() as u8;
-        if index < SLOTS {
-            *indexes ^= 1 << u32::from(index);
-            return Some(index);
+        if *indexes == 0 {
+            return self.machine.shared.offers().take(self.core);
         }
-        self.machine.shared.offers().take(self.core)
+        let index = indexes.trailing_zeros() as u8;
+        *indexes &= *indexes - 1;
+        if index < SLOTS { Some(index) } else { None }
     }
 
     /// Runs the thread at an index of the core for a turn, if it is ready, and then each that is to go on next. Whether there
