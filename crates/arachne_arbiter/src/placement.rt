@@ -31,8 +31,9 @@ impl<'a, H: Wait, T: Tagged, C: Contexts<T>> Cores<'a, H, T, C> {
         let occupancies = self.look_at_all(seat);
         let seen = &occupancies[..usize::from(self.count)];
         let word = chooser.next_u64();
+        let slots = self.slots;
         // No core has a place for most forks of a large program.
-        if !seen.iter().any(|core| has_place(*core)) {
+        if !seen.iter().any(|core| has_place(*core, slots)) {
             return Ok(None);
         }
         let Some(first) = first_core(word, seen) else {
@@ -90,7 +91,7 @@ impl<'a, H: Wait, T: Tagged, C: Contexts<T>> Cores<'a, H, T, C> {
     {
         for core in 0..self.count {
             if core != tried
-                && has_place(occupancies[usize::from(core)])
+                && has_place(occupancies[usize::from(core)], self.slots)
                 && let Some(claim) = self.claim_on(seat, core)?
             {
                 return Ok(Some(claim));

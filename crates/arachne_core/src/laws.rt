@@ -44,12 +44,12 @@ pub fn drained_core_stays_drained()
     ensures { (w : World) (es : List Event) (c : ℕ) → IsDrained w c → IsRun w es → NeverOpens c es → IsDrained (after_all w es) c }
 {}
 
-/// The machine has up to 16 cores of 56 places, and the last generation has 50 bits. The fields of the words have
-/// room for just these.
+/// The machine has up to 64 cores of up to 56 places, and the last generation has 48 bits. The fields of the words
+/// have room for just these.
 pub fn sizes()
-    ensures cores { (CORES ≡ 16) × (CORES ≡ 2 ^ CORE_BITS) }
+    ensures cores { (CORES ≡ 64) × (CORES ≡ 2 ^ CORE_BITS) }
     ensures slots { (SLOTS ≡ 56) × (MASK_BITS ≡ SLOTS) }
-    ensures generations { (LAST_GENERATION + 1 ≡ 2 ^ 50) × (10 + CORE_BITS + GENERATION_BITS ≡ 64) }
+    ensures generations { (LAST_GENERATION + 1 ≡ 2 ^ 48) × (10 + CORE_BITS + GENERATION_BITS ≡ 64) }
 {}
 
 /// A core's occupancy that is packed into a word is read from it as it was.

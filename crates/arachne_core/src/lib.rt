@@ -14,7 +14,7 @@ mod thread_id;
 mod world;
 
 pub use event::{Event, NotApplied};
-pub use layout::{CORE_BITS, CORES, GENERATION_BITS, LAST_GENERATION, SLOTS};
+pub use layout::{CORE_BITS, CORES, FIRST_CORE_BITS, GENERATION_BITS, LAST_GENERATION, SLOTS};
 pub use mark::Mark;
 pub use mark_word::MarkWord;
 pub use occ_word::{MASK_BITS, OccWord};

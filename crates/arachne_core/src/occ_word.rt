@@ -140,6 +140,20 @@ impl OccWord {
         }
     }
 
+    /// The lowest index that isn't occupied, on a core of so many places.
+    pub fn lowest_free_below(self, slots: u8) -> Option<u8>
+        requires { slots ≤ MASK_BITS }
+        ensures within { IfSome result (λ free. free < slots) }
+        ensures free { IfSome result (λ free. slice_index_or self.occupied free false ≡ false) }
+        ensures lowest { IfSome result (λ free. (i : ℕ) → i < free → slice_index_or self.occupied i false ≡ true) }
+        ensures none { IfNone result ((i : ℕ) → i < slots → slice_index_or self.occupied i false ≡ true) }
+    {
+        match self.lowest_free() {
+            Some(index) if index < slots => Some(index),
+            _ => None,
+        }
+    }
+
     /// The word with this index occupied, count included.
     pub fn with_bit(self, index: u8) -> Self
         requires { index < MASK_BITS }

@@ -7,6 +7,7 @@
 mod carriers;
 mod homes;
 mod locked;
+mod slots;
 mod state;
 mod tokens;
 

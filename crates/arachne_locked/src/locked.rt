@@ -1,14 +1,15 @@
 //! A context table behind a lock.
-ghost use Rattle.std.specs.Prelude.{◌≡◌, ◌<◌, ◌*◌, ◌≢◌, ℕ, IfOk, IfErr};
+ghost use Rattle.std.specs.Prelude.{◌≡◌, ◌<◌, ◌≤◌, ◌*◌, ◌≢◌, ℕ, IsTrue, IfOk, IfErr};
 ghost use Rattle.arachne_core.specs.Occupancy.{IsOccupancyWord};
-ghost use Rattle.arachne_contexts.specs.Words.{HasNoFree};
+ghost use Rattle.arachne_contexts.specs.Words.{HasNoPlace, ShowsFull, ShowsNoRoom};
 ghost use Rattle.arachne_contexts.specs.Answers.{RestsAs};
 
 use crate::carriers::Carriers;
+use crate::slots::Slots;
 use crate::state::{TableState, no_core};
 use crate::tokens::{LockedClaim, LockedHold};
 use arachne_contexts::{Claimed, Contexts, Held, Moved, Rested, Seats, Tagged, Taken, Woken};
-use arachne_core::{OccWord, Place, Rest, ThreadId};
+use arachne_core::{OccWord, Place, Rest, SLOTS, ThreadId};
 use arachne_weights::Weight;
 use std::alloc::{AllocError, Global};
 use std::sync::{Mutex, Wait};
@@ -19,6 +20,7 @@ pub struct LockedContexts<T: Tagged> {
     state: Mutex<TableState<T>>,
     carriers: Mutex<Carriers>,
     cores: u8,
+    slots: Slots,
 }
 
 /// Who steps at a locked table. The state behind the lock knows it by its carrier.
@@ -50,8 +52,57 @@ fn word_of(occ: Option<OccWord>) -> u64
 {
     match occ {
         Some(occ) => occ.word(),
-        None => no_core().word(),
+        None => no_core(SLOTS).word(),
     }
+}
+
+impl<T: Tagged + Drop> LockedContexts<T> {
+    /// How many places each core has.
+    pub fn slots(&self) -> u8
+        ensures value { result ≡ self.now.slots }
+        ensures few { result ≤ SLOTS }
+    {
+        self.slots.count()
+    }
+}
+
+/// The word, if it shows a core of so many places to be full, else that of a full one: nothing outside a lock knows how
+/// many places a core has behind it.
+fn full_word(word: u64, slots: Slots) -> u64
+    ensures { ShowsFull slots result }
+{
+    if let Some(occ) = OccWord::from_word(word) {
+        if !occ.is_closed() && has_no_place(occ, slots) {
+            return word;
+        }
+    }
+    full_core(slots)
+}
+
+/// The same of a word that shows that no thread may be moved to the core.
+fn no_room_word(word: u64, slots: Slots) -> u64
+    ensures { ShowsNoRoom slots result }
+{
+    if let Some(occ) = OccWord::from_word(word) {
+        if occ.is_closed() || has_no_place(occ, slots) {
+            return word;
+        }
+    }
+    full_core(slots)
+}
+
+/// Whether one thread has the core alone, or none of its places is free.
+fn has_no_place(occ: OccWord, slots: Slots) -> bool
+    ensures { IsTrue result → HasNoPlace slots occ }
+{
+    occ.is_exclusive() || occ.lowest_free_below(slots.count()).is_none()
+}
+
+/// The word of a core of which each place is occupied.
+fn full_core(slots: Slots) -> u64
+    ensures { ShowsFull slots result }
+{
+    no_core(slots.count()).word()
 }
 
 impl<T: Tagged + Drop> Seats for LockedContexts<T> {
@@ -65,16 +116,20 @@ impl<T: Tagged + Drop> Seats for LockedContexts<T> {
 
     ghost core_count = { λ table. table.cores };
 
+    ghost slot_count = { λ table. table.slots };
+
     fn new(
         alloc: Global,
         cores: u8,
+        slots: u8,
         first_generation: u64,
     ) -> Result<(LockedContexts<T>, LockedSeat), AllocError> {
-        let state = TableState::new(alloc, cores, first_generation)?;
+        let state = TableState::new(alloc, cores, slots, first_generation)?;
         let table = LockedContexts {
             state: Mutex::new(state),
             carriers: Mutex::new(Carriers::new()),
             cores,
+            slots: Slots::new(slots),
         };
         let seat = LockedSeat {
             carrier: 0,
@@ -146,7 +201,10 @@ impl<T: Tagged + Drop> Contexts<T> for LockedContexts<T> {
         if let Claimed::Place(_) = &claimed {
             seat.gain();
         }
-        Ok(claimed)
+        match claimed {
+            Claimed::Full(word) => Ok(Claimed::Full(full_word(word, self.slots))),
+            other => Ok(other),
+        }
     }
 
     fn claim_alone<R: Wait>(
@@ -256,7 +314,10 @@ impl<T: Tagged + Drop> Contexts<T> for LockedContexts<T> {
     }
 
     fn move_one<R: Wait>(&self, rt: &R, seat: &mut LockedSeat, place: Place, to: u8) -> Moved {
-        self.state.lock(rt).move_one(seat.carrier, place, to)
+        match self.state.lock(rt).move_one(seat.carrier, place, to) {
+            Moved::NoRoom(word) => Moved::NoRoom(no_room_word(word, self.slots)),
+            other => other,
+        }
     }
 
     fn close<R: Wait>(
@@ -270,6 +331,7 @@ impl<T: Tagged + Drop> Contexts<T> for LockedContexts<T> {
             state,
             carriers,
             cores,
+            slots,
         } = self;
         match state.into_inner().close(alloc) {
             Ok(rest) => Ok(rest),
@@ -278,6 +340,7 @@ impl<T: Tagged + Drop> Contexts<T> for LockedContexts<T> {
                     state: Mutex::new(state),
                     carriers,
                     cores,
+                    slots,
                 };
                 Err((table, seat))
             }

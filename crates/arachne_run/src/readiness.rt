@@ -60,7 +60,7 @@ impl Readiness {
     }
 
     /// Threads of these cores may be ready at any index.
-    pub(crate) fn hint_cores(&self, cores: u16) {
+    pub(crate) fn hint_cores(&self, cores: u64) {
         for core in 0..CORES {
             if cores >> u32::from(core) & 1 == 1 {
                 self.hint_indexes(core, ALL_INDEXES);

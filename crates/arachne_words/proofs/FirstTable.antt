@@ -10,39 +10,39 @@ use Rattle.arachne_core.specs.Marked.{mark_word}
 use Rattle.arachne_rule.specs.Layout.{AreFirstWords}
 use Rattle.arachne_words.specs.FirstWords.{first_word, block_word}
 
-pub block-before : (core offset : ℕ) → offset < 16 → block_word core offset ≡ 0
-block-before core offset h = cond-true (ltb offset 16) _ _ (lt-ltb offset 16 h)
+pub block-before : (slots core offset : ℕ) → offset < 16 → block_word slots core offset ≡ 0
+block-before slots core offset h = cond-true (ltb offset 16) _ _ (lt-ltb offset 16 h)
 
-pub block-name : (core offset : ℕ) → 16 ≤ offset → offset - 16 < SLOTS → block_word core offset ≡ core * SLOTS + (offset - 16)
-block-name core offset h l = cond-false (ltb offset 16) _ _ (le-ltb offset 16 h) ∙ cond-true (ltb (offset - 16) SLOTS) _ _ (lt-ltb (offset - 16) SLOTS l)
+pub block-name : (slots core offset : ℕ) → 16 ≤ offset → offset - 16 < slots → block_word slots core offset ≡ core * slots + (offset - 16)
+block-name slots core offset h l = cond-false (ltb offset 16) _ _ (le-ltb offset 16 h) ∙ cond-true (ltb (offset - 16) slots) _ _ (lt-ltb (offset - 16) slots l)
 
-pub block-behind : (core offset : ℕ) → 16 ≤ offset → SLOTS ≤ offset - 16 → block_word core offset ≡ 0
-block-behind core offset h l = cond-false (ltb offset 16) _ _ (le-ltb offset 16 h) ∙ cond-false (ltb (offset - 16) SLOTS) _ _ (le-ltb (offset - 16) SLOTS l)
+pub block-behind : (slots core offset : ℕ) → 16 ≤ offset → slots ≤ offset - 16 → block_word slots core offset ≡ 0
+block-behind slots core offset h l = cond-false (ltb offset 16) _ _ (le-ltb offset 16 h) ∙ cond-false (ltb (offset - 16) slots) _ _ (le-ltb (offset - 16) slots l)
 
-pub word-mark : (n generation i : ℕ) → i < n → first_word n generation i ≡ mark_word CORE_BITS (record { mark = mark.Free; alone = false; place = first_place SLOTS i; generation = generation })
-word-mark n generation i h = cond-true (ltb i n) _ _ (lt-ltb i n h)
+pub word-mark : (slots n generation i : ℕ) → i < n → first_word slots n generation i ≡ mark_word CORE_BITS (record { mark = mark.Free; alone = false; place = first_place slots i; generation = generation })
+word-mark slots n generation i h = cond-true (ltb i n) _ _ (lt-ltb i n h)
 
-pub word-block : (n generation i : ℕ) → n ≤ i → first_word n generation i ≡ block_word ((i - n) / 80) ((i - n) % 80)
-word-block n generation i h = cond-false (ltb i n) _ _ (le-ltb i n h)
+pub word-block : (slots n generation i : ℕ) → n ≤ i → first_word slots n generation i ≡ block_word slots ((i - n) / 80) ((i - n) % 80)
+word-block slots n generation i h = cond-false (ltb i n) _ _ (le-ltb i n h)
 
-pub are-first : (cores generation last : ℕ) (ws : List ℕ) → length ws ≡ cores * 56 + 80 * cores
-    → ((i : ℕ) → i < cores * 56 + 80 * cores → get_or ws i 0 ≡ first_word (cores * 56) generation i)
-    → AreFirstWords CORE_BITS (record { cores = cores; slots = SLOTS; first = generation; last = last }) ws
-are-first cores generation last ws long each =
-    let n : ℕ = cores * 56 in record {
+pub are-first : (cores slots generation last : ℕ) (ws : List ℕ) → slots ≤ SLOTS → length ws ≡ cores * slots + 80 * cores
+    → ((i : ℕ) → i < cores * slots + 80 * cores → get_or ws i 0 ≡ first_word slots (cores * slots) generation i)
+    → AreFirstWords CORE_BITS (record { cores = cores; slots = slots; first = generation; last = last }) ws
+are-first cores slots generation last ws few long each =
+    let n : ℕ = cores * slots in record {
       long = long;
       occ = λ c c_in.
           let i : ℕ = n + 80 * c + 8 in
-          each i (omega (arith, c_in)) ∙ word-block n generation i (omega arith)
-          ∙ block-before ((i - n) / 80) ((i - n) % 80) (omega arith);
-      mark = λ x x_in. each x (omega (arith, x_in)) ∙ word-mark n generation x x_in;
+          each i (omega (arith, c_in)) ∙ word-block slots n generation i (omega arith)
+          ∙ block-before slots ((i - n) / 80) ((i - n) % 80) (omega arith);
+      mark = λ x x_in. each x (omega (arith, x_in)) ∙ word-mark slots n generation x x_in;
       name = λ p core_in index_in.
           let i : ℕ = n + 80 * p.core + 16 + p.index in
-          let small : p.index < 56 = index_in in
+          let small : p.index < 56 = omega (arith, index_in, few) in
           let offset : (i - n) % 80 ≡ 16 + p.index = omega (arith, small) in
           let core : (i - n) / 80 ≡ p.core = omega (arith, small) in
-          each i (omega (arith, core_in, small)) ∙ word-block n generation i (omega arith)
-          ∙ (λ j. block_word (core j) (offset j)) ∙ block-name p.core (16 + p.index) (omega arith) (omega (arith, small)) ∙ omega arith;
+          each i (omega (arith, core_in, small)) ∙ word-block slots n generation i (omega arith)
+          ∙ (λ j. block_word slots (core j) (offset j)) ∙ block-name slots p.core (16 + p.index) (omega arith) (omega (arith, index_in)) ∙ omega arith;
     }
 
 -- one word more

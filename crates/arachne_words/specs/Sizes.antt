@@ -16,5 +16,5 @@ pub record IsSized (c : Contexts) (slots last : ℕ) : Type 0 where
   pub last_is : last ≡ c.shape.last
   pub some_core : 0 < c.shape.cores
   pub cores_fit : c.shape.cores ≤ CORES
-  pub slots_fit : c.shape.slots ≡ SLOTS
+  pub slots_fit : c.shape.slots ≤ SLOTS
   pub last_fit : c.shape.last ≡ LAST_GENERATION

@@ -4,7 +4,7 @@ ghost use Rattle.arachne_words.specs.Seats.{HasNothingOut};
 
 use super::Job;
 use crate::{Claimed, Contexts, Moved, Taken, WordContexts, WordSeat};
-use arachne_core::{Place, SLOTS, ThreadId};
+use arachne_core::{CORES, Place, SLOTS, ThreadId};
 use std::alloc::Global;
 use std::sync::Wait;
 use std::test::Fail;
@@ -64,7 +64,7 @@ fn end<C: Contexts<Job>, R: Wait>(
 ) -> Option<bool>
     requires seat { C.sits table.now work.old.seat × C.idle table.now work.old.seat }
     requires core { core < C.core_count table.now }
-    requires index { index < SLOTS }
+    requires index { index < C.slot_count table.now }
     ensures { IfSome result (λ _. C.sits table.now work.new.seat × C.idle table.now work.new.seat) }
 {
     match table.take(rt, &mut work.seat, core, index) {
@@ -87,6 +87,7 @@ fn end_all<C: Contexts<Job>, R: Wait>(
 ) -> Option<u64>
     requires seat { C.sits table.now work.old.seat × C.idle table.now work.old.seat }
     requires core { core < C.core_count table.now }
+    requires slots { SLOTS ≡ C.slot_count table.now }
     ensures { IfSome result (λ _. C.sits table.now work.new.seat × C.idle table.now work.new.seat) }
 {
     let mut ended: u64 = 0;
@@ -112,6 +113,7 @@ struct Part {
 fn move_away<C: Contexts<Job>, R: Wait>(rt: &R, table: &C, work: &mut Work<C::Seat>) -> u64
     requires seat { C.sits table.now work.old.seat × C.idle table.now work.old.seat }
     requires cores { 1 < C.core_count table.now }
+    requires slots { SLOTS ≡ C.slot_count table.now }
     ensures { C.sits table.now work.new.seat × C.idle table.now work.new.seat }
 {
     let mut moved: u64 = 0;
@@ -136,6 +138,7 @@ fn all_rounds<C: Contexts<Job>, R: Wait>(
 ) -> Option<Work<C::Seat>>
     requires seat { C.sits table.now seat × C.idle table.now seat }
     requires cores { (1 ≤ part.cores) × (part.cores ≡ C.core_count table.now) }
+    requires slots { SLOTS ≡ C.slot_count table.now }
     ensures { IfSome result (λ w. C.sits table.now w.seat × C.idle table.now w.seat) }
 {
     let mut work = Work {
@@ -166,6 +169,7 @@ fn work_side_by_side<R: Threads + Wait + Sync>(
     their: Part,
 ) -> Option<(WordWork, WordWork)>
     requires seat { (seat.table ≡ table.now.table) × HasNothingOut seat.known }
+    requires slots { SLOTS ≡ table.now.shape.slots }
     requires own { (1 ≤ own.cores) × (own.cores ≡ table.now.shape.cores) }
     requires their { (1 ≤ their.cores) × (their.cores ≡ table.now.shape.cores) }
     ensures first { IfSome result (λ w. (w.0.seat.table ≡ table.now.table) × HasNothingOut w.0.seat.known) }
@@ -175,11 +179,11 @@ fn work_side_by_side<R: Threads + Wait + Sync>(
     let (first, second) = thread::join(
         rt,
         move || -> Option<WordWork>
-            requires { (first.table ≡ table.now.table) × HasNothingOut first.known × (1 ≤ own.cores) × (own.cores ≡ table.now.shape.cores) }
+            requires { (first.table ≡ table.now.table) × HasNothingOut first.known × (1 ≤ own.cores) × (own.cores ≡ table.now.shape.cores) × (SLOTS ≡ table.now.shape.slots) }
             ensures { IfSome result (λ w. (w.seat.table ≡ table.entry.now.table) × HasNothingOut w.seat.known) }
         { all_rounds::<Words, R>(rt, table, alloc, first, own) },
         move || -> Option<WordWork>
-            requires { (second.table ≡ table.now.table) × HasNothingOut second.known × (1 ≤ their.cores) × (their.cores ≡ table.now.shape.cores) }
+            requires { (second.table ≡ table.now.table) × HasNothingOut second.known × (1 ≤ their.cores) × (their.cores ≡ table.now.shape.cores) × (SLOTS ≡ table.now.shape.slots) }
             ensures { IfSome result (λ w. (w.seat.table ≡ table.entry.now.table) × HasNothingOut w.seat.known) }
         { all_rounds::<Words, R>(rt, table, alloc, second, their) },
     );
@@ -235,7 +239,7 @@ fn contend<R: Threads + Wait + Sync>(
     moves: bool,
 ) -> Result<(bool, u64), Fail>
     requires some { 1 ≤ cores }
-    requires most { cores ≤ 16 }
+    requires most { cores ≤ CORES }
 {
     let own = Part {
         cores,
@@ -249,7 +253,7 @@ fn contend<R: Threads + Wait + Sync>(
         from: u8::from(moves),
         first_tag: ROUNDS,
     };
-    let (table, seat) = Words::new(alloc, cores, 0)?;
+    let (table, seat) = Words::new(alloc, cores, SLOTS, 0)?;
     let works = work_side_by_side(rt, &table, alloc, seat, own, their);
     let (first, second) = works.ok_or("no memory")?;
     let moved = first.moved.wrapping_add(second.moved);

@@ -1,4 +1,4 @@
-use Rattle.std.proofs.Common.{◌≡◌, true, false, get_or, replicate, ap, ◌∙◌, refl}
+use Rattle.std.proofs.Common.{◌≡◌, true, false, get_or, replicate, ap, ◌∙◌, refl, arith}
 use Rattle.std.proofs.lemmas.List.{get_or-replicate}
 use Rattle.arachne_core.specs.Occupancy.{Occupancy, flags}
 use Rattle.arachne_locked.proofs.state.no_core.Goals as goal
@@ -8,4 +8,4 @@ unfolding flags
 all_set = refl
 
 pub returns-clause-full : goal.returns-clause-full
-returns-clause-full c i h = ap (λ (o : Occupancy). get_or o.occupied i false) c.new.ensures ∙ ap (λ xs. get_or xs i false) all_set ∙ get_or-replicate 56 i true false h
+returns-clause-full c i h = ap (λ (o : Occupancy). get_or o.occupied i false) c.new.ensures ∙ ap (λ xs. get_or xs i false) all_set ∙ get_or-replicate 56 i true false (omega (arith, h, c.requires))
