@@ -4,7 +4,7 @@ use Rattle.arachne_core.specs.declared.state.Context.{Context}
 use Rattle.arachne_core.specs.declared.place.Place.{Place}
 use Rattle.arachne_core.specs.declared.event.Event.{Event}
 use Rattle.arachne_core.specs.declared.state.State.TheVariants.{Free}
-use Rattle.arachne_core.specs.declared.layout.TheConstants.{CORES, SLOTS, LAST_GENERATION}
+use Rattle.arachne_core.specs.declared.layout.TheConstants.{CORES, SLOTS, MASK_BITS, LAST_GENERATION}
 use Rattle.arachne_core.specs.Place.{first_place, number_of}
 use Rattle.arachne_core.specs.Occupancy.{Occupancy}
 use Rattle.arachne_core.specs.World.{after}
@@ -49,7 +49,7 @@ pub record IsTable (slots : ℕ) (cs : List Context) (os : List Occupancy) (rs :
   pub few_slots : slots ≤ SLOTS
   pub contexts : length cs ≡ length os * slots
   pub residents : length rs ≡ length cs
-  pub indexes : (c : ℕ) → c < length os → length (slice_index_or os c no_core).occupied ≡ 56
+  pub indexes : (c : ℕ) → c < length os → length (slice_index_or os c no_core).occupied ≡ MASK_BITS
   pub beyond : (c : ℕ) → c < length os → IsVacantFrom slots (slice_index_or os c no_core)
   pub placed : (x : ℕ) → x < length cs → ((slice_index_or cs x no_context).place.core < length os) × ((slice_index_or cs x no_context).place.index < slots)
   pub found : (x : ℕ) → x < length cs → slice_index_or rs (number_of slots (slice_index_or cs x no_context).place) 0 ≡ x

@@ -6,6 +6,9 @@ pub const CORES: u8 = 64;
 /// The most places that a core can have, each of which holds one context.
 pub const SLOTS: u8 = 56;
 
+/// The indexes that an occupancy word's mask has bits for.
+pub const MASK_BITS: u8 = SLOTS;
+
 /// The last generation of a context: a context whose thread ends at it is never used again.
 pub const LAST_GENERATION: u64 = (1 << GENERATION_BITS) - 1;
 

@@ -9,7 +9,7 @@ ghost use Rattle.arachne_core.specs.ContextTable.{context, core, world_of, IsVac
 ghost use Rattle.arachne_core.specs.TableChanges.{with_context, with_occupied, with_closed, with_exclusive, with_swapped, Makes, HasPlace, first_context};
 
 use crate::event::{Event, NotApplied};
-use crate::layout::{CORES, LAST_GENERATION, SLOTS};
+use crate::layout::{CORES, LAST_GENERATION, MASK_BITS, SLOTS};
 use crate::occ_word::OccWord;
 use crate::place::Place;
 use crate::state::{Context, Rest, State};
@@ -139,7 +139,7 @@ impl Tables {
     pub fn core(&self, number: u8) -> OccWord
         requires { number < length self.now.cores }
         ensures value { result ≡ core self.now number }
-        ensures indexes { length result.occupied ≡ 56 }
+        ensures indexes { length result.occupied ≡ MASK_BITS }
         ensures beyond { IsVacantFrom self.now.slots result }
     {
         self.cores[usize::from(number)]

@@ -15,7 +15,7 @@ use crate::homes::Homes;
 use crate::tokens::{LockedClaim, LockedHold};
 use arachne_contexts::{Claimed, Held, Moved, Rested, Tagged, Taken, Woken};
 use arachne_core::{
-    CORES, Event, LAST_GENERATION, Mark, MarkWord, NotApplied, OccWord, Place, Rest, SLOTS, State,
+    CORES, Event, FULL_MASK, LAST_GENERATION, Mark, MarkWord, NotApplied, OccWord, Place, Rest, SLOTS, State,
     ThreadId,
 };
 use std::alloc::{AllocError, Global};
@@ -37,9 +37,6 @@ impl<T: Tagged> Model for TableState<T> {
 
     ghost invariant = { λ s. HasRoom s.homes.table };
 }
-
-/// The mask of a core of which each index is occupied.
-const FULL_MASK: u64 = (1 << 56) - 1;
 
 /// The word of a core that isn't there, where each core has so many places: it is full.
 pub fn no_core(slots: u8) -> OccWord

@@ -47,7 +47,7 @@ left-thread = refl
 -- ---- a history on one core of one place: a claim, a post, a lost take, a take, the end of the thread, and the release
 
 abbrev small : Shape
-small = record { cores = 1; slots = 1; first = 0; last = 3 }
+small = record { cores = 1; places_per_core = 1; first = 0; last = 3 }
 
 abbrev step-of : ℕ → Kind → ℕ → ℕ → ℕ → Event → Entry
 step-of seat kind word before after event = record { seat = seat; step = record { kind = kind; word = word; before = before; after = after }; event = event }

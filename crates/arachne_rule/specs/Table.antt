@@ -23,7 +23,7 @@ Mine T = Me (Option T) (Token Known)
 -- The World has the table's shape, and the table the words and slots for it.
 pub record Fits {T : Type 0} (shape : Shape) (w : World) (s : Table T) : Type 0 where
   pub cores : w.cores ≡ shape.cores
-  pub slots : w.slots ≡ shape.slots
+  pub slots : w.slots ≡ shape.places_per_core
   pub last : w.last ≡ shape.last
   pub words : length s.words ≡ words_in shape
   pub homes : length s.homes ≡ contexts_in shape

@@ -3,8 +3,8 @@ ghost use Rattle.std.specs.Prelude.{◌≡◌, ◌+◌, ◌*◌, ◌<◌, ◌≤
 ghost use Rattle.arachne_core.specs.declared.layout.TheConstants.{CORES, LAST_GENERATION, SLOTS};
 ghost use Rattle.arachne_words.specs.FirstWords.{first_word};
 
-use crate::table::{BLOCK, NAMES};
 use arachne_core::{Mark, MarkWord, Place};
+use arachne_rule::{BLOCK, NAMES};
 use std::alloc::{AllocError, Global};
 
 /// The word at this index, where each core has so many places and there are so many contexts.
@@ -12,7 +12,7 @@ fn word_at(contexts: usize, slots: u8, generation: u64, index: usize) -> u64
     requires slots { slots ≤ SLOTS }
     requires contexts { contexts ≤ CORES * slots }
     requires generation { generation ≤ LAST_GENERATION }
-    requires index { index < contexts + 80 * CORES }
+    requires index { index < contexts + BLOCK * CORES }
     ensures { result ≡ first_word slots contexts generation index }
 {
     if index < contexts {
@@ -37,8 +37,8 @@ pub(crate) fn first_words(
     requires cores { cores ≤ CORES }
     requires slots { slots ≤ SLOTS }
     requires generation { generation ≤ LAST_GENERATION }
-    ensures length { IfOk result (λ words. vec_len words ≡ cores * slots + 80 * cores) }
-    ensures words { IfOk result (λ words. (i : ℕ) → i < cores * slots + 80 * cores → slice_index words.items i ≡ first_word slots (cores * slots) generation i) }
+    ensures length { IfOk result (λ words. vec_len words ≡ cores * slots + BLOCK * cores) }
+    ensures words { IfOk result (λ words. (i : ℕ) → i < cores * slots + BLOCK * cores → slice_index words.items i ≡ first_word slots (cores * slots) generation i) }
 {
     let contexts = usize::from(cores) * usize::from(slots);
     let count = contexts + BLOCK * usize::from(cores);

@@ -16,7 +16,7 @@ use Rattle.arachne_words.proofs.table.WordContexts.new.Goals as goal
 
 pub vacant-made-requires : goal.vacant-made-requires
 vacant-made-requires g c =
-    let shape : Shape = record { cores = c.args.cores; slots = c.args.slots; first = c.args.first_generation; last = LAST_GENERATION } in
+    let shape : Shape = record { cores = c.args.cores; places_per_core = c.args.slots; first = c.args.first_generation; last = LAST_GENERATION } in
     let made = c.in_ok-words.ensures in
     let is : IsShape CORE_BITS shape = record {
       cores = omega (arith, c.requires.cores);
