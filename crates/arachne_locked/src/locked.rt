@@ -1,10 +1,14 @@
 //! A context table behind a lock.
-ghost use Rattle.std.specs.Prelude.{◌≡◌, ◌<◌, ◌≤◌, ◌*◌, ◌≢◌, ℕ, IsTrue, IfOk, IfErr};
+ghost use Rattle.std.specs.Prelude.{◌≡◌, ◌<◌, ◌≤◌, ◌*◌, ◌≢◌, ℕ, [], IsTrue, IfOk, IfErr};
 ghost use Rattle.arachne_core.specs.Occupancy.{IsOccupancyWord};
 ghost use Rattle.arachne_contexts.specs.Words.{HasNoPlace, ShowsFull, ShowsNoRoom};
 ghost use Rattle.arachne_contexts.specs.Answers.{RestsAs};
+ghost use Rattle.arachne_contexts.specs.Out.{Thread as a_thread, Spends};
+ghost use Rattle.arachne_weights.specs.Weight.{first_part, second_part};
+ghost use Rattle.arachne_locked.specs.Seats.{CountsOut};
 
 use crate::carriers::Carriers;
+use crate::seat::LockedSeat;
 use crate::slots::Slots;
 use crate::state::{TableState, no_core};
 use crate::tokens::{LockedClaim, LockedHold};
@@ -21,29 +25,6 @@ pub struct LockedContexts<T: Tagged> {
     carriers: Mutex<Carriers>,
     cores: u8,
     slots: Slots,
-}
-
-/// Who steps at a locked table. The state behind the lock knows it by its carrier.
-#[derive(Debug, Drop)]
-pub struct LockedSeat {
-    carrier: u32,
-    weight: Weight,
-    /// How many claims and threads it hasn't spent.
-    out: u32,
-}
-
-impl LockedSeat {
-    fn gain(&mut self)
-        ensures { self.new.weight ≡ self.old.weight }
-    {
-        self.out = self.out.saturating_add(1);
-    }
-
-    fn spend(&mut self)
-        ensures { self.new.weight ≡ self.old.weight }
-    {
-        self.out = self.out.saturating_sub(1);
-    }
 }
 
 /// The word of a core, or that of a full one where the table doesn't have it.
@@ -110,7 +91,7 @@ impl<T: Tagged + Drop> Seats for LockedContexts<T> {
 
     ghost sits = { λ table seat. Unit {0} };
 
-    ghost idle = { λ table seat. Unit {0} };
+    ghost idle = { λ table seat. CountsOut seat [] };
 
     ghost weight = { λ seat. seat.weight };
 
@@ -139,8 +120,14 @@ impl<T: Tagged + Drop> Seats for LockedContexts<T> {
         Ok((table, seat))
     }
 
-    fn split<R: Wait>(&self, rt: &R, seat: LockedSeat) -> (LockedSeat, LockedSeat) {
-        let carrier = self.carriers.lock(rt).next();
+    fn split<R: Wait>(&self, rt: &R, seat: LockedSeat) -> (LockedSeat, LockedSeat)
+        requires sits { Unit {0} }
+        requires idle { CountsOut seat [] }
+        ensures first { result.0 ≡ record seat { weight = first_part seat.weight } }
+        ensures second { result.1 ≡ record { carrier = result.1.carrier; weight = second_part seat.weight; out = 0 } }
+        ensures carriers { result.1.carrier ≢ seat.carrier }
+    {
+        let carrier = self.carriers.lock(rt).next(seat.carrier);
         let (first, second) = seat.weight.split();
         let own = LockedSeat {
             weight: first,
@@ -176,7 +163,7 @@ impl<T: Tagged + Drop> Contexts<T> for LockedContexts<T> {
 
     type Hold = LockedHold;
 
-    ghost has = { λ table seat outs. Unit {0} };
+    ghost has = { λ table seat outs. CountsOut seat outs };
 
     fn look<R: Wait>(&self, rt: &R, seat: &mut LockedSeat, core: u8) -> u64 {
         let _ = seat;
@@ -198,10 +185,11 @@ impl<T: Tagged + Drop> Contexts<T> for LockedContexts<T> {
         core: u8,
     ) -> Result<Claimed<LockedClaim>, AllocError> {
         let claimed = self.state.lock(rt).claim(seat.carrier, core)?;
-        if let Claimed::Place(_) = &claimed {
-            seat.gain();
-        }
         match claimed {
+            Claimed::Place(claim) => {
+                seat.gain();
+                Ok(Claimed::Place(claim))
+            }
             Claimed::Full(word) => Ok(Claimed::Full(full_word(word, self.slots))),
             other => Ok(other),
         }
@@ -269,6 +257,7 @@ impl<T: Tagged + Drop> Contexts<T> for LockedContexts<T> {
     ) -> Result<Rested, Held<T, LockedHold>>
         ensures seat { Unit {0} }
         ensures weight { seat.new.weight ≡ seat.old.weight }
+        ensures out { Spends CountsOut (a_thread held.hold (T.tag_of held.value)) seat.old seat.new result }
         ensures answer { IfOk result (RestsAs rest) }
         ensures handed_back { IfErr result (λ back. back ≡ held) }
     {
@@ -285,6 +274,7 @@ impl<T: Tagged + Drop> Contexts<T> for LockedContexts<T> {
     ) -> Result<T, Held<T, LockedHold>>
         ensures seat { Unit {0} }
         ensures weight { seat.new.weight ≡ seat.old.weight }
+        ensures out { Spends CountsOut (a_thread held.hold (T.tag_of held.value)) seat.old seat.new result }
         ensures value { IfOk result (λ value. value ≡ held.value) }
         ensures handed_back { IfErr result (λ back. back ≡ held) }
     {
@@ -347,9 +337,9 @@ impl<T: Tagged + Drop> Contexts<T> for LockedContexts<T> {
         }
     }
 
-    ghost nothing_out = { λ table seat idle. tt };
+    ghost nothing_out = { λ table seat idle. idle };
 
-    ghost is_idle = { λ table seat none. tt };
+    ghost is_idle = { λ table seat none. none };
 
-    ghost swapped = { λ table seat first second outs has. tt };
+    ghost swapped = { λ table seat first second outs has. has };
 }

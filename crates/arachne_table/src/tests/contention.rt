@@ -14,11 +14,19 @@ use std::thread::Threads;
 const ROUNDS: u64 = 10_000;
 
 /// What a thread has done: its seat, twice the tag of each thread that it has posted, twice the tag and 1 of each that it has ended, and
-/// how many it has moved.
+/// how many it has posted and moved.
 #[derive(Drop)]
 struct Work<S> {
     seat: S,
     log: Vec<u64>,
+    posted: u64,
+    moved: u64,
+}
+
+/// Whether all is settled, how many threads each of two kernel threads has posted, and how many were moved.
+struct Outcome {
+    settled: bool,
+    posted: (u64, u64),
     moved: u64,
 }
 
@@ -41,6 +49,7 @@ fn post<C: Contexts<Job>, R: Wait>(
     match table.claim(rt, &mut work.seat, core).ok()? {
         Claimed::Place(claim) => {
             table.post(rt, &mut work.seat, claim, Job(tag)).ok()?;
+            work.posted = work.posted.wrapping_add(1);
             work.log.push(tag.wrapping_mul(2)).ok()
         }
         Claimed::Full(_) => Some(()),
@@ -144,6 +153,7 @@ fn all_rounds<C: Contexts<Job>, R: Wait>(
     let mut work = Work {
         seat,
         log: Vec::new(alloc),
+        posted: 0,
         moved: 0,
     };
     for round in 0..ROUNDS {
@@ -230,14 +240,13 @@ fn left(
     table.close(alloc, seat).ok()
 }
 
-/// Two kernel threads on one table of so many cores, one of which may move threads away. Answers whether all is settled, and how many
-/// threads were moved.
+/// Two kernel threads on one table of so many cores, one of which may move threads away.
 fn contend<R: Threads + Wait + Sync>(
     rt: &R,
     alloc: Global,
     cores: u8,
     moves: bool,
-) -> Result<(bool, u64), Fail>
+) -> Result<Outcome, Fail>
     requires some { 1 ≤ cores }
     requires most { cores ≤ CORES }
 {
@@ -256,21 +265,26 @@ fn contend<R: Threads + Wait + Sync>(
     let (table, seat) = Words::new(alloc, cores, SLOTS, 0)?;
     let works = work_side_by_side(rt, &table, alloc, seat, own, their);
     let (first, second) = works.ok_or("no memory")?;
+    let posted = (first.posted, second.posted);
     let moved = first.moved.wrapping_add(second.moved);
     let left = left(alloc, table, first.seat, second.seat).ok_or("not closed")?;
-    Ok((is_settled(first.log, second.log, left)?, moved))
+    Ok(Outcome {
+        settled: is_settled(first.log, second.log, left)?,
+        posted,
+        moved,
+    })
 }
 
 #[test]
 fn two_threads_on_one_core_of_words(rt: HostRuntime) -> Result<(), Fail> {
-    let (settled, _) = contend(&rt, rt.alloc(), 1, false)?;
-    assert!(rt; settled);
+    let outcome = contend(&rt, rt.alloc(), 1, false)?;
+    assert!(rt; outcome.settled && outcome.posted.0 > 0 && outcome.posted.1 > 0);
     Ok(())
 }
 
 #[test]
 fn two_threads_one_of_which_moves_words(rt: HostRuntime) -> Result<(), Fail> {
-    let (settled, moved) = contend(&rt, rt.alloc(), 2, true)?;
-    assert!(rt; settled && moved > 0);
+    let outcome = contend(&rt, rt.alloc(), 2, true)?;
+    assert!(rt; outcome.settled && outcome.posted.0 > 0 && outcome.posted.1 > 0 && outcome.moved > 0);
     Ok(())
 }

@@ -21,6 +21,7 @@ enum Spend {
     Post(u64),
     End,
     Block,
+    Ready,
 }
 
 /// What the step answers that gets a claim or a thread, the steps while that is out, how it is spent, and what that answers.
@@ -150,7 +151,7 @@ fn with_claim<C: Contexts<Job>, R: Wait>(
     }
 }
 
-/// Ends the thread, or puts it back as blocked. What that answers.
+/// Ends the thread, or puts it back as blocked or as ready. What that answers.
 fn spend_thread<C: Contexts<Job>, R: Wait>(
     rt: &R,
     table: &C,
@@ -166,7 +167,11 @@ fn spend_thread<C: Contexts<Job>, R: Wait>(
         let job = table.finish(rt, seat, held).ok()?;
         return Some(("tag", job.0, 0));
     }
-    match table.put_back(rt, seat, held, Rest::Blocked).ok()? {
+    let rest = match spend {
+        Spend::Ready => Rest::Ready,
+        _ => Rest::Blocked,
+    };
+    match table.put_back(rt, seat, held, rest).ok()? {
         Rested::AsAsked => Some(("as asked", 0, 0)),
         Rested::WokenMeanwhile => Some(("woken meanwhile", 0, 0)),
     }
@@ -239,7 +244,7 @@ fn are_left(left: &[(ThreadId, Job)], expected: &[(u32, u64, u64)]) -> bool {
 }
 
 /// Splits the seat, joins both halves, and closes the table. The threads that are left.
-fn close<C: Contexts<Job> + Drop, R: Wait>(
+pub(super) fn close<C: Contexts<Job> + Drop, R: Wait>(
     rt: &R,
     alloc: Global,
     table: C,
@@ -566,6 +571,47 @@ const RUNS: &[Run] = &[
                     spent: ("back", 0, 0),
                 },
             ),
+        ],
+        left: None,
+    },
+    // A held thread and one that has its core alone are not moved, and a thread is put back as ready.
+    Run {
+        cores: 2,
+        slots: SLOTS,
+        first_generation: 0,
+        parts: &[
+            Part::Steps(&[(Step::Post(0, 3), ("id", 0, 0))]),
+            Part::Thread(
+                0,
+                0,
+                Use {
+                    got: ("id", 0, 0),
+                    steps: &[
+                        (Step::Out, ("out", 1, 0)),
+                        (Step::Move(0, 0, 1), ("running", 0, 0)),
+                        (Step::Mark(0), ("word", 0x3, 0)),
+                    ],
+                    spend: Spend::Ready,
+                    spent: ("as asked", 0, 0),
+                },
+            ),
+            Part::Steps(&[(Step::Mark(0), ("word", 0x1, 0))]),
+            Part::Claim(
+                1,
+                true,
+                Use {
+                    got: ("place", 1, 0),
+                    steps: &[],
+                    spend: Spend::Post(4),
+                    spent: ("id", 56, 0),
+                },
+            ),
+            Part::Steps(&[
+                (Step::Move(1, 0, 0), ("alone", 0, 0)),
+                (Step::Move(0, 0, 1), ("no room", 0x8100000000000001, 0)),
+                (Step::Mark(56), ("word", 0x409, 0)),
+                (Step::Look(1), ("word", 0x8100000000000001, 0)),
+            ]),
         ],
         left: None,
     },
