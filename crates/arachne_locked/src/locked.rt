@@ -1,11 +1,11 @@
 //! A context table behind a lock.
-ghost use Rattle.std.specs.Prelude.{◌≡◌, ◌<◌, ◌≤◌, ◌*◌, ◌≢◌, ℕ, [], IsTrue, IfOk, IfErr};
+ghost use Rattle.std.specs.Prelude.{◌≡◌, ◌<◌, ◌≤◌, ◌*◌, ◌≢◌, ℕ, IsTrue, IfOk, IfErr};
 ghost use Rattle.arachne_core.specs.Occupancy.{IsOccupancyWord};
 ghost use Rattle.arachne_contexts.specs.Words.{HasNoPlace, ShowsFull, ShowsNoRoom};
 ghost use Rattle.arachne_contexts.specs.Answers.{RestsAs};
 ghost use Rattle.arachne_contexts.specs.Out.{Thread as a_thread, Spends};
 ghost use Rattle.arachne_weights.specs.Weight.{first_part, second_part};
-ghost use Rattle.arachne_locked.specs.Seats.{CountsOut};
+ghost use Rattle.arachne_locked.specs.Seats.{HasCounted, CountsOut};
 
 use crate::carriers::Carriers;
 use crate::seat::LockedSeat;
@@ -91,7 +91,7 @@ impl<T: Tagged + Drop> Seats for LockedContexts<T> {
 
     ghost sits = { λ table seat. Unit {0} };
 
-    ghost idle = { λ table seat. CountsOut seat [] };
+    ghost idle = { λ table seat. HasCounted seat 0 };
 
     ghost weight = { λ seat. seat.weight };
 
@@ -122,7 +122,7 @@ impl<T: Tagged + Drop> Seats for LockedContexts<T> {
 
     fn split<R: Wait>(&self, rt: &R, seat: LockedSeat) -> (LockedSeat, LockedSeat)
         requires sits { Unit {0} }
-        requires idle { CountsOut seat [] }
+        requires idle { HasCounted seat 0 }
         ensures first { result.0 ≡ record seat { weight = first_part seat.weight } }
         ensures second { result.1 ≡ record { carrier = result.1.carrier; weight = second_part seat.weight; out = 0 } }
         ensures carriers { result.1.carrier ≢ seat.carrier }
