@@ -2,8 +2,9 @@
 ghost use Rattle.std.specs.Prelude.{◌≡◌, ◌<◌, ◌↔◌, All, IsTrue, IsOk, IfOk, IfErr, IfSome, length};
 ghost use Rattle.arachne_sleep.specs.History.{IsSound};
 ghost use Rattle.arachne_sleep.specs.OneHolder.{HasOneHolderAtATime};
-ghost use Rattle.arachne_sleep.specs.SleepLock.{IsWhole, IfAnswered, IsAskedOfSome, IsFreedBySome, IsPassOfSome};
-ghost use Rattle.arachne_sleep.specs.SleepLocks.{AreSeatsOf};
+ghost use Rattle.arachne_sleep.specs.Views.{IsWhole};
+ghost use Rattle.arachne_sleep.specs.Calls.{AskAnswer, FreeAnswer, CheckAnswer};
+ghost use Rattle.arachne_sleep.specs.SleepLocks.{AreSeatsOf, ChangesAt};
 
 use crate::answer::{AskFault, Asked, Freed, NotHolder, Pass, Tried};
 use crate::event::LockEvent;
@@ -12,7 +13,6 @@ use crate::sleep_lock::SleepLock;
 use crate::who::Who;
 use std::alloc::{AllocError, Global};
 use std::marker::Model;
-use std::sync::Wait;
 
 /// Some number of locks, numbered from 0, that kernel threads share.
 #[derive(Drop)]
@@ -22,7 +22,7 @@ pub struct SleepLocks {
 
 impl Model for SleepLocks {
     ghost use Rattle.std.specs.Prelude.{List};
-    ghost use Rattle.arachne_sleep.specs.SleepLock.{SleepLockView};
+    ghost use Rattle.arachne_sleep.specs.Views.{SleepLockView};
     ghost use Rattle.arachne_sleep.specs.SleepLocks.{AreNumbered};
 
     ghost Value = { List SleepLockView };
@@ -40,7 +40,7 @@ pub struct LockSeats {
 
 impl Model for LockSeats {
     ghost use Rattle.std.specs.Prelude.{List};
-    ghost use Rattle.arachne_sleep.specs.SleepLock.{SeatView};
+    ghost use Rattle.arachne_sleep.specs.Views.{SeatView};
 
     ghost Value = { List SeatView };
 
@@ -72,54 +72,51 @@ impl SleepLocks {
     }
 
     /// As [`SleepLock::ask`].
-    pub fn ask<R: Wait>(
+    pub fn ask(
         &self,
-        rt: &R,
         seats: &mut LockSeats,
         lock: u8,
         who: Who,
     ) -> Tried<Result<Asked, AskFault>>
         requires own { AreSeatsOf self.now seats.old }
         requires lock { lock < length self.now }
-        ensures seats { seats.new ≡ seats.old }
-        ensures asked { IfAnswered result (λ answer. IfOk answer (IsAskedOfSome lock who)) }
+        ensures own { AreSeatsOf self.now seats.new }
+        ensures asked { ChangesAt lock seats.old seats.new (λ old new. AskAnswer lock who old result new) }
     {
         let k = usize::from(lock);
-        self.locks[k].ask(rt, &mut seats.seats[k], who)
+        self.locks[k].ask(&mut seats.seats[k], who)
     }
 
     /// As [`SleepLock::free`].
-    pub fn free<R: Wait>(
+    pub fn free(
         &self,
-        rt: &R,
         seats: &mut LockSeats,
         lock: u8,
         who: Who,
     ) -> Tried<Result<Freed, NotHolder>>
         requires own { AreSeatsOf self.now seats.old }
         requires lock { lock < length self.now }
-        ensures seats { seats.new ≡ seats.old }
-        ensures freed { IfAnswered result (λ answer. IfOk answer (IsFreedBySome who)) }
+        ensures own { AreSeatsOf self.now seats.new }
+        ensures freed { ChangesAt lock seats.old seats.new (λ old new. FreeAnswer lock who old result new) }
     {
         let k = usize::from(lock);
-        self.locks[k].free(rt, &mut seats.seats[k], who)
+        self.locks[k].free(&mut seats.seats[k], who)
     }
 
     /// As [`SleepLock::check`].
-    pub fn check<R: Wait>(
+    pub fn check(
         &self,
-        rt: &R,
         seats: &mut LockSeats,
         lock: u8,
         who: Who,
     ) -> Tried<Option<Pass>>
         requires own { AreSeatsOf self.now seats.old }
         requires lock { lock < length self.now }
-        ensures seats { seats.new ≡ seats.old }
-        ensures pass { IfAnswered result (λ answer. IfSome answer (IsPassOfSome lock who)) }
+        ensures own { AreSeatsOf self.now seats.new }
+        ensures pass { ChangesAt lock seats.old seats.new (λ old new. CheckAnswer lock who old result new) }
     {
         let k = usize::from(lock);
-        self.locks[k].check(rt, &mut seats.seats[k], who)
+        self.locks[k].check(&mut seats.seats[k], who)
     }
 
     /// Splits each seat. Where there is no memory for the others' list the seats come back.
