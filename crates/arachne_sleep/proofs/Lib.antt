@@ -2,6 +2,7 @@ pub mod Consistency
 pub mod Histories
 pub mod OneHolderLaw
 pub mod Seating
+pub mod Dealing
 pub mod Threads
 mod WorkedHistories
 pub mod Growing

@@ -1,12 +1,11 @@
 //! A sleep lock that kernel threads share, and in whose calls none of them waits.
 ghost use Rattle.std.specs.Prelude.{◌≡◌, ◌↔◌, List, MatchBool, IsTrue, IsOk, IfOk, None, [], ◌∷◌};
-ghost use Rattle.arachne_weights.specs.Weight.{whole, first_part, second_part, joined};
 ghost use Rattle.arachne_sleep.specs.History.{IsSound};
 ghost use Rattle.arachne_sleep.specs.OneHolder.{HasOneHolderAtATime};
-ghost use Rattle.arachne_sleep.specs.Logs.{blank_log, contended_log, given_back_log, cut_log, joined_log};
+ghost use Rattle.arachne_sleep.specs.Logs.{contended_log, given_back_log};
 ghost use Rattle.arachne_sleep.specs.Rule.{IsFirstSlot};
 ghost use Rattle.arachne_sleep.specs.Steps.{idle, HasTaken, Visits, IsReturnable};
-ghost use Rattle.arachne_sleep.specs.Views.{Guarded, IsSeatOf, IsWhole};
+ghost use Rattle.arachne_sleep.specs.Views.{Guarded, IsSeatOf, IsWhole, whole_seat, first_half, second_half, joined_with};
 ghost use Rattle.arachne_sleep.specs.Calls.{IsAsked, IsFreed, IsChecked, pass_asked, AskAnswer, FreeAnswer, CheckAnswer, IsToldBy};
 
 use crate::answer::{AskFault, Asked, Freed, NotHolder, Pass, Tried};
@@ -67,7 +66,7 @@ impl SleepLock {
     /// A lock that nobody has asked for yet, and its whole seat.
     pub fn new(alloc: Global, lock: u8) -> Result<(SleepLock, LockSeat), AllocError>
         ensures number { IfOk result (λ made. made.0.number ≡ lock) }
-        ensures seat { IfOk result (λ made. made.1 ≡ record { table = made.0.table; weight = whole; log = blank_log lock }) }
+        ensures seat { IfOk result (λ made. made.1 ≡ whole_seat made.0) }
     {
         let slots = first_slots(alloc, lock)?;
         let Ok((table, seat)) = Table::new(alloc, &[HOME; WORDS], slots, &lock) else {
@@ -139,8 +138,8 @@ impl SleepLock {
     /// has. At weight 1 or 0 neither gets any.
     pub fn split(&self, seat: LockSeat) -> (LockSeat, LockSeat)
         requires { IsSeatOf self.now seat }
-        ensures first { result.0 ≡ record seat { weight = first_part seat.weight } }
-        ensures second { result.1 ≡ record { table = seat.table; weight = second_part seat.weight; log = cut_log seat.log } }
+        ensures first { result.0 ≡ first_half seat }
+        ensures second { result.1 ≡ second_half seat }
     {
         let mut seat = seat;
         let other = self.split_off(&mut seat);
@@ -149,8 +148,8 @@ impl SleepLock {
 
     pub(crate) fn split_off(&self, seat: &mut LockSeat) -> LockSeat
         requires { IsSeatOf self.now seat.old }
-        ensures first { seat.new ≡ record seat.old { weight = first_part seat.old.weight } }
-        ensures second { result ≡ record { table = seat.old.table; weight = second_part seat.old.weight; log = cut_log seat.old.log } }
+        ensures first { seat.new ≡ first_half seat.old }
+        ensures second { result ≡ second_half seat.old }
     {
         let (first, second) = seat.weight.split();
         let other = self.table.shared.split_seat::<Deal>(&mut seat.seat);
@@ -165,7 +164,7 @@ impl SleepLock {
     pub fn join_seats(&self, seat: LockSeat, other: LockSeat) -> LockSeat
         requires seat { IsSeatOf self.now seat }
         requires other { IsSeatOf self.now other }
-        ensures { result ≡ record seat { weight = joined seat.weight other.weight; log = joined_log seat.log other.log } }
+        ensures { result ≡ joined_with seat other }
     {
         let mut seat = seat;
         self.join_into(&mut seat, other);
@@ -175,7 +174,7 @@ impl SleepLock {
     pub(crate) fn join_into(&self, seat: &mut LockSeat, other: LockSeat)
         requires seat { IsSeatOf self.now seat.old }
         requires other { IsSeatOf self.now other }
-        ensures { seat.new ≡ record seat.old { weight = joined seat.old.weight other.weight; log = joined_log seat.old.log other.log } }
+        ensures { seat.new ≡ joined_with seat.old other }
     {
         let LockSeat {
             seat: spent,

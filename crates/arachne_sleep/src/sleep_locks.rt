@@ -1,10 +1,11 @@
 //! All sleep locks of a run.
-ghost use Rattle.std.specs.Prelude.{◌≡◌, ◌<◌, ◌↔◌, All, IsTrue, IsOk, IfOk, IfErr, IfSome, length};
+ghost use Rattle.std.specs.Prelude.{◌≡◌, ◌<◌, ◌↔◌, All, IsTrue, IsOk, IfOk, IfErr, IfSome, length, map};
+ghost use Rattle.std.specs.List.{AllZip};
 ghost use Rattle.arachne_sleep.specs.History.{IsSound};
 ghost use Rattle.arachne_sleep.specs.OneHolder.{HasOneHolderAtATime};
-ghost use Rattle.arachne_sleep.specs.Views.{IsWhole};
-ghost use Rattle.arachne_sleep.specs.Calls.{AskAnswer, FreeAnswer, CheckAnswer};
-ghost use Rattle.arachne_sleep.specs.SleepLocks.{AreSeatsOf, ChangesAt};
+ghost use Rattle.arachne_sleep.specs.Views.{IsWhole, whole_seat, first_half, second_half};
+ghost use Rattle.arachne_sleep.specs.Calls.{AskAnswer, FreeAnswer, CheckAnswer, IsToldBy};
+ghost use Rattle.arachne_sleep.specs.SleepLocks.{AreSeatsOf, ChangesAt, all_joined};
 
 use crate::answer::{AskFault, Asked, Freed, NotHolder, Pass, Tried};
 use crate::event::LockEvent;
@@ -53,6 +54,7 @@ impl SleepLocks {
         ensures count { IfOk result (λ made. length made.0 ≡ count) }
         ensures own { IfOk result (λ made. AreSeatsOf made.0 made.1) }
         ensures whole { IfOk result (λ made. All IsWhole made.1) }
+        ensures seats { IfOk result (λ made. made.1 ≡ map whole_seat made.0) }
     {
         let mut locks = Vec::with_capacity(alloc, usize::from(count))?;
         let mut seats = Vec::with_capacity(alloc, usize::from(count))?;
@@ -128,6 +130,7 @@ impl SleepLocks {
         requires { AreSeatsOf self.now seats }
         ensures first { IfOk result (λ parts. AreSeatsOf self.now parts.0) }
         ensures second { IfOk result (λ parts. AreSeatsOf self.now parts.1) }
+        ensures halves { IfOk result (λ parts. (parts.0 ≡ map first_half seats) × (parts.1 ≡ map second_half seats)) }
         ensures err { IfErr result (λ back. back ≡ seats) }
     {
         let Ok(mut others) = Vec::with_capacity(alloc, self.locks.len()) else {
@@ -144,13 +147,14 @@ impl SleepLocks {
     pub fn join_seats(&self, seats: LockSeats, others: LockSeats) -> LockSeats
         requires seats { AreSeatsOf self.now seats }
         requires others { AreSeatsOf self.now others }
-        ensures { AreSeatsOf self.now result }
+        ensures own { AreSeatsOf self.now result }
+        ensures joined { result ≡ all_joined seats others }
     {
         let LockSeats { seats: mut own } = seats;
         let LockSeats { seats: mut others } = others;
         for _ in 0..self.locks.len() {
             let Some(other) = others.pop() else {
-                break;
+                unreachable!()
             };
             let k = others.len();
             self.locks[k].join_into(&mut own[k], other);
@@ -177,6 +181,7 @@ impl SleepLocks {
         ensures count { IfOk result (λ histories. length histories.items ≡ length self) }
         ensures sound { IfOk result (λ histories. All (λ history. IsSound history.items) histories.items) }
         ensures one_holder { IfOk result (λ histories. All (λ history. HasOneHolderAtATime history.items) histories.items) }
+        ensures told { IfOk result (λ histories. AllZip (λ seat history. IsToldBy seat.log history.items) seats histories.items) }
         ensures err { IfErr result (λ back. (back.0 ≡ self) × (back.1 ≡ seats)) }
     {
         let count = self.locks.len();

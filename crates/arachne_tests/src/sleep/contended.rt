@@ -186,13 +186,16 @@ fn leave_one(
     None
 }
 
+/// The places of a thread's grants at each of two locks.
+type Places = Option<(Vec<usize>, Vec<usize>)>;
+
 /// Holds each of two locks in turn, so many times as there are rounds. The places of the grants at each.
 fn hold_each(
     alloc: Global,
     locks: &SleepLocks,
     seats: &mut LockSeats,
     who: Who,
-) -> Option<(Vec<usize>, Vec<usize>)>
+) -> Places
     requires own { AreSeatsOf locks.now seats.old }
     requires two { 1 < length locks.now }
     ensures { AreSeatsOf locks.now seats.new }
@@ -209,10 +212,12 @@ fn hold_each(
     Some((first, second))
 }
 
-/// The seats of a thread that is done, and the places of its grants at each lock.
-type DoneWithEach = (LockSeats, Option<(Vec<usize>, Vec<usize>)>);
-
-fn work_on_each(alloc: Global, locks: &SleepLocks, mut seats: LockSeats, who: Who) -> DoneWithEach
+fn work_on_each(
+    alloc: Global,
+    locks: &SleepLocks,
+    mut seats: LockSeats,
+    who: Who,
+) -> (LockSeats, Places)
     requires own { AreSeatsOf locks.now seats }
     requires two { 1 < length locks.now }
     ensures { AreSeatsOf locks.now result.0 }
@@ -221,14 +226,14 @@ fn work_on_each(alloc: Global, locks: &SleepLocks, mut seats: LockSeats, who: Wh
     (seats, places)
 }
 
-/// A and B contend for two locks. The joined seats, and what each of the two got.
+/// A and B contend for two locks. The joined seats, and the places of A's grants and of B's.
 fn contend_for_each<R: Threads + Sync>(
     rt: &R,
     alloc: Global,
     locks: &SleepLocks,
     own: LockSeats,
     theirs: LockSeats,
-) -> (LockSeats, [Option<(Vec<usize>, Vec<usize>)>; 2])
+) -> (LockSeats, Places, Places)
     requires own { AreSeatsOf locks.now own }
     requires theirs { AreSeatsOf locks.now theirs }
     requires two { 1 < length locks.now }
@@ -239,15 +244,11 @@ fn contend_for_each<R: Threads + Sync>(
         move || work_on_each(alloc, locks, own, A),
         move || work_on_each(alloc, locks, theirs, B),
     );
-    (locks.join_seats(own, theirs), [of_a, of_b])
+    (locks.join_seats(own, theirs), of_a, of_b)
 }
 
 /// Whether the histories of two locks tell of these grants to the thread at each, and of as many as there are rounds.
-fn tell_of(
-    histories: &[Vec<LockEvent>],
-    who: Who,
-    places: Option<(Vec<usize>, Vec<usize>)>,
-) -> bool {
+fn tell_of(histories: &[Vec<LockEvent>], who: Who, places: Places) -> bool {
     let (Some((first, second)), [one, two]) = (places, histories) else {
         return false;
     };
@@ -261,7 +262,7 @@ fn tell_of(
 fn two_kernel_threads_contend_for_two_locks(rt: HostRuntime) -> Result<(), Fail> {
     let (locks, seats) = several::make(rt.alloc(), 2)?;
     let (own, theirs) = several::parted(rt.alloc(), &locks, seats).ok_or("no memory")?;
-    let (seats, [of_a, of_b]) = contend_for_each(&rt, rt.alloc(), &locks, own, theirs);
+    let (seats, of_a, of_b) = contend_for_each(&rt, rt.alloc(), &locks, own, theirs);
     let histories = several::closed(rt.alloc(), locks, seats).ok_or("not closed")?;
     assert!(rt; histories.iter().all(|history| history.len() == 60_000));
     assert!(rt; tell_of(&histories, A, of_a) && tell_of(&histories, B, of_b));
