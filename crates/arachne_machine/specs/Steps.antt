@@ -25,6 +25,7 @@ use Rattle.arachne_machine.specs.Lines.{Gains}
 use Rattle.arachne_machine.specs.Outcome.{Finished}
 use Rattle.arachne_machine.specs.Account.{Account, untouched, after, with_fork}
 use Rattle.arachne_machine.specs.declared.line.ThreadLine.{ThreadLine}
+use Rattle.arachne_machine.specs.declared.line.Ran.TheVariants as ways
 use Rattle.arachne_machine.specs.Suspended.{Suspended, awaited}
 use Rattle.arachne_machine.specs.Work.{task_work}
 use Rattle.arachne_machine.specs.Trace.{Event, At, with_steps, task_trace}
@@ -149,7 +150,7 @@ pub record IsRenewed (program : Bor Program) (own : Own) (sums : List ℕ) (cont
 pub record IsNew (program : Program) (name : List ℕ) (tag : ℕ) (task : Task) (t : State) : Type 0 where
   pub same_program : t.program.now ≡ program
   pub has_name : t.own.name ≡ name
-  pub has_label : t.own.label ≡ record { tag = tag; in_place = false }
+  pub has_label : t.own.label ≡ record { tag = tag; ran = ways.Slot }
   pub holds : t.own.holds.items ≡ tabulated program.locks (λ lock. 0)
   pub below : t.below ≡ []
   pub sums : t.sums.items ≡ tabulated program.ledgers (λ ledger. 0)

@@ -1,5 +1,5 @@
 use crate::frame::{Control, Frame};
-use crate::line::{Label, ThreadLine};
+use crate::line::{Label, Ran, ThreadLine};
 use crate::lines::{Below, Lines};
 use crate::outcome::Outcome;
 use crate::pause::Pending;
@@ -25,7 +25,7 @@ impl Own {
             name: Name::root(alloc),
             label: Label {
                 tag: 0,
-                in_place: false,
+                ran: Ran::Slot,
             },
             holds: Vec::new(alloc),
         }
@@ -105,7 +105,7 @@ impl<'p> State<'p> {
     {
         let label = Label {
             tag,
-            in_place: false,
+            ran: Ran::Slot,
         };
         let holds = zeros(alloc, program.locks)?;
         let sums = zeros(alloc, program.ledgers)?;
@@ -253,7 +253,7 @@ impl<'p> State<'p> {
             name,
             tag: label.tag,
             holds: Sequence::from(holds),
-            in_place: label.in_place,
+            ran: label.ran,
         }
     }
 
