@@ -1,3 +1,4 @@
+//! Why the program fails, and the line that it prints of that.
 ghost use Rattle.std.specs.Prelude.{◌≡◌};
 ghost use Rattle.arachne_commands.specs.declared.fault.Fault.TheVariants.{InRun, InText, InProgram, Memory};
 

@@ -1,3 +1,4 @@
+//! Numbers and words at the front of a text, for samples and orders.
 ghost use Rattle.std.specs.Prelude.{◌≡◌, ◌+◌, ◌*◌, ◌^◌};
 ghost use Rattle.arachne_lang.specs.Reading.{digits_at, figures_at, number_at, word_at};
 ghost use Rattle.arachne_commands.specs.Reading.{Gives};

@@ -1,3 +1,4 @@
+//! What is printed of a meaning or of a run's report.
 ghost use Rattle.std.specs.Prelude.{◌≡◌, ◌++◌, OnOk, IfOk, map, string_bytes};
 ghost use Rattle.std.specs.List.{flat_map};
 ghost use Rattle.arachne_commands.specs.Output.{output_of, ledger_lines, thread_line, name_text};

@@ -1,3 +1,4 @@
+//! One run of the program, on any words and streams, with its status.
 ghost use Rattle.std.specs.Prelude.{◌≡◌, ◌⊎◌, ◌≢◌, ◌≤◌, length, IfOk, IfErr, IfSome, OnOk, OnErr, IsSome, ◌+◌, Bool, List, ℕ, map, Some, None, true, string_bytes};
 ghost use Rattle.std.specs.Io.KnownBytes.{Appends, Consumes, Keeps};
 ghost use Rattle.std.specs.IoError.{error_kind};

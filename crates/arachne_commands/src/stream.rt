@@ -1,3 +1,4 @@
+//! Reading a whole input up to its limit, and writing bytes.
 ghost use Rattle.std.specs.Prelude.{◌≡◌, ◌≢◌, ◌≤◌, ◌+◌, List, ℕ, length, OnOk, OnErr, IfOk, IfErr, IfSome};
 ghost use Rattle.std.specs.Io.KnownBytes.{Appends, Consumes};
 ghost use Rattle.arachne_commands.specs.declared.command_line.Request.{Request};

@@ -9,6 +9,7 @@ use std::thread::Threads;
 
 mod endings;
 mod fakes;
+mod help;
 mod language;
 mod orders;
 mod policy;

@@ -1,3 +1,4 @@
+//! Up to 30 small numbers in 31 bytes, for thread names that need no memory.
 ghost use Rattle.std.specs.Prelude.{◌≡◌, ◌<◌, [], ◌∷◌, ◌++◌, ◌↔◌, length, IfOk, IsTrue, SomeIff};
 
 use std::alloc::{AllocError, Global};

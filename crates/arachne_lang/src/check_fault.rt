@@ -1,3 +1,4 @@
+//! Why a program may not run.
 use thiserror::Error;
 
 /// Why a program was refused. A fault of a node carries the node's number in the order of the text, the

@@ -1,3 +1,4 @@
+//! Whether a program may run: its nesting, the limits, and each node in the order of the text.
 ghost use Rattle.std.specs.Prelude.{◌≡◌, ◌+◌, ◌-◌, ◌*◌, ◌^◌, ◌<◌, ◌≤◌, ◌↔◌, ◌++◌, IsTrue, IfOk, SomeIff, length, sum_by, take};
 ghost use Rattle.arachne_lang.specs.Program.{tree_of, source_of};
 ghost use Rattle.arachne_lang.specs.Text.{nesting};

@@ -1,3 +1,4 @@
+//! Evaluates a program on one thread, with its ledger sums, holds and lines.
 ghost use Rattle.std.specs.Prelude.{◌≡◌, ◌+◌, ◌^◌, ◌<◌, [], ◌∷◌, ◌++◌, IfOk, length, slice_index};
 ghost use Rattle.arachne_lang.specs.declared.program.Class.{Class};
 ghost use Rattle.arachne_lang.specs.declared.program.Class.TheVariants.{Normal};

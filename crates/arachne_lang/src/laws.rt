@@ -1,3 +1,4 @@
+//! Laws of the language's definitions, on functions with empty bodies.
 ghost use Rattle.std.specs.Prelude.{◌≡◌, ◌≢◌, ◌⊎◌, ℕ, List, map};
 ghost use Rattle.std.specs.List.{AllPairs};
 ghost use Rattle.arachne_lang.specs.declared.text_fault.TextFault.{TextFault};

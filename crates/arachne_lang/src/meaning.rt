@@ -1,3 +1,4 @@
+//! What a program means: its value, its ledgers' totals and its threads.
 use crate::name::Name;
 use crate::sequence::Sequence;
 

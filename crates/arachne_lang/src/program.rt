@@ -1,3 +1,4 @@
+//! A program of the task language, and its expressions.
 ghost use Rattle.std.specs.Prelude.{◌≡◌, ◌↔◌, IsTrue, map};
 ghost use Rattle.std.specs.Ordering.{on};
 ghost use Rattle.std.specs.Cmp.{decided, partial_equiv_from_equiv};

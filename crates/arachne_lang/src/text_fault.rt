@@ -1,3 +1,4 @@
+//! Why a text was refused, and at which byte.
 use thiserror::Error;
 
 /// Why a text was refused. Each fault of the text carries the byte where it stands, from 0.

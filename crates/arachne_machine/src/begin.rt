@@ -1,3 +1,4 @@
+//! The steps that begin an expression.
 use crate::frame::{Control, Frame};
 use crate::spares::Spares;
 use crate::state::{Progress, State, Stop};

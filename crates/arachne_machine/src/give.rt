@@ -1,3 +1,4 @@
+//! Hands a value on from frame to frame.
 use crate::frame::{Control, Frame, Stretch};
 use crate::state::{Progress, State, Stop};
 use arachne_lang::{Expr, Reduction};

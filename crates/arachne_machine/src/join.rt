@@ -1,3 +1,4 @@
+//! Joins the outcome of a child.
 use crate::frame::{Control, Frame};
 use crate::lines::Lines;
 use crate::state::State;

@@ -1,3 +1,4 @@
+//! What is known of a thread that has ended.
 use arachne_lang::{Name, Sequence};
 use std::alloc::Global;
 

@@ -1,3 +1,4 @@
+//! A child that was placed in its parent's place and has not begun.
 ghost use Rattle.std.specs.Prelude.{◌≡◌, ◌+◌, ◌≤◌, ◌++◌, length, IfOk, IfErr};
 ghost use Rattle.arachne_machine.specs.Nested.{in_place_of};
 

@@ -1,3 +1,4 @@
+//! What a thread is between two steps.
 use crate::frame::{Control, Frame};
 use crate::line::{Label, Ran, ThreadLine};
 use crate::lines::{Below, Lines};

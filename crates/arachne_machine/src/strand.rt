@@ -1,3 +1,4 @@
+//! A thread by itself: its steps, its pauses and their answers.
 ghost use Rattle.std.specs.Prelude.{◌≡◌, ◌≢◌, ◌↔◌, ◌≤◌, ◌+◌, ◌-◌, ℕ, List, [], ◌∷◌, ◌++◌, None, Some, IfOk, OnOk, IfErr, OnErr, IsTrue};
 ghost use Rattle.arachne_machine.specs.Suspended.{SameThread, MakesSteps, IsFresh, IsNext, IsAnswered, Joined, IsAsk, IsFree, IsTally, awaited, own_line_of, raised};
 ghost use Rattle.arachne_machine.specs.Advance.{Advanced, IsForeign, IsSpentAt, TakesAllAt, handed_back, pending_at, shown};

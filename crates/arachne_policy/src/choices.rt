@@ -1,3 +1,4 @@
+//! Which core gets a new thread.
 ghost use Rattle.std.specs.Prelude.{◌≡◌, ◌<◌, length, Any};
 ghost use Rattle.arachne_policy.specs.Choice.{chosen_core};
 

@@ -1,3 +1,4 @@
+//! When to ask for one core more, and when to give one back.
 ghost use Rattle.std.specs.Prelude.{◌≡◌, ◌≢◌, ◌+◌, ◌-◌, ◌≤◌, true, List, [], ◌∷◌, is_ok, IfOk, OnErr, Ok};
 ghost use Rattle.arachne_policy.specs.declared.samples.Sample.{Sample};
 ghost use Rattle.arachne_policy.specs.Sample.{utilisation_of, is_good};

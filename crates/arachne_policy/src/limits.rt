@@ -1,3 +1,5 @@
+//! The limits of samples and of the number of cores.
+
 /// The most cores that an estimator may ever advise.
 pub const MAX_CORES: usize = 64;
 

@@ -1,3 +1,4 @@
+//! Orders that grant cores and take them back, and whether a list of them is in order.
 ghost use Rattle.std.specs.Prelude.{◌≡◌, ◌↔◌, IsOk, IfErr};
 ghost use Rattle.arachne_policy.specs.Orders.{order_fault, IsFirstFault, AreInOrder};
 

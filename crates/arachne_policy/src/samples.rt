@@ -1,3 +1,4 @@
+//! A sample of a load, and the advice on it.
 ghost use Rattle.std.specs.Prelude.{◌≡◌, ◌<◌, ◌≤◌, Some};
 ghost use Rattle.arachne_policy.specs.Advice.{advice_text};
 ghost use Rattle.arachne_policy.specs.Sample.{most_counted, load_of, utilisation_of, is_good};

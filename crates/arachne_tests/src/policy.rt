@@ -1,3 +1,4 @@
+//! Days of samples with the advice on each, choices of cores, and lists of orders.
 use arachne_policy::{
     Advice, BadSample, CoreLoad, CoreOrder, Estimator, OrderFault, OrderFaultKind, OrderKind,
     Sample, check_orders, two_choices,

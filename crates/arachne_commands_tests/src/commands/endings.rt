@@ -48,7 +48,7 @@ fn shown(status: u8, faults: &[u8]) -> &[u8] {
 }
 
 /// The status with which the program ends. It says nothing of what is read and written, which makes the proofs of the tests short.
-fn status_of<R: Threads + Wait + Sync>(
+pub(super) fn status_of<R: Threads + Wait + Sync>(
     rt: &R,
     alloc: Global,
     words: &[&str],

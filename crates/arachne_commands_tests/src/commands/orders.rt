@@ -1,3 +1,4 @@
+//! Words that spell an order, and words that spell none.
 use arachne_commands::read_order;
 use arachne_policy::{CoreOrder, OrderKind};
 

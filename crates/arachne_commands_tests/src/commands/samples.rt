@@ -1,3 +1,4 @@
+//! Texts of samples: what is read of them, and their first faults.
 use arachne_commands::read_samples;
 use arachne_lang::TextFault;
 use arachne_policy::Sample;

@@ -1,3 +1,4 @@
+//! Reads the lines of the arrays.
 ghost use Rattle.std.specs.Prelude.{[], map};
 ghost use Rattle.arachne_lang.specs.Reading.{Gives, items_at, arrays_at};
 

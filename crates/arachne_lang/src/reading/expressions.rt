@@ -1,3 +1,4 @@
+//! Reads an expression, form by form.
 ghost use Rattle.arachne_lang.specs.declared.reading.heads.Head.TheVariants as head;
 ghost use Rattle.std.specs.Prelude.{ℕ, List};
 ghost use Rattle.arachne_lang.specs.Tree.{Tree};

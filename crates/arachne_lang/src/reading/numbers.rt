@@ -1,3 +1,4 @@
+//! Reads a number up to a limit.
 ghost use Rattle.std.specs.Prelude.{◌+◌, ◌*◌, ◌^◌, ◌<◌, ◌≤◌, length, IfOk};
 ghost use Rattle.arachne_lang.specs.Reading.{Gives, digits_at, figures_at, number_at};
 

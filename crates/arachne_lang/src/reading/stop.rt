@@ -1,3 +1,4 @@
+//! Why reading stops, and the fault of the whole text that this is.
 ghost use Rattle.std.specs.Prelude.{◌≡◌};
 ghost use Rattle.arachne_lang.specs.declared.reading.stop.Stop.TheVariants.{Memory};
 

@@ -1,3 +1,4 @@
+//! Reads one given word.
 ghost use Rattle.std.specs.Prelude.{◌≢◌, IfErr};
 ghost use Rattle.arachne_lang.specs.Reading.{Gives, word_at};
 

@@ -1,3 +1,4 @@
+//! What programs mean, and which of them may not run.
 use arachne_lang::{
     CheckFault, Expr, Meaning, Name, Operation, Program, Sequence, check, eval, parse,
 };
