@@ -60,6 +60,14 @@ another_command : Asks (codes "walk" ∷ []) None false
 unfolding asked_by is_taken machine_command run_command run_alone eval_command check_command policy_command task_commands program number_of walked walk_passes
 another_command = record { asked_for = refl; is_taken_so = refl }
 
+version : Asks (codes "--version" ∷ []) None false
+unfolding asked_by is_taken machine_command run_command run_alone eval_command check_command policy_command task_commands program number_of walked walk_passes
+version = record { asked_for = refl; is_taken_so = refl }
+
+version_of_a_command : is_taken (words (codes "eval" ∷ codes "--version" ∷ [])) ≡ false
+unfolding is_taken machine_command run_command run_alone eval_command check_command policy_command task_commands program walked walk_passes
+version_of_a_command = refl
+
 -- ---- runs
 
 run_by_default : Asks (codes "run" ∷ []) (Some (Run (record { cores = 4; seed = 1; quantum = 100; names = false; orders = [] }))) true
