@@ -59,7 +59,7 @@ policy_command =
 -- the program with the command to run a task text alone, and with all commands on task texts
 unfoldable pub run_alone : App
 run_alone =
-    with_subcommand (record (new_app (codes "arachne")) { top = record (new_app (codes "arachne")).top { subcommand_required = true } }) run_command.top
+    with_subcommand (record (new_app (codes "arachne")) { top = record (new_app (codes "arachne")).top { subcommand_required = true; has_version = true } }) run_command.top
 
 unfoldable pub task_commands : App
 task_commands = with_subcommand (with_subcommand run_alone eval_command.top) check_command.top

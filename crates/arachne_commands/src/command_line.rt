@@ -96,6 +96,10 @@ fn run_alone<'a>(alloc: Global) -> Result<Command<'a>, AllocError>
     let run = run_command(alloc)?;
     let arachne = Command::new(alloc, "arachne")
         .about("Run and evaluate programs of the task language, and judge samples of a load")
+        .version("0.9.0")
+        .after_help(
+            "Each command reads its text from standard input:\n  arachne run < examples/fork.task",
+        )
         .subcommand_required(true)
         .subcommand(run)?;
     Ok(arachne)
@@ -174,6 +178,9 @@ fn machine_command<'a>(alloc: Global) -> Result<Command<'a>, AllocError>
     );
     let run = Command::new(alloc, "run")
         .about("Run the task text on the input, on a kernel thread for each core")
+        .after_help(
+            "The task text comes from standard input:\n  arachne run --cores 2 250:release:1 900:grant:1 < examples/rounds.task",
+        )
         .arg(cores)?
         .arg(seed)?
         .arg(quantum)?;
@@ -189,6 +196,9 @@ fn eval_command<'a>(alloc: Global) -> Result<Command<'a>, AllocError>
     let names = names_flag(alloc);
     let eval = Command::new(alloc, "eval")
         .about("Evaluate the task text on the input, on one thread")
+        .after_help(
+            "The task text comes from standard input:\n  arachne eval --names < examples/nested.task",
+        )
         .arg(names)?;
     Ok(eval)
 }
@@ -199,9 +209,11 @@ fn check_command<'a>(alloc: Global) -> Command<'a>
     ensures app { app_of result ≡ check_command }
     ensures local { (out-Command result).has_globals ≡ false }
 {
-    Command::new(alloc, "check").about(
-        "Say whether the program of the task text on the input may run",
-    )
+    Command::new(alloc, "check")
+        .about("Say whether the program of the task text on the input may run")
+        .after_help(
+            "The task text comes from standard input:\n  arachne check < examples/histogram.task",
+        )
 }
 
 /// An option with a number up to `most`, and the one that stands where it is not given.
@@ -252,6 +264,9 @@ fn policy_command<'a>(alloc: Global) -> Result<Command<'a>, AllocError>
     );
     let policy = Command::new(alloc, "policy")
         .about("Judge the samples on the input: add a core, stay, or remove one")
+        .after_help(
+            "The samples come from standard input, five numbers a line:\n  arachne policy --max 8 < examples/load.samples",
+        )
         .arg(up)?
         .arg(hysteresis)?
         .arg(max)?;

@@ -1,4 +1,4 @@
--- A call on the state while the seat has it: what the state's answers say of its history, and what the seat's log is afterwards.
+-- A call on the state while a seat has it: what the answers say of the history, and what the seat's log is afterwards.
 use Rattle.std.proofs.Common.{◌≡◌, ℕ, ◌+◌, List, [], ◌∷◌, ◌++◌, length, get_or, refl, sym, ap, ◌∙◌, subst, append_assoc, length-append, Option, None, Some}
 use Rattle.std.specs.Prelude.{slice_get, IfSome, All}
 use Rattle.std.specs.declared.result.Result.{Result}

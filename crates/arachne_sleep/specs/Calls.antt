@@ -21,8 +21,8 @@ use Rattle.arachne_sleep.specs.declared.view.SeatLog.{SeatLog}
 use Rattle.arachne_sleep.specs.Logs.{contended_log, answered_log}
 use Rattle.arachne_sleep.specs.Views.{SeatView, with_log}
 
--- A call on the state of the lock with this number, from `before` to `after`, by a seat that got this pass. The history before the
--- call is sound and begins with each one that the seat had seen, and the seat's log tells what the call added.
+-- A call on the state of the lock with this number, from `before` to `after`, by a seat that got this pass. The history
+-- before the call is sound and begins with each one that the seat had seen, and the seat's log tells what the call added.
 pub record IsCallOn (number : ℕ) (old new : SeatView) (pass : Option Pass) (before after : Lock) : Type 0 where
   pub numbered : before.number ≡ number
   pub sound : IsSound before.history
@@ -72,8 +72,8 @@ CheckAnswer number who old Contended new = IsContended old new
 
 -- ---- the end
 
--- The history of a closed lock, as the log of its whole seat tells it: it begins with each history that was seen, has the events that were made
--- and no others, each at its place, and for each pass the grant.
+-- The history of a closed lock, as the log of its whole seat tells it: it begins with each history that was seen, has
+-- the events that were made and no others, each at its place and once, and for each pass the grant.
 pub record IsToldBy (log : SeatLog) (history : List LockEvent) : Type 0 where
   pub begins : All (BeginsWith history) log.seen
   pub made : IsMadeOf history log.made

@@ -32,7 +32,8 @@ pub record Extends (log : SeatLog) (guarded : Guarded) : Type 0 where
   pub sound : IsSound guarded.state.history
   pub begins : All (BeginsWith guarded.state.history) log.seen
 
--- where the guard was at home the state came to the seat, with a history that begins with each one seen; else the guard was seen taken
+-- Where the guard was at home the state came to the seat, with a history that begins with each one seen. Else the guard
+-- was seen taken.
 abbrev pub Takes : Mine → ℕ → Mine → Type 0
 Takes before found after =
     (found ≡ 0 → (guarded : Guarded) × (after ≡ with_guard before.0.weight (taken_log before.0.known.log guarded.state.history) guarded) × Extends before.0.known.log guarded)

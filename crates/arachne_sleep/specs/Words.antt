@@ -1,4 +1,4 @@
--- The words of a lock's table: its guard word, and so many unused ones before and behind it that it has its cache lines for itself.
+-- The words of a lock's table: its guard word, with two cache lines of unused words before it and behind it.
 use Rattle.std.specs.Prelude.{ℕ, List, replicate}
 
 -- where the guard word is

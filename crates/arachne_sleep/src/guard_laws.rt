@@ -1,6 +1,7 @@
-//! The laws of the steps on a guard word, one for each kind. Each is a function with an empty body, whose contract is the law.
+//! The laws of the steps on a guard word, one for each kind: functions with an empty body, whose contract is the law.
 //!
-//! A law says that its step keeps the rule of the lock's table, whatever the table is when the step is made, and what the step tells its seat.
+//! A law says that its step keeps the rule of the lock's table, whatever the table is when the step is made, and what
+//! the step tells its seat.
 ghost use Rattle.std.specs.Prelude.{◌≡◌, ℕ, ◌==◌, List, [], ◌∷◌, slice_get, Some};
 ghost use mathlib.Core.Option.{some};
 ghost use lib.ListN.{get_elem?};
@@ -23,8 +24,8 @@ pub fn the_rule_holds_at_first()
         → IsKept number (opening first_words (guarded ∷ []) (first_view number)) }
 {}
 
-/// An exchange of the guard word from 0 to 1. Where it is won the state comes to the seat, with a history that begins with each one that
-/// the seat had seen; where it is lost the guard was seen taken.
+/// An exchange of the guard word from 0 to 1. Where it is won the state comes to the seat, with a history that begins
+/// with each one that the seat had seen; where it is lost the guard was seen taken.
 pub fn a_try_keeps_the_rule()
     ensures { (number slots id weight : ℕ) (log : SeatLog)
         → Allows (IsKept number) slots id (idle weight log) guard_word (λ n. either (n == 0) 1 n) (Takes (idle weight log)) }
@@ -49,8 +50,8 @@ pub fn a_join_keeps_the_rule()
             (joined_seat (held weight (idle_known log)) (held added (idle_known theirs))) spent_seat }
 {}
 
-/// What a seat in use has noted are exactly its own steps. Each of them stands in the one trace of all steps, where it found what stood in the
-/// guard word then.
+/// What a seat in use has noted are exactly its own steps. Each of them stands in the one trace of all steps, where it
+/// found what stood in the guard word then.
 pub fn a_record_is_a_step()
     ensures all { (number : ℕ) (board : Board) → (rule : IsKept number board) → (place weight : ℕ) (known : Known)
         → get_elem? board.views place ≡ some (held weight known) → known.log.records ≡ records_of place rule.trace }

@@ -20,7 +20,8 @@ use atomic_table::{Seat, Table};
 use std::alloc::{AllocError, Global};
 use std::marker::Model;
 
-/// How many words the table has. Processors fetch cache lines in pairs, so two lines of unused words are on each side of the guard word.
+/// How many words the table has. Processors fetch cache lines in pairs, so two lines of unused words are on each side
+/// of the guard word.
 const WORDS: usize = 32;
 
 /// Where the guard word is.
@@ -34,8 +35,9 @@ const TAKEN: u64 = 1;
 
 /// A sleep lock on a word: 0 while its state is at home in a slot, 1 while the state is with a seat.
 ///
-/// Each kernel thread uses it through a seat of its own. `ask`, `free` and `check` try the guard word once. Where it is taken they return
-/// `Contended`, and nothing has changed; else they call the state, and give the guard back, whatever the answer is.
+/// Each kernel thread uses it through a seat of its own. `ask`, `free` and `check` try the guard word once. Where it is
+/// taken they return `Contended`, and nothing has changed; else they call the state, and give the guard back, whatever
+/// the answer is.
 #[derive(Drop)]
 pub struct SleepLock {
     number: u8,
@@ -134,8 +136,8 @@ impl SleepLock {
         Tried::Answered(answer)
     }
 
-    /// Halves the weight, rounded up for the first seat, which keeps what it has done. The second has seen what the first
-    /// has. At weight 1 or 0 neither gets any.
+    /// Halves the weight, rounded up for the first seat, which keeps what it has done. The second has seen what the
+    /// first has. At weight 1 or 0 neither gets any.
     pub fn split(&self, seat: LockSeat) -> (LockSeat, LockSeat)
         requires { IsSeatOf self.now seat }
         ensures first { result.0 ≡ first_half seat }

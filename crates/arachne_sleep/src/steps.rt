@@ -3,7 +3,8 @@ use crate::guarded_state::GuardedState;
 use crate::view::View;
 use atomic_table::{Join, Play, Split, TableRule};
 
-/// There is one history, which the state at home has, and one trace of all steps on the guard word. The table is told the lock's number.
+/// There is one history, which the state at home has, and one trace of all steps on the guard word. The table is told
+/// the lock's number.
 pub struct GuardRule;
 
 impl TableRule<GuardedState, View, u8> for GuardRule {

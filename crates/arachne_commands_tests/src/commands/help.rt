@@ -1,4 +1,4 @@
-//! The help of the program and of each command, word for word. `./arachne` shows these texts while nothing is built.
+//! The help and the version of the program, word for word, which `./arachne` shows while nothing is built.
 use super::endings::status_of;
 use super::fakes::{Script, Tray};
 use std::alloc::{AllocError, Global};
@@ -19,7 +19,15 @@ Commands:
   help    Print this message or the help of the given subcommand(s)
 
 Options:
-  -h, --help  Print help
+  -h, --help     Print help
+  -V, --version  Print version
+
+Each command reads its text from standard input:
+  arachne run < examples/fork.task
+";
+
+const VERSION: &str = "\
+arachne 0.9.0
 ";
 
 const RUN: &str = "\
@@ -36,6 +44,9 @@ Options:
       --quantum <N>  The most steps that a thread goes on for at a time, 1 to 10000 [default: 100]
       --names        Print a line for each thread
   -h, --help         Print help
+
+The task text comes from standard input:
+  arachne run --cores 2 250:release:1 900:grant:1 < examples/rounds.task
 ";
 
 const EVAL: &str = "\
@@ -46,6 +57,9 @@ Usage: arachne eval [OPTIONS]
 Options:
       --names  Print a line for each thread
   -h, --help   Print help
+
+The task text comes from standard input:
+  arachne eval --names < examples/nested.task
 ";
 
 const CHECK: &str = "\
@@ -55,6 +69,9 @@ Usage: arachne check
 
 Options:
   -h, --help  Print help
+
+The task text comes from standard input:
+  arachne check < examples/histogram.task
 ";
 
 const POLICY: &str = "\
@@ -67,12 +84,16 @@ Options:
       --hysteresis <N>  How far the utilisation falls before a core is given back, in thousandths of a core [default: 90]
       --max <N>         The most cores, up to 64 [default: 16]
   -h, --help            Print help
+
+The samples come from standard input, five numbers a line:
+  arachne policy --max 8 < examples/load.samples
 ";
 
 /// Words, and the text that they show.
 const SHOWN: &[(&str, &str)] = &[
     ("arachne --help", PROGRAM),
     ("arachne help", PROGRAM),
+    ("arachne --version", VERSION),
     ("arachne run --help", RUN),
     ("arachne help run", RUN),
     ("arachne eval --help", EVAL),

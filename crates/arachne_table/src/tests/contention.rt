@@ -24,6 +24,7 @@ struct Work<S> {
 }
 
 /// Whether all is settled, how many threads each of two kernel threads has posted, and how many were moved.
+#[derive(Clone, Copy)]
 struct Outcome {
     settled: bool,
     posted: (u64, u64),

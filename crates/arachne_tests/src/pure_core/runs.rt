@@ -511,6 +511,42 @@ const RUNS: &[Run] = &[
             (Step::Release(0, 895), (0x0, 0x3f70)),
         ],
     },
+    // A machine of sixty-four cores.
+    Run {
+        cores: 64,
+        slots: SLOTS,
+        first_generation: 0,
+        room: (1, 1),
+        steps: &[
+            (Step::Claim(0, 3583), (0x0, 0x0)),
+            (Step::Post(0, 3583, 7), (0x0, 0x0)),
+            (Step::Occ(63), (0x180000000000000, 0)),
+            (Step::Mark(3583), (0xff71, 0)),
+            (Step::At(63, 55), (0xdff, 0)),
+            (Step::Claim(0, 3584), REFUSED),
+            (Step::Close(64), REFUSED),
+            (Step::Close(63), (0x0, 0x0)),
+            (Step::Occ(63), (0x4180000000000000, 0)),
+        ],
+    },
+    // A machine of cores of three places each.
+    Run {
+        cores: 3,
+        slots: 3,
+        first_generation: 0,
+        room: (1, 1),
+        steps: &[
+            (Step::Claim(0, 0), (0x100000000000001, 0x0)),
+            (Step::Claim(0, 1), (0x200000000000003, 0x0)),
+            (Step::Claim(0, 2), (0x300000000000007, 0x0)),
+            (Step::Claim(0, 8), (0x300000000000007, 0x0)),
+            (Step::Occ(2), (0x100000000000004, 0)),
+            (Step::Mark(8), (0x820, 0)),
+            (Step::At(2, 2), (0x8, 0)),
+            (Step::Claim(0, 9), REFUSED),
+            (Step::Close(3), REFUSED),
+        ],
+    },
     // A post without room.
     Run {
         cores: 1,
@@ -523,7 +559,7 @@ const RUNS: &[Run] = &[
             (Step::Mark(0), (0x1, 0)),
             (Step::Take(0, 0), (0x100000000000001, 0x3)),
             (Step::Retire(0, 0), (0x100000000000001, 0x10000)),
-            (Step::Mark(0), (0x4000, 0)),
+            (Step::Mark(0), (0x10000, 0)),
         ],
     },
 ];
