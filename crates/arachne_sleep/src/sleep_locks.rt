@@ -152,10 +152,7 @@ impl SleepLocks {
     {
         let LockSeats { seats: mut own } = seats;
         let LockSeats { seats: mut others } = others;
-        for _ in 0..self.locks.len() {
-            let Some(other) = others.pop() else {
-                unreachable!()
-            };
+        while let Some(other) = others.pop() {
             let k = others.len();
             self.locks[k].join_into(&mut own[k], other);
         }
@@ -194,10 +191,7 @@ impl SleepLocks {
             let (Some(lock), Some(seat)) = (locks.pop(), seats.pop()) else {
                 unreachable!()
             };
-            match lock.close(seat) {
-                Ok(history) => histories.push_reserved(history),
-                Err(_) => unreachable!(),
-            }
+            histories.push_reserved(lock.into_history(seat));
         }
         histories.reverse();
         Ok(histories)
