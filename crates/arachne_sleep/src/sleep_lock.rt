@@ -243,11 +243,7 @@ impl SleepLock {
         self.table.shared.store::<GiveBack>(seat, GUARD, HOME);
     }
 
-    fn ask_guarded(
-        &self,
-        seat: &mut Seat<GuardedState, View>,
-        who: Who,
-    ) -> Result<Asked, AskFault>
+    fn ask_guarded(&self, seat: &mut Seat<GuardedState, View>, who: Who) -> Result<Asked, AskFault>
         requires own { seat.old.table_id ≡ self.now.table }
         requires held { (guarded : Guarded) × (seat.old.me.1 ≡ (0, guarded) ∷ []) }
         ensures own { seat.new.table_id ≡ seat.old.table_id }

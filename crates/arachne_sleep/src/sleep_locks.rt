@@ -74,12 +74,7 @@ impl SleepLocks {
     }
 
     /// As [`SleepLock::ask`].
-    pub fn ask(
-        &self,
-        seats: &mut LockSeats,
-        lock: u8,
-        who: Who,
-    ) -> Tried<Result<Asked, AskFault>>
+    pub fn ask(&self, seats: &mut LockSeats, lock: u8, who: Who) -> Tried<Result<Asked, AskFault>>
         requires own { AreSeatsOf self.now seats.old }
         requires lock { lock < length self.now }
         ensures own { AreSeatsOf self.now seats.new }
@@ -90,12 +85,7 @@ impl SleepLocks {
     }
 
     /// As [`SleepLock::free`].
-    pub fn free(
-        &self,
-        seats: &mut LockSeats,
-        lock: u8,
-        who: Who,
-    ) -> Tried<Result<Freed, NotHolder>>
+    pub fn free(&self, seats: &mut LockSeats, lock: u8, who: Who) -> Tried<Result<Freed, NotHolder>>
         requires own { AreSeatsOf self.now seats.old }
         requires lock { lock < length self.now }
         ensures own { AreSeatsOf self.now seats.new }
@@ -106,12 +96,7 @@ impl SleepLocks {
     }
 
     /// As [`SleepLock::check`].
-    pub fn check(
-        &self,
-        seats: &mut LockSeats,
-        lock: u8,
-        who: Who,
-    ) -> Tried<Option<Pass>>
+    pub fn check(&self, seats: &mut LockSeats, lock: u8, who: Who) -> Tried<Option<Pass>>
         requires own { AreSeatsOf self.now seats.old }
         requires lock { lock < length self.now }
         ensures own { AreSeatsOf self.now seats.new }
