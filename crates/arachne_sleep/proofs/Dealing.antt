@@ -1,5 +1,5 @@
 -- Seats of several locks that are split, joined and closed together.
-use Rattle.std.proofs.Common.{◌≡◌, ℕ, ◌+◌, ◌<◌, List, [], ◌∷◌, ◌++◌, length, get_or, set, map, take, drop, reverse, refl, sym, ap, ◌∙◌, subst, arith, append_assoc, length-append}
+use Rattle.std.proofs.Common.{◌≡◌, ℕ, ◌+◌, ◌<◌, List, [], ◌∷◌, ◌++◌, length, get_or, set, map, take, drop, reverse, refl, sym, ap, ◌∙◌, subst, arith, append_assoc}
 use Rattle.std.specs.List.{AllZip}
 use Rattle.std.specs.Prelude.{All}
 use Rattle.std.proofs.lemmas.List.{append-nil, map_push, take_more, take_more_set, take_all, drop_more, drop-set-lt, length_push, length-take-le, reverse-append, get_or_append_left}
