@@ -1,5 +1,4 @@
 -- Which of the lock's types may cross threads.
-use denote.RattleType.{RattleType}
 use denote.Struct.Declared as struct
 use denote.Struct.Struct.{Struct}
 use denote.Param.Send.{IsSend, IsSync, AllSend, AllSync, sendable, recorded_send, recorded_sync, struct_send, struct_sync}

@@ -1,9 +1,14 @@
 -- Seats of several locks that are split, joined and closed together.
-use Rattle.std.proofs.Common.{◌≡◌, ℕ, ◌+◌, ◌<◌, List, [], ◌∷◌, ◌++◌, length, get_or, set, map, take, drop, reverse, refl, sym, ap, ◌∙◌, subst, arith, append_assoc, length-append}
+use Rattle.std.proofs.Common.{◌≡◌, ℕ, ◌+◌, ◌<◌, List, [], ◌∷◌, ◌++◌, length, get_or, set, map, take, drop, reverse, refl, sym, ap, ◌∙◌, subst, arith, append_assoc}
 use Rattle.std.specs.List.{AllZip}
+use Rattle.std.specs.Prelude.{All}
 use Rattle.std.proofs.lemmas.List.{append-nil, map_push, take_more, take_more_set, take_all, drop_more, drop-set-lt, length_push, length-take-le, reverse-append, get_or_append_left}
 use Rattle.std.proofs.lemmas.Grind.{drop_more_same}
+use Rattle.std.proofs.lemmas.List.Elements.{All-nil, All-cons}
 use Rattle.std.proofs.Math.Seq.{set-append_seam}
+use Rattle.arachne_sleep.specs.declared.event.LockEvent.{LockEvent}
+use Rattle.arachne_sleep.specs.History.{IsSound}
+use Rattle.arachne_sleep.specs.Calls.{IsToldBy}
 use Rattle.arachne_sleep.specs.Views.{SeatView, joined_with}
 use Rattle.arachne_sleep.specs.SleepLocks.{all_joined}
 
@@ -95,7 +100,14 @@ are-joined seats others own left a none =
     ∙ ap (λ (zs : List SeatView). all_joined zs a.theirs) (sym (a.seats_are ∙ ap (λ (zs : List SeatView). zs ++ a.back) no_front))
     ∙ ap (λ (zs : List SeatView). all_joined seats zs) (sym (a.others_are ∙ ap (λ (zs : List SeatView). zs ++ a.theirs) no_left))
 
--- ---- a close: the last ones are closed, and what was told of each lies in turn, the last one first
+-- ---- a close
+
+-- what the lock of this seat gives at the end
+pub record IsClosedTo (seat : SeatView) (history : List LockEvent) : Type 0 where
+  pub sound : IsSound history
+  pub told : IsToldBy seat.log history
+
+-- the last ones are closed, and what was told of each lies in turn, the last one first
 
 pub record AreClosing {X : Type 0} (R : SeatView → X → Type 0) (seats left : List SeatView) (xs : List X) : Type 0 where
   pub closed : List SeatView
@@ -120,3 +132,16 @@ one-closed {X} R seats left left' xs seat x a last is = record {
 pub all-closed : {X : Type 0} (R : SeatView → X → Type 0) (seats left : List SeatView) (xs : List X) → AreClosing R seats left xs → length left ≡ 0 → AllZip R seats (reverse xs)
 all-closed R seats left xs a none =
     subst (λ (zs : List SeatView). AllZip R zs (reverse xs)) (sym (a.seats_are ∙ ap (λ (zs : List SeatView). zs ++ a.closed) (no-items left none))) a.told
+
+-- what follows of each history, and of each with its seat
+pub each-right : {X : Type 0} (R : SeatView → X → Type 0) (P : X → Type 0) → ((seat : SeatView) (x : X) → R seat x → P x) → (seats : List SeatView) (xs : List X) → AllZip R seats xs → All P xs
+each-right R P then [] [] all = All-nil P
+each-right R P then [] (x ∷ xs) all = absurd all
+each-right R P then (seat ∷ seats) [] all = absurd all
+each-right R P then (seat ∷ seats) (x ∷ xs) all = All-cons P x xs (then seat x all.0) (each-right R P then seats xs all.1)
+
+pub each-pair : {X : Type 0} (R Q : SeatView → X → Type 0) → ((seat : SeatView) (x : X) → R seat x → Q seat x) → (seats : List SeatView) (xs : List X) → AllZip R seats xs → AllZip Q seats xs
+each-pair R Q then [] [] all = tt
+each-pair R Q then [] (x ∷ xs) all = absurd all
+each-pair R Q then (seat ∷ seats) [] all = absurd all
+each-pair R Q then (seat ∷ seats) (x ∷ xs) all = (then seat x all.0, each-pair R Q then seats xs all.1)

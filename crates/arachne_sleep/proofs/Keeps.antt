@@ -120,25 +120,30 @@ first_tells number = record {
 }
 
 pub opens : (number : ℕ) (guarded : Guarded) → guarded.state ≡ record { number = number; history = [] } → IsKept number (opening first_words (guarded ∷ []) (first_view number))
-opens number guarded is = record { history = []; trace = []; tells = first_tells number; lawful = record {
-  sound = record { lawful = tt; never_idle = λ _. refl };
-  shared = begins (idle_known (blank_log number));
-  counted = refl;
-  fits = λ i t there.
-      ⊎_elim (λ (x : get_elem? [] i ≡ some t). absurd (some-ne-none t (sym x)))
-      (λ (x : first_view number ≡ t). subst (Fits number []) x (record {
-        numbered = λ _. refl;
-        seen = All-nil (BeginsWith []);
-        made = All-nil (StandsIn []);
-        passes = All-nil (IsGrantedIn number []);
-        at_guard = λ e. absurd (false≢true e);
-      }))
-      (at_snoc [] (first_view number) t i there);
-  once = λ k. total-snoc (made_of k) [] (first_view number) ∙ sym (none-below k);
-  guard = sym (total-snoc guard_of [] (first_view number));
-  one_guard = let none_yet = total-snoc guard_of [] (first_view number) in omega (arith, none_yet);
-  home = λ _. (guarded, refl, is);
-} }
+opens number guarded is = record {
+  history = [];
+  trace = [];
+  tells = first_tells number;
+  lawful = record {
+    sound = record { lawful = tt; never_idle = λ _. refl };
+    shared = begins (idle_known (blank_log number));
+    counted = refl;
+    fits = λ i t there.
+        ⊎_elim (λ (x : get_elem? [] i ≡ some t). absurd (some-ne-none t (sym x)))
+        (λ (x : first_view number ≡ t). subst (Fits number []) x (record {
+          numbered = λ _. refl;
+          seen = All-nil (BeginsWith []);
+          made = All-nil (StandsIn []);
+          passes = All-nil (IsGrantedIn number []);
+          at_guard = λ e. absurd (false≢true e);
+        }))
+        (at_snoc [] (first_view number) t i there);
+    once = λ k. total-snoc (made_of k) [] (first_view number) ∙ sym (none-below k);
+    guard = sym (total-snoc guard_of [] (first_view number));
+    one_guard = let none_yet = total-snoc guard_of [] (first_view number) in omega (arith, none_yet);
+    home = λ _. (guarded, refl, is);
+  };
+}
 
 -- ---- the guard is tried
 
@@ -152,42 +157,53 @@ takes-allowed number slots id weight l s all long at wide =
     exchanged n 0 1
     (λ (m : ℕ). (w : Token Known) × (a : Act Guarded) × Valid s.homes [] a × IsKept number (stepped s guard_word m id [] w a) × Takes (idle weight l) n (w, carried_after [] a))
     (λ home.
-        let it = kept.home home in
-        let guarded : Guarded = it.0 in
-        let past : guarded.state.history ≡ h = ap (λ (x : Lock). x.history) it.2 in
-        let log = taken_log l guarded.state.history in (
-          held weight (taken_known log),
-          takes 0 guarded,
-          it.1,
-          (record { history = h; trace = entry id (step_record kind.Take 0 1) ∷ all.trace; tells = tells-more all.trace s.words s.views tells id weight (idle_known l) at (step_record kind.Take 0 1) (taken_known log) kept.counted refl (record { place = refl; found = sym home ∙ tells.word; makes = refl });
-            lawful = one-seat-stepped number s h h kept id weight (idle_known l) (taken_known log) at (begins-refl h) kept.sound (λ i t _ _ _. refl)
-              (record {
-                numbered = λ _. f.numbered refl;
-                seen = All-cons (BeginsWith h) guarded.state.history [] (subst (BeginsWith h) (sym past) (begins-refl h)) (All-nil (BeginsWith h));
-                made = f.made;
-                passes = f.passes;
-                at_guard = λ _. ap (λ (x : List LockEvent). x ∷ []) past;
-              })
-              (λ j. refl) 1 (set s.homes 0 none) (omega (arith, kept.guard, home)) (omega arith) (λ e. absurd (omega (arith, e))) }),
-          (
-            (λ _. (guarded, refl, record {
-              numbered = ap (λ (x : Lock). x.number) it.2 ∙ sym (f.numbered refl);
-              sound = subst IsSound (sym past) kept.sound;
-              begins = subst (λ (x : List LockEvent). All (BeginsWith x) l.seen) (sym past) f.seen;
-            })),
-            (λ ne. absurd (ne home)),
-          ),
-        ))
+    let it = kept.home home in
+    let guarded : Guarded = it.0 in
+    let past : guarded.state.history ≡ h = ap (λ (x : Lock). x.history) it.2 in
+    let log = taken_log l guarded.state.history in (
+      held weight (taken_known log),
+      takes 0 guarded,
+      it.1,
+      (record {
+        history = h;
+        trace = entry id (step_record kind.Take 0 1) ∷ all.trace;
+        tells = tells-more all.trace s.words s.views tells id weight (idle_known l) at (step_record kind.Take 0 1) (taken_known log) kept.counted refl (record { place = refl; found = sym home ∙ tells.word; makes = refl });
+        lawful = one-seat-stepped number s h h kept id weight (idle_known l) (taken_known log) at (begins-refl h) kept.sound (λ i t _ _ _. refl)
+            (record {
+              numbered = λ _. f.numbered refl;
+              seen = All-cons (BeginsWith h) guarded.state.history [] (subst (BeginsWith h) (sym past) (begins-refl h)) (All-nil (BeginsWith h));
+              made = f.made;
+              passes = f.passes;
+              at_guard = λ _. ap (λ (x : List LockEvent). x ∷ []) past;
+            })
+            (λ j. refl) 1 (set s.homes 0 none) (omega (arith, kept.guard, home)) (omega arith) (λ e. absurd (omega (arith, e)));
+      }),
+      (
+        (λ _. (
+          guarded,
+          refl,
+          record {
+            numbered = ap (λ (x : Lock). x.number) it.2 ∙ sym (f.numbered refl);
+            sound = subst IsSound (sym past) kept.sound;
+            begins = subst (λ (x : List LockEvent). All (BeginsWith x) l.seen) (sym past) f.seen;
+          },
+        )),
+        (λ ne. absurd (ne home)),
+      ),
+    ))
     (λ away. let seen : n ≡ 1 = omega (arith, away, kept.guard, kept.one_guard) in (
       held weight (idle_known (contended_log l)),
       keeps,
       tt,
-      (record { history = h; trace = entry id (step_record kind.Take 1 1) ∷ all.trace;
+      (record {
+        history = h;
+        trace = entry id (step_record kind.Take 1 1) ∷ all.trace;
         tells = subst (λ (m : ℕ). Tells (entry id (step_record kind.Take 1 1) ∷ all.trace) (set s.words guard_word m) (set s.views id (held weight (idle_known (contended_log l))))) (sym seen)
             (tells-more all.trace s.words s.views tells id weight (idle_known l) at (step_record kind.Take 1 1) (idle_known (contended_log l)) kept.counted refl (record { place = refl; found = sym seen ∙ tells.word; makes = refl }));
         lawful = one-seat-stepped number s h h kept id weight (idle_known l) (idle_known (contended_log l)) at (begins-refl h) kept.sound (λ i t _ _ _. refl)
-          (record { numbered = λ _. f.numbered refl; seen = f.seen; made = f.made; passes = f.passes; at_guard = λ e. absurd (false≢true e) })
-          (λ j. refl) n s.homes (omega (arith, kept.guard)) (omega (arith, kept.guard, kept.one_guard)) (λ e. absurd (away e)) }),
+            (record { numbered = λ _. f.numbered refl; seen = f.seen; made = f.made; passes = f.passes; at_guard = λ e. absurd (false≢true e) })
+            (λ j. refl) n s.homes (omega (arith, kept.guard)) (omega (arith, kept.guard, kept.one_guard)) (λ e. absurd (away e));
+      }),
       ((λ e. absurd (away e)), (λ _. refl)),
     ))
 
@@ -218,25 +234,28 @@ gives-allowed number slots id weight l guarded before one saw numbered more soun
       held weight (idle_known log),
       gives,
       tt,
-      (record { history = g; trace = entry id (step_record kind.GiveBack 1 0) ∷ everything.trace;
+      (record {
+        history = g;
+        trace = entry id (step_record kind.GiveBack 1 0) ∷ everything.trace;
         tells = tells-more everything.trace s.words s.views tells id weight (taken_known l) at (step_record kind.GiveBack 1 0) (idle_known log) kept.counted refl (record { place = refl; found = (omega (arith, in_it, kept.guard, kept.one_guard)) ∙ tells.word; makes = (refl, refl) });
         lawful = one-seat-stepped number s h g kept id weight (taken_known l) (idle_known log) at longer sound
-          (λ i t apart there e. absurd (no-other number s h h kept id weight (taken_known l) (taken_known l) at refl i t apart there e))
-          (record {
-            numbered = λ _. here;
-            seen = All-cons (BeginsWith g) g [] (begins-refl g) (All-nil (BeginsWith g));
-            made = All-append (StandsIn g) l.made (since (get_or l.seen 0 []) g) (stands-more h g longer l.made f.made)
-                (subst (λ (x : List PlacedEvent). All (StandsIn g) x) (sym added) (stands-since h g longer));
-            passes = All-append (IsGrantedIn number g) l.passes (passes_of guarded.last_pass) (granted-more number h g longer l.passes f.passes)
-                (granted-passes number g guarded.last_pass (subst (λ (k : ℕ). IfSome guarded.last_pass (IsGrantedIn k g)) here pass));
-            at_guard = λ e. absurd (false≢true e);
-          })
-          (λ j.
-              let parts = times-append j l.made (since (get_or l.seen 0 []) g) in
-              let moved = ap (times_at j) added in
-              omega (arith, parts, moved, times-since j h g longer))
-          0 (set s.homes 0 (some guarded)) (omega (arith, in_it, kept.one_guard)) (omega arith)
-          (λ _. (guarded, set_here s.homes 0 (some guarded) (omega (arith, long, one)), (λ i. record { number = (numbered ∙ here) i; history = g }))) }),
+            (λ i t apart there e. absurd (no-other number s h h kept id weight (taken_known l) (taken_known l) at refl i t apart there e))
+            (record {
+              numbered = λ _. here;
+              seen = All-cons (BeginsWith g) g [] (begins-refl g) (All-nil (BeginsWith g));
+              made = All-append (StandsIn g) l.made (since (get_or l.seen 0 []) g) (stands-more h g longer l.made f.made)
+                  (subst (λ (x : List PlacedEvent). All (StandsIn g) x) (sym added) (stands-since h g longer));
+              passes = All-append (IsGrantedIn number g) l.passes (passes_of guarded.last_pass) (granted-more number h g longer l.passes f.passes)
+                  (granted-passes number g guarded.last_pass (subst (λ (k : ℕ). IfSome guarded.last_pass (IsGrantedIn k g)) here pass));
+              at_guard = λ e. absurd (false≢true e);
+            })
+            (λ j.
+            let parts = times-append j l.made (since (get_or l.seen 0 []) g) in
+            let moved = ap (times_at j) added in
+            omega (arith, parts, moved, times-since j h g longer))
+            0 (set s.homes 0 (some guarded)) (omega (arith, in_it, kept.one_guard)) (omega arith)
+            (λ _. (guarded, set_here s.homes 0 (some guarded) (omega (arith, long, one)), (λ i. record { number = (numbered ∙ here) i; history = g })));
+      }),
       (λ other e. let there : guarded ≡ other = ap (λ (x : List (ℕ × Guarded)). (get_or x 0 (0, guarded)).1) e in ap (λ (d : Guarded). idle weight (given_back_log l d.state.history d.last_pass)) there),
     )
 
@@ -252,32 +271,37 @@ splits-allowed number id weight l s all at =
     let f = kept.fits id v at in
     let views = set s.views id left in
     let g1 = total-set guard_of s.views id v left at in
-    let g2 = total-snoc guard_of views right in record { history = h; trace = all.trace; tells = tells-cut all.trace s.words s.views all.tells id weight (idle_known l) at left right refl refl; lawful = record {
-      sound = kept.sound;
-      shared = splits kept.shared id weight (idle_known l) (idle_known l) (idle_known (cut_log l)) at;
-      counted = kept.counted;
-      fits = λ i t there.
-          ⊎_elim
-          (λ (x : get_elem? views i ≡ some t).
-          ⊎_elim (λ (y : (i ≡ id) × (left ≡ t)). subst (Fits number h) y.1 (record { numbered = λ _. f.numbered refl; seen = f.seen; made = f.made; passes = f.passes; at_guard = f.at_guard }))
-          (λ (y : (i ≢ id) × (get_elem? s.views i ≡ some t)). kept.fits i t y.1)
-          (at_set s.views id i left t x))
-          (λ (x : right ≡ t). subst (Fits number h) x (record {
-            numbered = λ _. f.numbered refl;
-            seen = f.seen;
-            made = All-nil (StandsIn h);
-            passes = All-nil (IsGrantedIn number h);
-            at_guard = λ e. absurd (false≢true e);
-          }))
-          (at_snoc views right t i there);
-      once = λ k.
-          let m1 = total-set (made_of k) s.views id v left at in
-          let m2 = total-snoc (made_of k) views right in
-          omega (arith, m1, m2, kept.once k);
-      guard = omega (arith, kept.guard, g1, g2);
-      one_guard = omega (arith, kept.one_guard, g1, g2);
-      home = kept.home;
-    } }
+    let g2 = total-snoc guard_of views right in record {
+      history = h;
+      trace = all.trace;
+      tells = tells-cut all.trace s.words s.views all.tells id weight (idle_known l) at left right refl refl;
+      lawful = record {
+        sound = kept.sound;
+        shared = splits kept.shared id weight (idle_known l) (idle_known l) (idle_known (cut_log l)) at;
+        counted = kept.counted;
+        fits = λ i t there.
+            ⊎_elim
+            (λ (x : get_elem? views i ≡ some t).
+            ⊎_elim (λ (y : (i ≡ id) × (left ≡ t)). subst (Fits number h) y.1 (record { numbered = λ _. f.numbered refl; seen = f.seen; made = f.made; passes = f.passes; at_guard = f.at_guard }))
+            (λ (y : (i ≢ id) × (get_elem? s.views i ≡ some t)). kept.fits i t y.1)
+            (at_set s.views id i left t x))
+            (λ (x : right ≡ t). subst (Fits number h) x (record {
+              numbered = λ _. f.numbered refl;
+              seen = f.seen;
+              made = All-nil (StandsIn h);
+              passes = All-nil (IsGrantedIn number h);
+              at_guard = λ e. absurd (false≢true e);
+            }))
+            (at_snoc views right t i there);
+        once = λ k.
+            let m1 = total-set (made_of k) s.views id v left at in
+            let m2 = total-snoc (made_of k) views right in
+            omega (arith, m1, m2, kept.once k);
+        guard = omega (arith, kept.guard, g1, g2);
+        one_guard = omega (arith, kept.one_guard, g1, g2);
+        home = kept.home;
+      };
+    }
 
 pub joins-allowed : (number id weight : ℕ) (l : SeatLog) (other added : ℕ) (o : SeatLog)
     → Joins (IsKept number) id (held weight (idle_known l)) other (held added (idle_known o)) (joined_seat (held weight (idle_known l)) (held added (idle_known o))) spent_seat
@@ -292,39 +316,44 @@ joins-allowed number id weight l other added o s all at apart from =
     let f = kept.fits id v at in
     let f' = kept.fits other u there in
     let g1 = total-set guard_of s.views id v both at in
-    let g2 = total-set guard_of views other u spent_seat from in record { history = h; trace = all.trace; tells = tells-join all.trace s.words s.views all.tells id weight (idle_known l) at other both spent_seat refl refl; lawful = record {
-      sound = kept.sound;
-      shared = joins kept.shared id other weight added (idle_known l) (idle_known o) (idle_known (joined_log l o)) at apart there;
-      counted = kept.counted;
-      fits = λ i t at_i.
-          ⊎_elim
-          (λ (x : (i ≡ other) × (spent_seat ≡ t)). subst (Fits number h) x.1 (record {
-            numbered = λ e. absurd (false≢true e);
-            seen = All-nil (BeginsWith h);
-            made = All-nil (StandsIn h);
-            passes = All-nil (IsGrantedIn number h);
-            at_guard = λ e. absurd (false≢true e);
-          }))
-          (λ (x : (i ≢ other) × (get_elem? views i ≡ some t)).
-          ⊎_elim (λ (y : (i ≡ id) × (both ≡ t)). subst (Fits number h) y.1 (record {
-            numbered = λ _. f.numbered refl;
-            seen = All-append (BeginsWith h) l.seen o.seen f.seen f'.seen;
-            made = All-append (StandsIn h) l.made o.made f.made f'.made;
-            passes = All-append (IsGrantedIn number h) l.passes o.passes f.passes f'.passes;
-            at_guard = λ e. absurd (false≢true e);
-          }))
-          (λ (y : (i ≢ id) × (get_elem? s.views i ≡ some t)). kept.fits i t y.1)
-          (at_set s.views id i both t x.1))
-          (at_set views other i spent_seat t at_i);
-      once = λ k.
-          let m1 = total-set (made_of k) s.views id v both at in
-          let m2 = total-set (made_of k) views other u spent_seat from in
-          let parts = times-append k l.made o.made in
-          omega (arith, m1, m2, parts, kept.once k);
-      guard = omega (arith, kept.guard, g1, g2);
-      one_guard = omega (arith, kept.one_guard, g1, g2);
-      home = kept.home;
-    } }
+    let g2 = total-set guard_of views other u spent_seat from in record {
+      history = h;
+      trace = all.trace;
+      tells = tells-join all.trace s.words s.views all.tells id weight (idle_known l) at other both spent_seat refl refl;
+      lawful = record {
+        sound = kept.sound;
+        shared = joins kept.shared id other weight added (idle_known l) (idle_known o) (idle_known (joined_log l o)) at apart there;
+        counted = kept.counted;
+        fits = λ i t at_i.
+            ⊎_elim
+            (λ (x : (i ≡ other) × (spent_seat ≡ t)). subst (Fits number h) x.1 (record {
+              numbered = λ e. absurd (false≢true e);
+              seen = All-nil (BeginsWith h);
+              made = All-nil (StandsIn h);
+              passes = All-nil (IsGrantedIn number h);
+              at_guard = λ e. absurd (false≢true e);
+            }))
+            (λ (x : (i ≢ other) × (get_elem? views i ≡ some t)).
+            ⊎_elim (λ (y : (i ≡ id) × (both ≡ t)). subst (Fits number h) y.1 (record {
+              numbered = λ _. f.numbered refl;
+              seen = All-append (BeginsWith h) l.seen o.seen f.seen f'.seen;
+              made = All-append (StandsIn h) l.made o.made f.made f'.made;
+              passes = All-append (IsGrantedIn number h) l.passes o.passes f.passes f'.passes;
+              at_guard = λ e. absurd (false≢true e);
+            }))
+            (λ (y : (i ≢ id) × (get_elem? s.views i ≡ some t)). kept.fits i t y.1)
+            (at_set s.views id i both t x.1))
+            (at_set views other i spent_seat t at_i);
+        once = λ k.
+            let m1 = total-set (made_of k) s.views id v both at in
+            let m2 = total-set (made_of k) views other u spent_seat from in
+            let parts = times-append k l.made o.made in
+            omega (arith, m1, m2, parts, kept.once k);
+        guard = omega (arith, kept.guard, g1, g2);
+        one_guard = omega (arith, kept.one_guard, g1, g2);
+        home = kept.home;
+      };
+    }
 
 -- ---- the end
 

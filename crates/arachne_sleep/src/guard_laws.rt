@@ -47,7 +47,7 @@ pub fn a_split_keeps_the_rule()
 pub fn a_join_keeps_the_rule()
     ensures { (number id weight : ℕ) (log : SeatLog) (other added : ℕ) (theirs : SeatLog)
         → Joins (IsKept number) id (held weight (idle_known log)) other (held added (idle_known theirs))
-            (joined_seat (held weight (idle_known log)) (held added (idle_known theirs))) spent_seat }
+        (joined_seat (held weight (idle_known log)) (held added (idle_known theirs))) spent_seat }
 {}
 
 /// What a seat in use has noted are exactly its own steps. Each of them stands in the one trace of all steps, where it

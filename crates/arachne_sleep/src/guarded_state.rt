@@ -86,7 +86,10 @@ impl GuardedState {
         ensures events { result.items ≡ self.state.history }
         ensures sound { IsSound self.state.history }
     {
-        let GuardedState { state, last_pass: _ } = self;
+        let GuardedState {
+            state,
+            last_pass: _,
+        } = self;
         state.into_inner().into_history()
     }
 }

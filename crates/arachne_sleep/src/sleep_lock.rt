@@ -202,12 +202,21 @@ impl SleepLock {
         ensures one_holder { IfOk result (λ history. HasOneHolderAtATime history.items) }
         ensures told { IfOk result (λ history. IsToldBy seat.log history.items) }
     {
+        Ok(self.into_history(seat))
+    }
+
+    pub(crate) fn into_history(self, seat: LockSeat) -> Vec<LockEvent>
+        requires own { IsSeatOf self seat }
+        requires whole { IsWhole seat }
+        ensures sound { IsSound result.items }
+        ensures told { IsToldBy seat.log result.items }
+    {
         let SleepLock { table, number: _ } = self;
         let LockSeat { seat, weight: _ } = seat;
         let mut closed = table.close_with(seat);
         let guarded = closed.take(0);
         closed.free();
-        Ok(guarded.into_history())
+        guarded.into_history()
     }
 
     /// Tries the guard once. Won, the state has come to the seat.
@@ -234,11 +243,7 @@ impl SleepLock {
         self.table.shared.store::<GiveBack>(seat, GUARD, HOME);
     }
 
-    fn ask_guarded(
-        &self,
-        seat: &mut Seat<GuardedState, View>,
-        who: Who,
-    ) -> Result<Asked, AskFault>
+    fn ask_guarded(&self, seat: &mut Seat<GuardedState, View>, who: Who) -> Result<Asked, AskFault>
         requires own { seat.old.table_id ≡ self.now.table }
         requires held { (guarded : Guarded) × (seat.old.me.1 ≡ (0, guarded) ∷ []) }
         ensures own { seat.new.table_id ≡ seat.old.table_id }

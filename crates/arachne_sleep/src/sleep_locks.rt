@@ -74,12 +74,7 @@ impl SleepLocks {
     }
 
     /// As [`SleepLock::ask`].
-    pub fn ask(
-        &self,
-        seats: &mut LockSeats,
-        lock: u8,
-        who: Who,
-    ) -> Tried<Result<Asked, AskFault>>
+    pub fn ask(&self, seats: &mut LockSeats, lock: u8, who: Who) -> Tried<Result<Asked, AskFault>>
         requires own { AreSeatsOf self.now seats.old }
         requires lock { lock < length self.now }
         ensures own { AreSeatsOf self.now seats.new }
@@ -90,12 +85,7 @@ impl SleepLocks {
     }
 
     /// As [`SleepLock::free`].
-    pub fn free(
-        &self,
-        seats: &mut LockSeats,
-        lock: u8,
-        who: Who,
-    ) -> Tried<Result<Freed, NotHolder>>
+    pub fn free(&self, seats: &mut LockSeats, lock: u8, who: Who) -> Tried<Result<Freed, NotHolder>>
         requires own { AreSeatsOf self.now seats.old }
         requires lock { lock < length self.now }
         ensures own { AreSeatsOf self.now seats.new }
@@ -106,12 +96,7 @@ impl SleepLocks {
     }
 
     /// As [`SleepLock::check`].
-    pub fn check(
-        &self,
-        seats: &mut LockSeats,
-        lock: u8,
-        who: Who,
-    ) -> Tried<Option<Pass>>
+    pub fn check(&self, seats: &mut LockSeats, lock: u8, who: Who) -> Tried<Option<Pass>>
         requires own { AreSeatsOf self.now seats.old }
         requires lock { lock < length self.now }
         ensures own { AreSeatsOf self.now seats.new }
@@ -152,10 +137,7 @@ impl SleepLocks {
     {
         let LockSeats { seats: mut own } = seats;
         let LockSeats { seats: mut others } = others;
-        for _ in 0..self.locks.len() {
-            let Some(other) = others.pop() else {
-                unreachable!()
-            };
+        while let Some(other) = others.pop() {
             let k = others.len();
             self.locks[k].join_into(&mut own[k], other);
         }
@@ -194,10 +176,7 @@ impl SleepLocks {
             let (Some(lock), Some(seat)) = (locks.pop(), seats.pop()) else {
                 unreachable!()
             };
-            match lock.close(seat) {
-                Ok(history) => histories.push_reserved(history),
-                Err(_) => unreachable!(),
-            }
+            histories.push_reserved(lock.into_history(seat));
         }
         histories.reverse();
         Ok(histories)

@@ -3,9 +3,7 @@ ghost use Rattle.std.specs.Prelude.{◌<◌, length};
 ghost use Rattle.arachne_sleep.specs.SleepLocks.{AreSeatsOf};
 ghost use Rattle.arachne_sleep.specs.Views.{IsSeatOf};
 
-use super::several;
-use super::shared;
-use super::{A, B};
+use super::{A, B, several, shared};
 use arachne_sleep::{AskFault, LockEvent, LockSeat, LockSeats, SleepLock, SleepLocks, Tried, Who};
 use std::alloc::{AllocError, Global};
 use std::test::Fail;
@@ -190,12 +188,7 @@ fn leave_one(
 type Places = Option<(Vec<usize>, Vec<usize>)>;
 
 /// Holds each of two locks in turn, so many times as there are rounds. The places of the grants at each.
-fn hold_each(
-    alloc: Global,
-    locks: &SleepLocks,
-    seats: &mut LockSeats,
-    who: Who,
-) -> Places
+fn hold_each(alloc: Global, locks: &SleepLocks, seats: &mut LockSeats, who: Who) -> Places
     requires own { AreSeatsOf locks.now seats.old }
     requires two { 1 < length locks.now }
     ensures { AreSeatsOf locks.now seats.new }
@@ -204,9 +197,13 @@ fn hold_each(
     let mut first = room(alloc).ok()?;
     let mut second = room(alloc).ok()?;
     for _ in 0..ROUNDS {
-        first.push(enter_one(locks, seats, 0, who, &mut polls_left)?).ok()?;
+        first
+            .push(enter_one(locks, seats, 0, who, &mut polls_left)?)
+            .ok()?;
         leave_one(locks, seats, 0, who, &mut polls_left)?;
-        second.push(enter_one(locks, seats, 1, who, &mut polls_left)?).ok()?;
+        second
+            .push(enter_one(locks, seats, 1, who, &mut polls_left)?)
+            .ok()?;
         leave_one(locks, seats, 1, who, &mut polls_left)?;
     }
     Some((first, second))

@@ -70,11 +70,7 @@ fn called(
 }
 
 /// The number of the first call on lock 2 that answers something else, from 0.
-fn first_wrong(
-    locks: &SleepLocks,
-    seats: &mut LockSeats,
-    rows: Rows,
-) -> Option<usize>
+fn first_wrong(locks: &SleepLocks, seats: &mut LockSeats, rows: Rows) -> Option<usize>
     requires own { AreSeatsOf locks.now seats.old }
     requires lock { 2 < length locks.now }
     ensures { AreSeatsOf locks.now seats.new }
@@ -147,7 +143,11 @@ fn parted_and_joined(alloc: Global, locks: &SleepLocks, seats: LockSeats) -> Opt
 }
 
 /// Closes the locks, once more where memory was refused.
-pub(super) fn closed(alloc: Global, locks: SleepLocks, seats: LockSeats) -> Option<Vec<Vec<LockEvent>>>
+pub(super) fn closed(
+    alloc: Global,
+    locks: SleepLocks,
+    seats: LockSeats,
+) -> Option<Vec<Vec<LockEvent>>>
     requires { AreSeatsOf locks seats }
 {
     if !locks.are_whole(&seats) {

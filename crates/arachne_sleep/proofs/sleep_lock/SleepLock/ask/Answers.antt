@@ -16,7 +16,7 @@ invariant_of-seat-2 c =
     let a = c.ask_guarded-answer.ensures.asked in
     let goes = ask-goes-on a.0.state a.1.state c.args.who c.ask_guarded-answer.result a.3 a.5 in
     idle-again me.0.weight me.0.known.log c.take.new.seat.me c.ask_guarded-answer.new.seat.me a.0 a.1 (pass_asked c.ask_guarded-answer.result) c.if-not-take.ensures.told a.2 goes a.4
-        c.give_back.new.seat.me c.give_back.ensures.told c.seat.inside.weight (ap (λ m. m.0.weight) c.seat.invariant)
+    c.give_back.new.seat.me c.give_back.ensures.told c.seat.inside.weight (ap (λ m. m.0.weight) c.seat.invariant)
 
 pub returns-clause-answer : goal.returns-clause-answer
 returns-clause-answer c =

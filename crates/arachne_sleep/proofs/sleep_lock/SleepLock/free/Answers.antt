@@ -15,7 +15,7 @@ invariant_of-seat-2 c =
     let a = c.free_guarded-answer.ensures.freed in
     let goes = free-goes-on a.0.state a.1.state c.args.who c.free_guarded-answer.result a.3 a.5 in
     idle-again me.0.weight me.0.known.log c.take.new.seat.me c.free_guarded-answer.new.seat.me a.0 a.1 None c.if-not-take.ensures.told a.2 goes a.4
-        c.give_back.new.seat.me c.give_back.ensures.told c.seat.inside.weight (ap (λ m. m.0.weight) c.seat.invariant)
+    c.give_back.new.seat.me c.give_back.ensures.told c.seat.inside.weight (ap (λ m. m.0.weight) c.seat.invariant)
 
 pub returns-clause-answer : goal.returns-clause-answer
 returns-clause-answer c =

@@ -1,4 +1,4 @@
-use Rattle.std.proofs.Common.{List, sym, subst, ◌∷◌, []}
+use Rattle.std.proofs.Common.{List, sym, subst}
 use Rattle.atomic_table.specs.Table.{opening}
 use Rattle.arachne_sleep.specs.Views.{Guarded}
 use Rattle.arachne_sleep.specs.Words.{first_words}
