@@ -286,6 +286,8 @@ fn two_threads_on_one_core_of_words(rt: HostRuntime) -> Result<(), Fail> {
 #[test]
 fn two_threads_one_of_which_moves_words(rt: HostRuntime) -> Result<(), Fail> {
     let outcome = contend(&rt, rt.alloc(), 2, true)?;
-    assert!(rt; outcome.settled && outcome.posted.0 > 0 && outcome.posted.1 > 0 && outcome.moved > 0);
+    assert!(rt;
+        outcome.settled && outcome.posted.0 > 0 && outcome.posted.1 > 0 && outcome.moved > 0
+    );
     Ok(())
 }
