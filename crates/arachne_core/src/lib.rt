@@ -14,7 +14,9 @@ mod thread_id;
 mod world;
 
 pub use event::{Event, NotApplied};
-pub use layout::{CORE_BITS, CORES, FIRST_CORE_BITS, GENERATION_BITS, LAST_GENERATION, MASK_BITS, SLOTS};
+pub use layout::{
+    CORE_BITS, CORES, FIRST_CORE_BITS, GENERATION_BITS, LAST_GENERATION, MASK_BITS, SLOTS,
+};
 pub use mark::Mark;
 pub use mark_word::MarkWord;
 pub use occ_word::{COUNT_ONE, EXCLUSIVE, FULL_MASK, OccWord};

@@ -36,7 +36,12 @@ impl<T: Tagged> Model for Homes<T> {
 
 impl<T: Tagged + Drop> Homes<T> {
     /// A table with this many cores, each with this many places, and no thread.
-    pub fn new(alloc: Global, cores: u8, slots: u8, first_generation: u64) -> Result<Self, AllocError>
+    pub fn new(
+        alloc: Global,
+        cores: u8,
+        slots: u8,
+        first_generation: u64,
+    ) -> Result<Self, AllocError>
         requires some { 1 ≤ cores }
         requires cores { cores ≤ CORES }
         requires some_slots { 1 ≤ slots }

@@ -15,8 +15,8 @@ use crate::homes::Homes;
 use crate::tokens::{LockedClaim, LockedHold};
 use arachne_contexts::{Claimed, Held, Moved, Rested, Tagged, Taken, Woken};
 use arachne_core::{
-    CORES, Event, FULL_MASK, LAST_GENERATION, Mark, MarkWord, NotApplied, OccWord, Place, Rest, SLOTS, State,
-    ThreadId,
+    CORES, Event, FULL_MASK, LAST_GENERATION, Mark, MarkWord, NotApplied, OccWord, Place, Rest,
+    SLOTS, State, ThreadId,
 };
 use std::alloc::{AllocError, Global};
 use std::marker::Model;
@@ -50,7 +50,12 @@ pub fn no_core(slots: u8) -> OccWord
 
 impl<T: Tagged + Drop> TableState<T> {
     /// A table with this many cores, each with this many places, and no thread.
-    pub fn new(alloc: Global, cores: u8, slots: u8, first_generation: u64) -> Result<Self, AllocError>
+    pub fn new(
+        alloc: Global,
+        cores: u8,
+        slots: u8,
+        first_generation: u64,
+    ) -> Result<Self, AllocError>
         requires some { 1 ≤ cores }
         requires cores { cores ≤ CORES }
         requires some_slots { 1 ≤ slots }

@@ -180,7 +180,7 @@ fn work_side_by_side<R: Threads + Wait + Sync>(
     their: Part,
 ) -> Option<(WordWork, WordWork)>
     requires seat { (seat.table ≡ table.now.table) × HasNothingOut seat.known }
-    requires slots { SLOTS ≡ table.now.shape.slots }
+    requires slots { SLOTS ≡ table.now.shape.places_per_core }
     requires own { (1 ≤ own.cores) × (own.cores ≡ table.now.shape.cores) }
     requires their { (1 ≤ their.cores) × (their.cores ≡ table.now.shape.cores) }
     ensures first { IfSome result (λ w. (w.0.seat.table ≡ table.now.table) × HasNothingOut w.0.seat.known) }
@@ -190,11 +190,11 @@ fn work_side_by_side<R: Threads + Wait + Sync>(
     let (first, second) = thread::join(
         rt,
         move || -> Option<WordWork>
-            requires { (first.table ≡ table.now.table) × HasNothingOut first.known × (1 ≤ own.cores) × (own.cores ≡ table.now.shape.cores) × (SLOTS ≡ table.now.shape.slots) }
+            requires { (first.table ≡ table.now.table) × HasNothingOut first.known × (1 ≤ own.cores) × (own.cores ≡ table.now.shape.cores) × (SLOTS ≡ table.now.shape.places_per_core) }
             ensures { IfSome result (λ w. (w.seat.table ≡ table.entry.now.table) × HasNothingOut w.seat.known) }
         { all_rounds::<Words, R>(rt, table, alloc, first, own) },
         move || -> Option<WordWork>
-            requires { (second.table ≡ table.now.table) × HasNothingOut second.known × (1 ≤ their.cores) × (their.cores ≡ table.now.shape.cores) × (SLOTS ≡ table.now.shape.slots) }
+            requires { (second.table ≡ table.now.table) × HasNothingOut second.known × (1 ≤ their.cores) × (their.cores ≡ table.now.shape.cores) × (SLOTS ≡ table.now.shape.places_per_core) }
             ensures { IfSome result (λ w. (w.seat.table ≡ table.entry.now.table) × HasNothingOut w.seat.known) }
         { all_rounds::<Words, R>(rt, table, alloc, second, their) },
     );
@@ -286,6 +286,8 @@ fn two_threads_on_one_core_of_words(rt: HostRuntime) -> Result<(), Fail> {
 #[test]
 fn two_threads_one_of_which_moves_words(rt: HostRuntime) -> Result<(), Fail> {
     let outcome = contend(&rt, rt.alloc(), 2, true)?;
-    assert!(rt; outcome.settled && outcome.posted.0 > 0 && outcome.posted.1 > 0 && outcome.moved > 0);
+    assert!(rt;
+        outcome.settled && outcome.posted.0 > 0 && outcome.posted.1 > 0 && outcome.moved > 0
+    );
     Ok(())
 }

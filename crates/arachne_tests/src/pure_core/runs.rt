@@ -87,14 +87,14 @@ fn event_of(step: Step) -> Option<Event> {
 
 /// The number that a step asks for, if it is a question, and what it names is there.
 fn asked(world: &World, step: Step) -> Option<u64> {
-    let cores = world.cores();
-    let contexts = u32::from(cores) * 56;
+    let (cores, slots) = (world.cores(), world.slots());
+    let contexts = u32::from(cores) * u32::from(slots);
     match step {
         Step::Occ(core) if core < cores => Some(world.occ(core).word()),
         Step::Mark(context) if context < contexts => Some(world.mark(context).word()),
         Step::Core(context) if context < contexts => Some(world.place_of(context).core.into()),
         Step::Index(context) if context < contexts => Some(world.place_of(context).index.into()),
-        Step::At(core, index) if core < cores && index < 56 => {
+        Step::At(core, index) if core < cores && index < slots => {
             Some(world.context_at(Place { core, index }).into())
         }
         _ => None,
