@@ -1,6 +1,5 @@
 -- Each step keeps the balance.
-use Rattle.std.proofs.Common.{◌≡◌, ◌≢◌, ℕ, ◌+◌, ◌<◌, ◌==◌, if◌then◌else◌, List, [], ◌∷◌, ◌++◌, map, length, set, sym, refl, ap, ◌∙◌, subst, arith}
-use Rattle.std.specs.List.{sum_by}
+use Rattle.std.proofs.Common.{◌≡◌, ◌≢◌, ℕ, ◌+◌, ◌==◌, if◌then◌else◌, List, [], ◌∷◌, ◌++◌, map, length, set, sym, refl, ap, ◌∙◌, arith}
 use mathlib.Core.Option.{some}
 use lib.ListN.{get_elem?}
 use Rattle.crossbeam_queue.specs.Fifo.{Pushes, Pops, Forks, Merges, Learns}
@@ -10,9 +9,10 @@ use Rattle.arachne_weights.specs.Weight.{whole}
 use Rattle.arachne_weights.specs.Tokens.{held, spent, begins, learns, splits, joins}
 use Rattle.arachne_weights.proofs.Tokens.{whole-total}
 use Rattle.arachne_weights.proofs.Totals.{total-set, total-snoc}
-use Rattle.std.proofs.lemmas.List.{map-append}
+use Rattle.std.proofs.lemmas.List.{map-append, length-map}
 use Rattle.std.proofs.lemmas.List.Sums.{sum_by-append, sum_by-cons, sum_by_push}
 use Rattle.arachne_spill.specs.declared.pass.Known.{Known}
+use Rattle.arachne_spill.proofs.Counts.{added-length}
 use Rattle.arachne_spill.specs.Balance.{blank, times, IsBalanced, IsMoment, opening_pass, after_pushing, after_popping, after_joining, first_pass, second_pass, joined_pass, after_push, after_pop, after_split, after_join, Pushed, Popped}
 
 abbrev ins : ℕ → Token Known → ℕ
@@ -108,3 +108,7 @@ module _ {T : Type 0} (tag_of : T → ℕ) where
   pub all-out : (known : Known) (items : List T) → length items ≡ 0 → IsMoment tag_of (held whole known) items → (tag : ℕ) → times tag known.pushed ≡ times tag known.popped
   all-out known [] none m tag = omega (arith, whole-balance known [] m tag)
   all-out known (item ∷ items) none m tag = absurd (omega arith)
+
+  -- and as many more were pushed than popped as were left
+  pub ahead : (known : Known) (items : List T) → IsMoment tag_of (held whole known) items → length known.pushed ≡ length known.popped + length items
+  ahead known items m = added-length known.pushed known.popped (map tag_of items) (whole-balance known items m) ∙ ap (λ n. length known.popped + n) (length-map items tag_of)

@@ -1,5 +1,5 @@
 -- What a contract sees of a queue and of a pass.
-use Rattle.std.specs.Prelude.{◌≡◌, ℕ, List, length}
+use Rattle.std.specs.Prelude.{◌≡◌, ℕ, ◌+◌, List, length}
 use Rattle.atomic_table.specs.Seated.{TableId}
 use Rattle.arachne_weights.specs.Weight.{whole}
 use Rattle.arachne_weights.specs.Tokens.{held}
@@ -39,3 +39,7 @@ WasSeen {T} tag_of pass count = (items : List T) × (length items ≡ count) × 
 -- each tag came out as often as it was put in
 abbrev pub AllCameOut : PassView → Type 0
 AllCameOut pass = (tag : ℕ) → times tag pass.pushed ≡ times tag pass.popped
+
+-- so many more went in through it than came out
+abbrev pub IsAheadBy : PassView → ℕ → Type 0
+IsAheadBy pass count = length pass.pushed ≡ length pass.popped + count

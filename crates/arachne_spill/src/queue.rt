@@ -1,7 +1,7 @@
 //! The queue, and the calls on it.
 ghost use Rattle.std.specs.Prelude.{◌≡◌, ◌↔◌, ◌++◌, [], ◌∷◌, IfOk, IfErr, OnOk, OnErr, IfSome, IfNone, IsTrue};
 ghost use Rattle.arachne_weights.specs.Weight.{whole, first_part, second_part, joined};
-ghost use Rattle.arachne_spill.specs.Views.{IsPassOf, IsWhole, WasSeen, AllCameOut, capacity};
+ghost use Rattle.arachne_spill.specs.Views.{IsPassOf, IsWhole, IsAheadBy, WasSeen, AllCameOut, capacity};
 
 use crate::pass::{SpillPass, View};
 use crate::steps::{Balanced, Deal, Pop, Push};
@@ -52,6 +52,7 @@ impl<T: Tagged + Drop> SpillQueue<T> {
         ensures same { OnErr result (pass.new ≡ pass.old) }
         ensures handed_back { IfErr result (λ back. back ≡ item) }
         ensures full { OnErr result (WasSeen T.tag_of pass.old capacity) }
+        ensures whole { OnErr result (IsWhole pass.old → IsAheadBy pass.old capacity) }
     {
         self.ring.push_as::<Push, R>(rt, &mut pass.pass, item)
     }
@@ -72,6 +73,7 @@ impl<T: Tagged + Drop> SpillQueue<T> {
         requires own { IsPassOf self.now pass.old }
         ensures same { pass.new ≡ pass.old }
         ensures full { IsTrue result → WasSeen T.tag_of pass.old capacity }
+        ensures whole { IsTrue result → IsWhole pass.old → IsAheadBy pass.old capacity }
     {
         self.ring.is_full_as::<Push>(&mut pass.pass)
     }
@@ -81,6 +83,7 @@ impl<T: Tagged + Drop> SpillQueue<T> {
         requires own { IsPassOf self.now pass.old }
         ensures same { pass.new ≡ pass.old }
         ensures empty { IsTrue result → WasSeen T.tag_of pass.old 0 }
+        ensures all_out { IsTrue result → IsWhole pass.old → AllCameOut pass.old }
     {
         self.ring.is_empty_as::<Pop>(&mut pass.pass)
     }

@@ -1,4 +1,4 @@
-use Rattle.std.proofs.Common.{◌≡◌, ◌∙◌, sym, ap, subst}
+use Rattle.std.proofs.Common.{◌∙◌, ap, subst}
 use Rattle.arachne_spill.specs.Views.{AllCameOut}
 use Rattle.arachne_spill.proofs.Seated.{pop-allowed, settled, where-none}
 use Rattle.arachne_spill.proofs.queue.SpillQueue.pop.Goals as goal
