@@ -44,6 +44,17 @@ impl<'a, H: Wait, T: Tagged, C: Contexts<T>> Cores<'a, H, T, C> {
         }
     }
 
+    /// Whether any core was seen with a place.
+    #[inline(always)]
+    pub fn any_place(&self, seat: &mut C::Seat) -> bool {
+        for core in 0..self.count {
+            if has_place(self.look(seat, core)) {
+                return true;
+            }
+        }
+        false
+    }
+
     /// Claims a core for a thread that has it alone: the first that is open and empty. None where there is none. The
     /// error is want of memory for what is posted at the place.
     pub fn claim_exclusive(&self, seat: &mut C::Seat) -> Result<Option<C::Claim>, AllocError>

@@ -1,82 +1,139 @@
+use crate::begin::cost_of;
 use crate::frame::{Control, Frame, Stretch};
-use crate::state::{Progress, State, Stop};
+use crate::placing::Placing;
+use crate::state::{Progress, State};
 use arachne_lang::{Expr, Reduction};
 use std::alloc::AllocError;
 
 /// How a value is handed on.
 impl<'p> State<'p> {
-    ghost use Rattle.std.specs.Prelude.{◌≡◌, ◌+◌, ◌≤◌, ◌++◌, ◌∷◌, [], length, slice_index, vec_len, vec_capacity, None, IfOk, OnOk, OnErr};
-    ghost use Rattle.arachne_lang.specs.Program.{source_of};
-    ghost use Rattle.arachne_lang.specs.Value.{array_at, with_newest};
-    ghost use Rattle.arachne_machine.specs.declared.state.State.{State as Thread};
-    ghost use Rattle.arachne_machine.specs.declared.frame.Frame.TheVariants as frames;
-    ghost use Rattle.arachne_machine.specs.declared.frame.Control.TheVariants as control;
-    ghost use Rattle.arachne_machine.specs.Ending.{without_newest};
-    ghost use Rattle.arachne_machine.specs.Steps.{Becomes, IsUnchanged, IsPopped, IsPauseOrRange, IsOfRange, Enters, TurnsFold, TurnsSweep, AfterSteps, Progresses, OnValue, giving};
-
-    /// Hands a value on from frame to frame, until one of them says what the thread does next, or none is left.
+    /// Hands a value on from frame to frame, and from a child that ran here to its parent, until one of them says what comes
+    /// next, or none is left. Where memory is refused the value is still to be handed on.
     #[inline(always)]
-    pub fn give(&mut self, mut value: u64) -> Result<Option<Stop<'p>>, AllocError>
-        ensures ok { IfOk result (λ stop. AfterSteps 1 (giving self.old value) stop self.new) }
-        ensures err { OnErr result (IsUnchanged self.old self.new) }
-    {
-        self.environment.try_reserve(2)?;
-        while let Some(frame) = self.frames.pop() {
-            match self.hand(frame, value) {
+    pub fn give<P: Placing>(
+        &mut self,
+        mut value: u64,
+        left: &mut u32,
+        places: &mut P,
+    ) -> Result<Progress<'p>, AllocError> {
+        if self.environment.try_reserve(2).is_err() {
+            return self.refused(value);
+        }
+        loop {
+            while self.frames.len() > self.level.start {
+                let Some(frame) = self.frames.pop() else {
+                    unreachable!()
+                };
+                match self.hand(frame, value, left, places)? {
+                    Progress::Value(next) => value = next,
+                    other => return Ok(other),
+                }
+            }
+            if self.parents.is_empty() {
+                self.control = Control::Ended(value);
+                return Ok(Progress::Stops);
+            }
+            match self.join_here(value, left)? {
                 Progress::Value(next) => value = next,
-                Progress::Made(stop) => return Ok(stop),
+                other => return Ok(other),
             }
         }
-        self.control = Control::Ended(value);
-        Ok(Some(Stop::Ended))
+    }
+
+    /// Memory was refused: the value is still to be handed on.
+    #[cold]
+    #[inline(never)]
+    pub fn refused(&mut self, value: u64) -> Result<Progress<'p>, AllocError> {
+        self.control = Control::Give(value);
+        Err(AllocError)
     }
 
     /// Room for what a value begins.
-    pub fn reserve_turn(&mut self) -> Result<(), AllocError>
-        ensures same { IsUnchanged self.old self.new }
-        ensures environment { OnOk result (vec_len self.new.environment + 2 ≤ vec_capacity self.new.environment) }
-        ensures frames { OnOk result (vec_len self.new.frames + 1 ≤ vec_capacity self.new.frames) }
-    {
+    pub fn reserve_turn(&mut self) -> Result<(), AllocError> {
         self.environment.try_reserve(2)?;
         self.frames.try_reserve(1)
     }
 
     /// Hands a value to this frame, which was the newest.
     #[inline(always)]
-    fn hand(&mut self, frame: Frame<'p>, value: u64) -> Progress<'p>
-        requires environment { vec_len self.old.environment + 2 ≤ vec_capacity self.old.environment }
-        requires frames { vec_len self.old.frames + 1 ≤ vec_capacity self.old.frames }
-        ensures made { (before : Thread) → IsPopped frame.entry before (giving self.old value) → Progresses before result self.new }
-        ensures room { OnValue result (vec_len self.new.environment + 2 ≤ vec_capacity self.new.environment) }
-        ensures frames { OnValue result (vec_len self.new.frames ≤ vec_len self.old.frames) }
-    {
+    fn hand<P: Placing>(
+        &mut self,
+        frame: Frame<'p>,
+        value: u64,
+        left: &mut u32,
+        places: &mut P,
+    ) -> Result<Progress<'p>, AllocError> {
         match frame {
-            Frame::Index(array) => return Progress::Value(self.item(array, value)),
-            Frame::Apply(operation, left) => {
-                return Progress::Value(operation.apply(left, value));
-            }
+            Frame::Index(array) => Ok(Progress::Value(self.item(array, value))),
+            Frame::Apply(operation, first) => Ok(Progress::Value(operation.apply(first, value))),
             Frame::Restore(length) => {
                 self.environment.truncate(length);
-                return Progress::Value(value);
+                Ok(Progress::Value(value))
             }
-            Frame::Right(operation, right) => self.go_on(Frame::Apply(operation, value), right),
+            Frame::Right(operation, right) => Ok(self.go_on(Frame::Apply(operation, value), right)),
             Frame::Branch(first, second) => {
-                self.control = Control::Begin(if value == 0 { second } else { first });
+                Ok(Progress::Begin(if value == 0 { second } else { first }))
             }
-            Frame::Extend(body) => self.extend(value, body),
-            _ => return Progress::Made(self.hand_on(frame, value)),
+            Frame::Extend(body) => Ok(self.extend(value, body)),
+            Frame::FoldTurn {
+                next,
+                end,
+                body,
+                cost,
+            } => {
+                self.drop_newest(2);
+                Ok(self.turn_fold(next, end, body, cost, value, left))
+            }
+            Frame::JoinHere {
+                number,
+                child,
+                after,
+            } => {
+                let awaits = Control::Awaits {
+                    number,
+                    during: value,
+                    after,
+                };
+                if self.begin_here(number, awaits, places).is_err() {
+                    self.frames.push_reserved(frame);
+                    return self.refused(value);
+                }
+                Ok(Progress::Begin(child))
+            }
+            Frame::MergeHere {
+                reduction,
+                cost,
+                number,
+                grain,
+                first,
+                end,
+                body,
+            } => {
+                let awaits = Control::AwaitsHalf {
+                    number,
+                    right: value,
+                    reduction,
+                };
+                if self.begin_here(number, awaits, places).is_err() {
+                    self.frames.push_reserved(frame);
+                    return self.refused(value);
+                }
+                self.control = Control::Cover(Stretch {
+                    reduction,
+                    cost,
+                    grain,
+                    first,
+                    end,
+                    body,
+                });
+                Ok(Progress::Goes)
+            }
+            _ => Ok(self.hand_on(frame, value, left)),
         }
-        Progress::Made(None)
     }
 
     /// The same for a frame at which the thread pauses, or one of a fold or a sweep.
-    #[inline(always)]
-    fn hand_on(&mut self, frame: Frame<'p>, value: u64) -> Option<Stop<'p>>
-        requires later { IsPauseOrRange frame }
-        requires environment { vec_len self.old.environment + 2 ≤ vec_capacity self.old.environment }
-        requires frames { vec_len self.old.frames + 1 ≤ vec_capacity self.old.frames }
-        ensures { (before : Thread) → IsPopped frame.entry before (giving self.old value) → AfterSteps 1 before result self.new }
-    {
+    fn hand_on(&mut self, frame: Frame<'p>, value: u64, left: &mut u32) -> Progress<'p> {
         match frame {
             Frame::Amount(ledger, body) => {
                 self.control = Control::Tallies {
@@ -84,11 +141,11 @@ impl<'p> State<'p> {
                     amount: value,
                     body,
                 };
-                Some(Stop::Tallies(ledger, value))
+                Progress::Stops
             }
             Frame::Release(lock) => {
                 self.control = Control::Frees { lock, value };
-                Some(Stop::Frees(lock))
+                Progress::Stops
             }
             Frame::Join { number, after } => {
                 self.control = Control::Awaits {
@@ -96,7 +153,7 @@ impl<'p> State<'p> {
                     during: value,
                     after,
                 };
-                Some(Stop::Joins)
+                Progress::Stops
             }
             Frame::Merge { number, reduction } => {
                 self.control = Control::AwaitsHalf {
@@ -104,44 +161,40 @@ impl<'p> State<'p> {
                     right: value,
                     reduction,
                 };
-                Some(Stop::Joins)
+                Progress::Stops
             }
-            _ => {
-                self.hand_to_range(frame, value);
-                None
-            }
+            _ => self.hand_to_range(frame, value, left),
         }
     }
 
     /// The same for a frame of a fold or a sweep.
-    #[inline(always)]
-    fn hand_to_range(&mut self, frame: Frame<'p>, value: u64)
-        requires range { IsOfRange frame }
-        requires environment { vec_len self.old.environment + 2 ≤ vec_capacity self.old.environment }
-        requires frames { vec_len self.old.frames + 1 ≤ vec_capacity self.old.frames }
-        ensures { (before : Thread) → IsPopped frame.entry before (giving self.old value) → AfterSteps 1 before None self.new }
-    {
+    fn hand_to_range(&mut self, frame: Frame<'p>, value: u64, left: &mut u32) -> Progress<'p> {
         match frame {
             Frame::FoldTo(to, first, body) => self.go_on(Frame::FoldFirst(value, first, body), to),
             Frame::FoldFirst(from, first, body) => {
-                self.go_on(Frame::FoldStart(from, value, body), first);
+                self.go_on(Frame::FoldStart(from, value, body), first)
             }
-            Frame::FoldStart(from, to, body) => self.turn_fold(from, to, body, value),
-            Frame::FoldTurn { next, end, body } => {
-                self.drop_newest(2);
-                self.turn_fold(next, end, body, value);
+            Frame::FoldStart(from, to, body) => {
+                let cost = if to.saturating_sub(from) >= 2 {
+                    cost_of(body)
+                } else {
+                    0
+                };
+                self.turn_fold(from, to, body, cost, value, left)
             }
             Frame::SweepTo(reduction, grain, to, body) => {
-                self.go_on(Frame::SweepStart(reduction, grain, value, body), to);
+                self.go_on(Frame::SweepStart(reduction, grain, value, body), to)
             }
             Frame::SweepStart(reduction, grain, first, body) => {
                 self.control = Control::Cover(Stretch {
                     reduction,
+                    cost: cost_of(body),
                     grain,
                     first,
                     end: value,
                     body,
                 });
+                Progress::Goes
             }
             Frame::SweepTurn {
                 reduction,
@@ -152,7 +205,7 @@ impl<'p> State<'p> {
             } => {
                 self.drop_newest(1);
                 let value = reduction.operation().apply(so_far, value);
-                self.turn_sweep(reduction, next, end, body, value);
+                self.turn_sweep(reduction, next, end, body, value, left)
             }
             _ => unreachable!(),
         }
@@ -160,46 +213,30 @@ impl<'p> State<'p> {
 
     /// Begins an expression after a frame was taken away; this frame says what comes after it.
     #[inline(always)]
-    fn go_on(&mut self, frame: Frame<'p>, part: &'p Expr)
-        requires { vec_len self.old.frames + 1 ≤ vec_capacity self.old.frames }
-        ensures { Enters self.old self.new frame.entry (control.Begin part.entry) }
-    {
+    fn go_on(&mut self, frame: Frame<'p>, part: &'p Expr) -> Progress<'p> {
         self.frames.push_reserved(frame);
-        self.control = Control::Begin(part);
+        Progress::Begin(part)
     }
 
     /// Begins an expression with a newest variable.
     #[inline(always)]
-    fn extend(&mut self, value: u64, body: &'p Expr)
-        requires environment { vec_len self.old.environment + 1 ≤ vec_capacity self.old.environment }
-        requires frames { vec_len self.old.frames + 1 ≤ vec_capacity self.old.frames }
-        ensures { Becomes self.old self.new (with_newest self.old.environment.items value)
-            (self.old.frames.items ++ frames.Restore (length self.old.environment.items) ∷ []) (control.Begin body.entry) }
-    {
+    fn extend(&mut self, value: u64, body: &'p Expr) -> Progress<'p> {
         let length = self.environment.len();
         self.environment.push_reserved(value);
         self.frames.push_reserved(Frame::Restore(length));
-        self.control = Control::Begin(body);
+        Progress::Begin(body)
     }
 
     /// Drops so many of the newest variables.
     #[inline(always)]
-    fn drop_newest(&mut self, count: usize)
-        requires environment { vec_len self.old.environment + 2 ≤ vec_capacity self.old.environment }
-        requires frames { vec_len self.old.frames + 1 ≤ vec_capacity self.old.frames }
-        ensures same { Becomes self.old self.new (without_newest count self.old.environment.items) self.old.frames.items self.old.control }
-        ensures environment { vec_len self.new.environment + 2 ≤ vec_capacity self.new.environment }
-        ensures frames { vec_len self.new.frames + 1 ≤ vec_capacity self.new.frames }
-    {
+    fn drop_newest(&mut self, count: usize) {
         let length = self.environment.len().saturating_sub(count);
         self.environment.truncate(length);
     }
 
     /// An item of an array, 0 outside it.
     #[inline(always)]
-    fn item(&self, array: u64, index: u64) -> u64
-        ensures { result ≡ slice_index (array_at (source_of self.now.program.now).arrays array) index }
-    {
+    pub fn item(&self, array: u64, index: u64) -> u64 {
         match self.program.arrays.get(array as usize) {
             Some(items) => match items.get(index as usize) {
                 Some(item) => *item,
@@ -209,29 +246,64 @@ impl<'p> State<'p> {
         }
     }
 
+    /// What a fold, a part of a sweep or two halves come to, which is handed on in a step of its own.
+    #[inline(always)]
+    pub fn result(&mut self, value: u64, left: &mut u32) -> Progress<'p> {
+        if *left > 0 {
+            *left -= 1;
+            return Progress::Value(value);
+        }
+        self.control = Control::Give(value);
+        Progress::Goes
+    }
+
     /// A fold that has this value so far goes on from a number to below an end.
     #[inline(always)]
-    fn turn_fold(&mut self, next: u64, end: u64, body: &'p Expr, so_far: u64)
-        requires environment { vec_len self.old.environment + 2 ≤ vec_capacity self.old.environment }
-        requires frames { vec_len self.old.frames + 1 ≤ vec_capacity self.old.frames }
-        ensures { TurnsFold self.old self.new next end body.entry so_far }
-    {
+    fn turn_fold(
+        &mut self,
+        next: u64,
+        end: u64,
+        body: &'p Expr,
+        cost: u32,
+        so_far: u64,
+        left: &mut u32,
+    ) -> Progress<'p> {
         if next >= end {
-            self.control = Control::Give(so_far);
-            return;
+            return self.result(so_far, left);
         }
+        let mut next = next;
+        let mut so_far = so_far;
         self.environment.push_reserved(next);
         self.environment.push_reserved(so_far);
+        if cost > 0 && *left > cost {
+            let turns = (end - next).min(u64::from((*left - 1) / cost));
+            let at = self.environment.len() - 2;
+            for turn in 0..turns {
+                self.environment[at] = next + turn;
+                self.environment[at + 1] = so_far;
+                so_far = self.pure(body);
+            }
+            *left -= cost * (turns as u32);
+            next += turns;
+            if next >= end {
+                self.drop_newest(2);
+                return self.result(so_far, left);
+            }
+            self.environment[at] = next;
+            self.environment[at + 1] = so_far;
+        }
         let turn = Frame::FoldTurn {
             next: next + 1,
             end,
             body,
+            cost,
         };
         self.frames.push_reserved(turn);
-        self.control = Control::Begin(body);
+        Progress::Begin(body)
     }
 
     /// A sweep that has this value so far goes on from a number to below an end.
+    #[inline(always)]
     pub fn turn_sweep(
         &mut self,
         reduction: Reduction,
@@ -239,14 +311,10 @@ impl<'p> State<'p> {
         end: u64,
         body: &'p Expr,
         so_far: u64,
-    )
-        requires environment { vec_len self.old.environment + 2 ≤ vec_capacity self.old.environment }
-        requires frames { vec_len self.old.frames + 1 ≤ vec_capacity self.old.frames }
-        ensures { TurnsSweep self.old self.new reduction next end body.entry so_far }
-    {
+        left: &mut u32,
+    ) -> Progress<'p> {
         if end <= next {
-            self.control = Control::Give(so_far);
-            return;
+            return self.result(so_far, left);
         }
         self.environment.push_reserved(next);
         let turn = Frame::SweepTurn {
@@ -257,6 +325,6 @@ impl<'p> State<'p> {
             body,
         };
         self.frames.push_reserved(turn);
-        self.control = Control::Begin(body);
+        Progress::Begin(body)
     }
 }

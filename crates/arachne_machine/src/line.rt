@@ -1,13 +1,26 @@
+use crate::tables::add_at;
 use arachne_lang::{Name, Sequence};
 use std::alloc::Global;
+use std::mem::replace;
+
+/// Where a thread ran.
+#[derive(Clone, Copy, Debug, PartialEq, Eq)]
+pub enum Ran {
+    /// At a place that its fork found.
+    Slot,
+    /// At a place that was found for it later, while it waited.
+    Spill,
+    /// In its parent's place.
+    InPlace,
+}
 
 /// What is told of a thread beside what it does.
 #[derive(Clone, Copy, Debug)]
 pub struct Label {
     /// The tag that it runs under.
     pub tag: u64,
-    /// It runs in its parent's place.
-    pub in_place: bool,
+    /// Where it runs.
+    pub ran: Ran,
 }
 
 /// What is known of a thread once it has ended.
@@ -18,18 +31,15 @@ pub struct ThreadLine {
     pub tag: u64,
     /// For each lock how often it held it, modulo 2^64.
     pub holds: Sequence<u64>,
-    /// It ran in its parent's place.
-    pub in_place: bool,
+    /// Where it ran.
+    pub ran: Ran,
 }
 
 impl ThreadLine {
-    /// That of no thread. It allocates nothing.
-    pub(crate) fn vacant(alloc: Global) -> ThreadLine {
-        ThreadLine {
-            name: Name::root(alloc),
-            tag: 0,
-            holds: Sequence::from(Vec::new(alloc)),
-            in_place: false,
-        }
+    /// Counts that it held this lock once more.
+    pub(crate) fn count_hold(&mut self, alloc: Global, lock: u64) {
+        let mut holds = replace(&mut self.holds, Sequence::from(Vec::new(alloc))).into_vec();
+        add_at(&mut holds, lock, 1);
+        self.holds = Sequence::from(holds);
     }
 }

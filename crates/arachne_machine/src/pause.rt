@@ -10,7 +10,7 @@ pub enum Pause<'p> {
     Budget,
     /// It forks a child of this class: give the child away and answer `forked`, or hand it to `in_place`.
     Forks(Class, Thread<'p>),
-    /// It awaits the outcome of a child: answer `joined`.
+    /// It awaits the outcome of a child: answer `joined`, or hand the child to `in_place`.
     Joins,
     /// It asks for this lock: answer `granted` once it has it.
     Asks(u64),
@@ -45,4 +45,13 @@ pub enum NotJoined<'p> {
     /// Memory was refused.
     #[error("out of memory")]
     Memory(Outcome<'p>),
+}
+
+/// Why a child was not placed. It comes back.
+#[derive(Drop)]
+pub enum NotPlaced<'p> {
+    /// It is not the child that is awaited.
+    Foreign(Thread<'p>),
+    /// Memory was refused.
+    Memory(Thread<'p>),
 }

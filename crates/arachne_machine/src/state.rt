@@ -1,11 +1,13 @@
 use crate::frame::{Control, Frame};
-use crate::line::{Label, ThreadLine};
-use crate::lines::{Below, Lines};
+use crate::level::{Level, Parent};
+use crate::line::{Label, Ran, ThreadLine};
+use crate::lines::Lines;
 use crate::outcome::Outcome;
 use crate::pause::Pending;
+use crate::placing::Placing;
 use crate::spares::Spares;
 use crate::tables::zeros;
-use arachne_lang::{Class, Name, Program, Sequence};
+use arachne_lang::{Class, Expr, Name, Program, Sequence};
 use std::alloc::{AllocError, Global};
 use std::mem::replace;
 
@@ -25,46 +27,33 @@ impl Own {
             name: Name::root(alloc),
             label: Label {
                 tag: 0,
-                in_place: false,
+                ran: Ran::Slot,
             },
             holds: Vec::new(alloc),
         }
     }
 }
 
-/// What a thread is between two steps.
+/// What a thread is between two steps, with those that run in its place.
 #[derive(Drop)]
 pub struct State<'p> {
     pub program: &'p Program,
     pub alloc: Global,
+    /// The outermost thread's.
     pub own: Own,
-    /// The lines of the threads that it has joined, in order, with those below them.
-    pub below: Below,
-    /// For each ledger the sum of what was tallied, modulo 2^64.
+    /// The lines below the outermost thread, in order: those of threads that were joined, and of those that run here, each at its place.
+    pub lines: Lines,
+    /// For each ledger the sum of what all of them have tallied, modulo 2^64.
     pub sums: Vec<u64>,
-    /// How many threads it has forked.
-    pub forks: u64,
+    /// Those that wait, the outermost first.
+    pub parents: Vec<Parent<'p>>,
+    /// The innermost thread, which goes on.
+    pub level: Level,
+    /// Its environment. Each parent's is a part of it, from the first variable on.
     pub environment: Vec<u64>,
-    /// The newest is the last.
+    /// Those of all threads, the outermost's first. The newest is the last.
     pub frames: Vec<Frame<'p>>,
     pub control: Control<'p>,
-}
-
-/// Why a thread stops.
-#[derive(Drop)]
-pub enum Stop<'p> {
-    /// It forks this child.
-    Forks(Class, Box<State<'p>>),
-    /// It awaits a child.
-    Joins,
-    /// It asks for this lock.
-    Asks(u64),
-    /// It frees this lock.
-    Frees(u64),
-    /// It adds to this ledger this amount.
-    Tallies(u64, u64),
-    /// It has ended.
-    Ended,
 }
 
 /// What comes of a part of a step.
@@ -72,21 +61,17 @@ pub enum Stop<'p> {
 pub enum Progress<'p> {
     /// This value is handed to the newest frame.
     Value(u64),
-    /// The step is made, and the thread stops where there is a reason to.
-    Made(Option<Stop<'p>>),
+    /// The step is made, and this expression is begun next.
+    Begin(&'p Expr),
+    /// The step is made, and what comes next is in the state.
+    Goes,
+    /// The step is made, and the thread pauses, but not for a fork.
+    Stops,
+    /// The step is made, and has forked this child.
+    Forks(Class, Box<State<'p>>),
 }
 
 impl<'p> State<'p> {
-    ghost use Rattle.std.specs.Prelude.{◌≡◌, ◌-◌, ◌∷◌, IfOk, OnErr, OnOk, None, Some, false};
-    ghost use Rattle.arachne_lang.specs.Program.{source_of};
-    ghost use Rattle.arachne_machine.specs.Sound.{IsSound};
-    ghost use Rattle.arachne_machine.specs.Ending.{locks_of};
-    ghost use Rattle.arachne_machine.specs.Suspended.{own_line_of};
-    ghost use Rattle.arachne_machine.specs.Faultless.{IsFaultlessNext, IsWithoutFault};
-    ghost use Rattle.arachne_machine.specs.Steps.{pending_of, suspended, task_begun, IsBeginning, IsNumbered, IsRenewed, IsUnchanged, GoesWithin, IsNew, AfterSteps, IsSpent, TakesAll};
-    ghost use Rattle.arachne_machine.specs.declared.pause.Pending.TheVariants as pause;
-    ghost use Rattle.arachne_machine.specs.declared.frame.Control.TheVariants as control;
-
     /// A thread that begins like this, with a copy of the environment.
     pub fn new(
         alloc: Global,
@@ -96,16 +81,10 @@ impl<'p> State<'p> {
         control: Control<'p>,
         environment: &[u64],
         spares: &mut Spares<'p>,
-    ) -> Result<Box<State<'p>>, AllocError>
-        requires { IsBeginning control }
-        ensures fresh { IfOk result (λ t. IsNew program.now name tag (task_begun control.entry environment.now) t.value) }
-        ensures begins { IfOk result (λ t. task_begun t.value.control t.value.environment.items ≡ task_begun control.entry environment.now) }
-        ensures same { IfOk result (λ t. t.value.program ≡ program.entry) }
-        ensures faultless { IfOk result (λ t. IsFaultlessNext (source_of program.now) false control.entry → IsWithoutFault t.value) }
-    {
+    ) -> Result<Box<State<'p>>, AllocError> {
         let label = Label {
             tag,
-            in_place: false,
+            ran: Ran::Slot,
         };
         let holds = zeros(alloc, program.locks)?;
         let sums = zeros(alloc, program.ledgers)?;
@@ -123,9 +102,10 @@ impl<'p> State<'p> {
             program,
             alloc,
             own: Own::vacant(alloc),
-            below: Below::none(alloc),
+            lines: Lines::new(alloc),
             sums: Vec::new(alloc),
-            forks: 0,
+            parents: Vec::new(alloc),
+            level: Level::outermost(),
             environment: Vec::new(alloc),
             frames: Vec::new(alloc),
             control: Control::Ended(0),
@@ -141,74 +121,88 @@ impl<'p> State<'p> {
         sums: Vec<u64>,
         control: Control<'p>,
         environment: &[u64],
-    ) -> Result<(), AllocError>
-        ensures { OnOk result (IsRenewed program.entry own sums.items control.entry environment.now self.new) }
-    {
+    ) -> Result<(), AllocError> {
         self.environment.clear();
         self.environment.try_reserve(environment.len() + 3)?;
         self.environment.extend_from_slice(environment)?;
         self.frames.clear();
-        self.below.clear();
+        self.parents.clear();
+        self.lines = Lines::new(self.alloc);
         self.program = program;
         self.own = own;
         self.sums = sums;
-        self.forks = 0;
+        self.level = Level::outermost();
         self.control = control;
         Ok(())
     }
 
-    /// So many steps, if it does not stop before. Where memory is refused it stands before the refused step.
-    pub fn advance(
+    /// Goes on for at most as many steps as are left, until it pauses. Then fewer are left. Gives the child where it pauses for
+    /// a fork. Where memory is refused it stands before the refused step.
+    pub fn advance<P: Placing>(
         &mut self,
         left: &mut u32,
         spares: &mut Spares<'p>,
-    ) -> Result<Option<Stop<'p>>, AllocError>
-        requires running { pending_of self.old.control ≡ None }
-        requires numbered { IsNumbered self.old }
-        ensures ok { IfOk result (λ stop. AfterSteps left.old self.old stop self.new) }
-        ensures spent { IfOk result (λ stop. IsSpent stop left.old left.new) }
-        ensures exact { IfOk result (λ stop. TakesAll stop left.old left.new self.old self.new) }
-        ensures err { OnErr result (GoesWithin 0 (left.old - 1) self.old self.new) }
-        ensures err_locks { OnErr result (locks_of self.new ≡ locks_of self.old) }
-        ensures running { OnErr result (pending_of self.new.control ≡ None) }
-    {
-        let budget = *left;
-        for counter in 0..budget {
-            if let Some(stop) = self.step(spares)? {
-                *left = budget - counter - 1;
-                return Ok(Some(stop));
+        places: &mut P,
+    ) -> Result<Option<(Class, Box<State<'p>>)>, AllocError> {
+        let mut rest = *left;
+        let mut begins = self.beginning();
+        while rest > 0 {
+            rest -= 1;
+            let begun = match begins {
+                Some(expr) => self.begin(expr, &mut rest, spares, places)?,
+                None => self.go_on_from_control(&mut rest, spares, places)?,
+            };
+            let progress = match begun {
+                Progress::Value(value) => self.give(value, &mut rest, places)?,
+                other => other,
+            };
+            match progress {
+                Progress::Begin(expr) => begins = Some(expr),
+                Progress::Goes => begins = None,
+                Progress::Stops => {
+                    *left = rest;
+                    return Ok(None);
+                }
+                Progress::Forks(class, child) => {
+                    *left = rest;
+                    return Ok(Some((class, child)));
+                }
+                Progress::Value(_) => unreachable!(),
             }
+        }
+        if let Some(expr) = begins {
+            self.control = Control::Begin(expr);
         }
         *left = 0;
         Ok(None)
     }
 
-    /// One step: it begins an expression and hands on its value where that is known at once, or begins a part of a sweep, or hands on a
-    /// value that was left over.
+    /// The expression that is begun next, if that is so.
     #[inline(always)]
-    fn step(&mut self, spares: &mut Spares<'p>) -> Result<Option<Stop<'p>>, AllocError>
-        requires running { pending_of self.old.control ≡ None }
-        requires numbered { IsNumbered self.old }
-        ensures ok { IfOk result (λ stop. AfterSteps 1 self.old stop self.new) }
-        ensures err { OnErr result (IsUnchanged self.old self.new) }
-    {
-        let value = match self.control {
-            Control::Begin(expr) => match self.begin(expr, spares)? {
-                Progress::Value(value) => value,
-                Progress::Made(stop) => return Ok(stop),
-            },
-            Control::Give(value) => value,
-            Control::Cover(stretch) => return self.cover(stretch, spares),
+    fn beginning(&self) -> Option<&'p Expr> {
+        match self.control {
+            Control::Begin(expr) => Some(expr),
+            _ => None,
+        }
+    }
+
+    /// A step that begins no expression.
+    #[inline(always)]
+    fn go_on_from_control<P: Placing>(
+        &mut self,
+        left: &mut u32,
+        spares: &mut Spares<'p>,
+        places: &mut P,
+    ) -> Result<Progress<'p>, AllocError> {
+        match self.control {
+            Control::Give(value) => Ok(Progress::Value(value)),
+            Control::Cover(stretch) => self.cover(stretch, left, spares, places),
             _ => unreachable!(),
-        };
-        let stop = self.give(value)?;
-        Ok(stop)
+        }
     }
 
     /// The pause that is not answered.
-    pub fn pending(&self) -> Option<Pending>
-        ensures { result ≡ pending_of self.now.control }
-    {
+    pub fn pending(&self) -> Option<Pending> {
         match self.control {
             Control::Begin(_) | Control::Give(_) | Control::Cover(_) => None,
             Control::Forked(_) | Control::Halved(_) => Some(Pending::Forks),
@@ -220,48 +214,66 @@ impl<'p> State<'p> {
         }
     }
 
-    /// The outcome of a thread that has ended, with the lines below it.
+    /// The name of the innermost thread.
     #[inline(always)]
-    pub fn finish(&mut self, lines: Lines) -> Outcome<'p>
-        requires lines { lines.lines ≡ self.old.below }
-        requires ended { pending_of self.old.control ≡ Some pause.Ended }
-        requires sound { IsSound self.old }
-        ensures program { result.program ≡ self.old.program.now }
-        ensures name { result.name ≡ self.old.own.name }
-        ensures sums { result.sums ≡ self.old.sums.items }
-        ensures lines { result.lines ≡ own_line_of (suspended self.old) ∷ (suspended self.old).below }
-    {
+    pub fn running_name(&self) -> &Name {
+        if self.parents.is_empty() {
+            return &self.own.name;
+        }
+        &self.lines.at(self.level.place).name
+    }
+
+    /// The tag of the innermost thread.
+    pub fn running_tag(&self) -> u64 {
+        if self.parents.is_empty() {
+            return self.own.label.tag;
+        }
+        self.lines.at(self.level.place).tag
+    }
+
+    /// The outcome of a thread that has ended.
+    #[inline(always)]
+    pub fn finish(&mut self) -> Outcome<'p> {
         let value = self.value();
         Outcome {
             program: self.program,
             value,
             sums: replace(&mut self.sums, Vec::new(self.alloc)),
             own: self.take_line(),
-            below: lines,
+            below: replace(&mut self.lines, Lines::new(self.alloc)),
         }
     }
 
-    /// The own line of a thread that has ended.
+    /// The own line of the outermost thread.
     #[inline(always)]
-    pub fn take_line(&mut self) -> ThreadLine
-        ensures line { result ≡ own_line_of (suspended self.old) }
-        ensures others { self.new ≡ record self.old { own = self.new.own } }
-    {
+    pub fn take_line(&mut self) -> ThreadLine {
         let vacant = Own::vacant(self.alloc);
         let Own { name, label, holds } = replace(&mut self.own, vacant);
         ThreadLine {
             name,
             tag: label.tag,
             holds: Sequence::from(holds),
-            in_place: label.in_place,
+            ran: label.ran,
         }
     }
 
+    /// Takes back the own line.
+    pub fn put_back_line(&mut self, line: ThreadLine) {
+        let ThreadLine {
+            name,
+            tag,
+            holds,
+            ran,
+        } = line;
+        self.own = Own {
+            name,
+            label: Label { tag, ran },
+            holds: holds.into_vec(),
+        };
+    }
+
     /// The value of a thread that has ended.
-    pub fn value(&self) -> u64
-        requires { pending_of self.now.control ≡ Some pause.Ended }
-        ensures { self.now.control ≡ control.Ended result }
-    {
+    fn value(&self) -> u64 {
         let Control::Ended(value) = self.control else {
             unreachable!()
         };

@@ -8,7 +8,7 @@ mod ways;
 
 use arachne_lang::{Class, Meaning, Name, Program, TextFault, parse};
 use arachne_machine::{
-    NotJoined, Outcome, OutcomeParts, Pause, Pending, Thread, ThreadLine, run_alone,
+    NotJoined, NotPlaced, Outcome, OutcomeParts, Pause, Pending, Ran, Thread, ThreadLine, run_alone,
 };
 use std::alloc::Global;
 use std::process::Abort;
@@ -86,8 +86,10 @@ fn place<'p>(thread: &mut Thread<'p>, mut child: Thread<'p>, heard: &mut Heard) 
 {
     child.set_tag(heard.next);
     heard.next = heard.next.wrapping_add(1);
-    let Err(child) = thread.in_place(child) else {
-        return Ok(());
+    let child = match thread.in_place(child) {
+        Ok(()) => return Ok(()),
+        Err(NotPlaced::Memory(child)) => child,
+        Err(NotPlaced::Foreign(_)) => return Err("refused as foreign at its fork")?,
     };
     if thread.in_place(child).is_err() {
         return Err("memory was refused twice")?;
@@ -167,7 +169,7 @@ fn numbers(alloc: Global, name: &Name) -> Result<Vec<u64>, Fail> {
 
 /// A thread's name, its tag, whether it ran in place, and its holds.
 fn told_line(alloc: Global, line: &ThreadLine) -> Result<String, Fail> {
-    let mark = if line.in_place { "+" } else { "-" };
+    let mark = if line.ran == Ran::InPlace { "+" } else { "-" };
     let (name, holds) = (numbers(alloc, &line.name)?, line.holds.as_slice());
     Ok(format!(in alloc; " {name:?}{}{mark}{holds:?}", line.tag)?)
 }
@@ -301,7 +303,7 @@ fn chain(alloc: Global) -> Result<Program, Fail> {
 fn counts_on(parts: &OutcomeParts) -> bool {
     let mut tag = 9u64;
     for line in parts.lines.as_slice() {
-        if line.tag != tag || line.in_place != (tag > 9) {
+        if line.tag != tag || (line.ran == Ran::InPlace) != (tag > 9) {
             return false;
         }
         tag = tag.wrapping_add(1);
