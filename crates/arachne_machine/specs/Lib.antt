@@ -7,9 +7,9 @@ pub mod Work
 pub mod Trace
 pub mod Turns
 pub mod Account
+pub mod Strands
 pub mod Ending
 pub mod Steps
-pub mod Stops
 pub mod Sound
 pub mod Alone
 pub mod Faultless

@@ -150,16 +150,12 @@ impl<'p> State<'p> {
     /// A split whose left half will run here, as a child.
     #[inline(always)]
     fn halve_here(&mut self, stretch: Stretch<'p>, middle: u64) -> Result<(), AllocError> {
-        let frame = Frame::MergeHere {
-            reduction: stretch.reduction,
-            cost: stretch.cost,
-            number: self.level.forks,
-            grain: stretch.grain,
-            first: stretch.first,
+        let left = Stretch {
             end: middle,
-            body: stretch.body,
+            ..stretch
         };
-        self.frames.push(frame)?;
+        let number = self.level.forks;
+        self.frames.push(Frame::MergeHere { number, left })?;
         self.level.forks += 1;
         Ok(())
     }

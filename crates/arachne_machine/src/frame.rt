@@ -91,16 +91,10 @@ pub enum Frame<'p> {
         child: &'p Expr,
         after: &'p Expr,
     },
-    /// The value is that of the right half of a part of a sweep; the child of this number begins the left one here,
-    /// which is from the first number to below the end.
+    /// The value is that of the right half of a part of a sweep; the child of this number begins the left one here.
     MergeHere {
-        reduction: Reduction,
-        cost: u32,
         number: u64,
-        grain: u64,
-        first: u64,
-        end: u64,
-        body: &'p Expr,
+        left: Stretch<'p>,
     },
     /// The value is a fold's first number; then come its end, its first value and its body.
     FoldTo(&'p Expr, &'p Expr, &'p Expr),

@@ -100,32 +100,17 @@ impl<'p> State<'p> {
                 }
                 Ok(Progress::Begin(child))
             }
-            Frame::MergeHere {
-                reduction,
-                cost,
-                number,
-                grain,
-                first,
-                end,
-                body,
-            } => {
+            Frame::MergeHere { number, left: half } => {
                 let awaits = Control::AwaitsHalf {
                     number,
                     right: value,
-                    reduction,
+                    reduction: half.reduction,
                 };
                 if self.begin_here(number, awaits, places).is_err() {
                     self.frames.push_reserved(frame);
                     return self.refused(value);
                 }
-                self.control = Control::Cover(Stretch {
-                    reduction,
-                    cost,
-                    grain,
-                    first,
-                    end,
-                    body,
-                });
+                self.control = Control::Cover(half);
                 Ok(Progress::Goes)
             }
             _ => Ok(self.hand_on(frame, value, left)),
