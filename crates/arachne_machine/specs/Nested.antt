@@ -103,6 +103,13 @@ pub record SameWhole (old new : Nested) : Type 0 where
   pub name : (whole new).name ≡ (whole old).name
   pub label : (whole new).label ≡ (whole old).label
 
+-- The child is the one that the innermost thread has just forked, of an equal program, has no pause that is not answered, and no other thread is in its place.
+pub record IsChildOf (t child : Nested) : Type 0 where
+  pub awaits : awaited t.running ≡ Some (whole child).name
+  pub same_source : source_of (whole child).program ≡ source_of (whole t).program
+  pub not_paused : pending_in child ≡ None
+  pub alone : IsAlone child
+
 -- The child may run in the thread's place: it is of an equal program, has no pause that is not answered, and no other thread is in its place.
 pub record MayBePlaced (t child : Nested) : Type 0 where
   pub same_source : source_of (whole child).program ≡ source_of (whole t).program
@@ -128,13 +135,6 @@ pub record PlacesAtFork (old child new : Nested) : Type 0 where
 -- the child goes on in the place of the innermost thread, which awaits it
 abbrev pub begun_in : Nested → Nested → Nested
 begun_in t child = record { running = in_place_of child.running; parents = t.running ∷ t.parents; placed = t.placed; sums = added t.sums child.sums }
-
--- The child is the one that the innermost thread has just forked, of an equal program, has no pause that is not answered, and no other thread is in its place.
-pub record IsChildOf (t child : Nested) : Type 0 where
-  pub awaits : awaited t.running ≡ Some (whole child).name
-  pub same_source : source_of (whole child).program ≡ source_of (whole t).program
-  pub not_paused : pending_in child ≡ None
-  pub alone : IsAlone child
 
 -- The child is new, and its class and task are those that the program gives to the thread's newest fork.
 pub record IsForked (class : Class) (thread : Suspended) (child : Nested) : Type 0 where

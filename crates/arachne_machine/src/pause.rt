@@ -1,6 +1,7 @@
 use crate::outcome::Outcome;
 use crate::thread::Thread;
 use arachne_lang::Class;
+use std::fmt;
 use thiserror::Error;
 
 /// Why a thread paused.
@@ -48,10 +49,22 @@ pub enum NotJoined<'p> {
 }
 
 /// Why a child was not placed. It comes back.
-#[derive(Drop)]
+#[derive(Drop, Error)]
 pub enum NotPlaced<'p> {
     /// It is not the child that is awaited.
+    #[error("another thread")]
     Foreign(Thread<'p>),
     /// Memory was refused.
+    #[error("out of memory")]
     Memory(Thread<'p>),
+}
+
+/// Says why, without the child.
+impl<'p> fmt::Debug for NotPlaced<'p> {
+    fn fmt<W: fmt::Write>(&self, f: &mut fmt::Formatter<W>) -> fmt::Result {
+        match self {
+            NotPlaced::Foreign(_) => write!(f, "Foreign"),
+            NotPlaced::Memory(_) => write!(f, "Memory"),
+        }
+    }
 }

@@ -1,11 +1,12 @@
-use Rattle.std.proofs.Common.{rules, ◌≡◌, ◌∷◌, None, true, [], List, length, reverse, sym, ap, ◌∙◌, subst, arith}
+use Rattle.std.proofs.Common.{rules, ◌≡◌, ◌∷◌, None, [], List, length, reverse, sym, ap, ◌∙◌, subst, arith}
+use Rattle.arachne_machine.specs.declared.line.Ran.TheVariants as ways
 use Rattle.arachne_lang.specs.Program.{source_of}
 use Rattle.arachne_machine.specs.Suspended.{Suspended}
 use Rattle.arachne_machine.specs.Nested.{IsNested, Laid, SameWhole, in_place_of, lines_below, whole}
 use Rattle.arachne_machine.proofs.Laying.{laid_alone, laid_same}
 use Rattle.arachne_machine.proofs.Waiting.{pushed}
 use Rattle.arachne_machine.proofs.Nesting.{nested_placed, next_is, outer_source, whole_is, whole_same}
-use Rattle.arachne_machine.proofs.thread.Thread.in_place.Goals as goal
+use Rattle.arachne_machine.proofs.thread.Thread.place_forked.Goals as goal
 
 pub invariant_of-self-2 : goal.invariant_of-self-2
 invariant_of-self-2 c =
@@ -25,7 +26,7 @@ invariant_of-self-2 c =
     ap (λ v. source_of v.program) given ∙ sym (ap (λ v. source_of v.program) was) ∙ c.requires.child.same_source ∙ seen in
     let fresh : child.pending ≡ None =
     ap (λ v. v.pending) given ∙ next_is c.args.child.running.pending c.args.child.parents c.requires.child.alone.0 c.requires.child.not_paused in
-    let here : child.label.in_place ≡ true = ap (λ v. v.label.in_place) given in
+    let here : child.label.ran ≡ ways.InPlace = ap (λ v. v.label.ran) given in
     let only : reverse c.child.inside.parents.items ≡ [] = ap (λ v. v.parents) c.child.view_is ∙ c.requires.child.alone.0 in
     let many : c.len-below.result ≡ length child.below =
     c.len-below.ensures.length ∙ ap length (laid_alone c.child.inside.running (reverse c.child.inside.parents.items) c.child.inside.lines.lines only c.child.invariant.laid
