@@ -12,7 +12,7 @@ use Rattle.arachne_machine.specs.declared.frame.Control.TheVariants.{Begin, Give
 use Rattle.arachne_machine.specs.declared.pause.Pending.TheVariants as pause
 use Rattle.arachne_machine.specs.Suspended.{IsNext}
 use Rattle.arachne_machine.specs.Ending.{stretch_task, begun, begun_trace, begun_work, resume_trace, resume_work, frames_left, trace_left, work_left}
-use Rattle.arachne_machine.specs.declared.state.State.{State}
+use Rattle.arachne_machine.specs.Strands.{Strand}
 use Rattle.arachne_machine.specs.declared.state.Stop.{Stop}
 use Rattle.arachne_machine.specs.declared.state.Stop.TheVariants as stop
 use Rattle.arachne_machine.specs.Advance.{Advanced, IsSpentAt, TakesAllAt, pending_at, shown}
@@ -25,7 +25,7 @@ use Rattle.arachne_machine.specs.Sound.{IsSound}
 use Rattle.arachne_machine.proofs.Faultlessness.{pauses_within}
 use Rattle.arachne_machine.proofs.Soundness.{sound_goes, sound_fork, sound_child, same_thread, within_seen, forked_seen, stopped_seen}
 
-pub sound_after : (n : ℕ) (old new : State) (s : Option Stop) → IsSound old → AfterSteps n old s new → IsSound new
+pub sound_after : (n : ℕ) (old new : Strand) (s : Option Stop) → IsSound old → AfterSteps n old s new → IsSound new
 sound_after n old new None s h = sound_goes n [] old new s h.0
 sound_after n old new (Some (stop.Forks class child)) s h = sound_fork n old new child.value _ s h
 sound_after n old new (Some stop.Joins) s h = sound_goes h.0.made [] old new s h.0.goes
@@ -34,11 +34,11 @@ sound_after n old new (Some (stop.Frees lock)) s h = sound_goes h.0.made [] old 
 sound_after n old new (Some (stop.Tallies ledger amount)) s h = sound_goes h.0.made [] old new s h.0.goes
 sound_after n old new (Some stop.Ended) s h = sound_goes h.0.made [] old new s h.0.goes
 
-pub sound_stop : (n : ℕ) (old new : State) (s : Option Stop) → IsSound old → AfterSteps n old s new → IsSoundStop s
+pub sound_stop : (n : ℕ) (old new : Strand) (s : Option Stop) → IsSound old → AfterSteps n old s new → IsSoundStop s
 sound_stop n old new (Some (stop.Forks class child)) s h = sound_child n old new child.value _ s h
 sound_stop n old new _ s h = tt
 
-pub advanced_seen : (n : ℕ) (old new : State) (s : Option Stop) → IsSound old → AfterSteps n old s new → Advanced n (suspended old) (shown (halt_of s)) (suspended new)
+pub advanced_seen : (n : ℕ) (old new : Strand) (s : Option Stop) → IsSound old → AfterSteps n old s new → Advanced n (suspended old) (shown (halt_of s)) (suspended new)
 advanced_seen n old new None s h =
     (same_thread n old new h.0, h.2, h.1, record { made = n; at_least = omega arith; at_most = omega arith; work = h.0.work; trace = sym h.0.trace })
 advanced_seen n old new (Some (stop.Forks class child)) s h = forked_seen n old new child.value _ s h
@@ -60,7 +60,7 @@ spent_seen had left (Some (stop.Frees lock)) h = h
 spent_seen had left (Some (stop.Tallies ledger amount)) h = h
 spent_seen had left (Some stop.Ended) h = h
 
-pub takes_seen : (had left : ℕ) (old new : State) (s : Option Stop) → TakesAll s had left old new → TakesAllAt (shown (halt_of s)) had left (suspended old) (suspended new)
+pub takes_seen : (had left : ℕ) (old new : Strand) (s : Option Stop) → TakesAll s had left old new → TakesAllAt (shown (halt_of s)) had left (suspended old) (suspended new)
 takes_seen had left old new None h = h
 takes_seen had left old new (Some (stop.Forks class child)) h = tt
 takes_seen had left old new (Some stop.Joins) h = h
@@ -69,7 +69,7 @@ takes_seen had left old new (Some (stop.Frees lock)) h = h
 takes_seen had left old new (Some (stop.Tallies ledger amount)) h = h
 takes_seen had left old new (Some stop.Ended) h = h
 
-program_after : (n : ℕ) (old new : State) (s : Option Stop) → AfterSteps n old s new → new.program ≡ old.program
+program_after : (n : ℕ) (old new : Strand) (s : Option Stop) → AfterSteps n old s new → new.program ≡ old.program
 program_after n old new None h = h.0.program
 program_after n old new (Some (stop.Forks class child)) h = h.program
 program_after n old new (Some stop.Joins) h = h.0.goes.program
@@ -78,7 +78,7 @@ program_after n old new (Some (stop.Frees lock)) h = h.0.goes.program
 program_after n old new (Some (stop.Tallies ledger amount)) h = h.0.goes.program
 program_after n old new (Some stop.Ended) h = h.0.goes.program
 
-pub within_after : (n : ℕ) (old new : State) (s : Option Stop) → IsSound old → AfterSteps n old s new → IsChecked (source_of old.program.now) → PausesWithin (suspended new)
+pub within_after : (n : ℕ) (old new : Strand) (s : Option Stop) → IsSound old → AfterSteps n old s new → IsChecked (source_of old.program.now) → PausesWithin (suspended new)
 within_after n old new s sound h checked =
     pauses_within new ((sound_after n old new s sound h).faultless (subst (λ p. IsChecked (source_of p.now)) (sym (program_after n old new s h)) checked))
 
@@ -127,8 +127,8 @@ next_event source name fs env (Frees lock value) = (_, refl)
 next_event source name fs env (Tallies ledger amount body) = (_, refl)
 next_event source name fs env (Ended value) = (_, refl)
 
-pub trace_next : (t : State) → IsNext (pending_of t.control) (trace_left t)
-trace_next t = next_event (source_of t.program.now) t.own.name t.frames.items t.environment.items t.control
+pub trace_next : (t : Strand) → IsNext (pending_of t.control) (trace_left t)
+trace_next t = next_event (source_of t.program.now) t.own.name t.frames t.environment t.control
 
 -- a thread that has ended has nothing left
 ended_left : (source : Source) (name : List ℕ) (fs : List Frame) (env : List ℕ) (k : Control) → pending_of k ≡ Some pause.Ended →
@@ -145,10 +145,10 @@ ended_left source name fs env (Frees lock value) e = cc
 ended_left source name fs env (Tallies ledger amount body) e = cc
 ended_left source name fs env (Ended value) e = refl
 
-pub ended_work : (t : State) → pending_of t.control ≡ Some pause.Ended → work_left t ≡ 0
-ended_work t e = ended_left (source_of t.program.now) t.own.name t.frames.items t.environment.items t.control e
+pub ended_work : (t : Strand) → pending_of t.control ≡ Some pause.Ended → work_left t ≡ 0
+ended_work t e = ended_left (source_of t.program.now) t.own.name t.frames t.environment t.control e
 
-pub pending_seen : (n : ℕ) (old new : State) (s : Option Stop) → AfterSteps n old s new → pending_of new.control ≡ pending_at (shown (halt_of s))
+pub pending_seen : (n : ℕ) (old new : Strand) (s : Option Stop) → AfterSteps n old s new → pending_of new.control ≡ pending_at (shown (halt_of s))
 pending_seen n old new None h = h.1
 pending_seen n old new (Some (stop.Forks class child)) h = h.pending
 pending_seen n old new (Some stop.Joins) h = h.1

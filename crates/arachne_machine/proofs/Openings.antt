@@ -15,7 +15,7 @@ use Rattle.arachne_machine.specs.declared.frame.Frame.{Frame}
 use Rattle.arachne_machine.specs.declared.frame.Frame.TheVariants.{Index, Right, Branch, Extend, Amount, Release, FoldTo, SweepTo}
 use Rattle.arachne_machine.specs.declared.frame.Control.{Control}
 use Rattle.arachne_machine.specs.declared.frame.Control.TheVariants.{Begin, Give, Asks}
-use Rattle.arachne_machine.specs.declared.state.State.{State}
+use Rattle.arachne_machine.specs.Strands.{Strand}
 use Rattle.arachne_machine.specs.Work.{work_of}
 use Rattle.arachne_machine.specs.Trace.{with_steps, trace_of}
 use Rattle.arachne_machine.specs.Turns.{folded_effects}
@@ -26,7 +26,7 @@ use Rattle.arachne_machine.specs.Faultless.{IsFaultless, GoesWithoutFault}
 use Rattle.arachne_machine.specs.Steps.{Becomes, AfterSteps}
 use Rattle.arachne_machine.proofs.Accounts.{after-nothing, after-sequence}
 use Rattle.arachne_machine.proofs.Faultlessness.{no_faults-append, unless_none, or_else_none, less}
-use Rattle.arachne_machine.proofs.Outlooks.{StepOutlook, Step, steps_by, as_it_is, framed_as, alone}
+use Rattle.arachne_machine.proofs.Outlooks.{StepOutlook, Step, steps_by, as_it_is, framed_as, alone, none_here, none_kept, nothing_first}
 
 -- An expression of this tree comes to the same in so many steps, by these frames and this to do next.
 pub record Opens (steps : ℕ) (source : Source) (name : List ℕ) (tree : Tree) (env : List ℕ) (k' : Control) (gs' : List Frame) : Type 0 where
@@ -48,34 +48,35 @@ opened steps source name expr env k' gs' o = record {
 }
 
 -- so it goes in a thread
-pub begins_by : (steps : ℕ) (old new : State) (expr : Bor Expr) (tree : Tree) (k' : Control) (gs' : List Frame) → old.control ≡ Begin expr → tree_of expr.now ≡ tree →
-    Becomes old new old.environment.items (old.frames.items ++ gs') k' →
+pub begins_by : (steps : ℕ) (old new : Strand) (expr : Bor Expr) (tree : Tree) (k' : Control) (gs' : List Frame) → old.control ≡ Begin expr → tree_of expr.now ≡ tree →
+    Becomes old new old.environment (old.frames ++ gs') k' →
     ((fs : List Frame) → frames_left k' fs ≡ fs) →
     fork_awaited k' ++ forks_of gs' ≡ [] →
-    Opens steps (source_of old.program.now) old.own.name tree old.environment.items k' gs' → Step steps (Begin expr) k' old.frames.items [] gs' old new
+    Opens steps (source_of old.program.now) old.own.name tree old.environment k' gs' → Step steps (Begin expr) k' old.frames [] gs' old new
 begins_by steps old new expr tree k' gs' begins is_tree b left forks o =
     let source = source_of old.program.now in
     let name = old.own.name in
-    let fs = old.frames.items in
-    let env = old.environment.items in
+    let fs = old.frames in
+    let env = old.environment in
     let same = subst (λ t. Opens steps source name t env k' gs') (sym is_tree) o in
     steps_by steps old old new (Begin expr) k' fs [] gs' env env
     (framed_as old old env (fs ++ []) (fs ++ []) old.control (Begin expr) (alone old old env old.control (as_it_is old)) refl begins)
-    b refl (left (fs ++ gs')) forks (opened steps source name expr env k' gs' same)
+    b refl (left (fs ++ gs')) forks (none_here gs' (nothing_first (fork_awaited k') (forks_of gs') forks).1) (λ h. none_kept source name k' gs' env forks)
+    (opened steps source name expr env k' gs' same)
 
-pub goes_to_value : (old new : State) (expr : Bor Expr) (tree : Tree) (v : ℕ) → old.control ≡ Begin expr → tree_of expr.now ≡ tree →
-    Becomes old new old.environment.items old.frames.items (Give v) →
-    Opens 0 (source_of old.program.now) old.own.name tree old.environment.items (Give v) [] → AfterSteps 0 old None new
+pub goes_to_value : (old new : Strand) (expr : Bor Expr) (tree : Tree) (v : ℕ) → old.control ≡ Begin expr → tree_of expr.now ≡ tree →
+    Becomes old new old.environment old.frames (Give v) →
+    Opens 0 (source_of old.program.now) old.own.name tree old.environment (Give v) [] → AfterSteps 0 old None new
 goes_to_value old new expr tree v begins is_tree b o =
-    let s = begins_by 0 old new expr tree (Give v) [] begins is_tree (alone old new old.environment.items (Give v) b) (λ fs. refl) refl o in
+    let s = begins_by 0 old new expr tree (Give v) [] begins is_tree (alone old new old.environment (Give v) b) (λ fs. refl) refl o in
     (s.goes, s.pending, s.locks ∙ sym s.old_locks)
 
-pub goes_to_part : (old new : State) (expr part : Bor Expr) (tree : Tree) (f : Frame) → old.control ≡ Begin expr → tree_of expr.now ≡ tree →
-    Becomes old new old.environment.items (old.frames.items ++ f ∷ []) (Begin part) → forks_of (f ∷ []) ≡ [] → releases (f ∷ []) ≡ [] →
-    Opens 1 (source_of old.program.now) old.own.name tree old.environment.items (Begin part) (f ∷ []) → AfterSteps 1 old None new
+pub goes_to_part : (old new : Strand) (expr part : Bor Expr) (tree : Tree) (f : Frame) → old.control ≡ Begin expr → tree_of expr.now ≡ tree →
+    Becomes old new old.environment (old.frames ++ f ∷ []) (Begin part) → forks_of (f ∷ []) ≡ [] → releases (f ∷ []) ≡ [] →
+    Opens 1 (source_of old.program.now) old.own.name tree old.environment (Begin part) (f ∷ []) → AfterSteps 1 old None new
 goes_to_part old new expr part tree f begins is_tree b forks locks o =
     let s = begins_by 1 old new expr tree (Begin part) (f ∷ []) begins is_tree b (λ fs. refl) forks o in
-    (s.goes, s.pending, s.locks ∙ ap (λ l. l ++ releases old.frames.items) locks ∙ sym s.old_locks)
+    (s.goes, s.pending, s.locks ∙ ap (λ l. l ++ releases old.frames) locks ∙ sym s.old_locks)
 
 pub open_number : (source : Source) (name : List ℕ) (env : List ℕ) (n : ℕ) → Opens 0 source name (Number n) env (Give n) []
 open_number source name env n = record { ending = refl; account = λ a. sym (after-nothing name a); work = omega arith; trace = refl; faultless = λ held h. (tt, tt) }

@@ -14,7 +14,7 @@ use Rattle.arachne_machine.specs.declared.frame.Control.TheVariants.{Begin, Give
 use Rattle.arachne_machine.specs.declared.pause.Pending.{Pending}
 use Rattle.arachne_machine.specs.declared.pause.Pending.TheVariants as pause
 use Rattle.arachne_machine.specs.Suspended.{own_line_of, SameThread, MakesSteps, Forked, Joined, awaited}
-use Rattle.arachne_machine.specs.declared.state.State.{State}
+use Rattle.arachne_machine.specs.Strands.{Strand}
 use Rattle.arachne_machine.specs.declared.state.Stop.{Stop}
 use Rattle.arachne_machine.specs.declared.state.Stop.TheVariants as stop
 use Rattle.arachne_machine.specs.Lines.{Gains}
@@ -34,7 +34,7 @@ use Rattle.arachne_machine.proofs.Splitting.{child_task-found}
 use Rattle.arachne_machine.proofs.Tabulated.{tabulated-same, length-tabulated, added_is}
 
 -- steps after steps
-pub goes_on : (m n k : ℕ) (a b c : State) → Goes m [] a b → Goes n [] b c → k ≡ m + n → Goes k [] a c
+pub goes_on : (m n k : ℕ) (a b c : Strand) → Goes m [] a b → Goes n [] b c → k ≡ m + n → Goes k [] a c
 goes_on m n k a b c p q e = record {
   program = q.program ∙ p.program;
   own = q.own ∙ p.own;
@@ -49,7 +49,7 @@ goes_on m n k a b c p q e = record {
   faultless = λ h. q.faultless (p.faultless h);
 }
 
-pub goes_on_within : (m least most : ℕ) (a b c : State) → Goes m [] a b → GoesWithin least most b c → GoesWithin least (m + most) a c
+pub goes_on_within : (m least most : ℕ) (a b c : Strand) → Goes m [] a b → GoesWithin least most b c → GoesWithin least (m + most) a c
 goes_on_within m least most a b c p q = record {
   made = m + q.made;
   at_least = omega (arith, q.at_least);
@@ -58,10 +58,10 @@ goes_on_within m least most a b c p q = record {
 }
 
 -- no fewer, and no more
-pub within_more : (least most more : ℕ) (a b : State) → GoesWithin least most a b → most ≤ more → GoesWithin least more a b
+pub within_more : (least most more : ℕ) (a b : Strand) → GoesWithin least most a b → most ≤ more → GoesWithin least more a b
 within_more least most more a b w le = record { made = w.made; at_least = w.at_least; at_most = omega (arith, w.at_most, le); goes = w.goes }
 
-forks_after : (m n k : ℕ) (a b c child : State) (made : Child) → Goes m [] a b → locks_of b ≡ locks_of a → GoesToFork n b c child made → m + n ≤ k → GoesToFork k a c child made
+forks_after : (m n k : ℕ) (a b c child : Strand) (made : Child) → Goes m [] a b → locks_of b ≡ locks_of a → GoesToFork n b c child made → m + n ≤ k → GoesToFork k a c child made
 forks_after m n k a b c child made p locks q le =
     let source_is = ap (λ g. source_of g.now) p.program in
     let name_is = ap (λ o. o.name) p.own in
@@ -95,7 +95,7 @@ forks_after m n k a b c child made p locks q le =
     }
 
 -- so it is where the thread stops
-pub goes_then_stops : (m n k : ℕ) (a b c : State) (s : Stop) → Goes m [] a b → locks_of b ≡ locks_of a → AfterSteps n b (Some s) c → m + n ≤ k → AfterSteps k a (Some s) c
+pub goes_then_stops : (m n k : ℕ) (a b c : Strand) (s : Stop) → Goes m [] a b → locks_of b ≡ locks_of a → AfterSteps n b (Some s) c → m + n ≤ k → AfterSteps k a (Some s) c
 goes_then_stops m n k a b c (stop.Forks class child) p l q le = forks_after m n k a b c child.value _ p l q le
 goes_then_stops m n k a b c stop.Joins p l q le = (within_more 1 (m + n) k a c (goes_on_within m 1 n a b c p q.0) le, q.1, q.2 ∙ l)
 goes_then_stops m n k a b c (stop.Asks lock) p l q le = (within_more 1 (m + n) k a c (goes_on_within m 1 n a b c p q.0) le, q.1, q.2 ∙ ap (λ x. lock ∷ x) l)
@@ -104,7 +104,7 @@ goes_then_stops m n k a b c (stop.Tallies ledger amount) p l q le = (within_more
 goes_then_stops m n k a b c stop.Ended p l q le = (within_more 1 (m + n) k a c (goes_on_within m 1 n a b c p q.0) le, q.1, q.2, q.3 ∙ l, q.4, q.5)
 
 -- the steps that were made are those that are not left any more
-pub takes_all : (m had left : ℕ) (a b c : State) (s : Stop) → Goes m [] a b → AfterSteps 1 b (Some s) c → left + (m + 1) ≡ had → TakesAll (Some s) had left a c
+pub takes_all : (m had left : ℕ) (a b c : Strand) (s : Stop) → Goes m [] a b → AfterSteps 1 b (Some s) c → left + (m + 1) ≡ had → TakesAll (Some s) had left a c
 takes_all m had left a b c (stop.Forks class child) p q e = tt
 takes_all m had left a b c stop.Joins p q e = omega (arith, p.work, q.0.goes.work, q.0.at_least, q.0.at_most, e)
 takes_all m had left a b c (stop.Asks lock) p q e = omega (arith, p.work, q.0.goes.work, q.0.at_least, q.0.at_most, e)
@@ -113,12 +113,12 @@ takes_all m had left a b c (stop.Tallies ledger amount) p q e = omega (arith, p.
 takes_all m had left a b c stop.Ended p q e = omega (arith, p.work, q.0.goes.work, q.0.at_least, q.0.at_most, e)
 
 -- the same, with or without a reason to stop
-pub goes_then_made : (a b c : State) (s : Option Stop) → Goes 0 [] a b → locks_of b ≡ locks_of a → AfterSteps 1 b s c → AfterSteps 1 a s c
+pub goes_then_made : (a b c : Strand) (s : Option Stop) → Goes 0 [] a b → locks_of b ≡ locks_of a → AfterSteps 1 b s c → AfterSteps 1 a s c
 goes_then_made a b c None p l q = (goes_on 0 1 1 a b c p q.0 refl, q.1, q.2 ∙ l)
 goes_then_made a b c (Some s) p l q = goes_then_stops 0 1 1 a b c s p l q (omega arith)
 
 -- a new thread of the task of its name is sound
-pub sound_new : (program : Program) (name : List ℕ) (tag : ℕ) (task : Task) (t : State) →
+pub sound_new : (program : Program) (name : List ℕ) (tag : ℕ) (task : Task) (t : Strand) →
     IsNew program name tag task t → task_of (source_of program) name ≡ Some task → (IsChecked (source_of program) → IsWithoutFault t) → IsSound t
 sound_new program name tag task t new has faultless =
     let program_is = sym new.same_program in
@@ -128,7 +128,7 @@ sound_new program name tag task t new has faultless =
       has_task = subst (λ x. task_of (source_of t.program.now) x ≡ Some task) name_is (subst (λ x. task_of (source_of x) name ≡ Some task) program_is has);
       account = untouched;
       sums = subst (λ x. t.sums.items ≡ tabulated (source_of x).ledgers (λ ledger. 0)) program_is new.sums;
-      holds = subst (λ x. t.own.holds.items ≡ tabulated (source_of x).locks (λ lock. 0)) program_is new.holds;
+      holds = subst (λ x. t.own.holds ≡ tabulated (source_of x).locks (λ lock. 0)) program_is new.holds;
       lines = ap (map named_holds) new.below;
       forks = new.forks;
       value = subst (λ x. (ending t).value ≡ task_value (source_of x).arrays task) program_is new.value;
@@ -138,7 +138,7 @@ sound_new program name tag task t new has faultless =
       faultless = λ checked. faultless (subst (λ x. IsChecked (source_of x)) new.same_program checked);
     }
 
-pub sound_goes : (n : ℕ) (answered : List Event) (old new : State) → IsSound old → Goes n answered old new → IsSound new
+pub sound_goes : (n : ℕ) (answered : List Event) (old new : Strand) → IsSound old → Goes n answered old new → IsSound new
 sound_goes n answered old new s g =
     let program_is = sym (ap (λ x. source_of x.now) g.program) in
     let own_is = sym g.own in
@@ -147,7 +147,7 @@ sound_goes n answered old new s g =
       has_task = subst (λ x. task_of (source_of new.program.now) x.name ≡ Some s.task) own_is (subst (λ x. task_of x old.own.name ≡ Some s.task) program_is s.has_task);
       account = s.account;
       sums = g.sums ∙ subst (λ x. old.sums.items ≡ tabulated x.ledgers s.account.sums) program_is s.sums;
-      holds = subst (λ x. x.holds.items ≡ tabulated (source_of new.program.now).locks s.account.holds) own_is (subst (λ x. old.own.holds.items ≡ tabulated x.locks s.account.holds) program_is s.holds);
+      holds = subst (λ x. x.holds ≡ tabulated (source_of new.program.now).locks s.account.holds) own_is (subst (λ x. old.own.holds ≡ tabulated x.locks s.account.holds) program_is s.holds);
       lines = ap (map named_holds) g.below ∙ s.lines;
       forks = g.forks ∙ s.forks;
       value = ap (λ x. x.value) g.ending ∙ subst (λ x. (ending old).value ≡ task_value x.arrays s.task) program_is s.value;
@@ -158,7 +158,7 @@ sound_goes n answered old new s g =
     }
 
 -- the child that a thread forks next is the child of that number of its task
-next_made : (t : State) (s : IsSound t) (made : Child) (rest : List Child) → (account_at_end t s.account).children ≡ s.account.children ++ made ∷ rest →
+next_made : (t : Strand) (s : IsSound t) (made : Child) (rest : List Child) → (account_at_end t s.account).children ≡ s.account.children ++ made ∷ rest →
     slice_get (task_effects (source_of t.program.now).arrays (source_of t.program.now).locks s.task).children t.forks ≡ Some made
 next_made t s made rest e =
     let source = source_of t.program.now in
@@ -168,7 +168,7 @@ next_made t s made rest e =
     ap (λ l. slice_get l t.forks) children ∙ ap (λ k. slice_get (s.account.children ++ made ∷ rest) k) s.forks
     ∙ slice_get-seam s.account.children made rest
 
-next_task : (t : State) (s : IsSound t) (made : Child) (rest : List Child) → (account_at_end t s.account).children ≡ s.account.children ++ made ∷ rest →
+next_task : (t : Strand) (s : IsSound t) (made : Child) (rest : List Child) → (account_at_end t s.account).children ≡ s.account.children ++ made ∷ rest →
     task_of (source_of t.program.now) (t.own.name ++ t.forks ∷ []) ≡ Some made.task
 next_task t s made rest e =
     let source = source_of t.program.now in
@@ -192,16 +192,16 @@ unfolding with_fork
 with_fork-children task a = refl
 
 -- the child that a sound thread forks has its task
-pub fork_has_task : (n : ℕ) (old new child : State) (made : Child) → IsSound old → GoesToFork n old new child made →
+pub fork_has_task : (n : ℕ) (old new child : Strand) (made : Child) → IsSound old → GoesToFork n old new child made →
     task_of (source_of old.program.now) (old.own.name ++ old.forks ∷ []) ≡ Some made.task
 fork_has_task n old new child made s g = next_task old s made (g.next_child s.account).0 (g.next_child s.account).1
 
-pub sound_child : (n : ℕ) (old new child : State) (made : Child) → IsSound old → GoesToFork n old new child made → IsSound child
+pub sound_child : (n : ℕ) (old new child : Strand) (made : Child) → IsSound old → GoesToFork n old new child made → IsSound child
 sound_child n old new child made s g =
     sound_new old.program.now (old.own.name ++ old.forks ∷ []) 0 made.task child g.fresh (fork_has_task n old new child made s g)
     (λ checked. ((g.keeps (fork_has_task n old new child made s g)).faultless (s.faultless checked)).1)
 
-pub sound_fork : (n : ℕ) (old new child : State) (made : Child) → IsSound old → GoesToFork n old new child made → IsSound new
+pub sound_fork : (n : ℕ) (old new child : Strand) (made : Child) → IsSound old → GoesToFork n old new child made → IsSound new
 sound_fork n old new child made s g =
     let kept = g.keeps (fork_has_task n old new child made s g) in
     let program_is = sym (ap (λ x. source_of x.now) g.program) in
@@ -211,7 +211,7 @@ sound_fork n old new child made s g =
       has_task = subst (λ x. task_of (source_of new.program.now) x.name ≡ Some s.task) own_is (subst (λ x. task_of x old.own.name ≡ Some s.task) program_is s.has_task);
       account = with_fork made s.account;
       sums = g.sums ∙ subst (λ x. old.sums.items ≡ tabulated x.ledgers s.account.sums) program_is s.sums ∙ ap (tabulated (source_of new.program.now).ledgers) (sym (with_fork-sums made s.account));
-      holds = subst (λ x. x.holds.items ≡ tabulated (source_of new.program.now).locks s.account.holds) own_is (subst (λ x. old.own.holds.items ≡ tabulated x.locks s.account.holds) program_is s.holds)
+      holds = subst (λ x. x.holds ≡ tabulated (source_of new.program.now).locks s.account.holds) own_is (subst (λ x. old.own.holds ≡ tabulated x.locks s.account.holds) program_is s.holds)
           ∙ ap (tabulated (source_of new.program.now).locks) (sym (with_fork-holds made s.account));
       lines = ap (map named_holds) g.below ∙ s.lines ∙ sym (with_fork-lines made s.account);
       forks = omega (arith, g.forks, s.forks, length-append s.account.children (made ∷ []), ap length (with_fork-children made s.account));
@@ -255,7 +255,7 @@ unfolding with_join
 with_join-lines locks name n e a = refl
 
 -- the outcome is what the awaited child means
-join_means : (old new : State) (outcome : Finished) → IsOfItsName outcome → source_of outcome.program ≡ source_of old.program.now → (j : Joins old outcome new) →
+join_means : (old new : Strand) (outcome : Finished) → IsOfItsName outcome → source_of outcome.program ≡ source_of old.program.now → (j : Joins old outcome new) →
     meaning_as (source_of old.program.now) (old.own.name ++ j.number ∷ []) (child_task (source_of old.program.now) old.own.name j.number) ≡ meaning_in outcome
 join_means old new outcome of_name same_source j =
     let source = source_of old.program.now in
@@ -266,12 +266,12 @@ join_means old new outcome of_name same_source j =
     ap (meaning_as source name) (child_task-found source old.own.name j.number found.0 found.1) ∙ found.2
 
 -- the join keeps what the thread comes to
-pub join_keeps : (old new : State) (outcome : Finished) → IsOfItsName outcome → source_of outcome.program ≡ source_of old.program.now →
+pub join_keeps : (old new : Strand) (outcome : Finished) → IsOfItsName outcome → source_of outcome.program ≡ source_of old.program.now →
     (j : Joins old outcome new) → KeepsOverJoin old new j.number
 join_keeps old new outcome of_name same_source j = j.keeps (sym (ap (λ m. m.value) (join_means old new outcome of_name same_source j)))
 
 -- A sound thread that joins an outcome of the awaited child stays sound.
-pub sound_join : (old new : State) (outcome : Finished) → IsSound old → IsOfItsName outcome → source_of outcome.program ≡ source_of old.program.now →
+pub sound_join : (old new : Strand) (outcome : Finished) → IsSound old → IsOfItsName outcome → source_of outcome.program ≡ source_of old.program.now →
     Joins old outcome new → IsSound new
 sound_join old new outcome s of_name same_source j =
     let source = source_of old.program.now in
@@ -291,8 +291,8 @@ sound_join old new outcome s of_name same_source j =
       account = account;
       sums = subst (λ x. new.sums.items ≡ tabulated x.ledgers account.sums) program_is
           (j.sums source.ledgers s.account.sums effects.sums s.sums childs ∙ ap (tabulated source.ledgers) (sym (with_join-sums source.locks name n effects s.account)));
-      holds = subst (λ x. x.holds.items ≡ tabulated (source_of new.program.now).locks account.holds) own_is
-          (subst (λ x. old.own.holds.items ≡ tabulated x.locks account.holds) program_is (s.holds ∙ ap (tabulated source.locks) (sym (with_join-holds source.locks name n effects s.account))));
+      holds = subst (λ x. x.holds ≡ tabulated (source_of new.program.now).locks account.holds) own_is
+          (subst (λ x. old.own.holds ≡ tabulated x.locks account.holds) program_is (s.holds ∙ ap (tabulated source.locks) (sym (with_join-holds source.locks name n effects s.account))));
       lines = ap (map named_holds) j.below.lines_are
           ∙ map-append named_holds old.below outcome.lines ∙ ap (λ l. l ++ map named_holds outcome.lines) s.lines
           ∙ ap (λ l. s.account.lines ++ l) lines ∙ sym (with_join-lines source.locks name n effects s.account);
@@ -325,21 +325,21 @@ same_meaning v v' t t' l l' p q r =
     ap f p ∙ ap g q ∙ ap h r
 
 -- A sound thread that has ended has the outcome of its name.
-pub sound_end : (t : State) (v : ℕ) → IsSound t → t.control ≡ Ended v →
+pub sound_end : (t : Strand) (v : ℕ) → IsSound t → t.control ≡ Ended v →
     IsOfItsName (record { program = t.program.now; name = t.own.name; value = v; sums = t.sums.items; lines = own_line_of (suspended t) ∷ t.below })
 sound_end t v s ended =
     let source = source_of t.program.now in
     let name = t.own.name in
     let effects = task_effects source.arrays source.locks s.task in
     let value : v ≡ task_value source.arrays s.task =
-    subst (λ k. (resume source name (frames_left k t.frames.items) (begun source name k t.environment.items)).value ≡ task_value source.arrays s.task) ended s.value in
+    subst (λ k. (resume source name (frames_left k t.frames) (begun source name k t.environment)).value ≡ task_value source.arrays s.task) ended s.value in
     let whole : s.account ≡ after name effects untouched =
-    subst (λ k. resume_account source name (frames_left k t.frames.items) (begun source name k t.environment.items) (begun_account source name k t.environment.items s.account)
+    subst (λ k. resume_account source name (frames_left k t.frames) (begun source name k t.environment) (begun_account source name k t.environment s.account)
     ≡ after name effects untouched) ended s.whole in
     let sums : t.sums.items ≡ tabulated source.ledgers effects.sums =
     s.sums ∙ ap (λ a. tabulated source.ledgers a.sums) whole ∙ ap (tabulated source.ledgers) (after-sums name effects untouched)
     ∙ tabulated-same source.ledgers (λ l. 0 + effects.sums l) effects.sums (λ k. omega arith) in
-    let holds : t.own.holds.items ≡ tabulated source.locks effects.holds =
+    let holds : t.own.holds ≡ tabulated source.locks effects.holds =
     s.holds ∙ ap (λ a. tabulated source.locks a.holds) whole ∙ ap (tabulated source.locks) (after-holds name effects untouched)
     ∙ tabulated-same source.locks (λ l. 0 + effects.holds l) effects.holds (λ k. omega arith) in
     let below : map named_holds t.below ≡ effects.lines name 0 = s.lines ∙ ap (λ a. a.lines) whole ∙ after-lines name effects untouched in
@@ -348,10 +348,10 @@ sound_end t v s ended =
     ∙ ap (λ m. Some m) (same_meaning (task_value source.arrays s.task) v (tabulated source.ledgers effects.sums) t.sums.items
     (line_of source.locks name effects ∷ effects.lines name 0) (map named_holds (own_line_of (suspended t) ∷ t.below))
     (sym value) (sym sums)
-    (ap (λ h. line h ∷ effects.lines name 0) (sym holds) ∙ ap (λ l. line t.own.holds.items ∷ l) (sym below)))
+    (ap (λ h. line h ∷ effects.lines name 0) (sym holds) ∙ ap (λ l. line t.own.holds ∷ l) (sym below)))
 
 -- A sound thread that counts effects of its own stays sound.
-pub sound_counts : (old new : State) (answered : Pending) (effects : Effects) → IsSound old → effects.children ≡ [] → ((name : List ℕ) (next : ℕ) → effects.lines name next ≡ []) → Counts answered effects old new → IsSound new
+pub sound_counts : (old new : Strand) (answered : Pending) (effects : Effects) → IsSound old → effects.children ≡ [] → ((name : List ℕ) (next : ℕ) → effects.lines name next ≡ []) → Counts answered effects old new → IsSound new
 sound_counts old new answered effects s no_children no_lines g =
     let program_is = sym (ap (λ x. source_of x.now) g.program) in
     let name_is = sym g.name in
@@ -363,7 +363,7 @@ sound_counts old new answered effects s no_children no_lines g =
       account = account;
       sums = subst (λ x. new.sums.items ≡ tabulated x.ledgers account.sums) program_is
           (g.sums (source_of old.program.now).ledgers s.account.sums s.sums ∙ ap (tabulated (source_of old.program.now).ledgers) (sym (after-sums name effects s.account)));
-      holds = subst (λ x. new.own.holds.items ≡ tabulated x.locks account.holds) program_is
+      holds = subst (λ x. new.own.holds ≡ tabulated x.locks account.holds) program_is
           (g.holds (source_of old.program.now).locks s.account.holds s.holds ∙ ap (tabulated (source_of old.program.now).locks) (sym (after-holds name effects s.account)));
       lines = ap (map named_holds) g.below ∙ s.lines ∙ sym (after-lines name effects s.account ∙ ap (λ l. s.account.lines ++ l) (no_lines name (length s.account.children)) ∙ append-nil s.account.lines);
       forks = g.forks ∙ s.forks ∙ sym (ap length (after-children name effects s.account ∙ ap (λ l. s.account.children ++ l) no_children ∙ append-nil s.account.children));
@@ -374,7 +374,7 @@ sound_counts old new answered effects s no_children no_lines g =
       faultless = λ checked. g.faultless (s.faultless (subst IsChecked (sym program_is) checked));
     }
 
-pub counted_seen : (old new : State) (answered : Pending) (effects : Effects) → Counts answered effects old new → SameThread (suspended old) (suspended new)
+pub counted_seen : (old new : Strand) (answered : Pending) (effects : Effects) → Counts answered effects old new → SameThread (suspended old) (suspended new)
 counted_seen old new answered effects g = record {
   program = ap (λ p. p.now) g.program;
   name = g.name;
@@ -385,7 +385,7 @@ counted_seen old new answered effects g = record {
 }
 
 -- What callers see of these steps.
-pub same_thread : (n : ℕ) (old new : State) → Goes n [] old new → SameThread (suspended old) (suspended new)
+pub same_thread : (n : ℕ) (old new : Strand) → Goes n [] old new → SameThread (suspended old) (suspended new)
 same_thread n old new g = record {
   program = ap (λ p. p.now) g.program;
   name = ap (λ o. o.name) g.own;
@@ -395,18 +395,18 @@ same_thread n old new g = record {
   below = g.below;
 }
 
-pub within_seen : (least most : ℕ) (old new : State) → GoesWithin least most old new → MakesSteps least most (suspended old) (suspended new)
+pub within_seen : (least most : ℕ) (old new : Strand) → GoesWithin least most old new → MakesSteps least most (suspended old) (suspended new)
 within_seen least most old new w = record { made = w.made; at_least = w.at_least; at_most = w.at_most; work = w.goes.work; trace = sym w.goes.trace }
 
 -- the child that it forks is the one that the program has there
-child_made : (old new child : State) (n : ℕ) (made : Child) (s : IsSound old) → GoesToFork n old new child made →
+child_made : (old new child : Strand) (n : ℕ) (made : Child) (s : IsSound old) → GoesToFork n old new child made →
     child_of (source_of old.program.now) old.own.name old.forks ≡ Some made
 child_made old new child n made s g =
     let source = source_of old.program.now in
     let forks : Task → Option Child = λ task. slice_get (task_effects source.arrays source.locks task).children old.forks in
     ap (option_and_then forks) s.has_task ∙ next_made old s made (g.next_child s.account).0 (g.next_child s.account).1
 
-pub forked_seen : (n : ℕ) (old new child : State) (made : Child) → IsSound old → GoesToFork n old new child made →
+pub forked_seen : (n : ℕ) (old new child : Strand) (made : Child) → IsSound old → GoesToFork n old new child made →
     Forked n made.class (suspended old) (suspended new) (suspended child)
 forked_seen n old new child made s g =
     let kept = g.keeps (fork_has_task n old new child made s g) in
@@ -469,10 +469,10 @@ awaits_some (Frees lock value) name frames h = absurd (not_another (pause.Frees 
 awaits_some (Tallies ledger amount body) name frames h = absurd (not_another (pause.Tallies ledger amount) IsJoins tt (λ x. x) h)
 awaits_some (Ended value) name frames h = absurd (not_another pause.Ended IsJoins tt (λ x. x) h)
 
-pub stopped_seen : (t : State) → pending_of t.control ≡ Some pause.Joins → IsSome (awaited (suspended t))
-stopped_seen t h = awaits_some t.control t.own.name (forks_of t.frames.items) h
+pub stopped_seen : (t : Strand) → pending_of t.control ≡ Some pause.Joins → IsSome (awaited (suspended t))
+stopped_seen t h = awaits_some t.control t.own.name (forks_of t.frames) h
 
-pub joined_seen : (old new : State) (outcome : Finished) → IsSound old → IsOfItsName outcome → source_of outcome.program ≡ source_of old.program.now →
+pub joined_seen : (old new : Strand) (outcome : Finished) → IsSound old → IsOfItsName outcome → source_of outcome.program ≡ source_of old.program.now →
     Joins old outcome new → Joined (suspended old) outcome (suspended new)
 joined_seen old new outcome s of_name same_source j =
     let source = source_of outcome.program in
@@ -489,7 +489,7 @@ joined_seen old new outcome s of_name same_source j =
       unjoined = (j.number, j.unjoined);
       locks = j.locks;
       sums = added_is n s.account.sums effects.sums _ _ _ s.sums childs (j.sums n s.account.sums effects.sums s.sums childs);
-      holds = ap (λ o. o.holds.items) j.own;
+      holds = ap (λ o. o.holds) j.own;
       below = j.below.lines_are;
       pending = j.pending;
       work = (join_keeps old new outcome of_name same_source j).work;
@@ -497,7 +497,7 @@ joined_seen old new outcome s of_name same_source j =
     }
 
 -- both sums have an item for each ledger
-pub same_length : (t : State) (outcome : Finished) → IsSound t → IsOfItsName outcome → source_of outcome.program ≡ source_of t.program.now →
+pub same_length : (t : Strand) (outcome : Finished) → IsSound t → IsOfItsName outcome → source_of outcome.program ≡ source_of t.program.now →
     length outcome.sums ≡ length t.sums.items
 same_length t outcome s of_name same_source =
     let source = source_of outcome.program in
@@ -507,17 +507,17 @@ same_length t outcome s of_name same_source =
     ∙ sym (length-tabulated (source_of t.program.now).ledgers s.account.sums) ∙ sym (ap length s.sums)
 
 -- a thread in which nothing has changed but room looks the same
-pub unchanged_seen : (old new : State) → IsUnchanged old new → suspended new ≡ suspended old
+pub unchanged_seen : (old new : Strand) → IsUnchanged old new → suspended new ≡ suspended old
 unchanged_seen old new u = cc
 
 -- and has made no step
-pub goes_nowhere : (old new : State) → IsUnchanged old new → Goes 0 [] old new
+pub goes_nowhere : (old new : Strand) → IsUnchanged old new → Goes 0 [] old new
 goes_nowhere old new u =
     let source = source_of old.program.now in
     let name = old.own.name in
     let k = old.control in
-    let fs = old.frames.items in
-    let env = old.environment.items in
+    let fs = old.frames in
+    let env = old.environment in
     let at = at_of old new k fs env u in
     record {
       program = u.program;
@@ -525,7 +525,7 @@ goes_nowhere old new u =
       below = u.below;
       sums = u.sums;
       forks = u.forks;
-      unjoined = ap (λ x. fork_awaited x ++ forks_of new.frames.items) u.control_is ∙ ap (λ x. fork_awaited k ++ forks_of x) u.frames_are;
+      unjoined = ap (λ x. fork_awaited x ++ forks_of new.frames) u.control_is ∙ ap (λ x. fork_awaited k ++ forks_of x) u.frames_are;
       ending = ending_at source name k fs env new at;
       account = λ a. account_at source name k fs env new a at;
       work = omega (arith, work_at source name k fs env new at);
@@ -534,11 +534,11 @@ goes_nowhere old new u =
     }
 
 -- nor have its locks
-pub locks_unchanged : (old new : State) → IsUnchanged old new → locks_of new ≡ locks_of old
-locks_unchanged old new u = ap (λ x. lock_freed x ++ releases new.frames.items) u.control_is ∙ ap (λ x. lock_freed old.control ++ releases x) u.frames_are
+pub locks_unchanged : (old new : Strand) → IsUnchanged old new → locks_of new ≡ locks_of old
+locks_unchanged old new u = ap (λ x. lock_freed x ++ releases new.frames) u.control_is ∙ ap (λ x. lock_freed old.control ++ releases x) u.frames_are
 
 -- a join after room was made
-pub joins_after : (a b c : State) (outcome : Finished) → IsUnchanged a b → Joins b outcome c → Joins a outcome c
+pub joins_after : (a b c : Strand) (outcome : Finished) → IsUnchanged a b → Joins b outcome c → Joins a outcome c
 joins_after a b c outcome u j =
     let g = goes_nowhere a b u in
     let source_is = ap (λ p. source_of p.now) u.program in
@@ -569,7 +569,7 @@ joins_after a b c outcome u j =
     }
 
 -- the join of the outcome of a child, or none
-pub sound_joined : {E : Type 0} (r : Result (Unit {0}) E) (old new : State) (outcome : Finished) → IsSound old → IsOfItsName outcome → source_of outcome.program ≡ source_of old.program.now →
+pub sound_joined : {E : Type 0} (r : Result (Unit {0}) E) (old new : Strand) (outcome : Finished) → IsSound old → IsOfItsName outcome → source_of outcome.program ≡ source_of old.program.now →
     OnOk r (Joins old outcome new) → OnErr r (IsUnchanged old new) → IsSound new
 sound_joined (Ok done) old new outcome s of_name same_source j u = sound_join old new outcome s of_name same_source j
 sound_joined (Err e) old new outcome s of_name same_source j u = sound_goes 0 [] old new s (goes_nowhere old new u)

@@ -17,7 +17,7 @@ use Rattle.arachne_machine.specs.declared.frame.Frame.TheVariants.{Join, Merge}
 use Rattle.arachne_machine.specs.declared.frame.Control.{Control}
 use Rattle.arachne_machine.specs.declared.frame.Control.TheVariants.{Begin, Cover, Forked, Halved}
 use Rattle.arachne_machine.specs.declared.pause.Pending.TheVariants as pause
-use Rattle.arachne_machine.specs.declared.state.State.{State}
+use Rattle.arachne_machine.specs.Strands.{Strand}
 use Rattle.arachne_machine.specs.Account.{Account, after, with_fork, with_join}
 use Rattle.arachne_machine.specs.Work.{work_of, task_work}
 use Rattle.arachne_machine.specs.Trace.{Step, At, trace_of, task_trace}
@@ -52,19 +52,19 @@ ForksNext source name made k env = (a : Account) → (rest : List Child) × ((be
 abbrev pub made_as : Class → Control → List ℕ → Child
 made_as class begins env = record { class = class; task = task_begun begins env }
 
-pub forks_by : (class : Class) (old new child : State) (begins k k' : Control) (f : Frame) → old.control ≡ k → PushesFork old new child begins f k' →
+pub forks_by : (class : Class) (old new child : Strand) (begins k k' : Control) (f : Frame) → old.control ≡ k → PushesFork old new child begins f k' →
     ((fs : List Frame) → frames_left k fs ≡ fs) → ((fs : List Frame) → frames_left k' fs ≡ fs) →
     fork_awaited k' ++ forks_of (f ∷ []) ≡ old.forks ∷ (fork_awaited k ++ []) → lock_freed k' ++ releases (f ∷ []) ≡ lock_freed k ++ [] → pending_of k' ≡ Some pause.Forks →
     ((held : Bool) → IsFaultlessNext (source_of old.program.now) held k → IsFaultlessNext (source_of old.program.now) false begins) →
-    ForksNext (source_of old.program.now) old.own.name (made_as class begins old.environment.items) k old.environment.items →
-    (child_task (source_of old.program.now) old.own.name old.forks ≡ task_begun begins old.environment.items →
-    ForkOutlook (source_of old.program.now) old.own.name old.forks (made_as class begins old.environment.items) k old.environment.items k' f) →
-    GoesToFork 1 old new child (made_as class child.control child.environment.items)
+    ForksNext (source_of old.program.now) old.own.name (made_as class begins old.environment) k old.environment →
+    (child_task (source_of old.program.now) old.own.name old.forks ≡ task_begun begins old.environment →
+    ForkOutlook (source_of old.program.now) old.own.name old.forks (made_as class begins old.environment) k old.environment k' f) →
+    GoesToFork 1 old new child (made_as class child.control child.environment)
 forks_by class old new child begins k k' f is_k pushed left left' forks locks pending childs next outlook =
     let source = source_of old.program.now in
     let name = old.own.name in
-    let fs = old.frames.items in
-    let env = old.environment.items in
+    let fs = old.frames in
+    let env = old.environment in
     let n = old.forks in
     let task = task_begun begins env in
     let made = made_as class begins env in
@@ -159,14 +159,14 @@ fork_outlook source name env n expr child during next class h found =
           (((parts.0, parts.3), tt), (parts.0, parts.2));
     }
 
-pub goes_to_fork : (old new child : State) (expr first during next : Bor Expr) (class : Class) → old.control ≡ Begin expr →
+pub goes_to_fork : (old new child : Strand) (expr first during next : Bor Expr) (class : Class) → old.control ≡ Begin expr →
     tree_of expr.now ≡ Fork class (tree_of first.now) (tree_of during.now) (tree_of next.now) →
     PushesFork old new child (Begin first) (Join old.forks next) (Forked during) →
-    GoesToFork 1 old new child (made_as class child.control child.environment.items)
+    GoesToFork 1 old new child (made_as class child.control child.environment)
 goes_to_fork old new child expr first during next class begins h pushed =
     let source = source_of old.program.now in
     let name = old.own.name in
-    let env = old.environment.items in
+    let env = old.environment in
     let A = source.arrays in
     let meanwhile = effects_of A source.locks (tree_of during.now) env in
     let last = effects_of A source.locks (tree_of next.now) (with_newest (with_newest env (value_of A (tree_of first.now) env)) (value_of A (tree_of during.now) env)) in
@@ -225,14 +225,14 @@ half_outlook source name env n stretch middle lt is found =
       faultless = λ held h. ((h.1.0, tt), h.1);
     }
 
-pub goes_to_half : (old new child : State) (stretch : Stretch) (middle : ℕ) → old.control ≡ Cover stretch → max 1 stretch.grain < stretch.end - stretch.first →
+pub goes_to_half : (old new child : Strand) (stretch : Stretch) (middle : ℕ) → old.control ≡ Cover stretch → max 1 stretch.grain < stretch.end - stretch.first →
     middle ≡ stretch.first + (stretch.end - stretch.first) / 2 →
     PushesFork old new child (Cover (record stretch { end = middle })) (Merge old.forks stretch.reduction) (Halved (record stretch { first = middle })) →
-    GoesToFork 1 old new child (made_as Normal child.control child.environment.items)
+    GoesToFork 1 old new child (made_as Normal child.control child.environment)
 goes_to_half old new child stretch middle covers lt is pushed =
     let source = source_of old.program.now in
     let name = old.own.name in
-    let env = old.environment.items in
+    let env = old.environment in
     let A = source.arrays in
     let L = source.locks in
     let r = stretch.reduction in

@@ -11,6 +11,7 @@ pub mod Strands
 pub mod Ending
 pub mod Steps
 pub mod Sound
+pub mod Kept
 pub mod Alone
 pub mod Faultless
 pub use Rattle.arachne_lang.specs.Tree

@@ -1,5 +1,5 @@
 -- What the steps of a thread do.
-use Rattle.std.specs.Prelude.{◌≡◌, ◌≢◌, ◌≤◌, ◌<◌, ℕ, ◌+◌, ◌^◌, false, List, [], ◌∷◌, ◌++◌, length, reverse, take, Option, None, Some}
+use Rattle.std.specs.Prelude.{◌≡◌, ◌≤◌, ◌<◌, ℕ, ◌+◌, ◌^◌, false, List, [], ◌∷◌, ◌++◌, length, reverse, take, Option, None, Some}
 use Rattle.arachne_lang.specs.declared.program.Program.{Program}
 use Rattle.arachne_lang.specs.declared.program.Reduction.{Reduction}
 use Rattle.arachne_lang.specs.declared.program.Expr.{Expr}
@@ -243,26 +243,21 @@ pub record PlacesChild (steps : ℕ) (old new : Strand) (made : Child) : Type 0 
   pub forked : GoesToFork steps 0 (At pause.Forks ∷ []) (old.forks ∷ []) old new made
   pub pending : pending_of new.control ≡ None
 
--- What is so of the locks where the thread pauses; of one that has ended nothing is left.
-abbrev pub PausesAt : Option Pending → Strand → Strand → Type 0
-PausesAt (Some (pause.Asks lock)) old new = locks_of new ≡ lock ∷ locks_of old
-PausesAt (Some (pause.Frees lock)) old new = (locks_of new ≡ locks_of old) × ((others : List ℕ) × (locks_of new ≡ lock ∷ others))
-PausesAt (Some pause.Ended) old new = (locks_of new ≡ locks_of old) × (locks_of new ≡ []) × (unjoined_of new ≡ []) × (work_left new ≡ 0)
-PausesAt _ old new = locks_of new ≡ locks_of old
-
--- so many steps were made, and it goes on
-pub record GoesOn (steps : ℕ) (old new : Strand) : Type 0 where
-  pub goes : Goes steps [] old new
-  pub pending : pending_of new.control ≡ None
-  pub locks : locks_of new ≡ locks_of old
-
--- at least one step was made and at most so many, and it pauses, for no fork
-pub record GoesToPause (steps : ℕ) (old new : Strand) : Type 0 where
-  pub goes : GoesWithin 1 steps old new
-  pub next : Pending
-  pub pending : pending_of new.control ≡ Some next
-  pub no_fork : next ≢ pause.Forks
-  pub pauses : PausesAt (Some next) old new
+-- What is so after so many steps, or once the thread has paused in one of them, at the latest in the last, for no fork.
+abbrev pub AfterSteps : ℕ → Strand → Option Pending → Strand → Type 0
+AfterSteps steps old None new = Goes steps [] old new × (pending_of new.control ≡ None) × (locks_of new ≡ locks_of old)
+AfterSteps steps old (Some pause.Forks) new = ⊥
+AfterSteps steps old (Some pause.Joins) new = GoesWithin 1 steps old new × (pending_of new.control ≡ Some pause.Joins) × (locks_of new ≡ locks_of old)
+AfterSteps steps old (Some (pause.Asks lock)) new =
+    GoesWithin 1 steps old new × (pending_of new.control ≡ Some (pause.Asks lock)) × (locks_of new ≡ lock ∷ locks_of old)
+AfterSteps steps old (Some (pause.Frees lock)) new =
+    GoesWithin 1 steps old new × (pending_of new.control ≡ Some (pause.Frees lock)) × (locks_of new ≡ locks_of old)
+    × ((others : List ℕ) × (locks_of new ≡ lock ∷ others))
+AfterSteps steps old (Some (pause.Tallies ledger amount)) new =
+    GoesWithin 1 steps old new × (pending_of new.control ≡ Some (pause.Tallies ledger amount)) × (locks_of new ≡ locks_of old)
+AfterSteps steps old (Some pause.Ended) new =
+    GoesWithin 1 steps old new × (pending_of new.control ≡ Some pause.Ended) × (unjoined_of new ≡ []) × (locks_of new ≡ locks_of old) × (locks_of new ≡ [])
+    × (work_left new ≡ 0)
 
 -- the thread that hands on this value next
 abbrev pub giving : Strand → ℕ → Strand

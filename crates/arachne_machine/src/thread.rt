@@ -7,6 +7,7 @@ use crate::spares::Spares;
 use crate::state::State;
 use arachne_lang::{Class, Name, Program};
 use std::alloc::{AllocError, Global};
+use std::marker::Model;
 
 /// A thread of a program between two steps, with the threads that run in its place: a child that was placed
 /// here runs once its parent awaits it, and its parent goes on once it has ended. It is not cloned: each thread
@@ -17,6 +18,22 @@ pub struct Thread<'p> {
     state: Box<State<'p>>,
     /// Children that were handed back to be run here and have not begun here, the newest last.
     placed: Vec<Box<State<'p>>>,
+}
+
+impl<'p> Model for Thread<'p> {
+    ghost use Rattle.arachne_machine.specs.Nested.{Nested};
+    ghost use Rattle.arachne_machine.specs.Kept.{IsKept, nested};
+
+    ghost Value = { Nested };
+
+    ghost use Rattle.std.specs.Coded.{codes};
+    ghost use Rattle.arachne_lang.specs.contracts.program.Expr as expr;
+
+    ghost coded = { Prim.hlevel (codes, expr.the_row.coded) };
+
+    ghost view = { λ t. nested t.state.value t.placed.items };
+
+    ghost invariant = { λ t. IsKept t.state.value t.placed.items };
 }
 
 impl<'p> Thread<'p> {
