@@ -20,7 +20,8 @@ use Rattle.arachne_machine.specs.declared.state.State.{State}
 use Rattle.arachne_machine.specs.declared.line.Ran.TheVariants as ways
 use Rattle.arachne_machine.specs.declared.level.Level.{Level}
 use Rattle.arachne_machine.specs.declared.level.Parent.{Parent}
-use Rattle.arachne_machine.specs.Strands.{Strand, owned_at, strand_at}
+use Rattle.arachne_machine.specs.declared.line.Label.{Label}
+use Rattle.arachne_machine.specs.Strands.{Owned, Strand, strand_at}
 use Rattle.arachne_machine.specs.Lines.{Gains}
 use Rattle.arachne_machine.specs.Outcome.{Finished}
 use Rattle.arachne_machine.specs.Account.{Account, untouched, after, with_fork}
@@ -29,7 +30,7 @@ use Rattle.arachne_machine.specs.Suspended.{Suspended, awaited}
 use Rattle.arachne_machine.specs.Work.{task_work}
 use Rattle.arachne_machine.specs.Trace.{Event, At, with_steps, task_trace}
 use Rattle.arachne_machine.specs.Faultless.{IsFaultlessNext, IsWithoutFault}
-use Rattle.arachne_machine.specs.Ending.{child_task, stretch_task, account_joined, ending, account_at_end, work_left, trace_left, unjoined_of, here_of, locks_of, environment_of, KeepsForks}
+use Rattle.arachne_machine.specs.Ending.{child_task, stretch_task, account_joined, ending, account_at_end, work_left, trace_left, unjoined_of, here_of, locks_of, fork_awaited, environment_of, KeepsForks}
 
 -- the pause that is not answered
 abbrev pub pending_of : Control → Option Pending
@@ -186,11 +187,25 @@ pub record IsRenewed (program : Bor Program) (own : Own) (sums : List ℕ) (cont
   pub frames : t.frames.items ≡ []
   pub control_is : t.control ≡ control
 
+-- a thread that begins like this has not begun
+pub record HasNotBegun (program : Bor Program) (own : Owned) (control : Control) (environment : Environment) (t : Strand) : Type 0 where
+  pub program_is : t.program ≡ program
+  pub own_is : t.own ≡ own
+  pub below : t.below ≡ []
+  pub forks : t.forks ≡ 0
+  pub environment_is : t.environment ≡ environment
+  pub frames : t.frames ≡ []
+  pub control_is : t.control ≡ control
+
+-- the label of a thread that was forked and has no tag yet
+abbrev pub untagged : Label
+untagged = record { tag = 0; ran = ways.Slot }
+
 -- a thread of a task that has not begun
-pub record IsNew (program : Program) (name : List ℕ) (tag : ℕ) (task : Task) (t : Strand) : Type 0 where
+pub record IsNew (program : Program) (name : List ℕ) (label : Label) (task : Task) (t : Strand) : Type 0 where
   pub same_program : t.program.now ≡ program
   pub has_name : t.own.name ≡ name
-  pub has_label : t.own.label ≡ record { tag = tag; ran = ways.Slot }
+  pub has_label : t.own.label ≡ label
   pub holds : t.own.holds ≡ tabulated program.locks (λ lock. 0)
   pub below : t.below ≡ []
   pub forks : t.forks ≡ 0
@@ -235,7 +250,7 @@ pub record GoesToFork (steps handed : ℕ) (answered : List Event) (here : List 
 pub record GivesChild (steps : ℕ) (old new child : Strand) (made : Child) : Type 0 where
   pub forked : GoesToFork steps (work_left child) [] [] old new made
   pub pending : pending_of new.control ≡ Some pause.Forks
-  pub fresh : IsNew old.program.now (old.own.name ++ old.forks ∷ []) 0 made.task child
+  pub fresh : IsNew old.program.now (old.own.name ++ old.forks ∷ []) untagged made.task child
   pub faultless : IsWithoutFault old → IsWithoutFault child
 
 -- The child will run here, and the fork is no pause.
@@ -267,8 +282,8 @@ giving t value = record t { control = Give value }
 abbrev pub beginning : Strand → Bor Expr → Strand
 beginning t expr = record t { control = Begin expr }
 
--- a child thread was made for a task, and the thread has this newest frame and this to do next
-pub record PushesFork (old new child : Strand) (begins : Control) (frame : Frame) (control : Control) : Type 0 where
+-- a fork was made: the thread has this newest frame and this to do next
+pub record PushesFork (old new : Strand) (frame : Frame) (control : Control) : Type 0 where
   pub program : new.program ≡ old.program
   pub own : new.own ≡ old.own
   pub below : new.below ≡ old.below
@@ -276,9 +291,31 @@ pub record PushesFork (old new child : Strand) (begins : Control) (frame : Frame
   pub environment : new.environment ≡ old.environment
   pub frames : new.frames ≡ old.frames ++ frame ∷ []
   pub control_is : new.control ≡ control
-  pub fresh : IsNew old.program.now (old.own.name ++ old.forks ∷ []) 0 (task_begun begins old.environment) child
+
+-- and a child was made that begins like this
+pub record SpawnsChild (old new child : Strand) (begins : Control) (frame : Frame) (control : Control) : Type 0 where
+  pub pushed : PushesFork old new frame control
+  pub fresh : IsNew old.program.now (old.own.name ++ old.forks ∷ []) untagged (task_begun begins old.environment) child
   pub begun : task_begun child.control child.environment ≡ task_begun begins old.environment
   pub faultless : IsFaultlessNext (source_of old.program.now) false begins → IsWithoutFault child
+
+-- A value was handed to the frame of a child that is to run here: it is awaited now, and its steps are its own from now on.
+pub record AwaitsHere (number handed : ℕ) (old new : Strand) : Type 0 where
+  pub program : new.program ≡ old.program
+  pub own : new.own ≡ old.own
+  pub below : new.below ≡ old.below
+  pub forks : new.forks ≡ old.forks
+  pub unjoined : unjoined_of new ≡ unjoined_of old
+  pub here : here_of old ≡ number ∷ here_of new
+  pub locks : locks_of new ≡ locks_of old
+  pub pending : pending_of new.control ≡ Some pause.Joins
+  pub awaited_is : fork_awaited new.control ≡ number ∷ []
+  pub ending : ending new ≡ ending old
+  pub account : (account : Account) → account_at_end new account ≡ account_at_end old account
+  pub work : work_left new + handed + 1 ≡ work_left old
+  pub trace : with_steps 1 (trace_left new) ≡ trace_left old
+  pub faultless : IsWithoutFault old → IsWithoutFault new
+  pub keeps : KeepsForks old → KeepsForks new
 
 -- The thread comes to the same, now that the child of this number is counted.
 pub record KeepsOverJoin (old new : Strand) (number : ℕ) : Type 0 where
