@@ -225,7 +225,7 @@ next_task t account s made rest e =
     task_below-child source.arrays source.locks (Evaluate source.root []) t.own.name t.forks s.task s.has_task
     ∙ ap (option_map (λ child. child.task)) (next_made t account s made rest e)
 
-with_fork-sums : (task : Child) (a : Account) → (with_fork task a).sums ≡ a.sums
+pub with_fork-sums : (task : Child) (a : Account) → (with_fork task a).sums ≡ a.sums
 unfolding with_fork
 with_fork-sums task a = refl
 
@@ -283,7 +283,7 @@ outcome_task source name m h =
       | Some t ↦ λ e. (t, refl, same_some (meaning_as source name t) m e)
     ] h
 
-with_join-sums : (locks : ℕ) (name : List ℕ) (n : ℕ) (e : Effects) (a : Account) → (with_join locks name n e a).sums ≡ (λ l. a.sums l + e.sums l)
+pub with_join-sums : (locks : ℕ) (name : List ℕ) (n : ℕ) (e : Effects) (a : Account) → (with_join locks name n e a).sums ≡ (λ l. a.sums l + e.sums l)
 unfolding with_join
 with_join-sums locks name n e a = refl
 

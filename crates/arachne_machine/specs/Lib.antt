@@ -11,6 +11,7 @@ pub mod Strands
 pub mod Ending
 pub mod Steps
 pub mod Sound
+pub mod Runs
 pub mod Kept
 pub mod Alone
 pub mod Faultless

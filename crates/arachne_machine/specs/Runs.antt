@@ -1,0 +1,81 @@
+-- What an advance does to a state.
+use Rattle.std.specs.Prelude.{◌≡◌, ◌≤◌, ◌<◌, ℕ, ◌+◌, ◌^◌, List, [], ◌∷◌, ◌++◌, length}
+use Rattle.arachne_lang.specs.Effects.{tabulated}
+use Rattle.arachne_machine.specs.declared.frame.Frame.{Frame}
+use Rattle.arachne_machine.specs.declared.frame.Control.{Control}
+use Rattle.arachne_machine.specs.declared.level.Parent.{Parent}
+use Rattle.arachne_machine.specs.declared.line.Ran.TheVariants as ways
+use Rattle.arachne_machine.specs.declared.line.ThreadLine.{ThreadLine}
+use Rattle.arachne_machine.specs.declared.state.State.{State}
+use Rattle.arachne_machine.specs.Ending.{here_of, locks_of, work_left}
+use Rattle.arachne_machine.specs.Strands.{Strand}
+use Rattle.arachne_machine.specs.Steps.{Goes, top, waiting_in}
+use Rattle.arachne_machine.specs.Sound.{IsSoundState}
+
+-- the steps that these have left
+abbrev pub works_left : List Strand → ℕ
+works_left [] = 0
+works_left (t ∷ ts) = work_left t + works_left ts
+
+abbrev pub work_in_state : State → ℕ
+work_in_state t = work_left (top t) + works_left (waiting_in t)
+
+-- the last of a thread and those that wait for it
+abbrev pub last_of : Strand → List Strand → Strand
+last_of t [] = t
+last_of t (parent ∷ parents) = last_of parent parents
+
+-- the thread in whose place the others run
+abbrev pub outermost_in : State → Strand
+outermost_in t = last_of (top t) (waiting_in t)
+
+-- no other thread runs in its place, or will
+pub record IsByItself (t : State) : Type 0 where
+  pub parents : t.parents.items ≡ []
+  pub here : here_of (top t) ≡ []
+
+-- It goes on by itself.
+pub record GoesByItself (steps : ℕ) (old new : State) : Type 0 where
+  pub alone : IsByItself new
+  pub goes : Goes steps [] (top old) (top new)
+  pub locks : locks_of (top new) ≡ locks_of (top old)
+
+-- So many steps were made by the threads of a state. One that was by itself still is, unless it has forked.
+pub record Runs (steps : ℕ) (old new : State) : Type 0 where
+  pub program : new.program ≡ old.program
+  pub own : new.own ≡ old.own
+  pub sums : new.sums.items ≡ old.sums.items
+  pub sound : IsSoundState new
+  pub work : work_in_state new + steps ≡ work_in_state old
+  pub forks : (outermost_in old).forks ≤ (outermost_in new).forks
+  pub by_itself : IsByItself old → (outermost_in new).forks ≡ (outermost_in old).forks → GoesByItself steps old new
+
+-- A child of this number begins here like this, and the innermost thread awaits it like this.
+pub record BeginsHere (old new : State) (number : ℕ) (awaits begins : Control) : Type 0 where
+  pub program : new.program ≡ old.program
+  pub own : new.own ≡ old.own
+  pub sums : new.sums.items ≡ old.sums.items
+  pub environment : new.environment.items ≡ old.environment.items
+  pub frames : new.frames.items ≡ old.frames.items
+  pub parents : new.parents.items ≡ old.parents.items ++ record { level = old.level; control = awaits } ∷ []
+  pub level : new.level ≡ record { start = length old.frames.items; forks = 0; place = length old.lines }
+  pub line : ThreadLine
+  pub lines : new.lines ≡ old.lines ++ line ∷ []
+  pub named : line.name ≡ (top old).own.name ++ number ∷ []
+  pub holds : line.holds ≡ tabulated old.program.now.locks (λ lock. 0)
+  pub ran : line.ran ≡ ways.InPlace
+  pub few : length new.lines < 2 ^ 63
+  pub control_is : new.control ≡ begins
+
+-- The child that ran here has ended: the innermost of those that wait goes on, with these newest variables, these frames and this to do next.
+pub record JoinsHere (old new : State) (variables : List ℕ) (frames : List Frame) (control : Control) : Type 0 where
+  pub program : new.program ≡ old.program
+  pub own : new.own ≡ old.own
+  pub sums : new.sums.items ≡ old.sums.items
+  pub lines : new.lines ≡ old.lines
+  pub parent : Parent
+  pub parents : old.parents.items ≡ new.parents.items ++ parent ∷ []
+  pub level : new.level ≡ parent.level
+  pub environment : new.environment.items ≡ old.environment.items ++ variables
+  pub frames_are : new.frames.items ≡ old.frames.items ++ frames
+  pub control_is : new.control ≡ control
