@@ -377,19 +377,21 @@ same_meaning v v' t t' l l' p q r =
     let h : List Line → Meaning = λ x. record { value = v'; totals = t'; threads = x } in
     ap f p ∙ ap g q ∙ ap h r
 
--- What a sound thread that has ended brings is what its name means.
-pub end_means : (t : Strand) (v : ℕ) (account : Account) → IsSound t account → t.control ≡ Ended v →
+-- A thread that comes to this value at once, and has no more to do.
+pub record IsOver (t : Strand) (value : ℕ) (account : Account) : Type 0 where
+  pub value_is : (ending t).value ≡ value
+  pub account_is : account_at_end t account ≡ account
+
+-- What such a sound thread brings is what its name means.
+pub over_means : (t : Strand) (v : ℕ) (account : Account) → IsSound t account → IsOver t v account →
     outcome_of (source_of t.program.now) t.own.name
     ≡ Some (record { value = v; totals = tabulated (source_of t.program.now).ledgers account.sums; threads = map named_holds (own_line_of (suspended t) ∷ t.below) })
-end_means t v account s ended =
+over_means t v account s over =
     let source = source_of t.program.now in
     let name = t.own.name in
     let effects = task_effects source.arrays source.locks s.task in
-    let value : v ≡ task_value source.arrays s.task =
-    subst (λ k. (resume source name (frames_left k t.frames) (begun source name k t.environment)).value ≡ task_value source.arrays s.task) ended s.value in
-    let whole : account ≡ after name effects untouched =
-    subst (λ k. resume_account source name (frames_left k t.frames) (begun source name k t.environment) (begun_account source name k t.environment account)
-    ≡ after name effects untouched) ended s.whole in
+    let value : v ≡ task_value source.arrays s.task = sym over.value_is ∙ s.value in
+    let whole : account ≡ after name effects untouched = sym over.account_is ∙ s.whole in
     let sums : tabulated source.ledgers account.sums ≡ tabulated source.ledgers effects.sums =
     ap (λ a. tabulated source.ledgers a.sums) whole ∙ ap (tabulated source.ledgers) (after-sums name effects untouched)
     ∙ tabulated-same source.ledgers (λ l. 0 + effects.sums l) effects.sums (λ k. omega arith) in
@@ -404,11 +406,24 @@ end_means t v account s ended =
     (sym value) (sym sums)
     (ap (λ h. line h ∷ effects.lines name 0) (sym holds) ∙ ap (λ l. line t.own.holds ∷ l) (sym below)))
 
+-- what it has added to each ledger is what its task adds
+pub over_sums : (t : Strand) (v : ℕ) (account : Account) (s : IsSound t account) → IsOver t v account → (ledger : ℕ) →
+    account.sums ledger ≡ (task_effects (source_of t.program.now).arrays (source_of t.program.now).locks s.task).sums ledger
+over_sums t v account s over ledger =
+    let source = source_of t.program.now in
+    let effects = task_effects source.arrays source.locks s.task in
+    ap (λ a. a.sums ledger) (sym over.account_is ∙ s.whole) ∙ ap (λ f. f ledger) (after-sums t.own.name effects untouched) ∙ omega arith
+
 -- A sound thread that has ended has the outcome of its name.
 pub sound_end : (t : Strand) (v : ℕ) (sums : List ℕ) (account : Account) → IsSound t account → t.control ≡ Ended v → sums ≡ tabulated (source_of t.program.now).ledgers account.sums →
     IsOfItsName (record { program = t.program.now; name = t.own.name; value = v; sums = sums; lines = own_line_of (suspended t) ∷ t.below })
 sound_end t v sums account s ended is =
-    end_means t v account s ended
+    let source = source_of t.program.now in
+    let name = t.own.name in
+    over_means t v account s (record {
+      value_is = ap (λ k. (resume source name (frames_left k t.frames) (begun source name k t.environment)).value) ended;
+      account_is = ap (λ k. resume_account source name (frames_left k t.frames) (begun source name k t.environment) (begun_account source name k t.environment account)) ended;
+    })
     ∙ ap (λ l. Some (record { value = v; totals = l; threads = map named_holds (own_line_of (suspended t) ∷ t.below) })) (sym is)
 
 -- A sound thread that counts effects of its own stays sound.

@@ -1,5 +1,5 @@
 -- A thread is sound if it will end in the outcome of its name, and goes without fault in a checked program.
-use Rattle.std.specs.Prelude.{◌≡◌, ℕ, ◌+◌, List, [], ◌∷◌, ◌++◌, length, map, reverse, Some}
+use Rattle.std.specs.Prelude.{◌≡◌, ◌<◌, ◌^◌, ℕ, ◌+◌, List, [], ◌∷◌, ◌++◌, length, map, reverse, Some}
 use Rattle.arachne_lang.specs.Program.{source_of}
 use Rattle.arachne_lang.specs.Effects.{Task, task_value, task_effects, tabulated}
 use Rattle.arachne_lang.specs.Meaning.{task_of}
@@ -53,3 +53,4 @@ pub record IsSoundState (t : State) : Type 0 where
   pub sound : AreSound (top t ∷ waiting_in t) sums_of
   pub run_for : RunFor (top t) (waiting_in t)
   pub fits : Fits (reverse t.parents.items) t.level.start t.level.place (length t.frames.items) (length t.lines)
+  pub few : length t.lines < 2 ^ 63

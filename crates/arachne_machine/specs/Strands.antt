@@ -1,5 +1,5 @@
 -- The threads of a state, one by one.
-use Rattle.std.specs.Prelude.{◌≤◌, ◌<◌, ◌≡◌, ℕ, ◌+◌, List, [], ◌∷◌, drop, take, unwrap_or, slice_get}
+use Rattle.std.specs.Prelude.{◌≤◌, ◌<◌, ◌≡◌, ℕ, ◌+◌, List, [], ◌∷◌, drop, take, get_or}
 use Rattle.std.specs.Borrow.{Bor}
 use Rattle.arachne_lang.specs.declared.program.Program.{Program}
 use Rattle.arachne_lang.specs.Value.{Environment}
@@ -37,7 +37,7 @@ owned_of line = record { name = line.name; label = record { tag = line.tag; ran 
 
 -- the line at a place
 abbrev pub line_at : List ThreadLine → ℕ → ThreadLine
-line_at lines place = unwrap_or (slice_get lines place) (record { name = []; tag = 0; holds = []; ran = Slot })
+line_at lines place = get_or lines place (record { name = []; tag = 0; holds = []; ran = Slot })
 
 -- The outermost thread, which has no parents, has its line apart; another one's is at its place, and the lines below it behind that.
 abbrev pub owned_at : Own → List Parent → List ThreadLine → ℕ → Owned
