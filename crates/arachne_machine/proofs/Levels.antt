@@ -167,10 +167,10 @@ runs_top n old new s l g locks =
           let lasts = ap (λ ts. (last_of (top new) ts).forks) same in
           omega (arith, count, lasts);
       by_itself = λ alone e. record {
-          alone = record { parents = l.parents ∙ alone.parents; here = g.here ∙ alone.here };
-          goes = g;
-          locks = locks;
-        };
+        alone = record { parents = l.parents ∙ alone.parents; here = g.here ∙ alone.here };
+        goes = g;
+        locks = locks;
+      };
     }
 
 -- Steps after steps.
@@ -340,18 +340,18 @@ runs_begins before old new f number handed awaits begins s le popped b beginning
         sums_of = s.sums_of;
         sums = b.sums ∙ sym leaves.sums ∙ subst (λ p. before.sums.items ≡ tabulated (source_of p.now).ledgers s.sums_of) (sym (b.program ∙ sym leaves.program)) s.sums;
         sound = subst (λ ts. AreSound (child ∷ ts) s.sums_of) (sym are) (
-            untouched,
-            s.sums_of,
-            sound_new old.program.now b.line.name (owned_of b.line).label task child fresh (subst (λ n. task_of source n ≡ Some task) (sym b.named) has)
-                (λ checked. begins_faultless old.program (owned_of b.line) begins env child not_begun
-                (free (sound.2.faultless (subst (λ p. IsChecked (source_of p.now)) (sym leaves.program) checked)))),
-            (sound.0, sound.1, sound_awaits number handed (top before) parent sound.0 sound.2 awaiting, sound.3, sound.4),
-            λ ledger. omega arith,
-          );
+          untouched,
+          s.sums_of,
+          sound_new old.program.now b.line.name (owned_of b.line).label task child fresh (subst (λ n. task_of source n ≡ Some task) (sym b.named) has)
+              (λ checked. begins_faultless old.program (owned_of b.line) begins env child not_begun
+              (free (sound.2.faultless (subst (λ p. IsChecked (source_of p.now)) (sym leaves.program) checked)))),
+          (sound.0, sound.1, sound_awaits number handed (top before) parent sound.0 sound.2 awaiting, sound.3, sound.4),
+          λ ledger. omega arith,
+        );
         run_for = subst (RunFor child) (sym are) (
-            record { number = number; awaits = awaiting.awaited_is; named = named; in_place = ap (λ o. o.label.ran) not_begun.own_is ∙ b.ran },
-            run_for_same (top before) parent rest same_own (subst (RunFor (top before)) were s.run_for),
-          );
+          record { number = number; awaits = awaiting.awaited_is; named = named; in_place = ap (λ o. o.label.ran) not_begun.own_is ∙ b.ran },
+          run_for_same (top before) parent rest same_own (subst (RunFor (top before)) were s.run_for),
+        );
         fits = fits_begun before old new number awaits begins leaves le b s.fits;
         few = b.few;
       };
@@ -551,8 +551,12 @@ runs_joins old new v variables gs control s gives long j joins =
     let gains : Gains parent.below outcome.lines (top new).below = record {
       lines_are = is_below;
       more = omega (arith, ap length is_below, length-append parent.below outcome.lines, ap length lines);
-      few = omega (arith, s.few, below_few qs old.lines old.level.start q.level.place q.level.start old.level.place
-          (below_at qs new.lines new.level.place) (ap (λ x. below_at qs x new.level.place) j.lines ∙ ap (λ x. below_at qs old.lines x.place) j.level));
+      few = omega (
+        arith,
+        s.few,
+        below_few qs old.lines old.level.start q.level.place q.level.start old.level.place
+            (below_at qs new.lines new.level.place) (ap (λ x. below_at qs x new.level.place) j.lines ∙ ap (λ x. below_at qs old.lines x.place) j.level),
+      );
     } in
     let joined = joins outcome run.0.number run.0.awaits refl run.0.named resumed gains in
     let kept = join_keeps parent (top new) outcome of_name refl joined in
@@ -573,12 +577,12 @@ runs_joins old new v variables gs control s gives long j joins =
         sums_of = s.sums_of;
         sums = j.sums ∙ subst (λ p. old.sums.items ≡ tabulated (source_of p.now).ledgers s.sums_of) (sym j.program) s.sums;
         sound = subst (λ ts. AreSound (top new ∷ ts) s.sums_of) (sym are) (
-            joined_account parent joined.number sound.3.0,
-            sound.3.1,
-            sound_join parent (top new) outcome sound.3.0 sound.3.2 of_name refl joined,
-            sound.3.3,
-            λ ledger. omega (arith, sound.4 ledger, sound.3.4 ledger, added ledger),
-          );
+          joined_account parent joined.number sound.3.0,
+          sound.3.1,
+          sound_join parent (top new) outcome sound.3.0 sound.3.2 of_name refl joined,
+          sound.3.3,
+          λ ledger. omega (arith, sound.4 ledger, sound.3.4 ledger, added ledger),
+        );
         run_for = subst (RunFor (top new)) (sym are) (run_for_same parent (top new) rest resumed.own run.1);
         fits = fits_joined old new variables gs control j fits;
         few = omega (arith, s.few, ap length j.lines);

@@ -1,4 +1,4 @@
-pub mod Laying
+pub mod Listing
 pub mod Accounts
 pub mod Tabulated
 pub mod Names
@@ -13,6 +13,8 @@ pub mod Handings
 pub mod Splitting
 pub mod Joining
 pub mod Soundness
+pub mod Here
+pub mod Levels
 pub mod Advancing
 pub mod Waiting
 pub mod Nesting

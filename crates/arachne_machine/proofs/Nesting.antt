@@ -490,9 +490,9 @@ pub kept_begun : (a b child : Suspended) (parents placed : List Suspended) (line
 kept_begun a b child parents placed lines more place l l' p aside capacity capacity' is joins name source written room places h =
     subst (λ v. IsKept (record { running = v; parents = a ∷ parents; placed = placed }) more l' p aside capacity') (sym is) (record {
       nested = record {
-          awaiting = (record { joins = joins; of_child = name; same_source = source; in_place = refl }, h.nested.awaiting);
-          waiting = subst (λ s. ArePlaced s placed) (sym source) h.nested.waiting;
-        };
+        awaiting = (record { joins = joins; of_child = name; same_source = source; in_place = refl }, h.nested.awaiting);
+        waiting = subst (λ s. ArePlaced s placed) (sym source) h.nested.waiting;
+      };
       laid = (lines.lines, place, written ∙ append_assoc lines.lines (place ∷ []) child.below, h.laid);
       counted = h.counted;
       room = room;

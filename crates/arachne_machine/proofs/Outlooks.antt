@@ -326,7 +326,7 @@ steps_by steps mid old new k k' fs gs gs' env env' b b' left left' forks here ke
         program = b'.program ∙ sym b.program;
         own = b'.own ∙ sym b.own;
         below = b'.below ∙ sym b.below;
-              forks = b'.forks ∙ sym b.forks;
+        forks = b'.forks ∙ sym b.forks;
         unjoined = unjoined_at source name k' fs gs' env' new at' ∙ ap (λ l. l ++ forks_of fs) forks ∙ sym (unjoined_at source name k fs gs env old at);
         here = here_at source name k' fs gs' env' new at' ∙ ap (λ l. l ++ forks_here fs) here ∙ sym (here_at source name k fs gs env old at);
         ending = end.ending;

@@ -1,5 +1,6 @@
 -- The lines of threads as they are kept until a run is over.
-use Rattle.std.specs.Prelude.{◌≡◌, ◌≤◌, ◌<◌, ℕ, ◌+◌, ◌^◌, List, [], ◌∷◌, ◌++◌, length}
+use Rattle.std.specs.Prelude.{◌≡◌, ◌≤◌, ◌<◌, ℕ, ◌+◌, ◌^◌, ◌==◌, if◌then◌else◌, List, [], ◌∷◌, ◌++◌, get_or, length, set}
+use Rattle.arachne_lang.specs.Effects.{tabulated}
 use Rattle.std.specs.Global.{Vec}
 use Rattle.arachne_machine.specs.declared.line.ThreadLine.{ThreadLine}
 
@@ -18,3 +19,16 @@ pub record Gains (old lines new : List ThreadLine) : Type 0 where
   pub lines_are : new ≡ old ++ lines
   pub more : length old + 1 ≤ length new
   pub few : length new < 2 ^ 63
+
+-- its thread has held this lock once more
+pub record HoldsOnceMore (old new : ThreadLine) (lock : ℕ) : Type 0 where
+  pub name : new.name ≡ old.name
+  pub tag : new.tag ≡ old.tag
+  pub ran : new.ran ≡ old.ran
+  pub holds : (n : ℕ) (own : ℕ → ℕ) → old.holds ≡ tabulated n own → new.holds ≡ tabulated n (λ other. own other + (if other == lock then 1 else 0))
+
+-- the thread whose line is at this place has held this lock once more
+pub record CountsHoldAt (old new : List ThreadLine) (place lock : ℕ) : Type 0 where
+  pub line : ThreadLine
+  pub lines : new ≡ set old place line
+  pub counted : (other : ThreadLine) → HoldsOnceMore (get_or old place other) line lock

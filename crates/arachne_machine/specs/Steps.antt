@@ -107,6 +107,38 @@ pub record Changes (old new : State) (environment : Environment) (frames : List 
   pub frames_are : new.frames.items ≡ frames
   pub control_is : new.control ≡ control
 
+-- the innermost thread's line is there
+abbrev pub IsLineOf : List Parent → ℕ → ℕ → Type 0
+IsLineOf [] place lines = Unit {0}
+IsLineOf (parent ∷ parents) place lines = place < lines
+
+abbrev pub HasLine : State → Type 0
+HasLine t = IsLineOf (reverse t.parents.items) t.level.place (length t.lines)
+
+-- nothing has changed but room
+abbrev pub IsSame : State → State → Type 0
+IsSame old new = Changes old new old.environment.items old.frames.items old.control
+
+-- there is one frame more
+abbrev pub Pushes : State → State → Frame → Type 0
+Pushes old new frame = Changes old new old.environment.items (old.frames.items ++ frame ∷ []) old.control
+
+-- what comes next has changed
+abbrev pub Turns : State → State → Control → Type 0
+Turns old new control = Changes old new old.environment.items old.frames.items control
+
+-- The innermost thread has made a fork: there is one frame more, and this is next.
+pub record CountsFork (old new : State) (frame : Frame) (control : Control) : Type 0 where
+  pub program : new.program ≡ old.program
+  pub own : new.own ≡ old.own
+  pub lines : new.lines ≡ old.lines
+  pub sums : new.sums.items ≡ old.sums.items
+  pub parents : new.parents.items ≡ old.parents.items
+  pub level : new.level ≡ record old.level { forks = old.level.forks + 1 }
+  pub environment : new.environment.items ≡ old.environment.items
+  pub frames : new.frames.items ≡ old.frames.items ++ frame ∷ []
+  pub control_is : new.control ≡ control
+
 -- The innermost thread alone has changed.
 pub record LeavesOthers (old new : State) : Type 0 where
   pub program : new.program ≡ old.program
@@ -200,6 +232,14 @@ pub record HasNotBegun (program : Bor Program) (own : Owned) (control : Control)
 -- the label of a thread that was forked and has no tag yet
 abbrev pub untagged : Label
 untagged = record { tag = 0; ran = ways.Slot }
+
+-- a child of the innermost thread's next fork, in a state of its own, that begins like this
+pub record IsSpawned (old : State) (begins : Control) (child : State) : Type 0 where
+  pub renewed : IsRenewed old.program child.own child.sums.items begins old.environment.items child
+  pub named : child.own.name ≡ (top old).own.name ++ old.level.forks ∷ []
+  pub label : child.own.label ≡ untagged
+  pub holds : child.own.holds.items ≡ tabulated old.program.now.locks (λ lock. 0)
+  pub sums : child.sums.items ≡ tabulated old.program.now.ledgers (λ ledger. 0)
 
 -- a thread of a task that has not begun
 pub record IsNew (program : Program) (name : List ℕ) (label : Label) (task : Task) (t : Strand) : Type 0 where

@@ -35,6 +35,10 @@ pub record Strand : Type 0 where
 abbrev pub owned_of : ThreadLine → Owned
 owned_of line = record { name = line.name; label = record { tag = line.tag; ran = line.ran }; holds = line.holds }
 
+-- the line of an outermost thread
+abbrev pub own_line : Own → ThreadLine
+own_line own = record { name = own.name; tag = own.label.tag; holds = own.holds.items; ran = own.label.ran }
+
 -- the line at a place
 abbrev pub line_at : List ThreadLine → ℕ → ThreadLine
 line_at lines place = get_or lines place (record { name = []; tag = 0; holds = []; ran = Slot })

@@ -7,6 +7,14 @@ use std::alloc::AllocError;
 
 /// The steps that fork a child, and those that begin a part of a sweep.
 impl<'p> State<'p> {
+    ghost use Rattle.std.specs.Prelude.{◌≡◌, ◌+◌, ◌<◌, ◌^◌, ◌∷◌, ◌++◌, [], IfOk, OnOk, OnErr};
+    ghost use Rattle.arachne_lang.specs.Effects.{tabulated};
+    ghost use Rattle.arachne_machine.specs.declared.line.Ran.TheVariants as ways;
+    ghost use Rattle.arachne_machine.specs.declared.frame.Frame.TheVariants as frames;
+    ghost use Rattle.arachne_machine.specs.declared.frame.Control.TheVariants as control;
+    ghost use Rattle.arachne_machine.specs.declared.state.Progress.TheVariants as progress;
+    ghost use Rattle.arachne_machine.specs.Steps.{CountsFork, HasLine, IsSame, IsSpawned};
+
     /// A new child, whose number is the fork's. The thread goes on with what it does meanwhile.
     pub fn fork(
         &mut self,
@@ -14,7 +22,13 @@ impl<'p> State<'p> {
         during: &'p Expr,
         after: &'p Expr,
         spares: &mut Spares<'p>,
-    ) -> Result<Box<State<'p>>, AllocError> {
+    ) -> Result<Box<State<'p>>, AllocError>
+        requires number { self.old.level.forks + 1 < 2 ^ 64 }
+        requires line { HasLine self.old }
+        ensures counts { OnOk result (CountsFork self.old self.new (frames.Join self.old.level.forks after.entry) (control.Forked during.entry)) }
+        ensures child { IfOk result (λ t. IsSpawned self.old (control.Begin child.entry) t.value) }
+        ensures err { OnErr result (IsSame self.old self.new) }
+    {
         let number = self.level.forks;
         self.spawn(
             Control::Begin(child),
@@ -31,7 +45,12 @@ impl<'p> State<'p> {
         child: &'p Expr,
         during: &'p Expr,
         after: &'p Expr,
-    ) -> Result<Progress<'p>, AllocError> {
+    ) -> Result<Progress<'p>, AllocError>
+        requires number { self.old.level.forks + 1 < 2 ^ 64 }
+        ensures counts { OnOk result (CountsFork self.old self.new (frames.JoinHere self.old.level.forks child.entry after.entry) self.old.control) }
+        ensures progress { IfOk result (λ made. made ≡ progress.Begin during.entry) }
+        ensures err { OnErr result (IsSame self.old self.new) }
+    {
         let number = self.level.forks;
         let frame = Frame::JoinHere {
             number,
@@ -50,7 +69,13 @@ impl<'p> State<'p> {
         frame: Frame<'p>,
         next: Control<'p>,
         spares: &mut Spares<'p>,
-    ) -> Result<Box<State<'p>>, AllocError> {
+    ) -> Result<Box<State<'p>>, AllocError>
+        requires number { self.old.level.forks + 1 < 2 ^ 64 }
+        requires line { HasLine self.old }
+        ensures counts { OnOk result (CountsFork self.old self.new frame.entry next.entry) }
+        ensures child { IfOk result (λ t. IsSpawned self.old begins.entry t.value) }
+        ensures err { OnErr result (IsSame self.old self.new) }
+    {
         let name = self.running_name().child(self.alloc, self.level.forks)?;
         let environment = self.environment.as_slice();
         let state = State::new(
@@ -131,7 +156,13 @@ impl<'p> State<'p> {
         stretch: Stretch<'p>,
         middle: u64,
         spares: &mut Spares<'p>,
-    ) -> Result<Box<State<'p>>, AllocError> {
+    ) -> Result<Box<State<'p>>, AllocError>
+        requires number { self.old.level.forks + 1 < 2 ^ 64 }
+        requires line { HasLine self.old }
+        ensures counts { OnOk result (CountsFork self.old self.new (frames.Merge self.old.level.forks stretch.entry.reduction) (control.Halved (record stretch.entry { first = middle }))) }
+        ensures child { IfOk result (λ t. IsSpawned self.old (control.Cover (record stretch.entry { end = middle })) t.value) }
+        ensures err { OnErr result (IsSame self.old self.new) }
+    {
         let left = Stretch {
             end: middle,
             ..stretch
@@ -149,7 +180,11 @@ impl<'p> State<'p> {
 
     /// A split whose left half will run here, as a child.
     #[inline(always)]
-    fn halve_here(&mut self, stretch: Stretch<'p>, middle: u64) -> Result<(), AllocError> {
+    fn halve_here(&mut self, stretch: Stretch<'p>, middle: u64) -> Result<(), AllocError>
+        requires number { self.old.level.forks + 1 < 2 ^ 64 }
+        ensures counts { OnOk result (CountsFork self.old self.new (frames.MergeHere self.old.level.forks (record stretch.entry { end = middle })) self.old.control) }
+        ensures err { OnErr result (IsSame self.old self.new) }
+    {
         let left = Stretch {
             end: middle,
             ..stretch

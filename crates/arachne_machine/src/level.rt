@@ -1,3 +1,5 @@
+ghost use Rattle.std.specs.Prelude.{◌≡◌};
+
 use crate::frame::Control;
 
 /// Where a thread is in a state, in which others may run in its place.
@@ -13,7 +15,9 @@ pub struct Level {
 
 impl Level {
     /// That of the outermost thread.
-    pub fn outermost() -> Level {
+    pub fn outermost() -> Level
+        ensures { result ≡ record { start = 0; forks = 0; place = 0 } }
+    {
         Level {
             start: 0,
             forks: 0,

@@ -1,3 +1,5 @@
+ghost use Rattle.arachne_machine.specs.Lines.{HoldsOnceMore};
+
 use crate::tables::add_at;
 use arachne_lang::{Name, Sequence};
 use std::alloc::Global;
@@ -37,7 +39,9 @@ pub struct ThreadLine {
 
 impl ThreadLine {
     /// Counts that it held this lock once more.
-    pub(crate) fn count_hold(&mut self, alloc: Global, lock: u64) {
+    pub(crate) fn count_hold(&mut self, alloc: Global, lock: u64)
+        ensures { HoldsOnceMore self.old self.new lock }
+    {
         let mut holds = replace(&mut self.holds, Sequence::from(Vec::new(alloc))).into_vec();
         add_at(&mut holds, lock, 1);
         self.holds = Sequence::from(holds);

@@ -1,6 +1,6 @@
-ghost use Rattle.std.specs.Prelude.{◌≡◌, ◌+◌, ◌-◌, ◌≤◌, ◌<◌, ◌^◌, List, [], ◌∷◌, ◌++◌, length, set, slice_get, Some, vec_len, vec_capacity, IfOk, IfErr, OnOk, OnErr};
+ghost use Rattle.std.specs.Prelude.{◌≡◌, ◌+◌, ◌-◌, ◌≤◌, ◌<◌, ◌^◌, List, [], ◌∷◌, ◌++◌, get_or, length, vec_len, vec_capacity, IfOk, IfErr, OnOk, OnErr};
 ghost use Rattle.arachne_machine.specs.declared.line.ThreadLine.{ThreadLine};
-ghost use Rattle.arachne_machine.specs.Lines.{lines_in};
+ghost use Rattle.arachne_machine.specs.Lines.{CountsHoldAt, lines_in};
 
 use crate::line::ThreadLine;
 use std::alloc::{AllocError, Global};
@@ -74,7 +74,7 @@ impl Lines {
     #[inline(always)]
     pub fn at(&self, place: usize) -> &ThreadLine
         requires { place < length self.now }
-        ensures { slice_get self.now place ≡ Some result.now }
+        ensures { (other : ThreadLine) → result.now ≡ get_or self.now place other }
     {
         if place >= self.count {
             return &self.last[place - self.count];
@@ -85,6 +85,7 @@ impl Lines {
     /// Counts that the thread whose line is at this place held this lock once more.
     pub fn count_hold(&mut self, alloc: Global, place: usize, lock: u64)
         requires { place < length self.old }
+        ensures { CountsHoldAt self.old self.new place lock }
     {
         if place >= self.count {
             let place = place - self.count;
@@ -168,7 +169,7 @@ impl Lines {
 #[inline(never)]
 fn line_in(lists: &Vec<Vec<ThreadLine>>, place: usize) -> &ThreadLine
     requires { place < length (lines_in lists.now.items) }
-    ensures { slice_get (lines_in lists.now.items) place ≡ Some result.now }
+    ensures { (other : ThreadLine) → result.now ≡ get_or (lines_in lists.now.items) place other }
 {
     let mut at = 0;
     let mut left = place;
@@ -184,6 +185,7 @@ fn line_in(lists: &Vec<Vec<ThreadLine>>, place: usize) -> &ThreadLine
 #[inline(never)]
 fn count_hold_in(alloc: Global, lists: &mut Vec<Vec<ThreadLine>>, place: usize, lock: u64)
     requires { place < length (lines_in lists.old.items) }
+    ensures { CountsHoldAt (lines_in lists.old.items) (lines_in lists.new.items) place lock }
 {
     let mut at = 0;
     let mut left = place;

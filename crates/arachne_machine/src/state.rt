@@ -72,6 +72,15 @@ pub enum Progress<'p> {
 }
 
 impl<'p> State<'p> {
+    ghost use Rattle.std.specs.Prelude.{◌≡◌, ◌∷◌, ◌<◌, [], length, IfOk, OnOk, None, Some};
+    ghost use Rattle.arachne_lang.specs.Effects.{tabulated};
+    ghost use Rattle.arachne_machine.specs.Sound.{IsSoundState};
+    ghost use Rattle.arachne_machine.specs.Strands.{owned_of, own_line};
+    ghost use Rattle.arachne_machine.specs.Steps.{pending_of, top, HasLine, IsRenewed};
+    ghost use Rattle.arachne_machine.specs.declared.line.Ran.TheVariants as ways;
+    ghost use Rattle.arachne_machine.specs.declared.pause.Pending.TheVariants as pause;
+    ghost use Rattle.arachne_machine.specs.declared.frame.Control.TheVariants as control;
+
     /// A thread that begins like this, with a copy of the environment.
     pub fn new(
         alloc: Global,
@@ -81,7 +90,13 @@ impl<'p> State<'p> {
         control: Control<'p>,
         environment: &[u64],
         spares: &mut Spares<'p>,
-    ) -> Result<Box<State<'p>>, AllocError> {
+    ) -> Result<Box<State<'p>>, AllocError>
+        ensures name { IfOk result (λ t. t.value.own.name ≡ name) }
+        ensures label { IfOk result (λ t. t.value.own.label ≡ record { tag = tag; ran = ways.Slot }) }
+        ensures holds { IfOk result (λ t. t.value.own.holds.items ≡ tabulated program.now.locks (λ lock. 0)) }
+        ensures sums { IfOk result (λ t. t.value.sums.items ≡ tabulated program.now.ledgers (λ ledger. 0)) }
+        ensures begins { IfOk result (λ t. IsRenewed program.entry t.value.own t.value.sums.items control.entry environment.now t.value) }
+    {
         let label = Label {
             tag,
             ran: Ran::Slot,
@@ -121,7 +136,9 @@ impl<'p> State<'p> {
         sums: Vec<u64>,
         control: Control<'p>,
         environment: &[u64],
-    ) -> Result<(), AllocError> {
+    ) -> Result<(), AllocError>
+        ensures { OnOk result (IsRenewed program.entry own sums.items control.entry environment.now self.new) }
+    {
         self.environment.clear();
         self.environment.try_reserve(environment.len() + 3)?;
         self.environment.extend_from_slice(environment)?;
@@ -202,7 +219,9 @@ impl<'p> State<'p> {
     }
 
     /// The pause that is not answered.
-    pub fn pending(&self) -> Option<Pending> {
+    pub fn pending(&self) -> Option<Pending>
+        ensures { result ≡ pending_of self.now.control }
+    {
         match self.control {
             Control::Begin(_) | Control::Give(_) | Control::Cover(_) => None,
             Control::Forked(_) | Control::Halved(_) => Some(Pending::Forks),
@@ -216,7 +235,10 @@ impl<'p> State<'p> {
 
     /// The name of the innermost thread.
     #[inline(always)]
-    pub fn running_name(&self) -> &Name {
+    pub fn running_name(&self) -> &Name
+        requires { HasLine self.now }
+        ensures { result.now ≡ (top self.now).own.name }
+    {
         if self.parents.is_empty() {
             return &self.own.name;
         }
@@ -224,7 +246,10 @@ impl<'p> State<'p> {
     }
 
     /// The tag of the innermost thread.
-    pub fn running_tag(&self) -> u64 {
+    pub fn running_tag(&self) -> u64
+        requires { HasLine self.now }
+        ensures { result ≡ (top self.now).own.label.tag }
+    {
         if self.parents.is_empty() {
             return self.own.label.tag;
         }
@@ -233,7 +258,15 @@ impl<'p> State<'p> {
 
     /// The outcome of a thread that has ended.
     #[inline(always)]
-    pub fn finish(&mut self) -> Outcome<'p> {
+    pub fn finish(&mut self) -> Outcome<'p>
+        requires ended { pending_of self.old.control ≡ Some pause.Ended }
+        requires alone { self.old.parents.items ≡ [] }
+        requires sound { IsSoundState self.old }
+        ensures program { result.program ≡ self.old.program.now }
+        ensures name { result.name ≡ self.old.own.name }
+        ensures sums { result.sums ≡ self.old.sums.items }
+        ensures lines { result.lines ≡ own_line self.old.own ∷ self.old.lines }
+    {
         let value = self.value();
         Outcome {
             program: self.program,
@@ -246,7 +279,10 @@ impl<'p> State<'p> {
 
     /// The own line of the outermost thread.
     #[inline(always)]
-    pub fn take_line(&mut self) -> ThreadLine {
+    pub fn take_line(&mut self) -> ThreadLine
+        ensures line { result ≡ own_line self.old.own }
+        ensures others { self.new ≡ record self.old { own = self.new.own } }
+    {
         let vacant = Own::vacant(self.alloc);
         let Own { name, label, holds } = replace(&mut self.own, vacant);
         ThreadLine {
@@ -258,7 +294,10 @@ impl<'p> State<'p> {
     }
 
     /// Takes back the own line.
-    pub fn put_back_line(&mut self, line: ThreadLine) {
+    pub fn put_back_line(&mut self, line: ThreadLine)
+        ensures line { own_line self.new.own ≡ line }
+        ensures others { self.new ≡ record self.old { own = self.new.own } }
+    {
         let ThreadLine {
             name,
             tag,
@@ -273,7 +312,10 @@ impl<'p> State<'p> {
     }
 
     /// The value of a thread that has ended.
-    fn value(&self) -> u64 {
+    fn value(&self) -> u64
+        requires { pending_of self.now.control ≡ Some pause.Ended }
+        ensures { self.now.control ≡ control.Ended result }
+    {
         let Control::Ended(value) = self.control else {
             unreachable!()
         };
