@@ -1,18 +1,23 @@
 -- The threads of a state that wait are left as they are, or one more or one fewer waits.
-use Rattle.std.proofs.Common.{◌≡◌, ◌≤◌, ◌<◌, ℕ, ◌+◌, List, [], ◌∷◌, ◌++◌, length, length-append, false, Some, refl, ap, sym, ◌∙◌, subst, arith, take, drop}
+use Rattle.std.proofs.Common.{◌≡◌, ◌≤◌, ◌<◌, ℕ, ◌+◌, List, [], ◌∷◌, ◌++◌, append_assoc, length, length-append, false, Some, refl, ap, sym, ◌∙◌, subst, arith, take, drop}
 use Rattle.std.specs.Prelude.{reverse}
 use Rattle.std.specs.Borrow.{Bor}
-use Rattle.std.proofs.lemmas.List.{drop-append-le, drop_more, get_or-take, length-take-le, reverse-append, take-append-drop, take-append-le}
+use Rattle.std.proofs.lemmas.List.{drop-append-le, append-nil, drop_more, get_or-take, length-take-le, reverse-append, take-append-drop, take-append-le}
 use Rattle.std.proofs.Math.Seq.{drop-append-add, drop-length, get_or-append_seam, take-append_seam, take-length}
 use Rattle.arachne_lang.specs.declared.program.Program.{Program}
 use Rattle.arachne_lang.specs.Program.{source_of}
 use Rattle.arachne_lang.specs.Effects.{Child, tabulated, task_effects}
 use Rattle.arachne_lang.specs.Meaning.{task_of}
 use Rattle.arachne_lang.specs.Checked.{IsChecked}
-use Rattle.arachne_lang.specs.Value.{Environment}
+use Rattle.arachne_lang.specs.Value.{Environment, apply, operation_of}
 use Rattle.arachne_machine.specs.declared.frame.Frame.{Frame}
 use Rattle.arachne_machine.specs.declared.frame.Control.{Control}
-use Rattle.arachne_machine.specs.declared.frame.Control.TheVariants.{Begin, Give, Cover}
+use Rattle.arachne_machine.specs.declared.frame.Control.TheVariants.{Begin, Give, Cover, Awaits, AwaitsHalf}
+use Rattle.arachne_machine.specs.declared.frame.Frame.TheVariants.{Restore}
+use Rattle.arachne_machine.specs.declared.state.Progress.{Progress}
+use Rattle.arachne_machine.specs.declared.state.Progress.TheVariants as progress
+use Rattle.arachne_lang.specs.declared.program.Expr.{Expr}
+use Rattle.arachne_lang.specs.declared.program.Reduction.{Reduction}
 use Rattle.arachne_machine.specs.declared.level.Parent.{Parent}
 use Rattle.arachne_machine.specs.declared.line.ThreadLine.{ThreadLine}
 use Rattle.arachne_machine.specs.declared.pause.Pending.TheVariants as pause
@@ -24,13 +29,14 @@ use Rattle.arachne_machine.specs.Ending.{child_task, ending, environment_of, for
 use Rattle.arachne_machine.specs.Strands.{Strand, strand_at, line_at, owned_of, owned_at, below_at, Fits}
 use Rattle.arachne_machine.specs.Sound.{IsSound, AreSound, IsSoundState, IsRunningFor, RunFor}
 use Rattle.arachne_machine.specs.Steps.{Goes, Changes, Becomes, Joins, suspended, PlacesChild, AwaitsHere, HasNotBegun, IsBeginning, LeavesOthers, task_begun, top, waiting, waiting_in}
-use Rattle.arachne_machine.specs.Runs.{Runs, BeginsHere, JoinsHere, IsByItself, last_of, outermost_in, works_left}
+use Rattle.arachne_machine.specs.Runs.{Runs, BeginsHere, JoinsHere, HandsResult, ResumesParent, IsByItself, last_of, outermost_in, works_left}
 use Rattle.arachne_machine.proofs.Soundness.{IsOver, goes_on, joined_account, join_keeps, over_means, over_sums, sound_goes, sound_awaits, sound_join, sound_new, sound_fork, fork_has_task, with_fork-sums, with_join-sums}
 use Rattle.arachne_machine.proofs.Splitting.{child_task-found}
 use Rattle.arachne_machine.proofs.Outlooks.{IsAt, account_at, ending_at, work_at}
 use Rattle.arachne_machine.specs.Lines.{Gains}
 use Rattle.arachne_machine.specs.Outcome.{Finished, IsOfItsName}
 use Rattle.arachne_machine.specs.Suspended.{own_line_of}
+use Rattle.arachne_machine.proofs.Joining.{joins_fork, joins_half}
 use Rattle.arachne_machine.proofs.Renewing.{begins_new, begins_faultless}
 use Rattle.arachne_machine.specs.Faultless.{IsFaultlessNext, IsWithoutFault}
 use Rattle.arachne_machine.specs.Work.{task_work}
@@ -591,3 +597,54 @@ runs_joins old new v variables gs control s gives long j joins =
       forks = omega (arith, ap (λ ts. (last_of (top new) ts).forks) are, ap (λ ts. (last_of child ts).forks) were, last_same (top new) parent rest resumed.forks);
       by_itself = λ alone e. absurd (some_parent new.parents.items q (sym j.parents ∙ alone.parents));
     }
+
+-- A join, and then a change of what comes next alone.
+joins_on : (old mid new : State) (variables : List ℕ) (gs : List Frame) (k k' : Control) → (j : JoinsHere old mid variables gs k) →
+    Changes mid new mid.environment.items mid.frames.items k' → JoinsHere old new variables gs k'
+joins_on old mid new variables gs k k' j c = record {
+  program = c.program ∙ j.program;
+  own = c.own ∙ j.own;
+  sums = c.sums ∙ j.sums;
+  lines = c.lines ∙ j.lines;
+  parent = j.parent;
+  parents = j.parents ∙ ap (λ l. l ++ j.parent ∷ []) (sym c.parents);
+  level = c.level ∙ j.level;
+  environment = c.environment_is ∙ j.environment;
+  frames_are = c.frames_are ∙ j.frames_are;
+  control_is = c.control_is;
+}
+
+pub resumes_half : (old mid new : State) (value had left number right : ℕ) (reduction : Reduction) (p : Progress) → (j : JoinsHere old mid [] [] old.control) →
+    j.parent.control ≡ AwaitsHalf number right reduction → mid.control ≡ old.control → HandsResult mid (apply (operation_of reduction) value right) had p left new →
+    ResumesParent old value had p left new
+unfolding joins_on
+resumes_half old mid new value had left number right reduction (progress.Value result) j awaits same h =
+    (number, right, reduction, joins_on old mid new [] [] old.control old.control j (subst (λ k. Changes mid new mid.environment.items mid.frames.items k) same h.2), awaits, h.0, h.1)
+resumes_half old mid new value had left number right reduction progress.Goes j awaits same h =
+    (number, right, reduction, joins_on old mid new [] [] old.control (Give (apply (operation_of reduction) value right)) j h.2, awaits, h.0, h.1)
+resumes_half old mid new value had left number right reduction (progress.Begin next) j awaits same h = absurd h
+resumes_half old mid new value had left number right reduction progress.Stops j awaits same h = absurd h
+resumes_half old mid new value had left number right reduction (progress.Forks class child) j awaits same h = absurd h
+
+-- the end of a child whose parent goes on with what comes after the join
+pub runs_join_begins : (old new : State) (v number during : ℕ) (next : Bor Expr) → IsSoundState old → old.control ≡ Give v → length old.frames.items ≡ old.level.start →
+    (j : JoinsHere old new (v ∷ during ∷ []) (Restore (length old.environment.items) ∷ []) (Begin next)) → j.parent.control ≡ Awaits number during next → Runs 1 old new
+runs_join_begins old new v number during next s gives long j awaits =
+    let parent = parent_in old new j.parent in
+    runs_joins old new v (v ∷ during ∷ []) (Restore (length old.environment.items) ∷ []) (Begin next) s gives long j
+    (λ outcome n is value named resumed gains.
+    let same : number ≡ n = one_child number n (sym (ap fork_awaited awaits) ∙ is) in
+    joins_fork parent (top new) outcome n during next (awaits ∙ ap (λ m. Awaits m during next) same) named resumed.program resumed.own resumed.forks resumed.control_is resumed.frames
+    (resumed.environment ∙ ap (λ x. old.environment.items ++ x ∷ during ∷ []) (sym value) ∙ sym (append_assoc old.environment.items (outcome.value ∷ []) (during ∷ []))) gains)
+
+-- the same of a left half
+pub runs_join_half : (old new : State) (v number right : ℕ) (reduction : Reduction) → IsSoundState old → old.control ≡ Give v → length old.frames.items ≡ old.level.start →
+    (j : JoinsHere old new [] [] (Give (apply (operation_of reduction) v right))) → j.parent.control ≡ AwaitsHalf number right reduction → Runs 1 old new
+runs_join_half old new v number right reduction s gives long j awaits =
+    let parent = parent_in old new j.parent in
+    runs_joins old new v [] [] (Give (apply (operation_of reduction) v right)) s gives long j
+    (λ outcome n is value named resumed gains.
+    let same : number ≡ n = one_child number n (sym (ap fork_awaited awaits) ∙ is) in
+    joins_half parent (top new) outcome n right (apply (operation_of reduction) v right) reduction (awaits ∙ ap (λ m. AwaitsHalf m right reduction) same) named
+    resumed.program resumed.own resumed.forks resumed.control_is (ap (λ x. apply (operation_of reduction) x right) (sym value))
+    (resumed.frames ∙ append-nil parent.frames) (resumed.environment ∙ append-nil parent.environment) gains)

@@ -2,14 +2,20 @@
 use Rattle.std.specs.Prelude.{◌≡◌, ◌≤◌, ◌<◌, ℕ, ◌+◌, ◌^◌, List, [], ◌∷◌, ◌++◌, length}
 use Rattle.arachne_lang.specs.Effects.{tabulated}
 use Rattle.arachne_machine.specs.declared.frame.Frame.{Frame}
+use Rattle.arachne_machine.specs.declared.frame.Frame.TheVariants.{Restore}
 use Rattle.arachne_machine.specs.declared.frame.Control.{Control}
+use Rattle.arachne_machine.specs.declared.frame.Control.TheVariants.{Give, Awaits, AwaitsHalf}
+use Rattle.arachne_machine.specs.declared.state.Progress.{Progress}
+use Rattle.arachne_machine.specs.declared.state.Progress.TheVariants as progress
+use Rattle.arachne_lang.specs.declared.program.Reduction.{Reduction}
+use Rattle.arachne_lang.specs.Value.{apply, operation_of}
 use Rattle.arachne_machine.specs.declared.level.Parent.{Parent}
 use Rattle.arachne_machine.specs.declared.line.Ran.TheVariants as ways
 use Rattle.arachne_machine.specs.declared.line.ThreadLine.{ThreadLine}
 use Rattle.arachne_machine.specs.declared.state.State.{State}
-use Rattle.arachne_machine.specs.Ending.{here_of, locks_of, work_left}
+use Rattle.arachne_machine.specs.Ending.{fork_awaited, here_of, locks_of, work_left}
 use Rattle.arachne_machine.specs.Strands.{Strand}
-use Rattle.arachne_machine.specs.Steps.{Goes, top, waiting_in}
+use Rattle.arachne_machine.specs.Steps.{Goes, IsSame, Turns, top, waiting_in}
 use Rattle.arachne_machine.specs.Sound.{IsSoundState}
 
 -- the steps that these have left
@@ -79,3 +85,43 @@ pub record JoinsHere (old new : State) (variables : List ℕ) (frames : List Fra
   pub environment : new.environment.items ≡ old.environment.items ++ variables
   pub frames_are : new.frames.items ≡ old.frames.items ++ frames
   pub control_is : new.control ≡ control
+
+-- The innermost thread waits like this, and one whose line is at this place and that has forked so many goes on.
+pub record Descends (old new : State) (awaits : Control) (place forks : ℕ) : Type 0 where
+  pub program : new.program ≡ old.program
+  pub own : new.own ≡ old.own
+  pub lines : new.lines ≡ old.lines
+  pub sums : new.sums.items ≡ old.sums.items
+  pub environment : new.environment.items ≡ old.environment.items
+  pub frames : new.frames.items ≡ old.frames.items
+  pub parents : new.parents.items ≡ old.parents.items ++ record { level = old.level; control = awaits } ∷ []
+  pub level : new.level ≡ record { start = length old.frames.items; forks = forks; place = place }
+  pub control_is : new.control ≡ old.control
+
+-- The innermost of those that wait awaits a child that runs here.
+pub record HasParent (t : State) : Type 0 where
+  pub others : List Parent
+  pub parent : Parent
+  pub parents : t.parents.items ≡ others ++ parent ∷ []
+  pub number : ℕ
+  pub awaits : fork_awaited parent.control ≡ number ∷ []
+
+-- A child that ran here ended with this value, and its parent goes on: by what comes after the join, or with what the halves come to, which takes a step of its
+-- own.
+abbrev pub ResumesParent : State → ℕ → ℕ → Progress → ℕ → State → Type 0
+ResumesParent old value had (progress.Begin next) left new =
+    (number during : ℕ) × (j : JoinsHere old new (value ∷ during ∷ []) (Restore (length old.environment.items) ∷ []) old.control)
+    × (j.parent.control ≡ Awaits number during next) × (left ≡ had)
+ResumesParent old value had (progress.Value result) left new =
+    (number right : ℕ) × (reduction : Reduction) × (j : JoinsHere old new [] [] old.control)
+    × (j.parent.control ≡ AwaitsHalf number right reduction) × (result ≡ apply (operation_of reduction) value right) × (left + 1 ≡ had)
+ResumesParent old value had progress.Goes left new =
+    (number right : ℕ) × (reduction : Reduction) × (j : JoinsHere old new [] [] (Give (apply (operation_of reduction) value right)))
+    × (j.parent.control ≡ AwaitsHalf number right reduction) × (left ≡ had) × (had ≡ 0)
+ResumesParent old value had _ left new = ⊥
+
+-- This value is handed on in a step of its own: at once where a step is left, else later.
+abbrev pub HandsResult : State → ℕ → ℕ → Progress → ℕ → State → Type 0
+HandsResult old value had (progress.Value result) left new = (result ≡ value) × (left + 1 ≡ had) × IsSame old new
+HandsResult old value had progress.Goes left new = (left ≡ had) × (had ≡ 0) × Turns old new (Give value)
+HandsResult old value had _ left new = ⊥

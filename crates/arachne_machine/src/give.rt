@@ -7,6 +7,11 @@ use std::alloc::AllocError;
 
 /// How a value is handed on.
 impl<'p> State<'p> {
+    ghost use Rattle.std.specs.Prelude.{◌≡◌, ◌+◌, ◌≤◌, vec_len, vec_capacity, OnOk, OnErr, IsErr};
+    ghost use Rattle.arachne_machine.specs.declared.frame.Control.TheVariants as control;
+    ghost use Rattle.arachne_machine.specs.Steps.{IsSame, Turns};
+    ghost use Rattle.arachne_machine.specs.Runs.{HandsResult};
+
     /// Hands a value on from frame to frame, and from a child that ran here to its parent, until one of them says what comes
     /// next, or none is left. Where memory is refused the value is still to be handed on.
     #[inline(always)]
@@ -43,13 +48,20 @@ impl<'p> State<'p> {
     /// Memory was refused: the value is still to be handed on.
     #[cold]
     #[inline(never)]
-    pub fn refused(&mut self, value: u64) -> Result<Progress<'p>, AllocError> {
+    pub fn refused(&mut self, value: u64) -> Result<Progress<'p>, AllocError>
+        ensures turns { Turns self.old self.new (control.Give value) }
+        ensures refused { IsErr result }
+    {
         self.control = Control::Give(value);
         Err(AllocError)
     }
 
     /// Room for what a value begins.
-    pub fn reserve_turn(&mut self) -> Result<(), AllocError> {
+    pub fn reserve_turn(&mut self) -> Result<(), AllocError>
+        ensures same { IsSame self.old self.new }
+        ensures environment { OnOk result (vec_len self.new.environment + 2 ≤ vec_capacity self.new.environment) }
+        ensures frames { OnOk result (vec_len self.new.frames + 1 ≤ vec_capacity self.new.frames) }
+    {
         self.environment.try_reserve(2)?;
         self.frames.try_reserve(1)
     }
@@ -233,7 +245,9 @@ impl<'p> State<'p> {
 
     /// What a fold, a part of a sweep or two halves come to, which is handed on in a step of its own.
     #[inline(always)]
-    pub fn result(&mut self, value: u64, left: &mut u32) -> Progress<'p> {
+    pub fn result(&mut self, value: u64, left: &mut u32) -> Progress<'p>
+        ensures { HandsResult self.old value left.old result left.new self.new }
+    {
         if *left > 0 {
             *left -= 1;
             return Progress::Value(value);

@@ -11,6 +11,12 @@ use std::mem::{replace, swap};
 
 /// How children begin in their parent's place, and how they are joined.
 impl<'p> State<'p> {
+    ghost use Rattle.std.specs.Prelude.{◌≡◌, ◌+◌, ◌≤◌, ◌∷◌, ◌++◌, [], length, vec_len, vec_capacity, IfOk, OnOk, OnErr};
+    ghost use Rattle.arachne_machine.specs.declared.frame.Frame.TheVariants as frames;
+    ghost use Rattle.arachne_machine.specs.declared.frame.Control.TheVariants as control;
+    ghost use Rattle.arachne_machine.specs.Steps.{Changes, HasLine, IsSame};
+    ghost use Rattle.arachne_machine.specs.Runs.{BeginsHere, Descends, HasParent, ResumesParent};
+
     /// Whether the innermost thread awaits the child of this name.
     pub fn awaits(&self, name: &Name) -> bool {
         match self.control {
@@ -29,7 +35,11 @@ impl<'p> State<'p> {
         number: u64,
         awaits: Control<'p>,
         places: &mut P,
-    ) -> Result<(), AllocError> {
+    ) -> Result<(), AllocError>
+        requires { HasLine self.old }
+        ensures ok { OnOk result (BeginsHere self.old self.new number awaits.entry self.old.control) }
+        ensures err { OnErr result (IsSame self.old self.new) }
+    {
         self.parents.try_reserve(1)?;
         let name = self.running_name().child(self.alloc, number)?;
         let holds = zeros(self.alloc, self.program.locks)?;
@@ -47,7 +57,10 @@ impl<'p> State<'p> {
     /// The innermost thread waits, and one whose line is at this place, and that has forked so many, goes on here. There is
     /// room.
     #[inline(always)]
-    fn descend(&mut self, awaits: Control<'p>, place: usize, forks: u64) {
+    fn descend(&mut self, awaits: Control<'p>, place: usize, forks: u64)
+        requires { vec_len self.old.parents + 1 ≤ vec_capacity self.old.parents }
+        ensures { Descends self.old self.new awaits.entry place forks }
+    {
         self.parents.push_reserved(Parent {
             level: self.level,
             control: awaits,
@@ -82,7 +95,12 @@ impl<'p> State<'p> {
     /// The child that ran here has ended with this value: its parent joins it, and goes on. Where memory is refused the value is
     /// still to be handed on.
     #[inline(always)]
-    pub fn join_here(&mut self, value: u64, left: &mut u32) -> Result<Progress<'p>, AllocError> {
+    pub fn join_here(&mut self, value: u64, left: &mut u32) -> Result<Progress<'p>, AllocError>
+        requires parent { HasParent self.old }
+        requires room { vec_len self.old.environment + 2 ≤ vec_capacity self.old.environment }
+        ensures ok { IfOk result (λ progress. ResumesParent self.old value left.old progress left.new self.new) }
+        ensures err { OnErr result (Changes self.old self.new self.old.environment.items self.old.frames.items (control.Give value)) }
+    {
         if self.frames.try_reserve(1).is_err() {
             return self.refused(value);
         }
@@ -106,7 +124,12 @@ impl<'p> State<'p> {
 
     /// The child's value, and the one of what was done meanwhile, become the newest variables. There is room.
     #[inline(always)]
-    fn bind_joined(&mut self, value: u64, during: u64) {
+    fn bind_joined(&mut self, value: u64, during: u64)
+        requires environment { vec_len self.old.environment + 2 ≤ vec_capacity self.old.environment }
+        requires frames { vec_len self.old.frames + 1 ≤ vec_capacity self.old.frames }
+        ensures { Changes self.old self.new (self.old.environment.items ++ value ∷ during ∷ [])
+            (self.old.frames.items ++ frames.Restore (length self.old.environment.items) ∷ []) self.old.control }
+    {
         let length = self.environment.len();
         self.environment.push_reserved(value);
         self.environment.push_reserved(during);

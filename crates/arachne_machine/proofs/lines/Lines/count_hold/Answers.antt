@@ -1,4 +1,4 @@
-use Rattle.std.proofs.Common.{rules, ◌≡◌, ◌+◌, ◌-◌, ◌<◌, ◌≤◌, ◌++◌, List, length, get_or, refl, ap, sym, ◌∙◌, subst, arith}
+use Rattle.std.proofs.Common.{length-append, ◌≡◌, ◌+◌, ◌-◌, ◌<◌, ◌≤◌, ◌++◌, List, length, get_or, refl, ap, sym, ◌∙◌, subst, arith}
 use Rattle.std.proofs.Math.ListN.{set}
 use Rattle.std.proofs.lemmas.List.{get_or-append-add, get_or_append_left, get_or_default, set-append_left, set-append_right}
 use Rattle.arachne_machine.specs.declared.line.ThreadLine.{ThreadLine}
@@ -14,7 +14,7 @@ returns-then-place-self c =
     let some : length earlier ≤ c.args.place = omega (arith, c.if-place-self.true, c.self.invariant.counted) in
     let here : c.args.place ≡ length earlier + at = omega (arith, some, c.self.invariant.counted) in
     let in_last : c.args.place - length earlier ≡ at = omega (arith, c.self.invariant.counted) in
-    let small : at < length last = search rules in
+    let small : at < length last = omega (arith, c.requires, ap length c.self.view_is, length-append earlier last, some, c.self.invariant.counted) in
     record {
       line = own;
       lines = ap (λ n. earlier ++ set last n own) (sym in_last) ∙ sym (set-append_right earlier last (length earlier) c.args.place own refl some)
