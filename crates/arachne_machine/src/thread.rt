@@ -1,3 +1,15 @@
+ghost use Rattle.std.specs.Prelude.{◌≡◌, ◌≢◌, ◌↔◌, ◌≤◌, ◌+◌, ◌-◌, ℕ, ◌∷◌, [], ◌++◌, true, None, Some, IfOk, OnOk, IfErr, OnErr, IsTrue};
+ghost use Rattle.arachne_lang.specs.Effects.{tabulated};
+ghost use Rattle.arachne_machine.specs.Suspended.{IsAnswered, IsAsk, IsFree, IsFresh, IsNext, IsTally, Joined, SameThread, added, awaited, own_line_of, raised};
+ghost use Rattle.arachne_machine.specs.Advance.{AdvancedAlone, AwaitsAt, Moves, PlacesNone, RefusedAlone, IsForeign, IsNotAwaited, IsSpentAt, PausesAt, child_back, handed_back};
+ghost use Rattle.arachne_machine.specs.Nested.{AwaitsElsewhere, FallsBy, IsAlone, IsChildOf, IsNested, IsPlacing, MayBePlaced, Nested, PlacesAtFork, SameWhole, alone, begun_in, pending_in, spilled_of, whole, with_tag, work_in};
+ghost use Rattle.arachne_machine.specs.Faultless.{PausesWithin};
+ghost use Rattle.arachne_machine.specs.Trace.{At, trace_of};
+ghost use Rattle.arachne_machine.specs.Work.{work_of};
+ghost use Rattle.arachne_lang.specs.Checked.{IsChecked};
+ghost use Rattle.arachne_lang.specs.Program.{source_of};
+ghost use Rattle.arachne_machine.specs.declared.pause.Pending.TheVariants as pause;
+
 use crate::frame::Control;
 use crate::line::Ran;
 use crate::outcome::Outcome;
@@ -38,7 +50,13 @@ impl<'p> Model for Thread<'p> {
 
 impl<'p> Thread<'p> {
     /// The root thread of a program.
-    pub fn start(alloc: Global, program: &'p Program, tag: u64) -> Result<Thread<'p>, AllocError> {
+    pub fn start(alloc: Global, program: &'p Program, tag: u64) -> Result<Thread<'p>, AllocError>
+        ensures alone { IfOk result IsAlone }
+        ensures fresh { IfOk result (λ thread. IsFresh program.now [] tag thread.running) }
+        ensures sums { IfOk result (λ thread. thread.sums ≡ tabulated program.now.ledgers (λ ledger. 0)) }
+        ensures work { IfOk result (λ thread. work_in thread ≡ work_of (source_of program.now).arrays (source_of program.now).root []) }
+        ensures trace { IfOk result (λ thread. thread.running.trace ≡ trace_of (source_of program.now).arrays (source_of program.now).root [] ++ At pause.Ended ∷ []) }
+    {
         let root = Name::root(alloc);
         let begins = Control::Begin(&program.root);
         let mut spares = Spares::none(alloc);
@@ -47,44 +65,77 @@ impl<'p> Thread<'p> {
     }
 
     /// The tag.
-    pub fn tag(&self) -> u64 {
+    pub fn tag(&self) -> u64
+        ensures { result ≡ (whole self.now).label.tag }
+    {
         self.state.own.label.tag
     }
 
     /// The name.
-    pub fn name(&self) -> &Name {
+    pub fn name(&self) -> &Name
+        ensures { result.now ≡ (whole self.now).name }
+    {
         &self.state.own.name
     }
 
     /// The program.
-    pub fn program(&self) -> &'p Program {
+    pub fn program(&self) -> &'p Program
+        ensures { result.now ≡ (whole self.now).program }
+    {
         self.state.program
     }
 
     /// The tag of the innermost thread that runs in this one's place: the one that makes the next step, and
     /// whose the pause is that is not answered.
-    pub fn running_tag(&self) -> u64 {
+    pub fn running_tag(&self) -> u64
+        ensures { result ≡ self.now.running.label.tag }
+    {
         self.state.running_tag()
     }
 
     /// Gives a thread that has not begun its tag.
-    pub fn set_tag(&mut self, tag: u64) {
+    pub fn set_tag(&mut self, tag: u64)
+        requires { self.old.parents ≡ [] }
+        ensures tagged { self.new ≡ record self.old { running = with_tag tag self.old.running } }
+        ensures whole { whole self.new ≡ with_tag tag (whole self.old) }
+        ensures child { (t : Nested) → IsChildOf t self.old → IsChildOf t self.new }
+    {
         self.state.own.label.tag = tag;
     }
 
     /// Notes of a thread that has not begun that a place was found for it while it waited.
-    pub fn set_spilled(&mut self) {
+    pub fn set_spilled(&mut self)
+        requires { self.old.parents ≡ [] }
+        ensures spilled { self.new ≡ record self.old { running = spilled_of self.old.running } }
+        ensures whole { whole self.new ≡ spilled_of (whole self.old) }
+    {
         self.state.own.label.ran = Ran::Spill;
     }
 
     /// The pause that is not answered, if there is one. It is that of the innermost thread.
-    pub fn pending(&self) -> Option<Pending> {
+    pub fn pending(&self) -> Option<Pending>
+        ensures pending { result ≡ pending_in self.now }
+        ensures next { IsNext self.now.running.pending self.now.running.trace }
+        ensures within { IsChecked (source_of (whole self.now).program) → PausesWithin self.now.running }
+        ensures nested { IsNested self.now }
+    {
         self.state.pending()
     }
 
     /// Goes on for at most so many steps, each beginning of a node being a step of its own. Each fork is a pause. Where memory
     /// is refused the thread stands before the refused step, and the same call goes on from there.
-    pub fn advance(&mut self, budget: u32) -> Result<Pause<'p>, AllocError> {
+    pub fn advance(&mut self, budget: u32) -> Result<Pause<'p>, AllocError>
+        requires not_paused { pending_in self.old ≡ None }
+        requires some { 1 ≤ budget }
+        ensures ok { IfOk result (λ pause. Moves budget self.old pause self.new) }
+        ensures elsewhere { IfOk result (λ pause. AwaitsAt pause self.new) }
+        ensures within { IfOk result (λ pause. IsChecked (source_of (whole self.old).program) → PausesAt pause self.new.running) }
+        ensures alone { IfOk result (λ pause. IsAlone self.old → AdvancedAlone budget self.old pause self.new) }
+        ensures err_same { OnErr result (SameWhole self.old self.new) }
+        ensures err_work { OnErr result (FallsBy 0 (budget - 1) (work_in self.old) (work_in self.new)) }
+        ensures err_pending { OnErr result (pending_in self.new ≡ None) }
+        ensures err_alone { OnErr result (IsAlone self.old → RefusedAlone budget self.old self.new) }
+    {
         let mut left = budget;
         let mut spares = Spares::none(self.state.alloc);
         self.advance_within(&mut left, &mut spares, &mut Everywhere)
@@ -98,7 +149,21 @@ impl<'p> Thread<'p> {
         left: &mut u32,
         spares: &mut Spares<'p>,
         places: &mut P,
-    ) -> Result<Pause<'p>, AllocError> {
+    ) -> Result<Pause<'p>, AllocError>
+        requires not_paused { pending_in self.old ≡ None }
+        requires some { 1 ≤ left.old }
+        ensures ok { IfOk result (λ pause. Moves left.old self.old pause self.new) }
+        ensures spent { IfOk result (λ pause. IsSpentAt pause left.old left.new) }
+        ensures elsewhere { IfOk result (λ pause. AwaitsAt pause self.new) }
+        ensures within { IfOk result (λ pause. IsChecked (source_of (whole self.old).program) → PausesAt pause self.new.running) }
+        ensures alone { IfOk result (λ pause. IsAlone self.old → PlacesNone self.old pause self.new → AdvancedAlone left.old self.old pause self.new) }
+        ensures everywhere { P.gives_all ≡ true → IfOk result (λ pause. IsAlone self.old → PlacesNone self.old pause self.new) }
+        ensures err_same { OnErr result (SameWhole self.old self.new) }
+        ensures err_work { OnErr result (FallsBy 0 (left.old - 1) (work_in self.old) (work_in self.new)) }
+        ensures err_pending { OnErr result (pending_in self.new ≡ None) }
+        ensures err_alone { OnErr result (IsAlone self.old → (whole self.new).forks ≡ (whole self.old).forks → RefusedAlone left.old self.old self.new) }
+        ensures err_everywhere { P.gives_all ≡ true → OnErr result (IsAlone self.old → (whole self.new).forks ≡ (whole self.old).forks) }
+    {
         while *left > 0 {
             if let Some((class, child)) = self.state.advance(left, spares, places)? {
                 return Ok(Pause::Forks(class, thread_of(child)));
@@ -138,14 +203,36 @@ impl<'p> Thread<'p> {
     }
 
     /// Answers a fork once the child was given away. It takes no memory.
-    pub fn forked(&mut self) {
+    pub fn forked(&mut self)
+        requires { pending_in self.old ≡ Some pause.Forks }
+        ensures whole { SameWhole self.old self.new }
+        ensures same { SameThread self.old.running self.new.running }
+        ensures holds { self.new.running.holds ≡ self.old.running.holds }
+        ensures locks { self.new.running.locks ≡ self.old.running.locks }
+        ensures others { self.new ≡ record self.old { running = self.new.running } }
+        ensures pending { pending_in self.new ≡ None }
+        ensures work { work_in self.new ≡ work_in self.old }
+        ensures trace { IsAnswered self.old.running self.new.running }
+    {
         self.state.forked();
     }
 
     /// Answers a fork with its child, which runs in this thread's place once it is awaited; or answers a join with the
     /// child that is awaited, which runs in its place at once. Where it answers an error nothing has changed, and the child
     /// comes back.
-    pub fn in_place(&mut self, child: Thread<'p>) -> Result<(), NotPlaced<'p>> {
+    pub fn in_place(&mut self, child: Thread<'p>) -> Result<(), NotPlaced<'p>>
+        requires pending { IsPlacing (pending_in self.old) }
+        requires child { MayBePlaced self.old child }
+        requires forked { pending_in self.old ≡ Some pause.Forks → awaited self.old.running ≡ Some (whole child).name }
+        ensures whole { SameWhole self.old self.new }
+        ensures at_fork { pending_in self.old ≡ Some pause.Forks → OnOk result (PlacesAtFork self.old child.entry self.new) }
+        ensures at_join { pending_in self.old ≡ Some pause.Joins → OnOk result (self.new ≡ begun_in self.old child.entry) }
+        ensures pending { OnOk result (pending_in self.new ≡ None) }
+        ensures work { OnOk result (work_in self.new ≡ work_in self.old + work_in child.entry) }
+        ensures foreign { IsNotAwaited result ↔ (awaited self.old.running ≢ Some (whole child.entry).name) }
+        ensures err { OnErr result (self.new ≡ self.old) }
+        ensures handed_back { IfErr result (λ e. child_back e ≡ child.entry) }
+    {
         match self.state.pending() {
             Some(Pending::Joins) => self.begin_awaited(child),
             _ => match self.place_forked(child) {
@@ -185,23 +272,66 @@ impl<'p> Thread<'p> {
     }
 
     /// Answers that the thread holds the lock that it asked for. It takes no memory.
-    pub fn granted(&mut self) {
+    pub fn granted(&mut self)
+        requires { IsAsk (pending_in self.old) }
+        ensures whole { SameWhole self.old self.new }
+        ensures same { SameThread self.old.running self.new.running }
+        ensures holds { (lock : ℕ) × (pending_in self.old ≡ Some (pause.Asks lock)) × (self.new.running.holds ≡ raised self.old.running.holds lock 1) }
+        ensures locks { self.new.running.locks ≡ self.old.running.locks }
+        ensures others { self.new ≡ record self.old { running = self.new.running } }
+        ensures pending { pending_in self.new ≡ None }
+        ensures work { work_in self.new ≡ work_in self.old }
+        ensures trace { IsAnswered self.old.running self.new.running }
+    {
         self.state.granted();
     }
 
     /// Answers that the lock was freed. It takes no memory.
-    pub fn freed(&mut self) {
+    pub fn freed(&mut self)
+        requires { IsFree (pending_in self.old) }
+        ensures whole { SameWhole self.old self.new }
+        ensures same { SameThread self.old.running self.new.running }
+        ensures holds { self.new.running.holds ≡ self.old.running.holds }
+        ensures locks { (lock : ℕ) × (pending_in self.old ≡ Some (pause.Frees lock)) × (self.old.running.locks ≡ lock ∷ self.new.running.locks) }
+        ensures others { self.new ≡ record self.old { running = self.new.running } }
+        ensures pending { pending_in self.new ≡ None }
+        ensures work { work_in self.new ≡ work_in self.old }
+        ensures trace { IsAnswered self.old.running self.new.running }
+    {
         self.state.freed();
     }
 
     /// Answers that the amount was added to the ledger. It takes no memory.
-    pub fn tallied(&mut self) {
+    pub fn tallied(&mut self)
+        requires { IsTally (pending_in self.old) }
+        ensures whole { SameWhole self.old self.new }
+        ensures same { SameThread self.old.running self.new.running }
+        ensures sums { (ledger amount : ℕ) × (pending_in self.old ≡ Some (pause.Tallies ledger amount)) × (self.new.sums ≡ raised self.old.sums ledger amount) }
+        ensures holds { self.new.running.holds ≡ self.old.running.holds }
+        ensures locks { self.new.running.locks ≡ self.old.running.locks }
+        ensures others { self.new ≡ record self.old { running = self.new.running; sums = self.new.sums } }
+        ensures pending { pending_in self.new ≡ None }
+        ensures work { work_in self.new ≡ work_in self.old }
+        ensures trace { IsAnswered self.old.running self.new.running }
+    {
         self.state.tallied();
     }
 
     /// Joins the outcome of the child that is awaited. Where it answers an error nothing has changed, and the
     /// outcome comes back.
-    pub fn joined(&mut self, outcome: Outcome<'p>) -> Result<(), NotJoined<'p>> {
+    pub fn joined(&mut self, outcome: Outcome<'p>) -> Result<(), NotJoined<'p>>
+        requires pending { pending_in self.old ≡ Some pause.Joins }
+        requires program { source_of outcome.program ≡ source_of (whole self.old).program }
+        ensures whole { SameWhole self.old self.new }
+        ensures ok { OnOk result (Joined self.old.running outcome.entry self.new.running) }
+        ensures sums { OnOk result (self.new.sums ≡ added self.old.sums outcome.entry.sums) }
+        ensures others { self.new ≡ record self.old { running = self.new.running; sums = self.new.sums } }
+        ensures pending { OnOk result (pending_in self.new ≡ None) }
+        ensures work { work_in self.new ≡ work_in self.old }
+        ensures foreign { IsForeign result ↔ (awaited self.old.running ≢ Some outcome.entry.name) }
+        ensures err { OnErr result (self.new ≡ self.old) }
+        ensures handed_back { IfErr result (λ e. handed_back e ≡ outcome.entry) }
+    {
         if !self.state.awaits(&outcome.own.name) {
             return Err(NotJoined::Foreign(outcome));
         }
@@ -229,13 +359,25 @@ impl<'p> Thread<'p> {
     }
 
     /// The outcome of a thread that has ended. It takes no memory.
-    pub fn finish(self) -> Outcome<'p> {
+    pub fn finish(self) -> Outcome<'p>
+        requires { pending_in self ≡ Some pause.Ended }
+        ensures program { result.program ≡ (whole self.entry).program }
+        ensures name { result.name ≡ (whole self.entry).name }
+        ensures sums { result.sums ≡ self.entry.sums }
+        ensures lines { result.lines ≡ own_line_of (whole self.entry) ∷ (whole self.entry).below }
+    {
         let mut spares = Spares::none(self.state.alloc);
         self.finish_into(&mut spares)
     }
 
     /// The same. What the thread no longer needs is left to those that begin.
-    pub fn finish_into(self, spares: &mut Spares<'p>) -> Outcome<'p> {
+    pub fn finish_into(self, spares: &mut Spares<'p>) -> Outcome<'p>
+        requires { pending_in self ≡ Some pause.Ended }
+        ensures program { result.program ≡ (whole self.entry).program }
+        ensures name { result.name ≡ (whole self.entry).name }
+        ensures sums { result.sums ≡ self.entry.sums }
+        ensures lines { result.lines ≡ own_line_of (whole self.entry) ∷ (whole self.entry).below }
+    {
         let mut state = self.state;
         let outcome = state.finish();
         spares.keep(state);

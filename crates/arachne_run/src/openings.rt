@@ -1,4 +1,6 @@
 //! What a worker tells a thread at its forks.
+ghost use Rattle.std.specs.Prelude.{false};
+
 use crate::shared::Shared;
 use crate::tags::Tags;
 use arachne_arbiter::Cores;
@@ -19,6 +21,8 @@ pub(crate) struct Openings<'a, 'b, H, T, C: Seats, R> {
 }
 
 impl<'a, 'b, H: Wait, T: Tagged, C: Contexts<T>, R: Rng> Placing for Openings<'a, 'b, H, T, C, R> {
+    ghost gives_all = { false };
+
     #[inline(always)]
     fn is_any(&mut self, class: Class) -> bool {
         if class == Class::Exclusive || self.cores.any_place(self.seat) {
