@@ -80,6 +80,16 @@ abbrev pub PausesAt : Pause → Suspended → Type 0
 PausesAt pauses.Budget thread = Unit {0}
 PausesAt _ thread = PausesWithin thread
 
+-- the pause that callers see, for which no child is given
+abbrev pub pause_at : Option Pending → Pause
+pause_at None = pauses.Budget
+pause_at (Some pause.Forks) = pauses.Budget
+pause_at (Some pause.Joins) = pauses.Joins
+pause_at (Some (pause.Asks lock)) = pauses.Asks lock
+pause_at (Some (pause.Frees lock)) = pauses.Frees lock
+pause_at (Some (pause.Tallies ledger amount)) = pauses.Tallies ledger amount
+pause_at (Some pause.Ended) = pauses.Ended
+
 -- what is to be answered then
 abbrev pub pending_at : Pause → Option Pending
 pending_at pauses.Budget = None
