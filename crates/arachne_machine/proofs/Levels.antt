@@ -486,7 +486,7 @@ resumes old new variables gs control j long fits le =
       control_is = j.control_is;
     }
 
-outer_start : (ps : List Parent) (start place s p : ℕ) → Fits ps start place s p → start ≤ s
+pub outer_start : (ps : List Parent) (start place s p : ℕ) → Fits ps start place s p → start ≤ s
 outer_start [] start place s p h = omega (arith, h)
 outer_start (q ∷ ps) start place s p h = h.0
 

@@ -18,5 +18,6 @@ pub mod Levels
 pub mod Advancing
 pub mod Waiting
 pub mod Nesting
+pub mod Answering
 pub mod Crossing
 pub mod WorkedPrograms

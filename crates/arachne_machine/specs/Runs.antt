@@ -1,10 +1,10 @@
 -- What an advance does to a state.
-use Rattle.std.specs.Prelude.{◌≡◌, ◌≤◌, ◌<◌, ℕ, ◌+◌, ◌^◌, List, [], ◌∷◌, ◌++◌, length}
+use Rattle.std.specs.Prelude.{◌≡◌, ◌≤◌, ◌<◌, ℕ, ◌+◌, ◌^◌, ◌==◌, if◌then◌else◌, List, [], ◌∷◌, ◌++◌, length, reverse}
 use Rattle.arachne_lang.specs.Effects.{tabulated}
 use Rattle.arachne_machine.specs.declared.frame.Frame.{Frame}
 use Rattle.arachne_machine.specs.declared.frame.Frame.TheVariants.{Restore}
 use Rattle.arachne_machine.specs.declared.frame.Control.{Control}
-use Rattle.arachne_machine.specs.declared.frame.Control.TheVariants.{Give, Awaits, AwaitsHalf}
+use Rattle.arachne_machine.specs.declared.frame.Control.TheVariants.{Begin, Give, Cover, Forked, Halved, Awaits, AwaitsHalf}
 use Rattle.arachne_machine.specs.declared.state.Progress.{Progress}
 use Rattle.arachne_machine.specs.declared.state.Progress.TheVariants as progress
 use Rattle.arachne_lang.specs.declared.program.Reduction.{Reduction}
@@ -12,7 +12,9 @@ use Rattle.arachne_lang.specs.Value.{apply, operation_of}
 use Rattle.arachne_machine.specs.declared.level.Parent.{Parent}
 use Rattle.arachne_machine.specs.declared.line.Ran.TheVariants as ways
 use Rattle.arachne_machine.specs.declared.line.ThreadLine.{ThreadLine}
+use Rattle.arachne_machine.specs.declared.state.Own.{Own}
 use Rattle.arachne_machine.specs.declared.state.State.{State}
+use Rattle.arachne_machine.specs.Lines.{CountsHoldAt}
 use Rattle.arachne_machine.specs.Ending.{fork_awaited, here_of, locks_of, work_left}
 use Rattle.arachne_machine.specs.Strands.{Strand}
 use Rattle.arachne_machine.specs.Steps.{Goes, IsSame, Turns, top, waiting_in}
@@ -125,3 +127,38 @@ abbrev pub HandsResult : State → ℕ → ℕ → Progress → ℕ → State �
 HandsResult old value had (progress.Value result) left new = (result ≡ value) × (left + 1 ≡ had) × IsSame old new
 HandsResult old value had progress.Goes left new = (left ≡ had) × (had ≡ 0) × Turns old new (Give value)
 HandsResult old value had _ left new = ⊥
+
+-- what comes after a fork once the child was taken
+abbrev pub after_fork : Control → Control
+after_fork (Forked during) = Begin during
+after_fork (Halved right) = Cover right
+after_fork k = k
+
+-- A hold of this lock is counted in the innermost thread's line.
+abbrev pub IsCountedIn : List Parent → Own → Own → List ThreadLine → List ThreadLine → ℕ → ℕ → Type 0
+IsCountedIn [] old new lines written place lock =
+    (written ≡ lines) × (new.name ≡ old.name) × (new.label ≡ old.label)
+    × ((n : ℕ) (own : ℕ → ℕ) → old.holds.items ≡ tabulated n own → new.holds.items ≡ tabulated n (λ other. own other + (if other == lock then 1 else 0)))
+IsCountedIn (parent ∷ parents) old new lines written place lock = (new ≡ old) × CountsHoldAt lines written place lock
+
+pub record CountsHold (old new : State) (lock : ℕ) : Type 0 where
+  pub program : new.program ≡ old.program
+  pub sums : new.sums.items ≡ old.sums.items
+  pub parents : new.parents.items ≡ old.parents.items
+  pub level : new.level ≡ old.level
+  pub environment : new.environment.items ≡ old.environment.items
+  pub frames : new.frames.items ≡ old.frames.items
+  pub control : new.control ≡ old.control
+  pub counted : IsCountedIn (reverse old.parents.items) old.own new.own old.lines new.lines old.level.place lock
+
+-- an amount is added to the sum for this ledger
+pub record CountsTally (old new : State) (ledger amount : ℕ) : Type 0 where
+  pub program : new.program ≡ old.program
+  pub own : new.own ≡ old.own
+  pub lines : new.lines ≡ old.lines
+  pub parents : new.parents.items ≡ old.parents.items
+  pub level : new.level ≡ old.level
+  pub environment : new.environment.items ≡ old.environment.items
+  pub frames : new.frames.items ≡ old.frames.items
+  pub control : new.control ≡ old.control
+  pub sums : (n : ℕ) (own : ℕ → ℕ) → old.sums.items ≡ tabulated n own → new.sums.items ≡ tabulated n (λ other. own other + (if other == ledger then amount else 0))

@@ -4,8 +4,19 @@ use crate::tables::add_at;
 
 /// The answers to pauses that need no outcome. They take no memory.
 impl<'p> State<'p> {
+    ghost use Rattle.std.specs.Prelude.{◌≡◌, ◌==◌, ◌+◌, if◌then◌else◌, ℕ, Some};
+    ghost use Rattle.arachne_lang.specs.Effects.{tabulated};
+    ghost use Rattle.arachne_machine.specs.declared.pause.Pending.TheVariants as pause;
+    ghost use Rattle.arachne_machine.specs.declared.frame.Control.TheVariants as control;
+    ghost use Rattle.arachne_machine.specs.Suspended.{IsAsk, IsFree, IsTally};
+    ghost use Rattle.arachne_machine.specs.Steps.{HasLine, Turns, pending_of};
+    ghost use Rattle.arachne_machine.specs.Runs.{CountsHold, CountsTally, after_fork};
+
     /// The child was taken: goes on with what is done meanwhile.
-    pub fn forked(&mut self) {
+    pub fn forked(&mut self)
+        requires { pending_of self.old.control ≡ Some pause.Forks }
+        ensures { Turns self.old self.new (after_fork self.old.control) }
+    {
         match self.control {
             Control::Forked(during) => self.control = Control::Begin(during),
             Control::Halved(right) => self.control = Control::Cover(right),
@@ -23,7 +34,10 @@ impl<'p> State<'p> {
     }
 
     /// Counts that it held this lock once more.
-    fn count_hold(&mut self, lock: u64) {
+    fn count_hold(&mut self, lock: u64)
+        requires { HasLine self.old }
+        ensures { CountsHold self.old self.new lock }
+    {
         if self.parents.is_empty() {
             add_at(&mut self.own.holds, lock, 1);
         } else {
@@ -32,7 +46,10 @@ impl<'p> State<'p> {
     }
 
     /// It has freed the lock, and goes on.
-    pub fn freed(&mut self) {
+    pub fn freed(&mut self)
+        requires { IsFree (pending_of self.old.control) }
+        ensures { (lock value : ℕ) × (self.old.control ≡ control.Frees lock value) × Turns self.old self.new (control.Give value) }
+    {
         let Control::Frees { lock: _, value } = self.control else {
             unreachable!()
         };
@@ -54,7 +71,9 @@ impl<'p> State<'p> {
     }
 
     /// Adds an amount to its own sum for this ledger.
-    fn count_tally(&mut self, ledger: u64, amount: u64) {
+    fn count_tally(&mut self, ledger: u64, amount: u64)
+        ensures { CountsTally self.old self.new ledger amount }
+    {
         add_at(&mut self.sums, ledger, amount);
     }
 }
