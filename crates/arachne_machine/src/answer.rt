@@ -4,8 +4,10 @@ use crate::tables::add_at;
 
 /// The answers to pauses that need no outcome. They take no memory.
 impl<'p> State<'p> {
-    ghost use Rattle.std.specs.Prelude.{◌≡◌, ◌==◌, ◌+◌, if◌then◌else◌, ℕ, Some};
-    ghost use Rattle.arachne_lang.specs.Effects.{tabulated};
+    ghost use Rattle.std.specs.Prelude.{◌≡◌, ℕ, Some};
+    ghost use Rattle.std.specs.Borrow.{Bor};
+    ghost use Rattle.arachne_lang.specs.declared.program.Expr.{Expr};
+    ghost use Rattle.arachne_machine.specs.declared.state.State.{State as TheState};
     ghost use Rattle.arachne_machine.specs.declared.pause.Pending.TheVariants as pause;
     ghost use Rattle.arachne_machine.specs.declared.frame.Control.TheVariants as control;
     ghost use Rattle.arachne_machine.specs.Suspended.{IsAsk, IsFree, IsTally};
@@ -25,7 +27,12 @@ impl<'p> State<'p> {
     }
 
     /// It holds the lock that it asked for, and goes on.
-    pub fn granted(&mut self) {
+    pub fn granted(&mut self)
+        requires asks { IsAsk (pending_of self.old.control) }
+        requires line { HasLine self.old }
+        ensures { (lock : ℕ) × (body : Bor Expr) × (counted : TheState) × (self.old.control ≡ control.Asks lock body) × CountsHold self.old counted lock
+            × (self.new ≡ record counted { control = control.Begin body }) }
+    {
         let Control::Asks { lock, body } = self.control else {
             unreachable!()
         };
@@ -57,7 +64,11 @@ impl<'p> State<'p> {
     }
 
     /// The amount was added to the ledger: adds it to the own sums, and goes on.
-    pub fn tallied(&mut self) {
+    pub fn tallied(&mut self)
+        requires { IsTally (pending_of self.old.control) }
+        ensures { (ledger amount : ℕ) × (body : Bor Expr) × (counted : TheState) × (self.old.control ≡ control.Tallies ledger amount body) × CountsTally self.old counted ledger amount
+            × (self.new ≡ record counted { control = control.Begin body }) }
+    {
         let Control::Tallies {
             ledger,
             amount,

@@ -11,14 +11,20 @@ use std::mem::{replace, swap};
 
 /// How children begin in their parent's place, and how they are joined.
 impl<'p> State<'p> {
-    ghost use Rattle.std.specs.Prelude.{◌≡◌, ◌+◌, ◌≤◌, ◌∷◌, ◌++◌, [], length, vec_len, vec_capacity, IfOk, OnOk, OnErr};
+    ghost use Rattle.std.specs.Prelude.{◌≡◌, ◌+◌, ◌≤◌, ◌∷◌, ◌++◌, ◌↔◌, [], length, vec_len, vec_capacity, Some, IsTrue, IfOk, OnOk, OnErr};
     ghost use Rattle.arachne_machine.specs.declared.frame.Frame.TheVariants as frames;
     ghost use Rattle.arachne_machine.specs.declared.frame.Control.TheVariants as control;
-    ghost use Rattle.arachne_machine.specs.Steps.{Changes, HasLine, IsSame};
+    ghost use Rattle.arachne_machine.specs.Steps.{Changes, HasLine, IsSame, pending_of, suspended, top};
+    ghost use Rattle.arachne_machine.specs.Suspended.{awaited};
+    ghost use Rattle.arachne_machine.specs.declared.pause.Pending.TheVariants as pause;
     ghost use Rattle.arachne_machine.specs.Runs.{BeginsHere, Descends, HasParent, ResumesParent};
 
     /// Whether the innermost thread awaits the child of this name.
-    pub fn awaits(&self, name: &Name) -> bool {
+    pub fn awaits(&self, name: &Name) -> bool
+        requires joins { pending_of self.now.control ≡ Some pause.Joins }
+        requires line { HasLine self.now }
+        ensures { IsTrue result ↔ (awaited (suspended (top self.now)) ≡ Some name.now) }
+    {
         match self.control {
             Control::Awaits { number, .. } | Control::AwaitsHalf { number, .. } => {
                 name.is_child_of(self.running_name(), number)

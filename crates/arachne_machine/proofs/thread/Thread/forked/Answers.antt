@@ -2,7 +2,7 @@ use Rattle.std.proofs.Common.{◌≡◌, None, List, ap, sym, ◌∙◌, subst}
 use Rattle.std.specs.Global.{Box}
 use Rattle.arachne_machine.specs.declared.state.State.{State}
 use Rattle.arachne_machine.specs.Kept.{nested}
-use Rattle.arachne_machine.specs.Nested.{SameWhole, pending_in, work_in}
+use Rattle.arachne_machine.specs.Nested.{Nested, SameWhole, pending_in, work_in}
 use Rattle.arachne_machine.specs.Runs.{after_fork}
 use Rattle.arachne_machine.specs.Steps.{Turns, suspended, top}
 use Rattle.arachne_machine.specs.Suspended.{IsAnswered, SameThread}
@@ -55,7 +55,8 @@ returns-clause-others c =
     let new = c.forked.new.self in
     let past = fork_past t new c.self.inside.placed.items c.self.invariant (ap pending_in c.self.view_is ∙ c.requires)
     (subst (λ s. Turns s new (after_fork s.control)) c.deref_mut.ensures.value c.forked.ensures) in
-    past.0.seen.others ∙ ap (λ v. record v { running = suspended (top new) }) c.self.view_is
+    let with_new : Nested → Nested = λ v. record v { running = suspended (top new) } in
+    past.0.seen.others ∙ ap with_new c.self.view_is
 
 pub returns-clause-pending : goal.returns-clause-pending
 returns-clause-pending c =

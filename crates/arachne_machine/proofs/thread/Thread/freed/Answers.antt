@@ -2,7 +2,7 @@ use Rattle.std.proofs.Common.{◌≡◌, None, List, ap, sym, ◌∙◌, subst}
 use Rattle.std.specs.Global.{Box}
 use Rattle.arachne_machine.specs.declared.state.State.{State}
 use Rattle.arachne_machine.specs.Kept.{nested}
-use Rattle.arachne_machine.specs.Nested.{SameWhole, pending_in, work_in}
+use Rattle.arachne_machine.specs.Nested.{Nested, SameWhole, pending_in, work_in}
 use Rattle.arachne_machine.specs.Runs.{after_fork}
 use Rattle.arachne_machine.specs.Steps.{Turns, suspended, top}
 use Rattle.arachne_machine.specs.Suspended.{IsAnswered, SameThread}
@@ -53,8 +53,7 @@ returns-clause-locks c =
     let new = c.freed.new.self in
     let is = c.deref_mut.ensures.value in
     let past = free_past t new c.self.inside.placed.items c.freed.ensures.0 c.freed.ensures.1 c.self.invariant (ap (λ s. s.control) (sym is) ∙ c.freed.ensures.2)
-    (subst (λ s. Turns s new (Give c.freed.ensures.1)) is c.freed.ensures.3) in
-    (
+    (subst (λ s. Turns s new (Give c.freed.ensures.1)) is c.freed.ensures.3) in (
       c.freed.ensures.0,
       ap (λ v. v.running.pending) (sym c.self.view_is) ∙ ap (λ s. pending_of s.control) (sym is) ∙ ap pending_of c.freed.ensures.2,
       ap (λ v. v.running.locks) (sym c.self.view_is) ∙ past.1,
@@ -67,7 +66,8 @@ returns-clause-others c =
     let is = c.deref_mut.ensures.value in
     let past = free_past t new c.self.inside.placed.items c.freed.ensures.0 c.freed.ensures.1 c.self.invariant (ap (λ s. s.control) (sym is) ∙ c.freed.ensures.2)
     (subst (λ s. Turns s new (Give c.freed.ensures.1)) is c.freed.ensures.3) in
-    past.0.seen.others ∙ ap (λ v. record v { running = suspended (top new) }) c.self.view_is
+    let with_new : Nested → Nested = λ v. record v { running = suspended (top new) } in
+    past.0.seen.others ∙ ap with_new c.self.view_is
 
 pub returns-clause-pending : goal.returns-clause-pending
 returns-clause-pending c =
