@@ -16,16 +16,19 @@ use Rattle.arachne_machine.specs.declared.state.State.{State}
 use Rattle.arachne_machine.specs.Account.{Account}
 use Rattle.arachne_machine.specs.Trace.{At}
 use Rattle.arachne_machine.specs.Ending.{AwaitsFork, fork_awaited, forks_of, forks_here, lock_freed, releases, frames_left, locks_of}
-use Rattle.arachne_machine.specs.Strands.{Strand}
+use Rattle.arachne_machine.specs.Strands.{Strand, owned_at, below_at, own_line}
 use Rattle.arachne_machine.specs.Suspended.{Suspended, SameThread, IsAnswered}
 use Rattle.arachne_machine.specs.Nested.{Nested, Await, ArePlaced, IsNested, SameWhole, pending_in, work_in, works}
 use Rattle.arachne_machine.specs.Steps.{Becomes, Goes, LeavesOthers, Changes, Turns, pending_of, suspended, top, waiting_in}
-use Rattle.arachne_machine.specs.Sound.{IsSound}
-use Rattle.arachne_machine.specs.Kept.{IsKept, nested}
+use Rattle.arachne_machine.specs.Sound.{IsSound, IsSoundState, AreSound}
+use Rattle.arachne_machine.specs.Kept.{IsKept, IsSoundChild, nested}
+use Rattle.arachne_machine.specs.Outcome.{IsOfItsName}
+use Rattle.arachne_lang.specs.Effects.{tabulated}
+use Rattle.arachne_machine.proofs.Tabulated.{tabulated-same}
 use Rattle.arachne_machine.specs.Runs.{after_fork}
-use Rattle.arachne_machine.proofs.Soundness.{sound_goes}
+use Rattle.arachne_machine.proofs.Soundness.{sound_end, sound_goes}
 use Rattle.arachne_machine.proofs.Outlooks.{Any, SameOutlook, IsAt, itself, same_end, unjoined_at, here_at}
-use Rattle.arachne_machine.proofs.Levels.{changes_leave, leaves_waiting, sound_top, top_becomes, outer_start}
+use Rattle.arachne_machine.proofs.Levels.{alone_waiting, changes_leave, leaves_waiting, sound_top, top_becomes, outer_start}
 use Rattle.arachne_machine.proofs.Nesting.{same_whole}
 
 -- An answer that counts nothing: the thread goes on.
@@ -227,3 +230,29 @@ free_past old new placed lock value kept is turns =
       ap (λ x. lock_freed x ++ releases (top old).frames) is ∙ ap (λ l. lock ∷ releases l) (sym on.1.frames_are)
           ∙ ap (λ x. lock ∷ (lock_freed x ++ releases (top new).frames)) (sym on.1.control_is),
     )
+
+-- a thread in whose place no other is
+pub kept_alone : (t : State) (placed : List (Box State)) → IsSoundChild t → placed ≡ [] → IsKept t placed
+kept_alone t placed h none =
+    let parents = ap (map suspended) (alone_waiting t h.alone) in
+    subst (λ l. IsKept t l) (sym none) (record {
+      sound = h.sound;
+      children = λ k d lt. absurd (omega (arith, lt));
+      nested_is = record { awaiting = subst (Await (suspended (top t))) (sym parents) tt; waiting = tt };
+    })
+
+-- What it brings in the end is what its name means.
+pub ended_means : (t : State) (v : ℕ) → IsSoundState t → t.parents.items ≡ [] → t.control ≡ Ended v →
+    IsOfItsName (record { program = t.program.now; name = t.own.name; value = v; sums = t.sums.items; lines = own_line t.own ∷ t.lines })
+ended_means t v s none ended =
+    let source = source_of t.program.now in
+    let sound : AreSound (top t ∷ []) s.sums_of = subst (λ ts. AreSound (top t ∷ ts) s.sums_of) (alone_waiting t none) s.sound in
+    let sums : t.sums.items ≡ tabulated source.ledgers sound.0.sums =
+    s.sums ∙ tabulated-same source.ledgers s.sums_of sound.0.sums (λ ledger. omega (arith, sound.4 ledger, sound.3 ledger)) in
+    subst (λ ps. IsOfItsName (record {
+      program = t.program.now;
+      name = (owned_at t.own ps t.lines t.level.place).name;
+      value = v;
+      sums = t.sums.items;
+      lines = (let own = owned_at t.own ps t.lines t.level.place in record { name = own.name; tag = own.label.tag; holds = own.holds; ran = own.label.ran }) ∷ below_at ps t.lines t.level.place;
+    })) (ap reverse none) (sound_end (top t) v t.sums.items sound.0 sound.2 ended sums)

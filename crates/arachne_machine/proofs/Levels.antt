@@ -199,7 +199,7 @@ runs_on m n a b c p q = record {
 }
 
 -- A thread by itself is the outermost.
-alone_waiting : (t : State) → t.parents.items ≡ [] → waiting_in t ≡ []
+pub alone_waiting : (t : State) → t.parents.items ≡ [] → waiting_in t ≡ []
 alone_waiting t e = ap (λ ps. waiting t.program t.own (reverse ps) t.lines t.frames.items t.level.start t.level.place (ending (top t)).env) e
 
 forked_alone : (old new : State) → LeavesOthers old new → (ending (top new)).env ≡ (ending (top old)).env → (top new).forks ≡ (top old).forks + 1 → IsByItself old →

@@ -4,6 +4,7 @@ ghost use Rattle.arachne_machine.specs.Suspended.{IsAnswered, IsAsk, IsFree, IsF
 ghost use Rattle.arachne_machine.specs.Advance.{AdvancedAlone, AwaitsAt, Moves, PlacesNone, RefusedAlone, IsForeign, IsNotAwaited, IsSpentAt, PausesAt, child_back, handed_back};
 ghost use Rattle.arachne_machine.specs.Nested.{AwaitsElsewhere, FallsBy, IsAlone, IsChildOf, IsNested, IsPlacing, MayBePlaced, Nested, PlacesAtFork, SameWhole, alone, begun_in, pending_in, spilled_of, whole, with_tag, work_in};
 ghost use Rattle.arachne_machine.specs.Faultless.{PausesWithin};
+ghost use Rattle.arachne_machine.specs.Kept.{IsSoundChild, nested};
 ghost use Rattle.arachne_machine.specs.Trace.{At, trace_of};
 ghost use Rattle.arachne_machine.specs.Work.{work_of};
 ghost use Rattle.arachne_lang.specs.Checked.{IsChecked};
@@ -386,7 +387,10 @@ impl<'p> Thread<'p> {
 }
 
 /// A thread in whose place no other is.
-fn thread_of<'p>(state: Box<State<'p>>) -> Thread<'p> {
+fn thread_of<'p>(state: Box<State<'p>>) -> Thread<'p>
+    requires { IsSoundChild state.value }
+    ensures { result ≡ nested state.entry.value [] }
+{
     let alloc = state.alloc;
     Thread {
         state,
