@@ -9,9 +9,9 @@ use Rattle.arachne_policy.specs.Choice.{chosen_core}
 abbrev pub is_candidate_at : Occupancy → Bool
 is_candidate_at occupancy = not (occupancy.closed || occupancy.exclusive)
 
--- the core is open, and has a place for a thread that shares it
-abbrev pub HasPlace : Occupancy → Type 0
-HasPlace occupancy = (occupancy.closed ≡ false) × (HasNoPlace occupancy → ⊥)
+-- the core, which has so many places, is open and has one for a thread that shares it
+abbrev pub HasPlace : ℕ → Occupancy → Type 0
+HasPlace slots occupancy = (occupancy.closed ≡ false) × (HasNoPlace slots occupancy → ⊥)
 
 -- a core with its number of threads, if it is a candidate
 abbrev pub load_of : ℕ → Occupancy → List CoreLoad

@@ -67,7 +67,7 @@ impl Arbiter {
         seat: &mut C::Seat,
         parking: &Parking,
         slices: &SliceCounts,
-    ) -> u16
+    ) -> u64
         requires seat { C.sits cores.now.table.now seat.old }
         requires cores { self.old.cores ≡ cores.now.count }
         requires parking { parked_cores parking.now ≡ cores.now.count }
@@ -144,7 +144,7 @@ impl Arbiter {
         &mut self,
         cores: &Cores<'_, H, T, C>,
         seat: &mut C::Seat,
-    ) -> u16
+    ) -> u64
         requires seat { C.sits cores.now.table.now seat.old }
         requires cores { self.old.cores ≡ cores.now.count }
         ensures seat { C.sits cores.now.table.now seat.new }

@@ -2,7 +2,7 @@
 ghost use Rattle.std.specs.Prelude.{◌≡◌, ◌<◌, ◌≤◌, ◌↔◌, length, IfSome, IsTrue};
 ghost use Rattle.arachne_arbiter.specs.Choice.{core_chosen, HasPlace, is_candidate_at, loads_of};
 
-use arachne_core::{CORES, OccWord};
+use arachne_core::{CORES, OccWord, SLOTS};
 use arachne_policy::{CoreLoad, two_choices};
 
 /// Whether the core takes threads that share it: it is open, and no thread has it alone.
@@ -12,11 +12,13 @@ fn is_candidate(occupancy: OccWord) -> bool
     !occupancy.is_closed() && !occupancy.is_exclusive()
 }
 
-/// Whether the core has a place for a thread that shares it: it is open, no thread has it alone, and an index is free.
-pub fn has_place(occupancy: OccWord) -> bool
-    ensures { IsTrue result ↔ HasPlace occupancy }
+/// Whether the core, which has so many places, has one for a thread that shares it: it is open, no thread has it alone, and a
+/// place is free.
+pub fn has_place(occupancy: OccWord, slots: u8) -> bool
+    requires { slots ≤ SLOTS }
+    ensures { IsTrue result ↔ HasPlace slots occupancy }
 {
-    is_candidate(occupancy) && occupancy.lowest_free().is_some()
+    is_candidate(occupancy) && occupancy.lowest_free_below(slots).is_some()
 }
 
 /// Of the cores whose occupancies these are, from core 0 on, the one that two random choices among the open cores that

@@ -1,6 +1,6 @@
 //! The cores of a table.
 ghost use Rattle.std.specs.Prelude.{◌≡◌, ◌<◌, ◌≤◌};
-ghost use Rattle.arachne_core.specs.declared.layout.TheConstants.{CORES};
+ghost use Rattle.arachne_core.specs.declared.layout.TheConstants.{CORES, SLOTS};
 ghost use Rattle.arachne_contexts.specs.Out.{KeepsOut};
 
 use arachne_contexts::{Contexts, Seats, Tagged};
@@ -8,17 +8,21 @@ use arachne_core::{CORES, OccWord};
 use std::marker::PhantomData;
 use std::sync::Wait;
 
-/// A table and how many cores it has, for a kernel thread that steps at it.
+/// A table, how many cores it has and how many places each of them has, for a kernel thread that steps at it.
 #[derive(Drop)]
 pub struct Cores<'a, H, T, C: Seats> {
     pub rt: &'a H,
     pub table: &'a C,
-    /// The number of the table's cores, 1 to 16.
+    /// The number of the table's cores, 1 to 64.
     pub count: u8,
+    /// How many places each of them has, 1 to 56.
+    pub slots: u8,
     /// What the table's contexts hold.
     pub of: PhantomData<T>,
     ghost counted: { C.core_count table.now ≡ count },
     ghost few: { count ≤ CORES },
+    ghost placed: { C.slot_count table.now ≡ slots },
+    ghost few_slots: { slots ≤ SLOTS },
 }
 
 impl<'a, H: Wait, T: Tagged, C: Contexts<T>> Cores<'a, H, T, C> {

@@ -5,7 +5,7 @@ ghost use Rattle.arachne_contexts.specs.Out.{KeepsOut};
 
 use crate::cores::Cores;
 use arachne_contexts::{Contexts, Moved, Tagged};
-use arachne_core::{Place, SLOTS};
+use arachne_core::Place;
 use std::alloc::{AllocError, Global};
 use std::sync::Wait;
 
@@ -54,7 +54,7 @@ impl Draining {
         &mut self,
         cores: &Cores<'_, H, T, C>,
         seat: &mut C::Seat,
-        receivers: &mut u16,
+        receivers: &mut u64,
     )
         requires seat { C.sits cores.now.table.now seat.old }
         requires cores { vec_len self.old.waiting ≡ cores.now.count }
@@ -100,7 +100,7 @@ impl<'a, H: Wait, T: Tagged, C: Contexts<T>> Cores<'a, H, T, C> {
     /// Moves what is at rest on a closed core to the other cores, the first that has room in ascending order. What is
     /// held, was claimed and not posted, or met a race is left for a later call, and so is all where there is no room.
     /// Adds the cores that something was moved to. Whether nothing is left on the core.
-    pub(crate) fn move_away(&self, seat: &mut C::Seat, core: u8, receivers: &mut u16) -> bool
+    pub(crate) fn move_away(&self, seat: &mut C::Seat, core: u8, receivers: &mut u64) -> bool
         requires seat { C.sits self.now.table.now seat.old }
         requires core { core < self.now.count }
         ensures seat { C.sits self.now.table.now seat.new }
@@ -115,7 +115,7 @@ impl<'a, H: Wait, T: Tagged, C: Contexts<T>> Cores<'a, H, T, C> {
             return false;
         }
         let mut to = 0;
-        for index in 0..SLOTS {
+        for index in 0..self.slots {
             if to >= self.count {
                 break;
             }
@@ -128,10 +128,10 @@ impl<'a, H: Wait, T: Tagged, C: Contexts<T>> Cores<'a, H, T, C> {
 
     /// Moves the thread at a place to the first other core from this one on that has room, and adds that core. The core
     /// that is tried first for the next thread: those before it have no room.
-    fn move_from(&self, seat: &mut C::Seat, place: Place, from: u8, receivers: &mut u16) -> u8
+    fn move_from(&self, seat: &mut C::Seat, place: Place, from: u8, receivers: &mut u64) -> u8
         requires seat { C.sits self.now.table.now seat.old }
         requires core { place.core < self.now.count }
-        requires index { place.index < SLOTS }
+        requires index { place.index < self.now.slots }
         ensures seat { C.sits self.now.table.now seat.new }
         ensures weight { C.weight seat.new ≡ C.weight seat.old }
         ensures out { KeepsOut (C.has self.now.table.now) seat.old seat.new }

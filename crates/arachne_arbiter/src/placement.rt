@@ -28,14 +28,14 @@ impl<'a, H: Wait, T: Tagged, C: Contexts<T>> Cores<'a, H, T, C> {
         ensures place { IsOnSomeCore C.Claim.place_of (C.core_count self.now.table.now) result }
         ensures drawn { R.stream chooser.new ≡ (next_u64 (R.stream chooser.old)).1 }
     {
-        let occupancies = self.look_at_all(seat);
-        let seen = &occupancies[..usize::from(self.count)];
         let word = chooser.next_u64();
-        // No core has a place for most forks of a large program.
-        if !seen.iter().any(|core| has_place(*core)) {
+        // No core has a place for most forks of a large program. These keep nothing of what they look at.
+        if !self.is_any_free(seat) {
             return Ok(None);
         }
-        let Some(first) = first_core(word, seen) else {
+        let mut occupancies = [OccWord::empty(); CORES as usize];
+        self.look_at_all(seat, &mut occupancies);
+        let Some(first) = first_core(word, &occupancies[..usize::from(self.count)]) else {
             return Ok(None);
         };
         match self.claim_on(seat, first)? {
@@ -61,18 +61,31 @@ impl<'a, H: Wait, T: Tagged, C: Contexts<T>> Cores<'a, H, T, C> {
         Ok(None)
     }
 
-    /// What stands on each of the cores. The entries behind the last core's are those of an empty core.
-    fn look_at_all(&self, seat: &mut C::Seat) -> [OccWord; CORES as usize]
+    /// Whether a core has a place for a thread that shares it. The first that has one is the last that is looked at.
+    fn is_any_free(&self, seat: &mut C::Seat) -> bool
         requires { C.sits self.now.table.now seat.old }
         ensures seat { C.sits self.now.table.now seat.new }
         ensures weight { C.weight seat.new ≡ C.weight seat.old }
         ensures out { KeepsOut (C.has self.now.table.now) seat.old seat.new }
     {
-        let mut occupancies = [OccWord::empty(); CORES as usize];
+        for core in 0..self.count {
+            if has_place(self.look(seat, core), self.slots) {
+                return true;
+            }
+        }
+        false
+    }
+
+    /// Writes down what stands on each of the cores.
+    fn look_at_all(&self, seat: &mut C::Seat, occupancies: &mut [OccWord; CORES as usize])
+        requires { C.sits self.now.table.now seat.old }
+        ensures seat { C.sits self.now.table.now seat.new }
+        ensures weight { C.weight seat.new ≡ C.weight seat.old }
+        ensures out { KeepsOut (C.has self.now.table.now) seat.old seat.new }
+    {
         for core in 0..self.count {
             occupancies[usize::from(core)] = self.look(seat, core);
         }
-        occupancies
     }
 
     /// A place on the first core but this one that has one. A core that was seen without a place is not asked.
@@ -90,7 +103,7 @@ impl<'a, H: Wait, T: Tagged, C: Contexts<T>> Cores<'a, H, T, C> {
     {
         for core in 0..self.count {
             if core != tried
-                && has_place(occupancies[usize::from(core)])
+                && has_place(occupancies[usize::from(core)], self.slots)
                 && let Some(claim) = self.claim_on(seat, core)?
             {
                 return Ok(Some(claim));

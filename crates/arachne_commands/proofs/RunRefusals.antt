@@ -20,11 +20,11 @@ and_false true = refl
 and_false false = refl
 
 -- too many cores are refused before the choosers are looked at
-same_refusal : (cores quantum served : ℕ) → (cores ≤ CORES → served ≡ cores) → refusal_of cores quantum served ≡ refusal_of cores quantum cores
-same_refusal cores quantum served same = by_most (nat_le cores CORES) refl
+same_refusal : (cores quantum slots served : ℕ) → (cores ≤ CORES → served ≡ cores) → refusal_of cores quantum slots served ≡ refusal_of cores quantum slots cores
+same_refusal cores quantum slots served same = by_most (nat_le cores CORES) refl
   where
-    by_most : (most : Bool) → nat_le cores CORES ≡ most → refusal_of cores quantum served ≡ refusal_of cores quantum cores
-    by_most true m = ap (refusal_of cores quantum) (same (leb-true cores CORES m))
+    by_most : (most : Bool) → nat_le cores CORES ≡ most → refusal_of cores quantum slots served ≡ refusal_of cores quantum slots cores
+    by_most true m = ap (refusal_of cores quantum slots) (same (leb-true cores CORES m))
     by_most false m =
         let over : is_within 1 CORES cores ≡ false = rw (m) (and_false (nat_le 1 cores)) in
         rw (over) refl
@@ -32,23 +32,23 @@ same_refusal cores quantum served same = by_most (nat_le cores CORES) refl
 pub refused_by_run : (settings : RunSettings) (served : ℕ) (orders : List CoreOrder) (result : Result Report RunFault)
     → (settings.cores ≤ CORES → served ≡ settings.cores)
     → orders ≡ settings.orders
-    → ((fault : RunFault) → refusal_of settings.cores settings.quantum served ≡ Some fault → result ≡ Err fault)
-    → (refusal_of settings.cores settings.quantum served ≡ None → (AreInOrder settings.cores orders → ⊥) → IfErr result (IsFirstOrderFault settings.cores orders))
-    → IfErr result (λ fault. is_of_setup fault ≡ true → IsSetupFault settings.cores settings.quantum served orders fault)
+    → ((fault : RunFault) → refusal_of settings.cores settings.quantum settings.slots served ≡ Some fault → result ≡ Err fault)
+    → (refusal_of settings.cores settings.quantum settings.slots served ≡ None → (AreInOrder settings.cores orders → ⊥) → IfErr result (IsFirstOrderFault settings.cores orders))
+    → IfErr result (λ fault. is_of_setup fault ≡ true → IsSetupFault settings.cores settings.quantum settings.slots served orders fault)
     → IfErr result (IsRefusal settings)
 refused_by_run settings served orders (Ok report) serves same refused misordered only = tt
 refused_by_run settings served orders (Err fault) serves same refused misordered only = record {
   of_settings = λ first is.
-      let found = refused first (same_refusal settings.cores settings.quantum served serves ∙ is) in
+      let found = refused first (same_refusal settings.cores settings.quantum settings.slots served serves ∙ is) in
       inl (cc);
-  of_orders = λ none out. inl (rw (sym same) (misordered (same_refusal settings.cores settings.quantum served serves ∙ none) (λ ordered. out (rw (sym same) ordered))));
+  of_orders = λ none out. inl (rw (sym same) (misordered (same_refusal settings.cores settings.quantum settings.slots served serves ∙ none) (λ ordered. out (rw (sym same) ordered))));
   of_setup = λ is. as_set (only is);
 }
   where
-    alike : refusal_of settings.cores settings.quantum served ≡ refusal_of settings.cores settings.quantum settings.cores
-    alike = same_refusal settings.cores settings.quantum served serves
+    alike : refusal_of settings.cores settings.quantum settings.slots served ≡ refusal_of settings.cores settings.quantum settings.slots settings.cores
+    alike = same_refusal settings.cores settings.quantum settings.slots served serves
 
-    as_set : IsSetupFault settings.cores settings.quantum served orders fault
-        → IsSetupFault settings.cores settings.quantum settings.cores settings.orders fault
+    as_set : IsSetupFault settings.cores settings.quantum settings.slots served orders fault
+        → IsSetupFault settings.cores settings.quantum settings.slots settings.cores settings.orders fault
     as_set (inl is) = inl (sym alike ∙ is)
     as_set (inr (none, of_orders)) = inr (sym alike ∙ none, rw (sym same) of_orders)

@@ -7,6 +7,7 @@ use Rattle.clap.specs.Takes.{walk_passes}
 use Rattle.arachne_commands.specs.declared.command_line.Request.{Request}
 use Rattle.arachne_commands.specs.declared.command_line.Request.TheVariants.{Run, Eval, Check, Policy}
 use Rattle.arachne_policy.specs.declared.orders.OrderKind.TheVariants.{Grant, Release}
+use Rattle.arachne_core.specs.declared.layout.TheConstants.{SLOTS}
 use Rattle.arachne_lang.specs.Reading.{number_at}
 use Rattle.arachne_commands.specs.Orders.{order_of}
 use Rattle.arachne_commands.specs.CommandLine.{asked_by, is_taken, no_order_in, machine_command, run_command, run_alone, eval_command, check_command, policy_command, task_commands, program, number_of}
@@ -70,12 +71,12 @@ version_of_a_command = refl
 
 -- ---- runs
 
-run_by_default : Asks (codes "run" ∷ []) (Some (Run (record { cores = 4; seed = 1; quantum = 100; names = false; orders = [] }))) true
+run_by_default : Asks (codes "run" ∷ []) (Some (Run (record { cores = 4; seed = 1; quantum = 100; slots = SLOTS; names = false; orders = [] }))) true
 unfolding asked_by is_taken machine_command run_command run_alone eval_command check_command policy_command task_commands program number_of walked walk_passes
 run_by_default = record { asked_for = refl; is_taken_so = refl }
 
 run_on_no_core : Asks (codes "run" ∷ codes "--cores" ∷ codes "0" ∷ codes "--quantum=0" ∷ codes "--seed" ∷ codes "18446744073709551615" ∷ [])
-    (Some (Run (record { cores = 0; seed = 18446744073709551615; quantum = 0; names = false; orders = [] }))) true
+    (Some (Run (record { cores = 0; seed = 18446744073709551615; quantum = 0; slots = SLOTS; names = false; orders = [] }))) true
 unfolding asked_by is_taken machine_command run_command run_alone eval_command check_command policy_command task_commands program number_of walked walk_passes
 run_on_no_core = record { asked_for = refl; is_taken_so = refl }
 
@@ -89,6 +90,7 @@ run_by_orders : Asks (codes "run" ∷ codes "0:release:1" ∷ codes "--cores" �
       cores = 4;
       seed = 1;
       quantum = 100;
+      slots = SLOTS;
       names = true;
       orders = record { after = 0; kind = Release; core = 1 } ∷ record { after = 1; kind = Release; core = 2 } ∷ record { after = 2; kind = Grant; core = 1 } ∷ [];
     }))) true

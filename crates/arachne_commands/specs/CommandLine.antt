@@ -38,7 +38,7 @@ abbrev pub number_option : Text → ℕ → Text → Rule
 number_option name most standard =
     record (new_rule name) { long = Some name; value_names = 1; defaults = standard ∷ []; parser = Some (Unsigned 0 most) }
 
--- a run with the options for the machine alone, and with all
+-- a run with the options for its cores, its seed and its quantum alone, and with all
 unfoldable pub machine_command : App
 machine_command =
     with_rule (with_rule (with_rule (new_app (codes "run"))
@@ -47,7 +47,7 @@ machine_command =
     (number_option (codes "quantum") (2 ^ 64 - 1) (codes "100"))
 
 unfoldable pub run_command : App
-run_command = with_rule (with_rule machine_command names_flag) orders_rule
+run_command = with_rule (with_rule (with_rule machine_command (number_option (codes "slots") (2 ^ 64 - 1) (codes "56"))) names_flag) orders_rule
 
 unfoldable pub policy_command : App
 policy_command =
@@ -96,14 +96,14 @@ policy_asked rows =
 abbrev pub order_words : List Row → List Text
 order_words rows = unwrap_or (all_of (codes "order") rows) []
 
-abbrev pub run_by : Bool → List CoreOrder → ℕ → ℕ → ℕ → Request
-run_by names orders cores seed quantum = Run (record { cores = cores; seed = seed; quantum = quantum; names = names; orders = orders })
+abbrev pub run_by : Bool → List CoreOrder → ℕ → ℕ → ℕ → ℕ → Request
+run_by names orders cores seed quantum slots = Run (record { cores = cores; seed = seed; quantum = quantum; slots = slots; names = names; orders = orders })
 
 -- a run with these orders
 abbrev pub with_orders : List Row → List CoreOrder → Option Request
 with_orders rows orders =
-    option_and_then (λ cores. option_and_then (λ seed. option_map (run_by (is_set (codes "names") rows) orders cores seed)
-    (number_under (codes "quantum") rows)) (number_under (codes "seed") rows)) (number_under (codes "cores") rows)
+    option_and_then (λ cores. option_and_then (λ seed. option_and_then (λ quantum. option_map (run_by (is_set (codes "names") rows) orders cores seed quantum)
+    (number_under (codes "slots") rows)) (number_under (codes "quantum") rows)) (number_under (codes "seed") rows)) (number_under (codes "cores") rows)
 
 -- a run, where each of its order words is an order
 abbrev pub run_asked : List Row → Option Request

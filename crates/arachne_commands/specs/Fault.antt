@@ -37,6 +37,7 @@ order_fault_number AfterFalls = codes "25"
 abbrev pub run_fault_words : RunFault → List ℕ
 run_fault_words run.Cores = codes "fault 20"
 run_fault_words run.Quantum = codes "fault 21"
+run_fault_words run.Slots = codes "fault 27"
 run_fault_words run.Choosers = codes "fault 24"
 run_fault_words (run.Orders fault) = codes "fault " ++ order_fault_number fault.kind ++ codes " order " ++ decimal fault.index
 run_fault_words run.Memory = codes "fault 30"

@@ -12,10 +12,10 @@ use Rattle.arachne_commands.specs.declared.command_line.RunSettings.{RunSettings
 -- Settings that are refused are refused for the first fault that they have, and for their orders' first fault where they have no other; or for want of
 -- memory. A fault of settings is told of no others than those that have it. Of what a run meets on its way nothing is said.
 pub record IsRefusal (settings : RunSettings) (fault : RunFault) : Type 0 where
-  pub of_settings : (first : RunFault) → refusal_of settings.cores settings.quantum settings.cores ≡ Some first → (fault ≡ first) ⊎ (fault ≡ Memory)
-  pub of_orders : refusal_of settings.cores settings.quantum settings.cores ≡ None → (AreInOrder settings.cores settings.orders → ⊥)
+  pub of_settings : (first : RunFault) → refusal_of settings.cores settings.quantum settings.slots settings.cores ≡ Some first → (fault ≡ first) ⊎ (fault ≡ Memory)
+  pub of_orders : refusal_of settings.cores settings.quantum settings.slots settings.cores ≡ None → (AreInOrder settings.cores settings.orders → ⊥)
       → IsFirstOrderFault settings.cores settings.orders fault ⊎ (fault ≡ Memory)
-  pub of_setup : is_of_setup fault ≡ true → IsSetupFault settings.cores settings.quantum settings.cores settings.orders fault
+  pub of_setup : is_of_setup fault ≡ true → IsSetupFault settings.cores settings.quantum settings.slots settings.cores settings.orders fault
 
 -- the generator of a core's choices, which begins from the number `seed + core`
 abbrev pub chooser_of : ℕ → ℕ → List ℕ

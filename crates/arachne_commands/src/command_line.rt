@@ -38,6 +38,8 @@ pub struct RunSettings {
     pub seed: u64,
     /// The most steps of a slice. Any number, as of cores.
     pub quantum: u64,
+    /// For how many threads each core has places. Any number, as of cores.
+    pub slots: u64,
     /// Whether a line for each thread is printed.
     pub names: bool,
     /// When cores are taken back and granted again.
@@ -135,12 +137,19 @@ fn run_command<'a>(alloc: Global) -> Result<Command<'a>, AllocError>
 {
     let names = names_flag(alloc);
     let orders = order_words(alloc);
+    let slots = number_option(
+        alloc,
+        "slots",
+        u64::MAX,
+        "56",
+        "For how many threads each core has places, 1 to 56",
+    );
     let machine = machine_command(alloc)?;
-    let run = machine.arg(names)?.arg(orders)?;
+    let run = machine.arg(slots)?.arg(names)?.arg(orders)?;
     Ok(run)
 }
 
-/// The same with the options for the machine alone.
+/// The same with the options for its cores, its seed and its quantum alone.
 #[tactic(auto, unfolding(crate::specs::CommandLine::machine_command))]
 fn machine_command<'a>(alloc: Global) -> Result<Command<'a>, AllocError>
     ensures app { IfOk result (λ command. app_of command ≡ machine_command) }
@@ -151,7 +160,7 @@ fn machine_command<'a>(alloc: Global) -> Result<Command<'a>, AllocError>
         "cores",
         u64::MAX,
         "4",
-        "How many cores there are, 1 to 16",
+        "How many cores there are, 1 to 64",
     );
     let seed = number_option(
         alloc,
@@ -352,10 +361,12 @@ fn run_by(matches: &ArgMatches<'_>, orders: Sequence<CoreOrder>) -> Option<Reque
     let cores = number_in(matches, "cores")?;
     let seed = number_in(matches, "seed")?;
     let quantum = number_in(matches, "quantum")?;
+    let slots = number_in(matches, "slots")?;
     Some(Request::Run(RunSettings {
         cores,
         seed,
         quantum,
+        slots,
         names: is_flag_set(matches, "names"),
         orders,
     }))

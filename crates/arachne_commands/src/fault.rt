@@ -88,6 +88,7 @@ impl fmt::Display for Fault {
             Fault::NoOrder { index } => write!(f, "fault 26 order {index}"),
             Fault::InRun(RunFault::Cores) => write!(f, "fault 20"),
             Fault::InRun(RunFault::Quantum) => write!(f, "fault 21"),
+            Fault::InRun(RunFault::Slots) => write!(f, "fault 27"),
             Fault::InRun(RunFault::Choosers) => write!(f, "fault 24"),
             Fault::InRun(RunFault::Orders(OrderFault { index, kind })) => match kind {
                 OrderFaultKind::NoSuchCore => write!(f, "fault 22 order {index}"),

@@ -33,12 +33,14 @@ pub fn run_program<'p, R: Threads + Wait + Sync>(
         cores,
         seed,
         quantum,
+        slots,
         names: _,
         orders,
     } = settings;
     let choosers = choosers(alloc, seed, served(cores))?;
     let setup = Setup {
         cores,
+        slots,
         quantum,
         orders: orders.into_vec(),
     };

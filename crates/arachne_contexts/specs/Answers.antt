@@ -16,12 +16,12 @@ use Rattle.arachne_contexts.specs.declared.answers.Moved.{Moved}
 use Rattle.arachne_contexts.specs.declared.answers.Moved.TheVariants as moved
 use Rattle.arachne_contexts.specs.Words.{ShowsFull, ShowsClosed, ShowsInUse, ShowsNoRoom, ShowsReadyAt, ShowsWoken}
 
--- a claim on a core: a place there, or a word that shows why not
-abbrev pub ClaimsOn : {C : Type 0} → (C → Place) → ℕ → Claimed C → Type 0
-ClaimsOn place_of core (claimed.Place claim) = (place_of claim).core ≡ core
-ClaimsOn place_of core (claimed.Full word) = ShowsFull word
-ClaimsOn place_of core (claimed.Closed word) = ShowsClosed word
-ClaimsOn place_of core (claimed.Lost word) = Unit {0}
+-- a claim on a core of so many places: a place there, or a word that shows why not
+abbrev pub ClaimsOn : {C : Type 0} → ℕ → (C → Place) → ℕ → Claimed C → Type 0
+ClaimsOn slots place_of core (claimed.Place claim) = (place_of claim).core ≡ core
+ClaimsOn slots place_of core (claimed.Full word) = ShowsFull slots word
+ClaimsOn slots place_of core (claimed.Closed word) = ShowsClosed word
+ClaimsOn slots place_of core (claimed.Lost word) = Unit {0}
 
 -- a claim of a whole core: its index 0, or a word that shows why not
 abbrev pub ClaimsWhole : {C : Type 0} → (C → Place) → ℕ → Claimed C → Type 0
@@ -50,10 +50,10 @@ WakesAs id (woken.Already word) = ShowsWoken id word
 WakesAs id woken.Gone = Unit {0}
 WakesAs id (woken.Lost word) = Unit {0}
 
--- a move to a core
-abbrev pub MovesAs : Moved → Type 0
-MovesAs (moved.NoRoom word) = ShowsNoRoom word
-MovesAs answer = Unit {0}
+-- a move to a core of so many places
+abbrev pub MovesAs : ℕ → Moved → Type 0
+MovesAs slots (moved.NoRoom word) = ShowsNoRoom slots word
+MovesAs slots answer = Unit {0}
 
 -- the contexts rise, so no thread is in the list twice
 abbrev pub IsByContext : {T : Type 0} → List (ThreadId × T) → Type 0

@@ -3,32 +3,32 @@ use Rattle.std.specs.Prelude.{◌≡◌, ◌≢◌, ℕ, ◌<◌, ◌⊎◌, tru
 use Rattle.arachne_core.specs.declared.mark.Mark.TheVariants.{Ready, Woken}
 use Rattle.arachne_core.specs.declared.place.Place.{Place}
 use Rattle.arachne_core.specs.declared.thread_id.ThreadId.{ThreadId}
-use Rattle.arachne_core.specs.declared.layout.TheConstants.{CORE_BITS, SLOTS}
+use Rattle.arachne_core.specs.declared.layout.TheConstants.{CORE_BITS}
 use Rattle.arachne_core.specs.Occupancy.{Occupancy, occupancy_of}
 use Rattle.arachne_core.specs.Marked.{Marked, marked_of}
 
--- no index is free
-abbrev pub HasNoFree : Occupancy → Type 0
-HasNoFree o = (i : ℕ) → i < SLOTS → slice_index_or o.occupied i false ≡ true
+-- no index is free, where a core has so many
+abbrev pub HasNoFree : ℕ → Occupancy → Type 0
+HasNoFree slots o = (i : ℕ) → i < slots → slice_index_or o.occupied i false ≡ true
 
 -- nothing new may come, since one thread has the core alone or no index is free
-abbrev pub HasNoPlace : Occupancy → Type 0
-HasNoPlace o = (o.exclusive ≡ true) ⊎ HasNoFree o
+abbrev pub HasNoPlace : ℕ → Occupancy → Type 0
+HasNoPlace slots o = (o.exclusive ≡ true) ⊎ HasNoFree slots o
 
 abbrev pub ShowsClosed : ℕ → Type 0
 ShowsClosed word = (occupancy_of word).closed ≡ true
 
 -- an open core with no place for a thread
-abbrev pub ShowsFull : ℕ → Type 0
-ShowsFull word = ((occupancy_of word).closed ≡ false) × HasNoPlace (occupancy_of word)
+abbrev pub ShowsFull : ℕ → ℕ → Type 0
+ShowsFull slots word = ((occupancy_of word).closed ≡ false) × HasNoPlace slots (occupancy_of word)
 
 -- an open core with something on it
 abbrev pub ShowsInUse : ℕ → Type 0
 ShowsInUse word = ((occupancy_of word).closed ≡ false) × (word ≢ 0)
 
 -- a core that no thread may be moved to
-abbrev pub ShowsNoRoom : ℕ → Type 0
-ShowsNoRoom word = ((occupancy_of word).closed ≡ true) ⊎ HasNoPlace (occupancy_of word)
+abbrev pub ShowsNoRoom : ℕ → ℕ → Type 0
+ShowsNoRoom slots word = ((occupancy_of word).closed ≡ true) ⊎ HasNoPlace slots (occupancy_of word)
 
 -- a ready thread at the place
 abbrev pub ShowsReadyAt : Place → ℕ → Type 0

@@ -10,7 +10,7 @@ use crate::answers::{Claimed, Moved, Rested, Taken, Woken};
 use crate::held::{Held, Identified, Placed};
 use crate::seats::Seats;
 use crate::tagged::Tagged;
-use arachne_core::{CORE_BITS, Place, Rest, SLOTS, ThreadId};
+use arachne_core::{CORE_BITS, Place, Rest, ThreadId};
 use std::alloc::{AllocError, Global};
 use std::sync::Wait;
 
@@ -38,7 +38,7 @@ pub trait Contexts<T: Tagged>: Seats {
     /// The mark word of a context.
     fn look_mark<R: Wait>(&self, rt: &R, seat: &mut Self::Seat, context: u32) -> u64
         requires seat { Self.sits self.now seat.old }
-        requires context { context < Self.core_count self.now * SLOTS }
+        requires context { context < Self.core_count self.now * Self.slot_count self.now }
         ensures seat { Self.sits self.now seat.new }
         ensures weight { Self.weight seat.new ≡ Self.weight seat.old }
         ensures out { KeepsOut (has self.now) seat.old seat.new }
@@ -57,7 +57,7 @@ pub trait Contexts<T: Tagged>: Seats {
         ensures seat { Self.sits self.now seat.new }
         ensures weight { Self.weight seat.new ≡ Self.weight seat.old }
         ensures out { GetsClaim (has self.now) seat.old seat.new result }
-        ensures answer { IfOk result (ClaimsOn Self.Claim.place_of core) };
+        ensures answer { IfOk result (ClaimsOn (Self.slot_count self.now) Self.Claim.place_of core) };
 
     /// Claims an empty core for one thread, at index 0. The error is want of memory for what is posted there, and leaves all
     /// as it was.
@@ -114,7 +114,7 @@ pub trait Contexts<T: Tagged>: Seats {
     ) -> Taken<T, Self::Hold>
         requires seat { Self.sits self.now seat.old }
         requires core { core < Self.core_count self.now }
-        requires index { index < SLOTS }
+        requires index { index < Self.slot_count self.now }
         ensures seat { Self.sits self.now seat.new }
         ensures weight { Self.weight seat.new ≡ Self.weight seat.old }
         ensures out { GetsThread (has self.now) T.tag_of seat.old seat.new result }
@@ -190,13 +190,13 @@ pub trait Contexts<T: Tagged>: Seats {
     fn move_one<R: Wait>(&self, rt: &R, seat: &mut Self::Seat, place: Place, to: u8) -> Moved
         requires seat { Self.sits self.now seat.old }
         requires core { place.core < Self.core_count self.now }
-        requires index { place.index < SLOTS }
+        requires index { place.index < Self.slot_count self.now }
         requires target { to < Self.core_count self.now }
         requires apart { to ≢ place.core }
         ensures seat { Self.sits self.now seat.new }
         ensures weight { Self.weight seat.new ≡ Self.weight seat.old }
         ensures out { KeepsOut (has self.now) seat.old seat.new }
-        ensures answer { MovesAs result };
+        ensures answer { MovesAs (Self.slot_count self.now) result };
 
     /// What was posted and not finished, by context. The seat is whole, and nothing claimed or taken is out. Table and seat
     /// come back where memory is refused.

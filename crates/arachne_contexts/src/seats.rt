@@ -2,7 +2,7 @@
 ghost use Rattle.std.specs.Prelude.{◌≡◌, ◌≤◌, ◌↔◌, ℕ, IfOk, IsTrue};
 ghost use Rattle.arachne_weights.specs.Weight.{whole, first_part, second_part, joined};
 
-use arachne_core::{CORES, LAST_GENERATION};
+use arachne_core::{CORES, LAST_GENERATION, SLOTS};
 use std::alloc::{AllocError, Global};
 use std::sync::Wait;
 
@@ -23,16 +23,23 @@ pub trait Seats {
     /// How many cores the table has.
     ghost core_count: { Self → ℕ };
 
+    /// How many places each of its cores has.
+    ghost slot_count: { Self → ℕ };
+
     /// A table whose contexts are free and of one generation, and the seat with the whole weight.
     fn new(
         alloc: Global,
         cores: u8,
+        slots: u8,
         first_generation: u64,
     ) -> Result<(Self, Self::Seat), AllocError>
         requires some { 1 ≤ cores }
         requires cores { cores ≤ CORES }
+        requires some_slots { 1 ≤ slots }
+        requires slots { slots ≤ SLOTS }
         requires generation { first_generation ≤ LAST_GENERATION }
         ensures cores { IfOk result (λ made. Self.core_count made.0 ≡ cores) }
+        ensures slots { IfOk result (λ made. Self.slot_count made.0 ≡ slots) }
         ensures sits { IfOk result (λ made. Self.sits made.0 made.1) }
         ensures idle { IfOk result (λ made. Self.idle made.0 made.1) }
         ensures weight { IfOk result (λ made. Self.weight made.1 ≡ whole) };

@@ -113,3 +113,23 @@ pub answers_cores : (e : Event) (old new : ContextTable) (r : Result (Unit {0}) 
 answers_cores e old new (Ok u) a = ap (λ (w : World). w.cores) a.1 ∙ after_cores (world_of old) e
 answers_cores e old new (Err NotAllowed) a = ap (λ (k : ContextTable). (world_of k).cores) a.1
 answers_cores e old new (Err Memory) a = ap (λ (k : ContextTable). (world_of k).cores) a.2
+
+-- an event leaves the number of places
+after_slots : (w : World) (e : Event) → (after w e).slots ≡ w.slots
+after_slots w (event.Claim h x) = refl
+after_slots w (event.Alone h x) = refl
+after_slots w (event.Post h x tag) = refl
+after_slots w (event.Take h x) = refl
+after_slots w (event.Rest h x r) = refl
+after_slots w (event.Wake id) = refl
+after_slots w (event.Retire h x) = refl
+after_slots w (event.Release h x) = refl
+after_slots w (event.CloseCore c) = refl
+after_slots w (event.OpenCore c) = refl
+after_slots w (event.Move h x y) = refl
+after_slots w event.Still = refl
+
+pub answers_slots : (e : Event) (old new : ContextTable) (r : Result (Unit {0}) NotApplied) → Answers e old new r → (world_of new).slots ≡ (world_of old).slots
+answers_slots e old new (Ok u) a = ap (λ (w : World). w.slots) a.1 ∙ after_slots (world_of old) e
+answers_slots e old new (Err NotAllowed) a = ap (λ (k : ContextTable). (world_of k).slots) a.1
+answers_slots e old new (Err Memory) a = ap (λ (k : ContextTable). (world_of k).slots) a.2

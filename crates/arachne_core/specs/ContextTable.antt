@@ -9,7 +9,7 @@ use Rattle.arachne_core.specs.declared.event.NotApplied.{NotApplied}
 use Rattle.arachne_core.specs.declared.event.NotApplied.TheVariants.{NotAllowed, Memory}
 use Rattle.arachne_core.specs.declared.mark.Mark.{Mark}
 use Rattle.arachne_core.specs.declared.mark.Mark.TheVariants as mark
-use Rattle.arachne_core.specs.declared.layout.TheConstants.{SLOTS, LAST_GENERATION}
+use Rattle.arachne_core.specs.declared.layout.TheConstants.{LAST_GENERATION}
 use Rattle.arachne_core.specs.Occupancy.{Occupancy}
 use Rattle.arachne_core.specs.Marked.{Marked}
 use Rattle.arachne_core.specs.World.{World, Thread, same_thread, core_of, Allowed, after}
@@ -17,6 +17,8 @@ use Rattle.arachne_core.specs.World.{World, Thread, same_thread, core_of, Allowe
 pub record ContextTable : Type 0 where
   pub contexts : List Context
   pub cores : List Occupancy
+  -- how many places each core has
+  pub slots : ℕ
   -- the threads that were posted, and those that have ended, in order
   pub given : List Thread
   pub ended : List Thread
@@ -45,7 +47,7 @@ times ts t = count_by (same_thread t) ts
 abbrev pub world_of : ContextTable → World
 world_of k = record {
   cores = length k.cores;
-  slots = SLOTS;
+  slots = k.slots;
   last = LAST_GENERATION;
   at = λ x. (context k x).place;
   occupied = λ p. slice_index_or (core k p.core).occupied p.index false;
@@ -94,6 +96,10 @@ pub record ShowsCore (w : World) (c : ℕ) (o : Occupancy) : Type 0 where
   pub occupied : (i : ℕ) → slice_index_or o.occupied i false ≡ w.occupied (record { core = c; index = i })
   pub closed : o.closed ≡ w.closed c
   pub exclusive : o.exclusive ≡ w.alone c
+
+-- no index from the core's last place on is occupied
+abbrev pub IsVacantFrom : ℕ → Occupancy → Type 0
+IsVacantFrom slots o = (i : ℕ) → slots ≤ i → slice_index_or o.occupied i false ≡ false
 
 abbrev pub mark_of : State → Mark
 mark_of state.Free = mark.Free

@@ -1,6 +1,7 @@
 -- The occupancy word of a core, and what it says.
 use Rattle.std.specs.Prelude.{◌≡◌, ℕ, zero, suc, ◌+◌, ◌*◌, ◌/◌, ◌%◌, ◌^◌, Bool, true, false, if◌then◌else◌, ◌==◌, List, [], ◌∷◌, replicate, slice_set, slice_index_or}
 use Rattle.std.specs.Int.{bit_at}
+use Rattle.arachne_core.specs.declared.layout.TheConstants.{MASK_BITS}
 
 -- which indexes of a core are occupied, and whether the core is closed or one thread has it alone
 pub record Occupancy : Type 0 where
@@ -23,7 +24,7 @@ count_of (b ∷ bs) = bit b + count_of bs
 
 -- The word: the mask from bit 0, the number of occupied indexes from bit 56, closed at bit 62, exclusive at bit 63.
 abbrev pub occupancy_word : Occupancy → ℕ
-occupancy_word c = mask_of c.occupied + 2 ^ 56 * count_of c.occupied + 2 ^ 62 * bit c.closed + 2 ^ 63 * bit c.exclusive
+occupancy_word c = mask_of c.occupied + 2 ^ MASK_BITS * count_of c.occupied + 2 ^ 62 * bit c.closed + 2 ^ 63 * bit c.exclusive
 
 -- the n lowest bits of a number
 unfoldable pub flags : ℕ → ℕ → List Bool
@@ -32,11 +33,11 @@ flags (suc n) w = (w % 2 == 1) ∷ flags n (w / 2)
 
 -- what a word says
 abbrev pub occupancy_of : ℕ → Occupancy
-occupancy_of w = record { occupied = flags 56 w; closed = bit_at w 62 == 1; exclusive = bit_at w 63 == 1 }
+occupancy_of w = record { occupied = flags MASK_BITS w; closed = bit_at w 62 == 1; exclusive = bit_at w 63 == 1 }
 
 -- the number in the bits of the count
 abbrev pub count_field : ℕ → ℕ
-count_field w = w / 2 ^ 56 % 2 ^ 6
+count_field w = w / 2 ^ MASK_BITS % 2 ^ 6
 
 -- it is the word of what it says: its count is that of its mask, and it has 64 bits
 abbrev pub IsOccupancyWord : ℕ → Type 0
@@ -44,7 +45,7 @@ IsOccupancyWord w = occupancy_word (occupancy_of w) ≡ w
 
 -- an open core with no index occupied
 unfoldable pub vacant : Occupancy
-vacant = record { occupied = replicate 56 false; closed = false; exclusive = false }
+vacant = record { occupied = replicate MASK_BITS false; closed = false; exclusive = false }
 
 -- index i is free in the old word and occupied in the new one; the count is one more, and no other field has changed
 pub record HasOneMore (old i new : ℕ) : Type 0 where

@@ -4,11 +4,11 @@ use Rattle.arachne_core.specs.declared.state.Context.{Context}
 use Rattle.arachne_core.specs.declared.place.Place.{Place}
 use Rattle.arachne_core.specs.declared.event.Event.{Event}
 use Rattle.arachne_core.specs.declared.state.State.TheVariants.{Free}
-use Rattle.arachne_core.specs.declared.layout.TheConstants.{CORES, SLOTS, LAST_GENERATION}
+use Rattle.arachne_core.specs.declared.layout.TheConstants.{CORES, SLOTS, MASK_BITS, LAST_GENERATION}
 use Rattle.arachne_core.specs.Place.{first_place, number_of}
 use Rattle.arachne_core.specs.Occupancy.{Occupancy}
 use Rattle.arachne_core.specs.World.{after}
-use Rattle.arachne_core.specs.ContextTable.{ContextTable, no_context, no_core, context, core, world_of, posts_of, retires_of}
+use Rattle.arachne_core.specs.ContextTable.{ContextTable, no_context, no_core, context, core, world_of, IsVacantFrom, posts_of, retires_of}
 
 abbrev pub with_context : ContextTable → ℕ → Context → ContextTable
 with_context k x e = record k { contexts = slice_set k.contexts x e }
@@ -38,16 +38,19 @@ abbrev pub HasPlace : ContextTable → Place → Type 0
 HasPlace k p = (p.core < length k.cores) × (p.index < length (core k p.core).occupied)
 
 -- a context at first
-abbrev pub first_context : ℕ → ℕ → Context
-first_context generation x = record { place = first_place SLOTS x; generation = generation; state = Free }
+abbrev pub first_context : ℕ → ℕ → ℕ → Context
+first_context slots generation x = record { place = first_place slots x; generation = generation; state = Free }
 
 -- The lists are as long as there are contexts and cores, each place and generation is in range, and `residents` has the context
 -- at each place.
-pub record IsTable (cs : List Context) (os : List Occupancy) (rs : List ℕ) : Type 0 where
+pub record IsTable (slots : ℕ) (cs : List Context) (os : List Occupancy) (rs : List ℕ) : Type 0 where
   pub few : length os ≤ CORES
-  pub contexts : length cs ≡ length os * SLOTS
+  pub some_slots : 1 ≤ slots
+  pub few_slots : slots ≤ SLOTS
+  pub contexts : length cs ≡ length os * slots
   pub residents : length rs ≡ length cs
-  pub indexes : (c : ℕ) → c < length os → length (slice_index_or os c no_core).occupied ≡ 56
-  pub placed : (x : ℕ) → x < length cs → ((slice_index_or cs x no_context).place.core < length os) × ((slice_index_or cs x no_context).place.index < SLOTS)
-  pub found : (x : ℕ) → x < length cs → slice_index_or rs (number_of SLOTS (slice_index_or cs x no_context).place) 0 ≡ x
+  pub indexes : (c : ℕ) → c < length os → length (slice_index_or os c no_core).occupied ≡ MASK_BITS
+  pub beyond : (c : ℕ) → c < length os → IsVacantFrom slots (slice_index_or os c no_core)
+  pub placed : (x : ℕ) → x < length cs → ((slice_index_or cs x no_context).place.core < length os) × ((slice_index_or cs x no_context).place.index < slots)
+  pub found : (x : ℕ) → x < length cs → slice_index_or rs (number_of slots (slice_index_or cs x no_context).place) 0 ≡ x
   pub generations : (x : ℕ) → x < length cs → (slice_index_or cs x no_context).generation ≤ LAST_GENERATION

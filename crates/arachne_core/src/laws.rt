@@ -10,8 +10,7 @@ ghost use Rattle.arachne_core.specs.World.{World, IsHeldBy, Allowed, after};
 ghost use Rattle.arachne_core.specs.OwnedOnce.{OwnedOnce};
 ghost use Rattle.arachne_core.specs.Run.{IsOpening, IsRun, after_all, SharesNothing, IsDrained, NeverOpens, NeverLetsGo};
 
-use crate::layout::{CORE_BITS, CORES, GENERATION_BITS, LAST_GENERATION, SLOTS};
-use crate::occ_word::MASK_BITS;
+use crate::layout::{CORE_BITS, CORES, GENERATION_BITS, LAST_GENERATION, MASK_BITS, SLOTS};
 
 /// The opening World is owned once.
 pub fn opening_is_owned_once()
@@ -44,17 +43,17 @@ pub fn drained_core_stays_drained()
     ensures { (w : World) (es : List Event) (c : ℕ) → IsDrained w c → IsRun w es → NeverOpens c es → IsDrained (after_all w es) c }
 {}
 
-/// The machine has up to 16 cores of 56 places, and the last generation has 50 bits. The fields of the words have
-/// room for just these.
+/// The machine has up to 64 cores of up to 56 places, and the last generation has 48 bits. The fields of the words
+/// have room for just these.
 pub fn sizes()
-    ensures cores { (CORES ≡ 16) × (CORES ≡ 2 ^ CORE_BITS) }
+    ensures cores { (CORES ≡ 64) × (CORES ≡ 2 ^ CORE_BITS) }
     ensures slots { (SLOTS ≡ 56) × (MASK_BITS ≡ SLOTS) }
-    ensures generations { (LAST_GENERATION + 1 ≡ 2 ^ 50) × (10 + CORE_BITS + GENERATION_BITS ≡ 64) }
+    ensures generations { (LAST_GENERATION + 1 ≡ 2 ^ 48) × (10 + CORE_BITS + GENERATION_BITS ≡ 64) }
 {}
 
 /// A core's occupancy that is packed into a word is read from it as it was.
 pub fn occupancy_words_read_as_packed()
-    ensures { (c : Occupancy) → length c.occupied ≡ 56 → occupancy_of (occupancy_word c) ≡ c }
+    ensures { (c : Occupancy) → length c.occupied ≡ MASK_BITS → occupancy_of (occupancy_word c) ≡ c }
 {}
 
 /// What is read from a number of 64 bits is packed into the same number, exactly where the field of its count says how
@@ -63,17 +62,17 @@ pub fn occupancy_words_pack_as_read()
     ensures { (word : ℕ) → IsOccupancyWord word ↔ ((word < 2 ^ 64) × (count_field word ≡ count_of (occupancy_of word).occupied)) }
 {}
 
-/// Adding `2^i + 2^56` to a word in which index i is free sets bit i of the mask, raises the count by
-/// one and changes no other field.
+/// Adding the bit of index i, which is free, and one in the field of the count sets bit i of the mask, raises the count
+/// by one and changes no other field.
 pub fn adding_an_index()
-    ensures { (word i : ℕ) → IsOccupancyWord word → i < 56 → slice_index_or (occupancy_of word).occupied i false ≡ false
-        → HasOneMore word i (word + (2 ^ i + 2 ^ 56)) }
+    ensures { (word i : ℕ) → IsOccupancyWord word → i < MASK_BITS → slice_index_or (occupancy_of word).occupied i false ≡ false
+        → HasOneMore word i (word + (2 ^ i + 2 ^ MASK_BITS)) }
 {}
 
-/// Taking `2^i + 2^56` away from a word in which index i is occupied undoes that.
+/// Taking these away from a word in which index i is occupied undoes that.
 pub fn taking_an_index_away()
-    ensures { (word i : ℕ) → IsOccupancyWord word → i < 56 → slice_index_or (occupancy_of word).occupied i false ≡ true
-        → HasOneMore (word - (2 ^ i + 2 ^ 56)) i word }
+    ensures { (word i : ℕ) → IsOccupancyWord word → i < MASK_BITS → slice_index_or (occupancy_of word).occupied i false ≡ true
+        → HasOneMore (word - (2 ^ i + 2 ^ MASK_BITS)) i word }
 {}
 
 /// Setting bit 62 of a word closes the core, and clearing it opens the core; no other field changes.

@@ -14,10 +14,12 @@ mod thread_id;
 mod world;
 
 pub use event::{Event, NotApplied};
-pub use layout::{CORE_BITS, CORES, GENERATION_BITS, LAST_GENERATION, SLOTS};
+pub use layout::{
+    CORE_BITS, CORES, FIRST_CORE_BITS, GENERATION_BITS, LAST_GENERATION, MASK_BITS, SLOTS,
+};
 pub use mark::Mark;
 pub use mark_word::MarkWord;
-pub use occ_word::{MASK_BITS, OccWord};
+pub use occ_word::{COUNT_ONE, EXCLUSIVE, FULL_MASK, OccWord};
 pub use place::Place;
 pub use state::{Context, Rest, State};
 pub use thread_id::ThreadId;

@@ -3,7 +3,7 @@
 ghost use Rattle.std.specs.Prelude.{◌≡◌, ◌<◌, ◌≤◌, ◌↔◌, IsSome, IfSome, ◌^◌};
 ghost use Rattle.arachne_core.specs.Marked.{Marked, mark_word, marked_of, IsMarkWord, FitsWord};
 
-use crate::layout::{CORE_BITS, CORES, LAST_GENERATION, SLOTS};
+use crate::layout::{CORE_BITS, CORES, FIRST_CORE_BITS, LAST_GENERATION, SLOTS};
 use crate::mark::Mark;
 use crate::place::Place;
 use std::marker::Model;
@@ -22,8 +22,12 @@ const CORE_MASK: u64 = (1 << CORE_BITS) - 1;
 
 const GENERATION_SHIFT: u32 = CORE_SHIFT + CORE_BITS;
 
+const FIRST_CORE_MASK: u64 = (1 << FIRST_CORE_BITS) - 1;
+
+const FIRST_GENERATION_SHIFT: u32 = CORE_SHIFT + FIRST_CORE_BITS;
+
 /// What a context is at, in one word: the mark in bits 0 to 2, alone in bit 3, the index in bits 4 to 9,
-/// the core in bits 10 to 13, and the generation above.
+/// the core in bits 10 to 15, and the generation above.
 #[derive(Clone, Copy, Debug, PartialEq, Eq)]
 pub struct MarkWord {
     word: u64,
@@ -66,6 +70,26 @@ impl MarkWord {
     {
         if word & MARK_MASK < 6 && (word >> INDEX_SHIFT) & INDEX_MASK < u64::from(SLOTS) {
             Some(MarkWord { word })
+        } else {
+            None
+        }
+    }
+
+    /// Reads a word of the first layout, in which the core had 4 bits and the generation 50: the word with the same fields,
+    /// unless the mark is none of the six, the index none of a core's, or the generation past the last.
+    pub fn from_first(word: u64) -> Option<Self>
+        ensures some { IsSome result ↔ (IsMarkWord FIRST_CORE_BITS word × ((marked_of FIRST_CORE_BITS word).generation ≤ LAST_GENERATION)) }
+        ensures value { IfSome result (λ mark. mark ≡ marked_of FIRST_CORE_BITS word) }
+    {
+        let code = word & MARK_MASK;
+        let index = (word >> INDEX_SHIFT) & INDEX_MASK;
+        let generation = word >> FIRST_GENERATION_SHIFT;
+        if code < 6 && index < u64::from(SLOTS) && generation <= LAST_GENERATION {
+            let place = Place {
+                core: ((word >> CORE_SHIFT) & FIRST_CORE_MASK) as u8,
+                index: index as u8,
+            };
+            Some(Self::new(Mark::from_code(code), word & ALONE != 0, place, generation))
         } else {
             None
         }

@@ -3,22 +3,23 @@
 ghost use Rattle.std.specs.Prelude.{◌≡◌, ◌≢◌, ◌<◌, ◌≤◌, ◌↔◌, ◌+◌, ◌^◌, ℕ, IsTrue, true, false, IsSome, IfSome, IfNone, EachIndex, slice_index_or, slice_set};
 ghost use Rattle.arachne_core.specs.Occupancy.{mask_of, count_of, flags, occupancy_word, occupancy_of, IsOccupancyWord, vacant};
 
+use crate::layout::MASK_BITS;
 use std::marker::Model;
 
-/// The indexes that a word's mask has bits for.
-pub const MASK_BITS: u8 = 56;
+const COUNT_SHIFT: u32 = MASK_BITS as u32;
 
-const MASK: u64 = (1 << 56) - 1;
+/// The mask of a core of which each index is occupied.
+pub const FULL_MASK: u64 = (1 << COUNT_SHIFT) - 1;
 
-const COUNT_SHIFT: u32 = 56;
-
-const COUNT_ONE: u64 = 1 << 56;
+/// One more in the count of a word.
+pub const COUNT_ONE: u64 = 1 << COUNT_SHIFT;
 
 const COUNT_MASK: u64 = (1 << 6) - 1;
 
 const CLOSED: u64 = 1 << 62;
 
-const EXCLUSIVE: u64 = 1 << 63;
+/// The bit of a core that one thread has alone.
+pub const EXCLUSIVE: u64 = 1 << 63;
 
 /// Which indexes of a core are occupied, and how many, in one word: the mask in bits 0 to 55, the
 /// number of its set bits in bits 56 to 61, closed in bit 62 and exclusive in bit 63.
@@ -52,8 +53,8 @@ impl OccWord {
 
     /// The word with this mask, whose count is that of its set bits.
     pub fn new(mask: u64, closed: bool, exclusive: bool) -> Self
-        requires { mask < 2 ^ 56 }
-        ensures { result ≡ record { occupied = flags 56 mask; closed = closed; exclusive = exclusive } }
+        requires { mask < 2 ^ MASK_BITS }
+        ensures { result ≡ record { occupied = flags MASK_BITS mask; closed = closed; exclusive = exclusive } }
     {
         let count = u64::from(mask.count_ones());
         let closed = u64::from(closed);
@@ -68,7 +69,7 @@ impl OccWord {
         ensures some { IsSome result ↔ IsOccupancyWord word }
         ensures value { IfSome result (λ occ. occ ≡ occupancy_of word) }
     {
-        if u64::from((word & MASK).count_ones()) == (word >> COUNT_SHIFT) & COUNT_MASK {
+        if u64::from((word & FULL_MASK).count_ones()) == (word >> COUNT_SHIFT) & COUNT_MASK {
             Some(OccWord { word })
         } else {
             None
@@ -86,9 +87,9 @@ impl OccWord {
     /// Bit i is set where index i is occupied.
     pub fn mask(self) -> u64
         ensures bits { result ≡ mask_of self.occupied }
-        ensures within { result < 2 ^ 56 }
+        ensures within { result < 2 ^ MASK_BITS }
     {
-        self.word & MASK
+        self.word & FULL_MASK
     }
 
     /// How many indexes are occupied.
@@ -132,11 +133,25 @@ impl OccWord {
         ensures lowest { IfSome result (λ free. (i : ℕ) → i < free → slice_index_or self.occupied i false ≡ true) }
         ensures none { IfNone result ((i : ℕ) → i < MASK_BITS → slice_index_or self.occupied i false ≡ true) }
     {
-        let index = (self.word & MASK).trailing_ones();
+        let index = (self.word & FULL_MASK).trailing_ones();
         if index < u32::from(MASK_BITS) {
             Some(index as u8)
         } else {
             None
+        }
+    }
+
+    /// The lowest index that isn't occupied, on a core of so many places.
+    pub fn lowest_free_below(self, slots: u8) -> Option<u8>
+        requires { slots ≤ MASK_BITS }
+        ensures within { IfSome result (λ free. free < slots) }
+        ensures free { IfSome result (λ free. slice_index_or self.occupied free false ≡ false) }
+        ensures lowest { IfSome result (λ free. (i : ℕ) → i < free → slice_index_or self.occupied i false ≡ true) }
+        ensures none { IfNone result ((i : ℕ) → i < slots → slice_index_or self.occupied i false ≡ true) }
+    {
+        match self.lowest_free() {
+            Some(index) if index < slots => Some(index),
+            _ => None,
         }
     }
 

@@ -5,11 +5,11 @@ ghost use Rattle.std.specs.List.{range_with_len};
 ghost use Rattle.arachne_core.specs.Occupancy.{vacant};
 ghost use Rattle.arachne_core.specs.World.{Allowed, IsContext, IsPlace, TakesThreads};
 ghost use Rattle.arachne_core.specs.Run.{IsOpening};
-ghost use Rattle.arachne_core.specs.ContextTable.{context, core, world_of, Answers};
+ghost use Rattle.arachne_core.specs.ContextTable.{context, core, world_of, IsVacantFrom, Answers};
 ghost use Rattle.arachne_core.specs.TableChanges.{with_context, with_occupied, with_closed, with_exclusive, with_swapped, Makes, HasPlace, first_context};
 
 use crate::event::{Event, NotApplied};
-use crate::layout::{CORES, LAST_GENERATION, SLOTS};
+use crate::layout::{CORES, LAST_GENERATION, MASK_BITS, SLOTS};
 use crate::occ_word::OccWord;
 use crate::place::Place;
 use crate::state::{Context, Rest, State};
@@ -22,6 +22,8 @@ use std::marker::Model;
 pub struct Tables {
     contexts: Vec<Context>,
     cores: Vec<OccWord>,
+    /// How many places each core has.
+    slots: u8,
     /// The context at each place, by the place's number.
     residents: Vec<u32>,
     given: Vec<(ThreadId, u64)>,
@@ -38,30 +40,40 @@ impl Model for Tables {
     ghost view = { λ a. record {
       contexts = a.contexts.items;
       cores = a.cores.items;
+      slots = a.slots;
       given = a.given.items;
       ended = a.ended.items;
       posts = vec_capacity a.given - vec_len a.given;
       retires = vec_capacity a.ended - vec_len a.ended;
     } };
 
-    ghost invariant = { λ a. IsTable a.contexts.items a.cores.items a.residents.items };
+    ghost invariant = { λ a. IsTable a.slots a.contexts.items a.cores.items a.residents.items };
 }
 
 impl Tables {
     /// A table whose contexts stand at their first places, free and of one generation.
-    pub fn new(alloc: Global, cores: u8, first_generation: u64) -> Result<Self, AllocError>
+    pub fn new(
+        alloc: Global,
+        cores: u8,
+        slots: u8,
+        first_generation: u64,
+    ) -> Result<Self, AllocError>
         requires cores { cores ≤ CORES }
+        requires some_slots { 1 ≤ slots }
+        requires slots { slots ≤ SLOTS }
         requires generation { first_generation ≤ LAST_GENERATION }
         ensures cores { IfOk result (λ made. length made.cores ≡ cores) }
+        ensures slots { IfOk result (λ made. made.slots ≡ slots) }
         ensures opening { IfOk result (λ made. IsOpening (world_of made) first_generation) }
     {
-        let count = u32::from(cores) * u32::from(SLOTS);
-        let contexts = first_contexts(alloc, count, first_generation)?;
+        let count = u32::from(cores) * u32::from(slots);
+        let contexts = first_contexts(alloc, count, slots, first_generation)?;
         let residents = first_residents(alloc, count)?;
         let cores = first_cores(alloc, cores)?;
         Ok(Tables {
             contexts,
             cores,
+            slots,
             residents,
             given: Vec::new(alloc),
             ended: Vec::new(alloc),
@@ -102,14 +114,24 @@ impl Tables {
         self.cores.len() as u8
     }
 
+    /// How many places each core has.
+    pub fn slots(&self) -> u8
+        ensures value { result ≡ self.now.slots }
+        ensures some { 1 ≤ result }
+        ensures few { result ≤ SLOTS }
+    {
+        self.slots
+    }
+
     pub fn context(&self, number: u32) -> Context
         requires { IsContext (world_of self.now) number }
         ensures value { result ≡ context self.now number }
         ensures within { number < length self.now.contexts }
         ensures place { HasPlace self.now result.place }
-        ensures index { result.place.index < SLOTS }
+        ensures index { result.place.index < self.now.slots }
         ensures generation { result.generation ≤ LAST_GENERATION }
         ensures few { length self.now.cores ≤ CORES }
+        ensures few_slots { self.now.slots ≤ SLOTS }
     {
         self.contexts[number as usize]
     }
@@ -117,7 +139,8 @@ impl Tables {
     pub fn core(&self, number: u8) -> OccWord
         requires { number < length self.now.cores }
         ensures value { result ≡ core self.now number }
-        ensures indexes { length result.occupied ≡ 56 }
+        ensures indexes { length result.occupied ≡ MASK_BITS }
+        ensures beyond { IsVacantFrom self.now.slots result }
     {
         self.cores[usize::from(number)]
     }
@@ -126,7 +149,7 @@ impl Tables {
         requires { IsPlace (world_of self.now) place }
         ensures { (x : ℕ) → IsContext (world_of self.now) x → (context self.now x).place ≡ place → result ≡ x }
     {
-        self.residents[place.number() as usize]
+        self.residents[place.number(self.slots) as usize]
     }
 
     // ---- one change at a time
@@ -141,7 +164,8 @@ impl Tables {
     }
 
     fn set_occupied(&mut self, place: Place, occupied: bool)
-        requires { HasPlace self.old place }
+        requires place { HasPlace self.old place }
+        requires index { place.index < self.old.slots }
         ensures { self.new ≡ with_occupied self.old place occupied }
     {
         let core = self.cores[usize::from(place.core)];
@@ -174,7 +198,7 @@ impl Tables {
         requires to { IsContext (world_of self.old) to }
         requires apart { from ≢ to }
         ensures swapped { self.new ≡ with_swapped self.old from to }
-        ensures sizes { length self.old.contexts ≡ length self.old.cores * SLOTS }
+        ensures sizes { length self.old.contexts ≡ length self.old.cores * self.old.slots }
     {
         let first = self.contexts[from as usize];
         let second = self.contexts[to as usize];
@@ -186,8 +210,8 @@ impl Tables {
             place: first.place,
             ..second
         };
-        self.residents[second.place.number() as usize] = from;
-        self.residents[first.place.number() as usize] = to;
+        self.residents[second.place.number(self.slots) as usize] = from;
+        self.residents[first.place.number(self.slots) as usize] = to;
     }
 
     fn push_given(&mut self, id: ThreadId, tag: u64) -> Result<(), NotApplied>
@@ -481,14 +505,19 @@ impl Tables {
 }
 
 /// The contexts at first, by number.
-fn first_contexts(alloc: Global, count: u32, generation: u64) -> Result<Vec<Context>, AllocError>
-    requires { count < 256 * SLOTS }
-    ensures { IfOk result (λ made. made.items ≡ map (first_context generation) (range_with_len 0 count)) }
+fn first_contexts(
+    alloc: Global,
+    count: u32,
+    slots: u8,
+    generation: u64,
+) -> Result<Vec<Context>, AllocError>
+    requires { count ≤ 256 * slots }
+    ensures { IfOk result (λ made. made.items ≡ map (first_context slots generation) (range_with_len 0 count)) }
 {
     let mut contexts = Vec::with_capacity(alloc, count as usize)?;
     for number in 0..count {
         contexts.push(Context {
-            place: Place::of_context(number),
+            place: Place::of_context(number, slots),
             generation,
             state: State::Free,
         })?;

@@ -33,18 +33,26 @@ impl World {
     ghost use Rattle.arachne_core.specs.World.{IsContext, IsPlace};
     ghost use Rattle.arachne_core.specs.OwnedOnce.{OwnedOnce};
     ghost use Rattle.arachne_core.specs.Run.{IsOpening};
-    ghost use Rattle.arachne_core.specs.ContextTable.{world_of, ShowsCore, marked, Answers};
+    ghost use Rattle.arachne_core.specs.ContextTable.{world_of, ShowsCore, IsVacantFrom, marked, Answers};
 
-    /// A World with this many cores, whose contexts are free and of one generation.
-    pub fn new(alloc: Global, cores: u8, first_generation: u64) -> Result<Self, AllocError>
+    /// A World with this many cores, each with this many places, whose contexts are free and of one generation.
+    pub fn new(
+        alloc: Global,
+        cores: u8,
+        slots: u8,
+        first_generation: u64,
+    ) -> Result<Self, AllocError>
         requires some { 1 ≤ cores }
         requires cores { cores ≤ CORES }
+        requires some_slots { 1 ≤ slots }
+        requires slots { slots ≤ SLOTS }
         requires generation { first_generation ≤ LAST_GENERATION }
         ensures cores { IfOk result (λ world. (world_of world).cores ≡ cores) }
+        ensures slots { IfOk result (λ world. (world_of world).slots ≡ slots) }
         ensures opening { IfOk result (λ world. IsOpening (world_of world) first_generation) }
         ensures owned_once { IfOk result (λ world. OwnedOnce (world_of world)) }
     {
-        let tables = Tables::new(alloc, cores, first_generation)?;
+        let tables = Tables::new(alloc, cores, slots, first_generation)?;
         Ok(World { tables })
     }
 
@@ -66,6 +74,7 @@ impl World {
         ensures err { OnErr result (self.new ≡ self.old) }
         ensures owned_once { OwnedOnce (world_of self.new) }
         ensures cores { (world_of self.new).cores ≡ (world_of self.old).cores }
+        ensures slots { (world_of self.new).slots ≡ (world_of self.old).slots }
     {
         if !self.tables.allows(event) {
             return Err(NotApplied::NotAllowed);
@@ -79,6 +88,15 @@ impl World {
         ensures few { result ≤ CORES }
     {
         self.tables.count()
+    }
+
+    /// How many places each core has.
+    pub fn slots(&self) -> u8
+        ensures value { result ≡ (world_of self.now).slots }
+        ensures some { 1 ≤ result }
+        ensures few { result ≤ SLOTS }
+    {
+        self.tables.slots()
     }
 
     /// Tells whoever has a World that it is owned once. Nothing is done.
@@ -116,7 +134,8 @@ impl World {
     /// The occupancy word of a core.
     pub fn occ(&self, core: u8) -> OccWord
         requires { core < (world_of self.now).cores }
-        ensures { ShowsCore (world_of self.now) core result }
+        ensures shows { ShowsCore (world_of self.now) core result }
+        ensures beyond { IsVacantFrom (world_of self.now).slots result }
     {
         self.tables.core(core)
     }

@@ -94,6 +94,14 @@ impl<T: Fits<K>, K> JoinCell<T, K> {
         self.table.shared.exchange(seat, 0, None).unwrap()
     }
 
+    /// The state in which the cell was at one moment of the call, and the receipt of that look. Nothing is taken.
+    pub fn seen(&self) -> (CellState, Receipt<K>)
+        ensures { result.1 ≡ shown self.now.table (Saw result.0) }
+    {
+        let (found, seat) = self.look();
+        (CellState::of(found), Receipt::of(seat))
+    }
+
     /// The value that was left, if it is there now.
     pub fn fetch(&self) -> Result<(T, Receipt<K>), Missed<K>>
         ensures value { IfOk result (λ got. T.fits self.now.key got.0) }

@@ -55,7 +55,7 @@ module _ (old mid : ContextTable) (h x : ℕ) (made : Answers (event.Retire h x)
   pub spent_room : HasRoom old → (world_of mid).state x ≡ Spent → HasRoom mid
   spent_room room s =
       let pays = end_pays h ((world_of old).state x) ((world_of mid).state x) made.0.held (ap may_end s) (ap may_post s) in
-      set_room old mid x 0 1 room (ap (λ (z : World). z.cores) made.1)
+      set_room old mid x 0 1 room (ap (λ (z : World). z.cores) made.1) (ap (λ (z : World). z.slots) made.1)
       (λ y n. ap (λ (z : World). z.state y) made.1 ∙ with_at-other (world_of old).state x (if nat_lt ((world_of old).generation x) (world_of old).last then Claimed h else Spent) y n)
       made.0.context made.2 made.3 pays.0 pays.1
 
@@ -87,7 +87,7 @@ module _ (old mid : ContextTable) (h x : ℕ) (made : Answers (event.Retire h x)
         let q = freed.2 in
         let r = made.3 in
         let s = freed.3 in
-        set_room old new x 0 1 room (ap (λ (z : World). z.cores) freed.1 ∙ ap (λ (z : World). z.cores) made.1)
+        set_room old new x 0 1 room (ap (λ (z : World). z.cores) freed.1 ∙ ap (λ (z : World). z.cores) made.1) (ap (λ (z : World). z.slots) freed.1 ∙ ap (λ (z : World). z.slots) made.1)
         (λ y n.
         ap (λ (z : World). z.state y) freed.1 ∙ with_at-other (world_of mid).state x Free y n ∙ ap (λ (z : World). z.state y) made.1
         ∙ with_at-other (world_of old).state x (if nat_lt ((world_of old).generation x) (world_of old).last then Claimed h else Spent) y n)

@@ -62,5 +62,5 @@ module _ (old one two new : ContextTable) (h x y : ℕ) (can : CanMove (world_of
     move_room room =
         let p = a.2 in let q = b.2 in let r = c.2 in
         let s = a.3 in let t = b.3 in let u = c.3 in
-        kept_room old new room (ap (λ (z : World). z.cores) whole)
+        kept_room old new room (ap (λ (z : World). z.cores) whole) (ap (λ (z : World). z.slots) whole)
         (λ z. ap (λ (v : World). v.state z) whole ∙ states_kept (world_of old) h x y can z) (omega (arith, p, q, r)) (omega (arith, s, t, u))

@@ -33,23 +33,38 @@ grown_room old new room same posts retires = record {
 }
 
 -- no state has changed, and no room was used
-pub kept_room : (old new : ContextTable) → HasRoom old → (world_of new).cores ≡ (world_of old).cores → ((y : ℕ) → (world_of new).state y ≡ (world_of old).state y)
+pub kept_room : (old new : ContextTable) → HasRoom old → (world_of new).cores ≡ (world_of old).cores → (world_of new).slots ≡ (world_of old).slots → ((y : ℕ) → (world_of new).state y ≡ (world_of old).state y)
     → old.posts ≤ new.posts → old.retires ≤ new.retires → HasRoom new
-kept_room old new room cores states posts retires = record {
-  posts = (let h = contexts_kept may_post (world_of old) (world_of new) cores refl states in let r = room.posts in omega (arith, h, r, posts));
-  retires = (let h = contexts_kept may_end (world_of old) (world_of new) cores refl states in let r = room.retires in omega (arith, h, r, retires));
+kept_room old new room cores slots states posts retires = record {
+  posts = (let h = contexts_kept may_post (world_of old) (world_of new) cores slots states in let r = room.posts in omega (arith, h, r, posts));
+  retires = (let h = contexts_kept may_end (world_of old) (world_of new) cores slots states in let r = room.retires in omega (arith, h, r, retires));
 }
 
 -- one state has changed, and less room is owed by as much as was used
-pub set_room : (old new : ContextTable) (x posts retires : ℕ) → HasRoom old → (world_of new).cores ≡ (world_of old).cores
+pub set_room : (old new : ContextTable) (x posts retires : ℕ) → HasRoom old → (world_of new).cores ≡ (world_of old).cores → (world_of new).slots ≡ (world_of old).slots
     → ((y : ℕ) → (y ≡ x → ⊥) → (world_of new).state y ≡ (world_of old).state y) → IsContext (world_of old) x
     → old.posts ≤ new.posts + posts → old.retires ≤ new.retires + retires
     → bit (may_post ((world_of new).state x)) + posts ≤ bit (may_post ((world_of old).state x))
     → bit (may_end ((world_of new).state x)) + retires ≤ bit (may_end ((world_of old).state x)) → HasRoom new
-set_room old new x posts retires room cores others within p r post end = record {
-  posts = (let h = contexts_set may_post (world_of old) (world_of new) x cores refl others within in let o = room.posts in omega (arith, h, o, p, post));
-  retires = (let h = contexts_set may_end (world_of old) (world_of new) x cores refl others within in let o = room.retires in omega (arith, h, o, r, end));
+set_room old new x posts retires room cores slots others within p r post end = record {
+  posts = (let h = contexts_set may_post (world_of old) (world_of new) x cores slots others within in let o = room.posts in omega (arith, h, o, p, post));
+  retires = (let h = contexts_set may_end (world_of old) (world_of new) x cores slots others within in let o = room.retires in omega (arith, h, o, r, end));
 }
+
+-- an event leaves the number of places
+slots_stay : (w : World) (e : Event) → (after w e).slots ≡ w.slots
+slots_stay w (event.Claim h x) = refl
+slots_stay w (event.Alone h x) = refl
+slots_stay w (event.Post h x tag) = refl
+slots_stay w (event.Take h x) = refl
+slots_stay w (event.Rest h x r) = refl
+slots_stay w (event.Wake id) = refl
+slots_stay w (event.Retire h x) = refl
+slots_stay w (event.Release h x) = refl
+slots_stay w (event.CloseCore c) = refl
+slots_stay w (event.OpenCore c) = refl
+slots_stay w (event.Move h x y) = refl
+slots_stay w event.Still = refl
 
 -- ---- what a state owes before and after
 
@@ -114,7 +129,7 @@ module _ (old new : ContextTable) (room : HasRoom old) where
       → old.posts ≤ new.posts + posts → old.retires ≤ new.retires + retires → Pays (w.state x) posts retires t → HasRoom new
   set_to e x posts retires t made cores states within p r pays =
       let there : u.state x ≡ t = ap (λ (z : World). z.state x) made ∙ states x ∙ with_at-same w.state x t in
-      set_room old new x posts retires room (ap (λ (z : World). z.cores) made ∙ cores)
+      set_room old new x posts retires room (ap (λ (z : World). z.cores) made ∙ cores) (ap (λ (z : World). z.slots) made ∙ slots_stay w e)
       (λ y h. ap (λ (z : World). z.state y) made ∙ states y ∙ with_at-other w.state x t y h) within p r
       (subst (λ s. bit (may_post s) + posts ≤ bit (may_post (w.state x))) (sym there) pays.0)
       (subst (λ s. bit (may_end s) + retires ≤ bit (may_end (w.state x))) (sym there) pays.1)
@@ -122,7 +137,7 @@ module _ (old new : ContextTable) (room : HasRoom old) where
   keeps : (e : Event) → u ≡ after w e → (after w e).cores ≡ w.cores → ((y : ℕ) → (after w e).state y ≡ w.state y)
       → old.posts ≤ new.posts + 0 → old.retires ≤ new.retires + 0 → HasRoom new
   keeps e made cores states p r =
-      kept_room old new room (ap (λ (z : World). z.cores) made ∙ cores) (λ y. ap (λ (z : World). z.state y) made ∙ states y) (omega (arith, p)) (omega (arith, r))
+      kept_room old new room (ap (λ (z : World). z.cores) made ∙ cores) (ap (λ (z : World). z.slots) made ∙ slots_stay w e) (λ y. ap (λ (z : World). z.state y) made ∙ states y) (omega (arith, p)) (omega (arith, r))
 
   pub event_room : (e : Event) → IsSingle e → Answers e old new (Ok tt) → HasRoom new
   event_room (event.Post h x tag) l a = set_to (event.Post h x tag) x 1 0 (Ready tag) a.1 refl (λ y. refl) a.0.context a.2 a.3

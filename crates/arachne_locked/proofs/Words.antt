@@ -3,9 +3,10 @@ use Rattle.std.proofs.Common.{◌≡◌, ℕ, zero, suc, ◌^◌, ◌<◌, ◌�
 use Rattle.std.specs.Prelude.{EachIndex}
 use Rattle.std.proofs.lemmas.Bool.{true≢false}
 use Rattle.std.proofs.lemmas.List.{get_or-replicate, length-replicate}
+use Rattle.arachne_core.specs.declared.layout.TheConstants.{MASK_BITS}
 use Rattle.arachne_core.specs.Occupancy.{Occupancy, bit, mask_of, occupancy_of, flags}
 
-none_set : flags 56 0 ≡ replicate 56 false
+none_set : flags MASK_BITS 0 ≡ replicate MASK_BITS false
 unfolding flags
 none_set = refl
 
@@ -13,8 +14,8 @@ none_set = refl
 pub in_use : (o : Occupancy) (word : ℕ) → occupancy_of word ≡ o → (o.exclusive ≡ true) ⊎ (EachIndex o.occupied (λ i. get_or o.occupied i false ≡ false) → ⊥) → word ≡ 0 → ⊥
 in_use o word reads (inl e) none = true≢false (sym e ∙ sym (ap (λ (p : Occupancy). p.exclusive) reads) ∙ ap (λ n. (occupancy_of n).exclusive) none)
 in_use o word reads (inr n) none =
-    let is : o.occupied ≡ replicate 56 false = sym (ap (λ (p : Occupancy). p.occupied) reads) ∙ ap (λ k. (occupancy_of k).occupied) none ∙ none_set in
-    n (λ i h. ap (λ xs. get_or xs i false) is ∙ get_or-replicate 56 i false false (let l = ap length is ∙ length-replicate 56 false in omega (arith, l, h)))
+    let is : o.occupied ≡ replicate MASK_BITS false = sym (ap (λ (p : Occupancy). p.occupied) reads) ∙ ap (λ k. (occupancy_of k).occupied) none ∙ none_set in
+    n (λ i h. ap (λ xs. get_or xs i false) is ∙ get_or-replicate MASK_BITS i false false (let l = ap length is ∙ length-replicate MASK_BITS false in omega (arith, l, h)))
 
 -- a mask of 0 has no flag that is true
 pub none_masked : (xs : List Bool) → mask_of xs ≡ 0 → (i : ℕ) → get_or xs i false ≡ false

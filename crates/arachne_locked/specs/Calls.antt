@@ -64,7 +64,7 @@ pub record HasClaimedOn (old new : World) (h core : ℕ) (claim : LockedClaim) :
 
 abbrev pub Claims : World → World → ℕ → ℕ → Claimed LockedClaim → Type 0
 Claims w u h core (claimed.Place claim) = HasClaimedOn w u h core claim
-Claims w u h core (claimed.Full word) = IsRefusedBy w u core word × ShowsFull word
+Claims w u h core (claimed.Full word) = IsRefusedBy w u core word × ShowsFull w.slots word
 Claims w u h core (claimed.Closed word) = IsRefusedBy w u core word × ShowsClosed word
 Claims w u h core (claimed.Lost word) = ⊥
 
@@ -163,7 +163,7 @@ Moves w u h p to moved.Moved = HasMoved w u h p to
 Moves w u h p to moved.Unposted = (u ≡ w) × (IsPlace w p → HasAt w p HasNoThread)
 Moves w u h p to moved.Alone = (u ≡ w) × HasAt w p HasThread × (w.alone p.core ≡ true)
 Moves w u h p to moved.Running = (u ≡ w) × HasAt w p IsHeld × (w.alone p.core ≡ false)
-Moves w u h p to (moved.NoRoom word) = IsRefusedBy w u to word × ShowsNoRoom word × HasAt w p IsAtRest × (w.alone p.core ≡ false)
+Moves w u h p to (moved.NoRoom word) = IsRefusedBy w u to word × ShowsNoRoom w.slots word × HasAt w p IsAtRest × (w.alone p.core ≡ false)
 Moves w u h p to (moved.Lost word) = ⊥
 
 -- the event claims a context

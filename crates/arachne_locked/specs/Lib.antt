@@ -1,3 +1,4 @@
+pub mod Seats
 pub mod AtHome
 pub mod Room
 pub mod Calls

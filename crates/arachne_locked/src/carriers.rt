@@ -1,5 +1,5 @@
 //! The carriers by which a table knows its seats.
-ghost use Rattle.std.specs.Prelude.{◌≡◌, ◌≢◌, ◌<◌};
+ghost use Rattle.std.specs.Prelude.{◌≡◌, ◌≢◌, ◌+◌, ◌<◌};
 
 use std::marker::Model;
 
@@ -25,12 +25,17 @@ impl Carriers {
         Carriers { last: 0 }
     }
 
-    /// A carrier for a new seat: a greater one than all before. Once each number of 32 bits was given they begin anew.
-    pub fn next(&mut self) -> u32
+    /// A carrier for a seat that is split off another, whose carrier this is: a greater one than all before. Once each
+    /// number of 32 bits was given they begin anew, and the two seats differ still.
+    pub fn next(&mut self, other: u32) -> u32
         ensures last { self.new ≡ result }
-        ensures fresh { self.old ≢ u32.MAX → self.old < result }
+        ensures apart { result ≢ other }
+        ensures fresh { self.old + 1 < u32.MAX → self.old < result }
     {
         self.last = self.last.wrapping_add(1);
+        if self.last == other {
+            self.last = self.last.wrapping_add(1);
+        }
         self.last
     }
 }

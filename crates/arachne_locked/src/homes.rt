@@ -35,16 +35,24 @@ impl<T: Tagged> Model for Homes<T> {
 }
 
 impl<T: Tagged + Drop> Homes<T> {
-    /// A table with this many cores, and no thread.
-    pub fn new(alloc: Global, cores: u8, first_generation: u64) -> Result<Self, AllocError>
+    /// A table with this many cores, each with this many places, and no thread.
+    pub fn new(
+        alloc: Global,
+        cores: u8,
+        slots: u8,
+        first_generation: u64,
+    ) -> Result<Self, AllocError>
         requires some { 1 ≤ cores }
         requires cores { cores ≤ CORES }
+        requires some_slots { 1 ≤ slots }
+        requires slots { slots ≤ SLOTS }
         requires generation { first_generation ≤ LAST_GENERATION }
         ensures cores { IfOk result (λ homes. (world_of homes.table).cores ≡ cores) }
+        ensures slots { IfOk result (λ homes. (world_of homes.table).slots ≡ slots) }
         ensures opening { IfOk result (λ homes. IsOpening (world_of homes.table) first_generation) }
     {
-        let world = World::new(alloc, cores, first_generation)?;
-        let values = no_values(alloc, usize::from(cores) * usize::from(SLOTS))?;
+        let world = World::new(alloc, cores, slots, first_generation)?;
+        let values = no_values(alloc, usize::from(cores) * usize::from(slots))?;
         Ok(Homes { world, values })
     }
 
@@ -60,7 +68,7 @@ impl<T: Tagged + Drop> Homes<T> {
 
     /// How many contexts there are.
     pub fn contexts(&self) -> usize
-        ensures { result ≡ (world_of self.now.table).cores * SLOTS }
+        ensures { result ≡ (world_of self.now.table).cores * (world_of self.now.table).slots }
     {
         self.values.len()
     }
@@ -193,15 +201,16 @@ impl<T: Tagged + Drop> Homes<T> {
 impl<T: Tagged + Drop> Homes<T> {
     /// The threads whose values are at home, by context. All comes back where memory is refused.
     pub fn close(self, alloc: Global) -> Result<Vec<(ThreadId, T)>, Self>
-        ensures rest { IfOk result (λ rest. rest.items ≡ at_rest_below (world_of self.table) self.values ((world_of self.table).cores * SLOTS)) }
+        ensures rest { IfOk result (λ rest. rest.items ≡ at_rest_below (world_of self.table) self.values ((world_of self.table).cores * (world_of self.table).slots)) }
         ensures handed_back { IfErr result (λ back. back ≡ self) }
     {
         let cores = self.world.cores();
+        let slots = self.world.slots();
         let Ok(mut rest) = Vec::with_capacity(alloc, self.values.len()) else {
             return Err(self);
         };
         let Homes { world, mut values } = self;
-        for context in 0..u32::from(cores) * u32::from(SLOTS) {
+        for context in 0..u32::from(cores) * u32::from(slots) {
             if let Some(value) = values[context as usize].take() {
                 let generation = world.mark(context).generation();
                 rest.push((

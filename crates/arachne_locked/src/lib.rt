@@ -7,8 +7,11 @@
 mod carriers;
 mod homes;
 mod locked;
+mod seat;
+mod slots;
 mod state;
 mod tokens;
 
-pub use locked::{LockedContexts, LockedSeat};
+pub use locked::LockedContexts;
+pub use seat::LockedSeat;
 pub use tokens::{LockedClaim, LockedHold};

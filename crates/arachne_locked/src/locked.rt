@@ -1,14 +1,19 @@
 //! A context table behind a lock.
-ghost use Rattle.std.specs.Prelude.{◌≡◌, ◌<◌, ◌*◌, ◌≢◌, ℕ, IfOk, IfErr};
+ghost use Rattle.std.specs.Prelude.{◌≡◌, ◌<◌, ◌≤◌, ◌*◌, ◌≢◌, ℕ, IsTrue, IfOk, IfErr};
 ghost use Rattle.arachne_core.specs.Occupancy.{IsOccupancyWord};
-ghost use Rattle.arachne_contexts.specs.Words.{HasNoFree};
+ghost use Rattle.arachne_contexts.specs.Words.{HasNoPlace, ShowsFull, ShowsNoRoom};
 ghost use Rattle.arachne_contexts.specs.Answers.{RestsAs};
+ghost use Rattle.arachne_contexts.specs.Out.{Thread as a_thread, Spends};
+ghost use Rattle.arachne_weights.specs.Weight.{first_part, second_part};
+ghost use Rattle.arachne_locked.specs.Seats.{HasCounted, CountsOut};
 
 use crate::carriers::Carriers;
+use crate::seat::LockedSeat;
+use crate::slots::Slots;
 use crate::state::{TableState, no_core};
 use crate::tokens::{LockedClaim, LockedHold};
 use arachne_contexts::{Claimed, Contexts, Held, Moved, Rested, Seats, Tagged, Taken, Woken};
-use arachne_core::{OccWord, Place, Rest, ThreadId};
+use arachne_core::{OccWord, Place, Rest, SLOTS, ThreadId};
 use arachne_weights::Weight;
 use std::alloc::{AllocError, Global};
 use std::sync::{Mutex, Wait};
@@ -19,29 +24,7 @@ pub struct LockedContexts<T: Tagged> {
     state: Mutex<TableState<T>>,
     carriers: Mutex<Carriers>,
     cores: u8,
-}
-
-/// Who steps at a locked table. The state behind the lock knows it by its carrier.
-#[derive(Debug, Drop)]
-pub struct LockedSeat {
-    carrier: u32,
-    weight: Weight,
-    /// How many claims and threads it hasn't spent.
-    out: u32,
-}
-
-impl LockedSeat {
-    fn gain(&mut self)
-        ensures { self.new.weight ≡ self.old.weight }
-    {
-        self.out = self.out.saturating_add(1);
-    }
-
-    fn spend(&mut self)
-        ensures { self.new.weight ≡ self.old.weight }
-    {
-        self.out = self.out.saturating_sub(1);
-    }
+    slots: Slots,
 }
 
 /// The word of a core, or that of a full one where the table doesn't have it.
@@ -50,8 +33,57 @@ fn word_of(occ: Option<OccWord>) -> u64
 {
     match occ {
         Some(occ) => occ.word(),
-        None => no_core().word(),
+        None => no_core(SLOTS).word(),
     }
+}
+
+impl<T: Tagged + Drop> LockedContexts<T> {
+    /// How many places each core has.
+    pub fn slots(&self) -> u8
+        ensures value { result ≡ self.now.slots }
+        ensures few { result ≤ SLOTS }
+    {
+        self.slots.count()
+    }
+}
+
+/// The word, if it shows a core of so many places to be full, else that of a full one: nothing outside a lock knows how
+/// many places a core has behind it.
+fn full_word(word: u64, slots: Slots) -> u64
+    ensures { ShowsFull slots result }
+{
+    if let Some(occ) = OccWord::from_word(word) {
+        if !occ.is_closed() && has_no_place(occ, slots) {
+            return word;
+        }
+    }
+    full_core(slots)
+}
+
+/// The same of a word that shows that no thread may be moved to the core.
+fn no_room_word(word: u64, slots: Slots) -> u64
+    ensures { ShowsNoRoom slots result }
+{
+    if let Some(occ) = OccWord::from_word(word) {
+        if occ.is_closed() || has_no_place(occ, slots) {
+            return word;
+        }
+    }
+    full_core(slots)
+}
+
+/// Whether one thread has the core alone, or none of its places is free.
+fn has_no_place(occ: OccWord, slots: Slots) -> bool
+    ensures { IsTrue result → HasNoPlace slots occ }
+{
+    occ.is_exclusive() || occ.lowest_free_below(slots.count()).is_none()
+}
+
+/// The word of a core of which each place is occupied.
+fn full_core(slots: Slots) -> u64
+    ensures { ShowsFull slots result }
+{
+    no_core(slots.count()).word()
 }
 
 impl<T: Tagged + Drop> Seats for LockedContexts<T> {
@@ -59,22 +91,26 @@ impl<T: Tagged + Drop> Seats for LockedContexts<T> {
 
     ghost sits = { λ table seat. Unit {0} };
 
-    ghost idle = { λ table seat. Unit {0} };
+    ghost idle = { λ table seat. HasCounted seat 0 };
 
     ghost weight = { λ seat. seat.weight };
 
     ghost core_count = { λ table. table.cores };
 
+    ghost slot_count = { λ table. table.slots };
+
     fn new(
         alloc: Global,
         cores: u8,
+        slots: u8,
         first_generation: u64,
     ) -> Result<(LockedContexts<T>, LockedSeat), AllocError> {
-        let state = TableState::new(alloc, cores, first_generation)?;
+        let state = TableState::new(alloc, cores, slots, first_generation)?;
         let table = LockedContexts {
             state: Mutex::new(state),
             carriers: Mutex::new(Carriers::new()),
             cores,
+            slots: Slots::new(slots),
         };
         let seat = LockedSeat {
             carrier: 0,
@@ -84,8 +120,14 @@ impl<T: Tagged + Drop> Seats for LockedContexts<T> {
         Ok((table, seat))
     }
 
-    fn split<R: Wait>(&self, rt: &R, seat: LockedSeat) -> (LockedSeat, LockedSeat) {
-        let carrier = self.carriers.lock(rt).next();
+    fn split<R: Wait>(&self, rt: &R, seat: LockedSeat) -> (LockedSeat, LockedSeat)
+        requires sits { Unit {0} }
+        requires idle { HasCounted seat 0 }
+        ensures first { result.0 ≡ record seat { weight = first_part seat.weight } }
+        ensures second { result.1 ≡ record { carrier = result.1.carrier; weight = second_part seat.weight; out = 0 } }
+        ensures carriers { result.1.carrier ≢ seat.carrier }
+    {
+        let carrier = self.carriers.lock(rt).next(seat.carrier);
         let (first, second) = seat.weight.split();
         let own = LockedSeat {
             weight: first,
@@ -121,7 +163,7 @@ impl<T: Tagged + Drop> Contexts<T> for LockedContexts<T> {
 
     type Hold = LockedHold;
 
-    ghost has = { λ table seat outs. Unit {0} };
+    ghost has = { λ table seat outs. CountsOut seat outs };
 
     fn look<R: Wait>(&self, rt: &R, seat: &mut LockedSeat, core: u8) -> u64 {
         let _ = seat;
@@ -143,10 +185,14 @@ impl<T: Tagged + Drop> Contexts<T> for LockedContexts<T> {
         core: u8,
     ) -> Result<Claimed<LockedClaim>, AllocError> {
         let claimed = self.state.lock(rt).claim(seat.carrier, core)?;
-        if let Claimed::Place(_) = &claimed {
-            seat.gain();
+        match claimed {
+            Claimed::Place(claim) => {
+                seat.gain();
+                Ok(Claimed::Place(claim))
+            }
+            Claimed::Full(word) => Ok(Claimed::Full(full_word(word, self.slots))),
+            other => Ok(other),
         }
-        Ok(claimed)
     }
 
     fn claim_alone<R: Wait>(
@@ -211,6 +257,7 @@ impl<T: Tagged + Drop> Contexts<T> for LockedContexts<T> {
     ) -> Result<Rested, Held<T, LockedHold>>
         ensures seat { Unit {0} }
         ensures weight { seat.new.weight ≡ seat.old.weight }
+        ensures out { Spends CountsOut (a_thread held.hold (T.tag_of held.value)) seat.old seat.new result }
         ensures answer { IfOk result (RestsAs rest) }
         ensures handed_back { IfErr result (λ back. back ≡ held) }
     {
@@ -227,6 +274,7 @@ impl<T: Tagged + Drop> Contexts<T> for LockedContexts<T> {
     ) -> Result<T, Held<T, LockedHold>>
         ensures seat { Unit {0} }
         ensures weight { seat.new.weight ≡ seat.old.weight }
+        ensures out { Spends CountsOut (a_thread held.hold (T.tag_of held.value)) seat.old seat.new result }
         ensures value { IfOk result (λ value. value ≡ held.value) }
         ensures handed_back { IfErr result (λ back. back ≡ held) }
     {
@@ -256,7 +304,10 @@ impl<T: Tagged + Drop> Contexts<T> for LockedContexts<T> {
     }
 
     fn move_one<R: Wait>(&self, rt: &R, seat: &mut LockedSeat, place: Place, to: u8) -> Moved {
-        self.state.lock(rt).move_one(seat.carrier, place, to)
+        match self.state.lock(rt).move_one(seat.carrier, place, to) {
+            Moved::NoRoom(word) => Moved::NoRoom(no_room_word(word, self.slots)),
+            other => other,
+        }
     }
 
     fn close<R: Wait>(
@@ -270,6 +321,7 @@ impl<T: Tagged + Drop> Contexts<T> for LockedContexts<T> {
             state,
             carriers,
             cores,
+            slots,
         } = self;
         match state.into_inner().close(alloc) {
             Ok(rest) => Ok(rest),
@@ -278,15 +330,16 @@ impl<T: Tagged + Drop> Contexts<T> for LockedContexts<T> {
                     state: Mutex::new(state),
                     carriers,
                     cores,
+                    slots,
                 };
                 Err((table, seat))
             }
         }
     }
 
-    ghost nothing_out = { λ table seat idle. tt };
+    ghost nothing_out = { λ table seat idle. idle };
 
-    ghost is_idle = { λ table seat none. tt };
+    ghost is_idle = { λ table seat none. none };
 
-    ghost swapped = { λ table seat first second outs has. tt };
+    ghost swapped = { λ table seat first second outs has. has };
 }

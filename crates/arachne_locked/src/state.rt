@@ -1,6 +1,6 @@
 //! What lies behind the lock of a locked table.
 ghost use Rattle.std.specs.Prelude.{◌≡◌, ◌≢◌, ◌*◌, ◌<◌, ◌≤◌, ◌↔◌, ℕ, [], ◌∷◌, Ok, IfOk, OnOk, OnErr, IfErr, IfSome, IfNone, MatchBool, IsTrue, true, false, Some, slice_set};
-ghost use Rattle.arachne_core.specs.ContextTable.{world_of, ShowsCore, Answers, marked};
+ghost use Rattle.arachne_core.specs.ContextTable.{world_of, ShowsCore, IsVacantFrom, Answers, marked};
 ghost use Rattle.arachne_core.specs.World.{Allowed, IsContext, IsPlace, HasClaimed, HoldsIn, IsAtRest, id_of};
 ghost use Rattle.arachne_core.specs.OwnedOnce.{OwnedOnce};
 ghost use Rattle.arachne_core.specs.Run.{IsOpening, IsDrained};
@@ -15,8 +15,8 @@ use crate::homes::Homes;
 use crate::tokens::{LockedClaim, LockedHold};
 use arachne_contexts::{Claimed, Held, Moved, Rested, Tagged, Taken, Woken};
 use arachne_core::{
-    CORES, Event, LAST_GENERATION, Mark, MarkWord, NotApplied, OccWord, Place, Rest, SLOTS, State,
-    ThreadId,
+    CORES, Event, FULL_MASK, LAST_GENERATION, Mark, MarkWord, NotApplied, OccWord, Place, Rest,
+    SLOTS, State, ThreadId,
 };
 use std::alloc::{AllocError, Global};
 use std::marker::Model;
@@ -38,27 +38,33 @@ impl<T: Tagged> Model for TableState<T> {
     ghost invariant = { λ s. HasRoom s.homes.table };
 }
 
-/// The mask of a core of which each index is occupied.
-const FULL_MASK: u64 = (1 << 56) - 1;
-
-/// The word of a core that isn't there: it is full.
-pub fn no_core() -> OccWord
+/// The word of a core that isn't there, where each core has so many places: it is full.
+pub fn no_core(slots: u8) -> OccWord
+    requires { slots ≤ SLOTS }
     ensures open { result.closed ≡ false }
-    ensures full { HasNoFree result }
+    ensures full { HasNoFree slots result }
 {
+    let _ = slots;
     OccWord::new(FULL_MASK, false, false)
 }
 
 impl<T: Tagged + Drop> TableState<T> {
-    /// A table with this many cores, and no thread.
-    pub fn new(alloc: Global, cores: u8, first_generation: u64) -> Result<Self, AllocError>
+    /// A table with this many cores, each with this many places, and no thread.
+    pub fn new(
+        alloc: Global,
+        cores: u8,
+        slots: u8,
+        first_generation: u64,
+    ) -> Result<Self, AllocError>
         requires some { 1 ≤ cores }
         requires cores { cores ≤ CORES }
+        requires some_slots { 1 ≤ slots }
+        requires slots { slots ≤ SLOTS }
         requires generation { first_generation ≤ LAST_GENERATION }
         ensures cores { IfOk result (λ state. (world_of state.table).cores ≡ cores) }
         ensures opening { IfOk result (λ state. IsOpening (world_of state.table) first_generation) }
     {
-        let mut homes = Homes::new(alloc, cores, first_generation)?;
+        let mut homes = Homes::new(alloc, cores, slots, first_generation)?;
         let contexts = homes.contexts();
         homes.reserve(contexts, contexts)?;
         Ok(TableState { homes })
@@ -81,9 +87,19 @@ impl<T: Tagged + Drop> TableState<T> {
         core < self.homes.world().cores()
     }
 
+    /// How many places each core has.
+    fn slots(&self) -> u8
+        ensures value { result ≡ (world_of self.now.table).slots }
+        ensures some { 1 ≤ result }
+        ensures few { result ≤ SLOTS }
+    {
+        self.homes.world().slots()
+    }
+
     /// The occupancy of a core, if the table has it.
     pub fn look(&self, core: u8) -> Option<OccWord>
         ensures some { IfSome result (λ occ. (core < (world_of self.now.table).cores) × ShowsCore (world_of self.now.table) core occ) }
+        ensures beyond { IfSome result (λ occ. IsVacantFrom (world_of self.now.table).slots occ) }
         ensures none { IfNone result (core < (world_of self.now.table).cores → ⊥) }
     {
         if !self.has_core(core) {
@@ -138,7 +154,7 @@ impl<T: Tagged + Drop> TableState<T> {
         ensures values { self.new.values ≡ self.old.values }
     {
         let Some(occ) = self.look(core) else {
-            return Ok(Claimed::Full(no_core().word()));
+            return Ok(Claimed::Full(no_core(self.slots()).word()));
         };
         if occ.is_closed() {
             return Ok(Claimed::Closed(occ.word()));
@@ -146,7 +162,7 @@ impl<T: Tagged + Drop> TableState<T> {
         if occ.is_exclusive() {
             return Ok(Claimed::Full(occ.word()));
         }
-        let Some(index) = occ.lowest_free() else {
+        let Some(index) = occ.lowest_free_below(self.slots()) else {
             return Ok(Claimed::Full(occ.word()));
         };
         let place = Place { core, index };
@@ -166,7 +182,7 @@ impl<T: Tagged + Drop> TableState<T> {
         ensures values { self.new.values ≡ self.old.values }
     {
         let Some(occ) = self.look(core) else {
-            return Ok(Claimed::Full(no_core().word()));
+            return Ok(Claimed::Full(no_core(self.slots()).word()));
         };
         if occ.is_closed() {
             return Ok(Claimed::Closed(occ.word()));
@@ -174,6 +190,7 @@ impl<T: Tagged + Drop> TableState<T> {
         if occ.is_exclusive() || !occ.is_empty() {
             return Ok(Claimed::Full(occ.word()));
         }
+        let _ = self.slots();
         let place = Place { core, index: 0 };
         let context = self.homes.world().context_at(place);
         self.claim_context(Event::Alone { carrier, context })?;
@@ -225,7 +242,7 @@ impl<T: Tagged + Drop> TableState<T> {
     pub fn take(&mut self, carrier: u32, place: Place) -> Taken<T, LockedHold>
         ensures { TakesFrom (world_of self.old.table) (world_of self.new.table) self.old.values self.new.values carrier place result }
     {
-        if !self.has_core(place.core) || place.index >= SLOTS {
+        if !self.has_core(place.core) || place.index >= self.slots() {
             return Taken::NotReady(0);
         }
         let context = self.homes.world().context_at(place);
@@ -366,7 +383,7 @@ impl<T: Tagged + Drop> TableState<T> {
         let Some(occ) = self.look(place.core) else {
             return Moved::Unposted;
         };
-        if place.index >= SLOTS {
+        if place.index >= self.slots() {
             return Moved::Unposted;
         }
         let from = self.homes.world().context_at(place);
@@ -390,7 +407,7 @@ impl<T: Tagged + Drop> TableState<T> {
         ensures values { self.new.values ≡ self.old.values }
     {
         let Some(occ) = self.look(to) else {
-            return Moved::NoRoom(no_core().word());
+            return Moved::NoRoom(no_core(self.slots()).word());
         };
         if occ.is_closed() {
             return Moved::NoRoom(occ.word());
@@ -398,7 +415,7 @@ impl<T: Tagged + Drop> TableState<T> {
         if occ.is_exclusive() {
             return Moved::NoRoom(occ.word());
         }
-        let Some(index) = occ.lowest_free() else {
+        let Some(index) = occ.lowest_free_below(self.slots()) else {
             return Moved::NoRoom(occ.word());
         };
         let target = self.homes.world().context_at(Place { core: to, index });
@@ -431,7 +448,7 @@ impl<T: Tagged + Drop> TableState<T> {
 
     /// The threads whose values are at home, by context. The table comes back where memory is refused.
     pub fn close(self, alloc: Global) -> Result<Vec<(ThreadId, T)>, Self>
-        ensures rest { IfOk result (λ rest. rest.items ≡ at_rest_below (world_of self.table) self.values ((world_of self.table).cores * SLOTS)) }
+        ensures rest { IfOk result (λ rest. rest.items ≡ at_rest_below (world_of self.table) self.values ((world_of self.table).cores * (world_of self.table).slots)) }
         ensures accounted { IfOk result (λ rest. IsAccounted T.tag_of (world_of self.table) rest.items) }
         ensures order { IfOk result (λ rest. IsByContext rest.items) }
         ensures handed_back { IfErr result (λ back. back ≡ self) }

@@ -67,6 +67,10 @@ hands_to_stop before mid new v f k' popped gives b left forks same =
     (framed_as mid before env (fs ++ f ∷ []) (fs ++ f ∷ []) mid.control (Give v) popped refl gives)
     (alone mid new env k' b) refl (left (fs ++ [])) forks same
 
+-- A thread that is to hand on a value goes on.
+pub popped_running : (before mid : State) (f : Frame) (v : ℕ) → IsPopped f before mid → mid.control ≡ Give v → pending_of before.control ≡ None
+popped_running before mid f v popped gives = ap pending_of (popped.control_is ∙ gives)
+
 -- Single frames.
 pub hand_index : (before mid new : State) (v a w : ℕ) → IsPopped (Index a) before mid → mid.control ≡ Give v →
     w ≡ slice_index (array_at (source_of mid.program.now).arrays a) v → Becomes mid new mid.environment.items mid.frames.items (Give w) → AfterSteps 0 before None new

@@ -8,11 +8,13 @@ pub mod Frames
 pub mod Faultlessness
 pub mod Outlooks
 pub mod Renewing
+pub mod Purity
 pub mod Openings
 pub mod Handings
 pub mod Splitting
 pub mod Joining
 pub mod Soundness
+pub mod Strides
 pub mod Advancing
 pub mod Waiting
 pub mod Nesting

@@ -1,5 +1,5 @@
 -- The laws of threads that run in another's place.
-use Rattle.std.proofs.Common.{ℕ, ◌+◌, ◌-◌, List, [], ◌∷◌, ◌++◌, length, Option, None, Some, reverse, ◌≡◌, ◌≢◌, ◌≤◌, ◌<◌, refl, ap, sym, subst, ◌∙◌, arith}
+use Rattle.std.proofs.Common.{ℕ, ◌+◌, ◌-◌, List, [], ◌∷◌, ◌++◌, length, Option, None, Some, reverse, ◌≡◌, ◌≢◌, ◌≤◌, ◌<◌, refl, ap, sym, subst, ◌∙◌, arith, append_assoc}
 use Rattle.std.specs.Prelude.{option_map, slice_get, slice_index_or, zero, suc, true, false, ◌==◌, Result, Ok, Err, OnOk, OnErr}
 use Rattle.std.proofs.lemmas.List.{reverse-append}
 use Rattle.arachne_lang.specs.declared.program.Class.{Class}
@@ -11,12 +11,14 @@ use Rattle.arachne_machine.specs.declared.pause.Pause.{Pause}
 use Rattle.arachne_machine.specs.declared.strand.Halt.{Halt}
 use Rattle.arachne_machine.specs.declared.strand.Halt.TheVariants as halts
 use Rattle.arachne_machine.specs.Faultless.{PausesWithin}
-use Rattle.arachne_machine.specs.Suspended.{Suspended, SameThread, MakesSteps, Forked, Joined, IsAsk, IsFree, IsFresh, IsTally}
+use Rattle.arachne_machine.specs.Suspended.{Suspended, SameThread, MakesSteps, Forked, Joined, IsAsk, IsFree, IsFresh, IsTally, awaited}
 use Rattle.arachne_machine.specs.Lines.{Lined}
+use Rattle.arachne_machine.specs.declared.line.Ran.TheVariants as ways
+use Rattle.arachne_machine.specs.declared.line.ThreadLine.{ThreadLine}
 use Rattle.arachne_machine.specs.Outcome.{Finished}
 use Rattle.arachne_machine.specs.Stops.{HasJoinedNone}
 use Rattle.arachne_machine.specs.Advance.{Advanced, IsPassed, IsSpentAt, Moves, PausesAt, TakesAllAt, pending_at, shown}
-use Rattle.arachne_machine.specs.Nested.{Nested, FallsBy, IsNested, Await, ArePlaced, SameWhole, IsChildOf, IsForked, IsKept, Laid, Stops, alone, whole, outermost, pending_below, pending_in, with_tag, lines_below, works, work_in}
+use Rattle.arachne_machine.specs.Nested.{Nested, FallsBy, IsNested, Await, ArePlaced, SameWhole, IsChildOf, IsForked, IsKept, Laid, Stops, alone, in_place_of, whole, outermost, pending_below, pending_in, with_tag, lines_below, works, work_in}
 use Rattle.arachne_machine.proofs.Laying.{laid_joined, laid_same}
 
 -- A pause that callers see is that of the thread that goes on.
@@ -86,7 +88,7 @@ await_same a b (parent ∷ parents) program name label h = (
     joins = h.0.joins;
     of_child = h.0.of_child ∙ ap Some (sym name);
     same_source = ap source_of program ∙ h.0.same_source;
-    in_place = ap (λ l. l.in_place) label ∙ h.0.in_place;
+    in_place = ap (λ l. l.ran) label ∙ h.0.in_place;
   },
   h.1,
 )
@@ -174,7 +176,7 @@ nested_joined child parent new parents placed program name label h = record {
 }
 
 pub nested_placed : (a b child : Suspended) (parents placed : List Suspended) → SameThread a b → source_of child.program ≡ source_of a.program →
-    child.pending ≡ None → child.label.in_place ≡ true →
+    child.pending ≡ None → child.label.ran ≡ ways.InPlace →
     IsNested (record { running = a; parents = parents; placed = placed }) → IsNested (record { running = b; parents = parents; placed = child ∷ placed })
 nested_placed a b child parents placed same source pending here h = record {
   awaiting = await_same a b parents same.program same.name same.label h.awaiting;
@@ -478,3 +480,22 @@ kept_answered (Err refused) a b outcome parents placed lines more l p aside capa
   places = places;
   few = h.few;
 }
+
+-- The child that a thread awaits goes on in its place: behind all lines come a place for its line, and those below it.
+pub kept_begun : (a b child : Suspended) (parents placed : List Suspended) (lines more : Lined) (place : ThreadLine) (l l' p aside capacity capacity' : ℕ) → b ≡ in_place_of child →
+    a.pending ≡ Some pause.Joins → awaited a ≡ Some child.name → source_of child.program ≡ source_of a.program →
+    more.lines ≡ (lines.lines ++ place ∷ []) ++ child.below → l' + p ≤ capacity' → p + aside ≤ more.room →
+    IsKept (record { running = a; parents = parents; placed = placed }) lines l p aside capacity →
+    IsKept (record { running = b; parents = a ∷ parents; placed = placed }) more l' p aside capacity'
+kept_begun a b child parents placed lines more place l l' p aside capacity capacity' is joins name source written room places h =
+    subst (λ v. IsKept (record { running = v; parents = a ∷ parents; placed = placed }) more l' p aside capacity') (sym is) (record {
+      nested = record {
+        awaiting = (record { joins = joins; of_child = name; same_source = source; in_place = refl }, h.nested.awaiting);
+        waiting = subst (λ s. ArePlaced s placed) (sym source) h.nested.waiting;
+      };
+      laid = (lines.lines, place, written ∙ append_assoc lines.lines (place ∷ []) child.below, h.laid);
+      counted = h.counted;
+      room = room;
+      places = places;
+      few = h.few;
+    })

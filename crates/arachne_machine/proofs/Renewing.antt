@@ -10,6 +10,7 @@ use Rattle.arachne_machine.specs.declared.frame.Control.{Control}
 use Rattle.arachne_machine.specs.declared.frame.Control.TheVariants.{Begin, Cover}
 use Rattle.arachne_machine.specs.declared.state.Own.{Own}
 use Rattle.arachne_machine.specs.declared.state.State.{State}
+use Rattle.arachne_machine.specs.declared.line.Ran.TheVariants as ways
 use Rattle.arachne_machine.specs.Account.{untouched}
 use Rattle.arachne_machine.specs.Ending.{begun_trace, fork_awaited, forks_of, lock_freed, releases}
 use Rattle.arachne_machine.specs.declared.pause.Pending.TheVariants as pause
@@ -29,7 +30,7 @@ renewed_at program own sums k env t r = record {
 }
 
 pub renewed_new : (program : Bor Program) (own : Own) (sums : List ℕ) (k : Control) (env : Environment) (tag : ℕ) (t : State) → IsBeginning k →
-    own.label ≡ record { tag = tag; in_place = false } → own.holds.items ≡ tabulated program.now.locks (λ lock. 0) → sums ≡ tabulated program.now.ledgers (λ ledger. 0) →
+    own.label ≡ record { tag = tag; ran = ways.Slot } → own.holds.items ≡ tabulated program.now.locks (λ lock. 0) → sums ≡ tabulated program.now.ledgers (λ ledger. 0) →
     IsRenewed program own sums k env t → IsNew program.now own.name tag (task_begun k env) t
 renewed_new program own sums (Begin expr) env tag t begins label holds zero r =
     let source = source_of program.now in

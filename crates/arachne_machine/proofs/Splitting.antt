@@ -25,7 +25,7 @@ use Rattle.arachne_machine.specs.Ending.{child_task, stretch_task, resume_accoun
 use Rattle.arachne_lang.specs.Checked.{node_faults}
 use Rattle.arachne_lang.specs.declared.check_fault.CheckFault.TheVariants as fault
 use Rattle.arachne_machine.specs.Faultless.{IsFaultless, IsFaultlessNext, held_by}
-use Rattle.arachne_machine.specs.Steps.{PushesFork, GoesToFork, task_begun, pending_of}
+use Rattle.arachne_machine.specs.Steps.{PushesFork, GoesToFork, beginning, task_begun, pending_of}
 use Rattle.arachne_machine.proofs.Accounts.{after-sequence, after-forked, after-children}
 use Rattle.arachne_machine.proofs.Frames.{Grows-frames}
 use Rattle.arachne_machine.proofs.Halves.{value_split, effects_split, work_split, trace_split}
@@ -158,6 +158,23 @@ fork_outlook source name env n expr child during next class h found =
           let parts = fork_parts source held child during next class (subst (IsFaultless source held) h free.1) in
           (((parts.0, parts.3), tt), (parts.0, parts.2));
     }
+
+-- what comes next before a fork does not matter to it
+pub pushed_from : (old new child : State) (expr : Bor Expr) (begins : Control) (frame : Frame) (control : Control) → PushesFork old new child begins frame control →
+    PushesFork (beginning old expr) new child begins frame control
+pushed_from old new child expr begins frame control p = record {
+  program = p.program;
+  own = p.own;
+  below = p.below;
+  sums = p.sums;
+  forks = p.forks;
+  environment = p.environment;
+  frames = p.frames;
+  control_is = p.control_is;
+  fresh = p.fresh;
+  begun = p.begun;
+  faultless = p.faultless;
+}
 
 pub goes_to_fork : (old new child : State) (expr first during next : Bor Expr) (class : Class) → old.control ≡ Begin expr →
     tree_of expr.now ≡ Fork class (tree_of first.now) (tree_of during.now) (tree_of next.now) →

@@ -6,6 +6,8 @@ use Rattle.arachne_machine.specs.declared.pause.Pause.{Pause}
 use Rattle.arachne_machine.specs.declared.pause.Pause.TheVariants as pauses
 use Rattle.arachne_machine.specs.declared.pause.NotJoined.{NotJoined}
 use Rattle.arachne_machine.specs.declared.pause.NotJoined.TheVariants as refused
+use Rattle.arachne_machine.specs.declared.pause.NotPlaced.{NotPlaced}
+use Rattle.arachne_machine.specs.declared.pause.NotPlaced.TheVariants as unplaced
 use Rattle.arachne_machine.specs.declared.strand.Halt.{Halt}
 use Rattle.arachne_machine.specs.declared.strand.Halt.TheVariants as halts
 use Rattle.arachne_machine.specs.Faultless.{PausesWithin}
@@ -122,3 +124,14 @@ abbrev pub IsForeign : Result (Unit {0}) NotJoined → Type 0
 IsForeign (Ok done) = ⊥
 IsForeign (Err (refused.Foreign outcome)) = Unit {0}
 IsForeign (Err (refused.Memory outcome)) = ⊥
+
+-- the child that was refused
+abbrev pub child_back : NotPlaced → Nested
+child_back (unplaced.Foreign child) = child
+child_back (unplaced.Memory child) = child
+
+-- it was refused as another thread than the one that is awaited
+abbrev pub IsNotAwaited : Result (Unit {0}) NotPlaced → Type 0
+IsNotAwaited (Ok done) = ⊥
+IsNotAwaited (Err (unplaced.Foreign child)) = Unit {0}
+IsNotAwaited (Err (unplaced.Memory child)) = ⊥

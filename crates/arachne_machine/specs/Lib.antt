@@ -6,6 +6,7 @@ pub mod Advance
 pub mod Work
 pub mod Trace
 pub mod Turns
+pub mod Pure
 pub mod Account
 pub mod Ending
 pub mod Steps

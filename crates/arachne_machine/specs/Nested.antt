@@ -1,15 +1,16 @@
 -- What callers see of a thread with the threads that run in its place.
-use Rattle.std.specs.Prelude.{◌≡◌, ◌≢◌, ◌≤◌, ◌<◌, ℕ, ◌+◌, ◌^◌, true, List, [], ◌∷◌, ◌++◌, length, Option, None, Some}
+use Rattle.std.specs.Prelude.{◌≡◌, ◌≢◌, ◌≤◌, ◌<◌, ℕ, ◌+◌, ◌^◌, List, [], ◌∷◌, ◌++◌, length, Option, None, Some}
 use Rattle.arachne_lang.specs.declared.program.Class.{Class}
 use Rattle.arachne_lang.specs.Effects.{Task}
 use Rattle.arachne_lang.specs.Meaning.{child_of}
 use Rattle.arachne_lang.specs.Tree.{Source}
 use Rattle.arachne_lang.specs.Program.{source_of}
 use Rattle.arachne_machine.specs.declared.line.ThreadLine.{ThreadLine}
+use Rattle.arachne_machine.specs.declared.line.Ran.TheVariants as ways
 use Rattle.arachne_machine.specs.Lines.{Lined}
 use Rattle.arachne_machine.specs.declared.pause.Pending.{Pending}
 use Rattle.arachne_machine.specs.declared.pause.Pending.TheVariants as pause
-use Rattle.arachne_machine.specs.Suspended.{Suspended, IsFresh, awaited}
+use Rattle.arachne_machine.specs.Suspended.{Suspended, IsAnswered, IsFresh, SameThread, awaited}
 
 pub record Nested : Type 0 where
   -- the innermost thread, which goes on next
@@ -64,14 +65,18 @@ with_tag tag thread = record thread { label = record thread.label { tag = tag } 
 
 -- as one that runs in its parent's place
 abbrev pub in_place_of : Suspended → Suspended
-in_place_of thread = record thread { label = record thread.label { in_place = true } }
+in_place_of thread = record thread { label = record thread.label { ran = ways.InPlace } }
+
+-- as one for which a place was found while it waited
+abbrev pub spilled_of : Suspended → Suspended
+spilled_of thread = record thread { label = record thread.label { ran = ways.Spill } }
 
 -- The parent awaits this child, which runs in its place.
 pub record IsAwaiting (child parent : Suspended) : Type 0 where
   pub joins : parent.pending ≡ Some pause.Joins
   pub of_child : awaited parent ≡ Some child.name
   pub same_source : source_of child.program ≡ source_of parent.program
-  pub in_place : child.label.in_place ≡ true
+  pub in_place : child.label.ran ≡ ways.InPlace
 
 abbrev pub Await : Suspended → List Suspended → Type 0
 Await child [] = Unit {0}
@@ -81,7 +86,7 @@ Await child (parent ∷ parents) = IsAwaiting child parent × Await parent paren
 pub record IsPlaced (source : Source) (child : Suspended) : Type 0 where
   pub same_source : source_of child.program ≡ source
   pub not_paused : child.pending ≡ None
-  pub in_place : child.label.in_place ≡ true
+  pub in_place : child.label.ran ≡ ways.InPlace
 
 abbrev pub ArePlaced : Source → List Suspended → Type 0
 ArePlaced source [] = Unit {0}
@@ -129,6 +134,32 @@ pub record IsChildOf (t child : Nested) : Type 0 where
   pub same_source : source_of (whole child).program ≡ source_of (whole t).program
   pub not_paused : pending_in child ≡ None
   pub alone : IsAlone child
+
+-- The child may run in the thread's place: it is of an equal program, has no pause that is not answered, and no other thread is in its place.
+pub record MayBePlaced (t child : Nested) : Type 0 where
+  pub same_source : source_of (whole child).program ≡ source_of (whole t).program
+  pub not_paused : pending_in child ≡ None
+  pub alone : IsAlone child
+
+-- a child may be placed at a fork or at a join
+abbrev pub IsPlacing : Option Pending → Type 0
+IsPlacing (Some pause.Forks) = Unit {0}
+IsPlacing (Some pause.Joins) = Unit {0}
+IsPlacing _ = ⊥
+
+-- The innermost thread goes on with what is done meanwhile, and the child is placed.
+pub record PlacesAtFork (old child new : Nested) : Type 0 where
+  pub same : SameThread old.running new.running
+  pub sums : new.running.sums ≡ old.running.sums
+  pub holds : new.running.holds ≡ old.running.holds
+  pub locks : new.running.locks ≡ old.running.locks
+  pub parents : new.parents ≡ old.parents
+  pub placed : new.placed ≡ in_place_of child.running ∷ old.placed
+  pub trace : IsAnswered old.running new.running
+
+-- the child goes on in the place of the innermost thread, which awaits it
+abbrev pub begun_in : Nested → Nested → Nested
+begun_in t child = record { running = in_place_of child.running; parents = t.running ∷ t.parents; placed = t.placed }
 
 -- The child is new, and its class and task are those that the program gives to the thread's newest fork.
 pub record IsForked (class : Class) (thread : Suspended) (child : Nested) : Type 0 where

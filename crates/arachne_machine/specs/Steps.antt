@@ -20,11 +20,12 @@ use Rattle.arachne_machine.specs.declared.state.State.{State}
 use Rattle.arachne_machine.specs.declared.state.Stop.{Stop}
 use Rattle.arachne_machine.specs.declared.state.Stop.TheVariants as stop
 use Rattle.arachne_machine.specs.declared.state.Progress.{Progress}
-use Rattle.arachne_machine.specs.declared.state.Progress.TheVariants.{Value, Made}
+use Rattle.arachne_machine.specs.declared.state.Progress.TheVariants as part
 use Rattle.arachne_machine.specs.Lines.{Gains}
 use Rattle.arachne_machine.specs.Outcome.{Finished}
 use Rattle.arachne_machine.specs.Account.{Account, untouched, after, with_fork}
 use Rattle.arachne_machine.specs.declared.line.ThreadLine.{ThreadLine}
+use Rattle.arachne_machine.specs.declared.line.Ran.TheVariants as ways
 use Rattle.arachne_machine.specs.Suspended.{Suspended, awaited}
 use Rattle.arachne_machine.specs.Work.{task_work}
 use Rattle.arachne_machine.specs.Trace.{Event, At, with_steps, task_trace}
@@ -149,7 +150,7 @@ pub record IsRenewed (program : Bor Program) (own : Own) (sums : List ℕ) (cont
 pub record IsNew (program : Program) (name : List ℕ) (tag : ℕ) (task : Task) (t : State) : Type 0 where
   pub same_program : t.program.now ≡ program
   pub has_name : t.own.name ≡ name
-  pub has_label : t.own.label ≡ record { tag = tag; in_place = false }
+  pub has_label : t.own.label ≡ record { tag = tag; ran = ways.Slot }
   pub holds : t.own.holds.items ≡ tabulated program.locks (λ lock. 0)
   pub below : t.below ≡ []
   pub sums : t.sums.items ≡ tabulated program.ledgers (λ ledger. 0)
@@ -219,14 +220,57 @@ TakesAll _ had left old new = work_left new + had ≡ work_left old + left
 abbrev pub giving : State → ℕ → State
 giving t value = record t { control = Give value }
 
--- What is so after a part of a step, with a value that is to be handed on in the same step, or once the step is made.
-abbrev pub Progresses : State → Progress → State → Type 0
-Progresses old (Value value) new = AfterSteps 0 old None (giving new value)
-Progresses old (Made stop) new = AfterSteps 1 old stop new
+-- the thread that begins this expression next
+abbrev pub beginning : State → Bor Expr → State
+beginning t expr = record t { control = Begin expr }
+
+-- the thread, which begins this expression next where there is one
+abbrev pub current : Option (Bor Expr) → State → State
+current None t = t
+current (Some expr) t = beginning t expr
+
+-- a value that was left over, or a part of a sweep
+abbrev pub IsLeftOver : Control → Type 0
+IsLeftOver (Give value) = Unit {0}
+IsLeftOver (Cover stretch) = Unit {0}
+IsLeftOver _ = ⊥
+
+-- The steps that were made are those that are not left any more, and so many beside them; the thread has not stopped.
+pub record Makes (had left beside : ℕ) (old new : State) : Type 0 where
+  pub made : ℕ
+  pub fewer : left ≤ had
+  pub counted : left + made ≡ had + beside
+  pub goes : AfterSteps made old None new
+
+-- The same, and then it stops in one step more.
+pub record MakesStop (had left : ℕ) (old : State) (s : Stop) (new : State) : Type 0 where
+  pub last : State
+  pub makes : Makes had left 0 old last
+  pub stops : AfterSteps 1 last (Some s) new
+
+-- What comes of a step, with those that were left beside it before and after: a value that is to be handed on in the step, or what is next once it is made.
+abbrev pub Reaches : ℕ → ℕ → State → Progress → State → Type 0
+Reaches had left old (part.Value value) new = Makes had left 0 old (giving new value)
+Reaches had left old (part.Begin expr) new = Makes had left 1 old (beginning new expr)
+Reaches had left old (part.Made None) new = Makes had left 1 old new × IsLeftOver new.control
+Reaches had left old (part.Made (Some s)) new = MakesStop had left old s new
 
 abbrev pub OnValue : Progress → Type 0 → Type 0
-OnValue (Value value) A = A
-OnValue (Made stop) A = Unit {0}
+OnValue (part.Value value) A = A
+OnValue _ A = Unit {0}
+
+-- the thread as it is then
+abbrev pub seen : Progress → State → State
+seen (part.Value value) t = giving t value
+seen (part.Begin expr) t = beginning t expr
+seen (part.Made s) t = t
+
+-- One step was made, and the thread has not stopped. A value is then handed on in a further one.
+abbrev pub IsOneStep : ℕ → ℕ → Progress → State → Type 0
+IsOneStep had left (part.Value value) new = left + 1 ≡ had
+IsOneStep had left (part.Begin expr) new = left ≡ had
+IsOneStep had left (part.Made None) new = (left ≡ had) × IsLeftOver new.control
+IsOneStep had left (part.Made (Some s)) new = ⊥
 
 -- a child thread was made for a task, and the thread has this newest frame and this to do next
 pub record PushesFork (old new child : State) (begins : Control) (frame : Frame) (control : Control) : Type 0 where
@@ -315,15 +359,13 @@ pub record CountsTally (old new : State) (ledger amount : ℕ) : Type 0 where
   pub control : new.control ≡ old.control
   pub sums : (n : ℕ) (own : ℕ → ℕ) → old.sums.items ≡ tabulated n own → new.sums.items ≡ tabulated n (λ other. own other + (if other == ledger then amount else 0))
 
--- a frame of a fold or a sweep
+-- a frame of the beginning of a fold or a sweep
 abbrev pub IsOfRange : Frame → Type 0
 IsOfRange (FoldTo to first body) = Unit {0}
 IsOfRange (FoldFirst from first body) = Unit {0}
 IsOfRange (FoldStart from to body) = Unit {0}
-IsOfRange (FoldTurn next end body) = Unit {0}
 IsOfRange (SweepTo reduction grain to body) = Unit {0}
 IsOfRange (SweepStart reduction grain from body) = Unit {0}
-IsOfRange (SweepTurn reduction next end so_far body) = Unit {0}
 IsOfRange _ = ⊥
 
 -- such a frame, or one at which the thread pauses

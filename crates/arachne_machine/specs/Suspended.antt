@@ -1,5 +1,5 @@
 -- What callers see of a thread between two calls.
-use Rattle.std.specs.Prelude.{◌≡◌, ◌≤◌, ℕ, ◌+◌, List, [], ◌∷◌, ◌++◌, length, get_or, set, false, Option, None, Some, option_map, slice_get}
+use Rattle.std.specs.Prelude.{◌≡◌, ◌≤◌, ℕ, ◌+◌, List, [], ◌∷◌, ◌++◌, length, get_or, set, Option, None, Some, option_map, slice_get}
 use Rattle.arachne_lang.specs.Value.{wrapped}
 use Rattle.arachne_lang.specs.Effects.{Task, tabulated}
 use Rattle.arachne_lang.specs.declared.program.Class.{Class}
@@ -7,6 +7,7 @@ use Rattle.arachne_lang.specs.declared.program.Program.{Program}
 use Rattle.arachne_lang.specs.Program.{source_of}
 use Rattle.arachne_lang.specs.Meaning.{child_of}
 use Rattle.arachne_machine.specs.declared.line.Label.{Label}
+use Rattle.arachne_machine.specs.declared.line.Ran.TheVariants as ways
 use Rattle.arachne_machine.specs.declared.line.ThreadLine.{ThreadLine}
 use Rattle.arachne_machine.specs.declared.pause.Pending.{Pending}
 use Rattle.arachne_machine.specs.declared.pause.Pending.TheVariants as pause
@@ -44,7 +45,7 @@ awaited thread = option_map (λ number. thread.name ++ number ∷ []) (slice_get
 
 -- its own line, once it has ended
 abbrev pub own_line_of : Suspended → ThreadLine
-own_line_of thread = record { name = thread.name; tag = thread.label.tag; holds = thread.holds; in_place = thread.label.in_place }
+own_line_of thread = record { name = thread.name; tag = thread.label.tag; holds = thread.holds; ran = thread.label.ran }
 
 -- the numbers with the one at this place raised by an amount, modulo 2 ^ 64; nothing where there is none
 abbrev pub raised : List ℕ → ℕ → ℕ → List ℕ
@@ -97,7 +98,7 @@ pub record MakesSteps (least most : ℕ) (old new : Suspended) : Type 0 where
 pub record IsFresh (program : Program) (name : List ℕ) (tag : ℕ) (thread : Suspended) : Type 0 where
   pub same_program : thread.program ≡ program
   pub has_name : thread.name ≡ name
-  pub has_label : thread.label ≡ record { tag = tag; in_place = false }
+  pub has_label : thread.label ≡ record { tag = tag; ran = ways.Slot }
   pub no_forks : thread.forks ≡ 0
   pub none_unjoined : thread.unjoined ≡ []
   pub no_locks : thread.locks ≡ []

@@ -2,40 +2,44 @@
 use crate::frame::{Control, Frame};
 use crate::spares::Spares;
 use crate::state::{Progress, State, Stop};
-use arachne_lang::Expr;
+use arachne_lang::{Expr, Operation};
 use std::alloc::AllocError;
 
 /// How an expression is begun.
 impl<'p> State<'p> {
-    ghost use Rattle.std.specs.Prelude.{◌≡◌, length, slice_index, IfOk, OnOk, OnErr};
-    ghost use Rattle.arachne_lang.specs.Program.{source_of};
-    ghost use Rattle.arachne_lang.specs.Value.{array_at};
+    ghost use Rattle.std.specs.Prelude.{◌≡◌, ◌≤◌, length, slice_index, IfOk, IfSome, OnOk, OnErr};
+    ghost use Rattle.std.specs.Borrow.{Bor};
+    ghost use Rattle.arachne_lang.specs.declared.program.Expr.{Expr as Expression};
+    ghost use Rattle.arachne_lang.specs.Tree.{Binary};
+    ghost use Rattle.arachne_lang.specs.Program.{source_of, tree_of};
+    ghost use Rattle.arachne_lang.specs.Value.{array_at, value_of};
     ghost use Rattle.arachne_machine.specs.declared.frame.Frame.TheVariants as frames;
     ghost use Rattle.arachne_machine.specs.declared.frame.Control.TheVariants as control;
-    ghost use Rattle.arachne_machine.specs.Steps.{IsNumbered, IsUnchanged, Enters, Progresses, OnValue};
+    ghost use Rattle.arachne_machine.specs.Pure.{IsLeaf};
+    ghost use Rattle.arachne_machine.specs.Steps.{beginning, IsNumbered, IsUnchanged, Enters, OnValue, Reaches};
 
     /// Begins this expression. Where its value is known at once nothing else has changed.
     #[inline(always)]
     pub fn begin(
         &mut self,
         expr: &'p Expr,
+        left: &mut u32,
         spares: &mut Spares<'p>,
     ) -> Result<Progress<'p>, AllocError>
-        requires begins { self.old.control ≡ control.Begin expr }
-        requires numbered { IsNumbered self.old }
-        ensures ok { IfOk result (λ progress. Progresses self.old progress self.new) }
+        requires numbered { IsNumbered (beginning self.old expr) }
+        ensures ok { IfOk result (λ progress. Reaches left.old left.new (beginning self.old expr.entry) progress self.new) }
         ensures same { IfOk result (λ progress. OnValue progress (IsUnchanged self.old self.new)) }
+        ensures fewer { left.new ≤ left.old }
         ensures err { OnErr result (IsUnchanged self.old self.new) }
     {
-        match expr {
+        let part = match expr {
             Expr::Num(number) => return Ok(Progress::Value(*number)),
             Expr::Var(variable) => return Ok(Progress::Value(self.variable(*variable))),
             Expr::Len(array) => return Ok(Progress::Value(self.length(*array))),
             Expr::Item(array, index) => self.enter(Frame::Index(*array), index)?,
-            Expr::Binary(operation, left, right) => self.enter(
-                Frame::Right(*operation, right),
-                left,
-            )?,
+            Expr::Binary(operation, first, second) => {
+                return self.operate(*operation, first, second, left);
+            }
             Expr::If(condition, first, second) => self.enter(
                 Frame::Branch(first, second),
                 condition,
@@ -43,9 +47,10 @@ impl<'p> State<'p> {
             Expr::Let(bound, body) => self.enter(Frame::Extend(body), bound)?,
             Expr::Tally(ledger, amount, body) => self.enter(Frame::Amount(*ledger, body), amount)?,
             Expr::Fold(from, to, first, body) => self.enter(Frame::FoldTo(to, first, body), from)?,
-            Expr::Sweep(reduction, grain, from, to, body) => {
-                self.enter(Frame::SweepTo(*reduction, *grain, to, body), from)?;
-            }
+            Expr::Sweep(reduction, grain, from, to, body) => self.enter(
+                Frame::SweepTo(*reduction, *grain, to, body),
+                from,
+            )?,
             Expr::Hold(lock, body) => {
                 self.ask(*lock, body)?;
                 return Ok(Progress::Made(Some(Stop::Asks(*lock))));
@@ -54,19 +59,62 @@ impl<'p> State<'p> {
                 let child = self.fork(child, during, after, spares)?;
                 return Ok(Progress::Made(Some(Stop::Forks(*class, child))));
             }
+        };
+        Ok(Progress::Begin(part))
+    }
+
+    /// Begins an operation. Sides that are numbers or variables are begun with it, each by a step, where two are left.
+    #[inline(always)]
+    fn operate(
+        &mut self,
+        operation: Operation,
+        first: &'p Expr,
+        second: &'p Expr,
+        left: &mut u32,
+    ) -> Result<Progress<'p>, AllocError>
+        ensures ok { (expr : Bor Expression) → tree_of expr.now ≡ Binary operation (tree_of first.now) (tree_of second.now) →
+            IfOk result (λ progress. Reaches left.old left.new (beginning self.old expr) progress self.new) }
+        ensures same { IfOk result (λ progress. OnValue progress (IsUnchanged self.old self.new)) }
+        ensures fewer { left.new ≤ left.old }
+        ensures err { OnErr result (IsUnchanged self.old self.new) }
+    {
+        if *left >= 2
+            && let Some(x) = self.leaf(first)
+        {
+            *left -= 1;
+            if let Some(y) = self.leaf(second) {
+                *left -= 1;
+                return Ok(Progress::Value(operation.apply(x, y)));
+            }
+            let part = self.enter(Frame::Apply(operation, x), second)?;
+            return Ok(Progress::Begin(part));
         }
-        Ok(Progress::Made(None))
+        let part = self.enter(Frame::Right(operation, second), first)?;
+        Ok(Progress::Begin(part))
+    }
+
+    /// The value of a number or a variable.
+    #[inline(always)]
+    fn leaf(&self, expr: &Expr) -> Option<u64>
+        ensures leaf { IfSome result (λ _. IsLeaf (tree_of expr.now)) }
+        ensures value { IfSome result (λ value. value ≡ value_of (source_of self.now.program.now).arrays (tree_of expr.now) self.now.environment.items) }
+    {
+        match expr {
+            Expr::Num(number) => Some(*number),
+            Expr::Var(variable) => Some(self.variable(*variable)),
+            _ => None,
+        }
     }
 
     /// Begins a part of an expression; the frame says what comes after it.
     #[inline(always)]
-    fn enter(&mut self, frame: Frame<'p>, part: &'p Expr) -> Result<(), AllocError>
-        ensures ok { OnOk result (Enters self.old self.new frame.entry (control.Begin part.entry)) }
+    fn enter(&mut self, frame: Frame<'p>, part: &'p Expr) -> Result<&'p Expr, AllocError>
+        ensures part { IfOk result (λ begun. begun ≡ part.entry) }
+        ensures ok { OnOk result (Enters self.old self.new frame.entry self.old.control) }
         ensures err { OnErr result (IsUnchanged self.old self.new) }
     {
         self.frames.push(frame)?;
-        self.control = Control::Begin(part);
-        Ok(())
+        Ok(part)
     }
 
     /// Asks for a lock. It is freed once the value of the expression is known.

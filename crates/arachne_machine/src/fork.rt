@@ -1,16 +1,16 @@
 //! The steps that fork a child or split a sweep.
 use crate::frame::{Control, Frame, Stretch};
 use crate::spares::Spares;
-use crate::state::{State, Stop};
+use crate::state::{Progress, State, Stop};
 use arachne_lang::{Class, Expr};
 use std::alloc::AllocError;
 
 /// The steps that fork a child, and those that begin a part of a sweep.
 impl<'p> State<'p> {
-    ghost use Rattle.std.specs.Prelude.{◌≡◌, ◌+◌, ◌<◌, ◌^◌, IfOk, OnErr};
+    ghost use Rattle.std.specs.Prelude.{◌≡◌, ◌≤◌, ◌+◌, ◌<◌, ◌^◌, IfOk, OnErr};
     ghost use Rattle.arachne_machine.specs.declared.frame.Frame.TheVariants as frames;
     ghost use Rattle.arachne_machine.specs.declared.frame.Control.TheVariants as control;
-    ghost use Rattle.arachne_machine.specs.Steps.{IsBeginning, IsNumbered, IsUnchanged, PushesFork, AfterSteps};
+    ghost use Rattle.arachne_machine.specs.Steps.{IsBeginning, IsNumbered, IsUnchanged, OnValue, PushesFork, Reaches};
 
     /// A new child, whose number is the fork's. The own thread goes on with what it does meanwhile.
     pub fn fork(
@@ -68,28 +68,31 @@ impl<'p> State<'p> {
     pub fn cover(
         &mut self,
         stretch: Stretch<'p>,
+        left: &mut u32,
         spares: &mut Spares<'p>,
-    ) -> Result<Option<Stop<'p>>, AllocError>
+    ) -> Result<Progress<'p>, AllocError>
         requires covers { self.old.control ≡ control.Cover stretch }
         requires numbered { IsNumbered self.old }
-        ensures ok { IfOk result (λ stop. AfterSteps 1 self.old stop self.new) }
+        ensures ok { IfOk result (λ progress. Reaches left.old left.new self.old progress self.new) }
+        ensures same { IfOk result (λ progress. OnValue progress (IsUnchanged self.old self.new)) }
+        ensures fewer { left.new ≤ left.old }
         ensures err { OnErr result (IsUnchanged self.old self.new) }
     {
         let count = stretch.end.saturating_sub(stretch.first);
         if count > stretch.grain.max(1) {
             let child = self.halve(stretch, stretch.first + count / 2, spares)?;
-            return Ok(Some(Stop::Forks(Class::Normal, child)));
+            return Ok(Progress::Made(Some(Stop::Forks(Class::Normal, child))));
         }
         self.reserve_turn()?;
         let unit = stretch.reduction.unit();
-        self.turn_sweep(
+        Ok(self.turn_sweep(
             stretch.reduction,
             stretch.first,
             stretch.end,
             stretch.body,
             unit,
-        );
-        Ok(None)
+            left,
+        ))
     }
 
     /// A new child for what is left of this middle. The own thread goes on with what is right of it.

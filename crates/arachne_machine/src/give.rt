@@ -13,23 +13,26 @@ impl<'p> State<'p> {
     ghost use Rattle.arachne_machine.specs.declared.frame.Frame.TheVariants as frames;
     ghost use Rattle.arachne_machine.specs.declared.frame.Control.TheVariants as control;
     ghost use Rattle.arachne_machine.specs.Ending.{without_newest};
-    ghost use Rattle.arachne_machine.specs.Steps.{Becomes, IsUnchanged, IsPopped, IsPauseOrRange, IsOfRange, Enters, TurnsFold, TurnsSweep, AfterSteps, Progresses, OnValue, giving};
+    ghost use Rattle.arachne_machine.specs.Steps.{Becomes, IsOneStep, IsUnchanged, IsPopped, IsPauseOrRange, IsOfRange, Enters, TurnsFold, TurnsSweep, OnValue, Reaches, giving, seen};
+    ghost use Rattle.arachne_machine.specs.declared.state.Progress.TheVariants as ways;
 
     /// Hands a value on from frame to frame, until one of them says what the thread does next, or none is left.
     #[inline(always)]
-    pub fn give(&mut self, mut value: u64) -> Result<Option<Stop<'p>>, AllocError>
-        ensures ok { IfOk result (λ stop. AfterSteps 1 (giving self.old value) stop self.new) }
+    pub fn give(&mut self, mut value: u64, left: &mut u32) -> Result<Progress<'p>, AllocError>
+        ensures ok { IfOk result (λ progress. Reaches left.old left.new (giving self.old value) progress self.new) }
+        ensures handed { IfOk result (λ progress. OnValue progress ⊥) }
+        ensures fewer { left.new ≤ left.old }
         ensures err { OnErr result (IsUnchanged self.old self.new) }
     {
         self.environment.try_reserve(2)?;
         while let Some(frame) = self.frames.pop() {
-            match self.hand(frame, value) {
+            match self.hand(frame, value, left) {
                 Progress::Value(next) => value = next,
-                Progress::Made(stop) => return Ok(stop),
+                progress => return Ok(progress),
             }
         }
         self.control = Control::Ended(value);
-        Ok(Some(Stop::Ended))
+        Ok(Progress::Made(Some(Stop::Ended)))
     }
 
     /// Room for what a value begins.
@@ -44,105 +47,30 @@ impl<'p> State<'p> {
 
     /// Hands a value to this frame, which was the newest.
     #[inline(always)]
-    fn hand(&mut self, frame: Frame<'p>, value: u64) -> Progress<'p>
+    fn hand(&mut self, frame: Frame<'p>, value: u64, left: &mut u32) -> Progress<'p>
         requires environment { vec_len self.old.environment + 2 ≤ vec_capacity self.old.environment }
         requires frames { vec_len self.old.frames + 1 ≤ vec_capacity self.old.frames }
-        ensures made { (before : Thread) → IsPopped frame.entry before (giving self.old value) → Progresses before result self.new }
+        ensures made { (before : Thread) → IsPopped frame.entry before (giving self.old value) → Reaches left.old left.new before result self.new }
+        ensures fewer { left.new ≤ left.old }
         ensures room { OnValue result (vec_len self.new.environment + 2 ≤ vec_capacity self.new.environment) }
         ensures frames { OnValue result (vec_len self.new.frames ≤ vec_len self.old.frames) }
     {
         match frame {
-            Frame::Index(array) => return Progress::Value(self.item(array, value)),
-            Frame::Apply(operation, left) => {
-                return Progress::Value(operation.apply(left, value));
-            }
+            Frame::Index(array) => Progress::Value(self.item(array, value)),
+            Frame::Apply(operation, first) => Progress::Value(operation.apply(first, value)),
             Frame::Restore(length) => {
                 self.environment.truncate(length);
-                return Progress::Value(value);
+                Progress::Value(value)
             }
             Frame::Right(operation, right) => self.go_on(Frame::Apply(operation, value), right),
             Frame::Branch(first, second) => {
-                self.control = Control::Begin(if value == 0 { second } else { first });
+                let next = if value == 0 { second } else { first };
+                Progress::Begin(next)
             }
             Frame::Extend(body) => self.extend(value, body),
-            _ => return Progress::Made(self.hand_on(frame, value)),
-        }
-        Progress::Made(None)
-    }
-
-    /// The same for a frame at which the thread pauses, or one of a fold or a sweep.
-    #[inline(always)]
-    fn hand_on(&mut self, frame: Frame<'p>, value: u64) -> Option<Stop<'p>>
-        requires later { IsPauseOrRange frame }
-        requires environment { vec_len self.old.environment + 2 ≤ vec_capacity self.old.environment }
-        requires frames { vec_len self.old.frames + 1 ≤ vec_capacity self.old.frames }
-        ensures { (before : Thread) → IsPopped frame.entry before (giving self.old value) → AfterSteps 1 before result self.new }
-    {
-        match frame {
-            Frame::Amount(ledger, body) => {
-                self.control = Control::Tallies {
-                    ledger,
-                    amount: value,
-                    body,
-                };
-                Some(Stop::Tallies(ledger, value))
-            }
-            Frame::Release(lock) => {
-                self.control = Control::Frees { lock, value };
-                Some(Stop::Frees(lock))
-            }
-            Frame::Join { number, after } => {
-                self.control = Control::Awaits {
-                    number,
-                    during: value,
-                    after,
-                };
-                Some(Stop::Joins)
-            }
-            Frame::Merge { number, reduction } => {
-                self.control = Control::AwaitsHalf {
-                    number,
-                    right: value,
-                    reduction,
-                };
-                Some(Stop::Joins)
-            }
-            _ => {
-                self.hand_to_range(frame, value);
-                None
-            }
-        }
-    }
-
-    /// The same for a frame of a fold or a sweep.
-    #[inline(always)]
-    fn hand_to_range(&mut self, frame: Frame<'p>, value: u64)
-        requires range { IsOfRange frame }
-        requires environment { vec_len self.old.environment + 2 ≤ vec_capacity self.old.environment }
-        requires frames { vec_len self.old.frames + 1 ≤ vec_capacity self.old.frames }
-        ensures { (before : Thread) → IsPopped frame.entry before (giving self.old value) → AfterSteps 1 before None self.new }
-    {
-        match frame {
-            Frame::FoldTo(to, first, body) => self.go_on(Frame::FoldFirst(value, first, body), to),
-            Frame::FoldFirst(from, first, body) => {
-                self.go_on(Frame::FoldStart(from, value, body), first);
-            }
-            Frame::FoldStart(from, to, body) => self.turn_fold(from, to, body, value),
             Frame::FoldTurn { next, end, body } => {
                 self.drop_newest(2);
-                self.turn_fold(next, end, body, value);
-            }
-            Frame::SweepTo(reduction, grain, to, body) => {
-                self.go_on(Frame::SweepStart(reduction, grain, value, body), to);
-            }
-            Frame::SweepStart(reduction, grain, first, body) => {
-                self.control = Control::Cover(Stretch {
-                    reduction,
-                    grain,
-                    first,
-                    end: value,
-                    body,
-                });
+                self.turn_fold(next, end, body, value, left)
             }
             Frame::SweepTurn {
                 reduction,
@@ -153,7 +81,85 @@ impl<'p> State<'p> {
             } => {
                 self.drop_newest(1);
                 let value = reduction.operation().apply(so_far, value);
-                self.turn_sweep(reduction, next, end, body, value);
+                self.turn_sweep(reduction, next, end, body, value, left)
+            }
+            _ => self.hand_on(frame, value, left),
+        }
+    }
+
+    /// The same for a frame at which the thread pauses, or the beginning of a fold or a sweep.
+    #[inline(always)]
+    fn hand_on(&mut self, frame: Frame<'p>, value: u64, left: &mut u32) -> Progress<'p>
+        requires later { IsPauseOrRange frame }
+        requires environment { vec_len self.old.environment + 2 ≤ vec_capacity self.old.environment }
+        requires frames { vec_len self.old.frames + 1 ≤ vec_capacity self.old.frames }
+        ensures made { (before : Thread) → IsPopped frame.entry before (giving self.old value) → Reaches left.old left.new before result self.new }
+        ensures fewer { left.new ≤ left.old }
+        ensures room { OnValue result (vec_len self.new.environment + 2 ≤ vec_capacity self.new.environment) }
+        ensures frames { OnValue result (vec_len self.new.frames ≤ vec_len self.old.frames) }
+    {
+        match frame {
+            Frame::Amount(ledger, body) => {
+                self.control = Control::Tallies {
+                    ledger,
+                    amount: value,
+                    body,
+                };
+                Progress::Made(Some(Stop::Tallies(ledger, value)))
+            }
+            Frame::Release(lock) => {
+                self.control = Control::Frees { lock, value };
+                Progress::Made(Some(Stop::Frees(lock)))
+            }
+            Frame::Join { number, after } => {
+                self.control = Control::Awaits {
+                    number,
+                    during: value,
+                    after,
+                };
+                Progress::Made(Some(Stop::Joins))
+            }
+            Frame::Merge { number, reduction } => {
+                self.control = Control::AwaitsHalf {
+                    number,
+                    right: value,
+                    reduction,
+                };
+                Progress::Made(Some(Stop::Joins))
+            }
+            _ => self.hand_to_range(frame, value, left),
+        }
+    }
+
+    /// The same for the beginning of a fold or a sweep.
+    #[inline(always)]
+    fn hand_to_range(&mut self, frame: Frame<'p>, value: u64, left: &mut u32) -> Progress<'p>
+        requires range { IsOfRange frame }
+        requires environment { vec_len self.old.environment + 2 ≤ vec_capacity self.old.environment }
+        requires frames { vec_len self.old.frames + 1 ≤ vec_capacity self.old.frames }
+        ensures made { (before : Thread) → IsPopped frame.entry before (giving self.old value) → Reaches left.old left.new before result self.new }
+        ensures fewer { left.new ≤ left.old }
+        ensures room { OnValue result (vec_len self.new.environment + 2 ≤ vec_capacity self.new.environment) }
+        ensures frames { OnValue result (vec_len self.new.frames ≤ vec_len self.old.frames) }
+    {
+        match frame {
+            Frame::FoldTo(to, first, body) => self.go_on(Frame::FoldFirst(value, first, body), to),
+            Frame::FoldFirst(from, first, body) => {
+                self.go_on(Frame::FoldStart(from, value, body), first)
+            }
+            Frame::FoldStart(from, to, body) => self.turn_fold(from, to, body, value, left),
+            Frame::SweepTo(reduction, grain, to, body) => {
+                self.go_on(Frame::SweepStart(reduction, grain, value, body), to)
+            }
+            Frame::SweepStart(reduction, grain, first, body) => {
+                self.control = Control::Cover(Stretch {
+                    reduction,
+                    grain,
+                    first,
+                    end: value,
+                    body,
+                });
+                Progress::Made(None)
             }
             _ => unreachable!(),
         }
@@ -161,26 +167,44 @@ impl<'p> State<'p> {
 
     /// Begins an expression after a frame was taken away; this frame says what comes after it.
     #[inline(always)]
-    fn go_on(&mut self, frame: Frame<'p>, part: &'p Expr)
+    fn go_on(&mut self, frame: Frame<'p>, part: &'p Expr) -> Progress<'p>
         requires { vec_len self.old.frames + 1 ≤ vec_capacity self.old.frames }
-        ensures { Enters self.old self.new frame.entry (control.Begin part.entry) }
+        ensures begins { result ≡ ways.Begin part.entry }
+        ensures same { Enters self.old self.new frame.entry self.old.control }
     {
         self.frames.push_reserved(frame);
-        self.control = Control::Begin(part);
+        Progress::Begin(part)
     }
 
     /// Begins an expression with a newest variable.
     #[inline(always)]
-    fn extend(&mut self, value: u64, body: &'p Expr)
+    fn extend(&mut self, value: u64, body: &'p Expr) -> Progress<'p>
         requires environment { vec_len self.old.environment + 1 ≤ vec_capacity self.old.environment }
         requires frames { vec_len self.old.frames + 1 ≤ vec_capacity self.old.frames }
-        ensures { Becomes self.old self.new (with_newest self.old.environment.items value)
-            (self.old.frames.items ++ frames.Restore (length self.old.environment.items) ∷ []) (control.Begin body.entry) }
+        ensures begins { result ≡ ways.Begin body.entry }
+        ensures same { Becomes self.old self.new (with_newest self.old.environment.items value)
+            (self.old.frames.items ++ frames.Restore (length self.old.environment.items) ∷ []) self.old.control }
     {
         let length = self.environment.len();
         self.environment.push_reserved(value);
         self.frames.push_reserved(Frame::Restore(length));
-        self.control = Control::Begin(body);
+        Progress::Begin(body)
+    }
+
+    /// What a fold or a part of a sweep comes to, which is handed on by a step of its own: at once where one is left.
+    #[inline(always)]
+    fn hand_result(&mut self, value: u64, left: &mut u32) -> Progress<'p>
+        ensures same { Becomes self.old (seen result self.new) self.old.environment.items self.old.frames.items (control.Give value) }
+        ensures step { IsOneStep left.old left.new result self.new }
+        ensures fewer { left.new ≤ left.old }
+        ensures room { OnValue result (self.new ≡ self.old) }
+    {
+        if *left == 0 {
+            self.control = Control::Give(value);
+            return Progress::Made(None);
+        }
+        *left -= 1;
+        Progress::Value(value)
     }
 
     /// Drops so many of the newest variables.
@@ -212,14 +236,23 @@ impl<'p> State<'p> {
 
     /// A fold that has this value so far goes on from a number to below an end.
     #[inline(always)]
-    fn turn_fold(&mut self, next: u64, end: u64, body: &'p Expr, so_far: u64)
+    fn turn_fold(
+        &mut self,
+        next: u64,
+        end: u64,
+        body: &'p Expr,
+        so_far: u64,
+        left: &mut u32,
+    ) -> Progress<'p>
         requires environment { vec_len self.old.environment + 2 ≤ vec_capacity self.old.environment }
         requires frames { vec_len self.old.frames + 1 ≤ vec_capacity self.old.frames }
-        ensures { TurnsFold self.old self.new next end body.entry so_far }
+        ensures turns { TurnsFold self.old (seen result self.new) next end body.entry so_far }
+        ensures step { IsOneStep left.old left.new result self.new }
+        ensures fewer { left.new ≤ left.old }
+        ensures room { OnValue result (self.new ≡ self.old) }
     {
         if next >= end {
-            self.control = Control::Give(so_far);
-            return;
+            return self.hand_result(so_far, left);
         }
         self.environment.push_reserved(next);
         self.environment.push_reserved(so_far);
@@ -228,11 +261,11 @@ impl<'p> State<'p> {
             end,
             body,
         };
-        self.frames.push_reserved(turn);
-        self.control = Control::Begin(body);
+        self.go_on(turn, body)
     }
 
     /// A sweep that has this value so far goes on from a number to below an end.
+    #[inline(always)]
     pub fn turn_sweep(
         &mut self,
         reduction: Reduction,
@@ -240,14 +273,17 @@ impl<'p> State<'p> {
         end: u64,
         body: &'p Expr,
         so_far: u64,
-    )
+        left: &mut u32,
+    ) -> Progress<'p>
         requires environment { vec_len self.old.environment + 2 ≤ vec_capacity self.old.environment }
         requires frames { vec_len self.old.frames + 1 ≤ vec_capacity self.old.frames }
-        ensures { TurnsSweep self.old self.new reduction next end body.entry so_far }
+        ensures turns { TurnsSweep self.old (seen result self.new) reduction next end body.entry so_far }
+        ensures step { IsOneStep left.old left.new result self.new }
+        ensures fewer { left.new ≤ left.old }
+        ensures room { OnValue result (self.new ≡ self.old) }
     {
         if end <= next {
-            self.control = Control::Give(so_far);
-            return;
+            return self.hand_result(so_far, left);
         }
         self.environment.push_reserved(next);
         let turn = Frame::SweepTurn {
@@ -257,7 +293,6 @@ impl<'p> State<'p> {
             so_far,
             body,
         };
-        self.frames.push_reserved(turn);
-        self.control = Control::Begin(body);
+        self.go_on(turn, body)
     }
 }

@@ -20,8 +20,8 @@ mod tables;
 mod thread;
 
 pub use alone::run_alone;
-pub use line::ThreadLine;
+pub use line::{Ran, ThreadLine};
 pub use outcome::{Outcome, OutcomeParts};
-pub use pause::{NotJoined, Pause, Pending};
+pub use pause::{NotJoined, NotPlaced, Pause, Pending};
 pub use spares::Spares;
 pub use thread::Thread;

@@ -2,13 +2,24 @@
 use arachne_lang::{Name, Sequence};
 use std::alloc::Global;
 
+/// Where a thread ran.
+#[derive(Clone, Copy, Debug, PartialEq, Eq)]
+pub enum Ran {
+    /// At a place that its fork found.
+    Slot,
+    /// At a place that was found for it later, while it waited.
+    Spill,
+    /// In its parent's place.
+    InPlace,
+}
+
 /// What is told of a thread beside what it does.
 #[derive(Clone, Copy, Debug)]
 pub struct Label {
     /// The tag that it runs under.
     pub tag: u64,
-    /// It runs in its parent's place.
-    pub in_place: bool,
+    /// Where it runs.
+    pub ran: Ran,
 }
 
 /// What is known of a thread once it has ended.
@@ -19,8 +30,8 @@ pub struct ThreadLine {
     pub tag: u64,
     /// For each lock how often it held it, modulo 2^64.
     pub holds: Sequence<u64>,
-    /// It ran in its parent's place.
-    pub in_place: bool,
+    /// Where it ran.
+    pub ran: Ran,
 }
 
 impl ThreadLine {
@@ -30,7 +41,7 @@ impl ThreadLine {
             name: Name::root(alloc),
             tag: 0,
             holds: Sequence::from(Vec::new(alloc)),
-            in_place: false,
+            ran: Ran::Slot,
         }
     }
 }

@@ -2,6 +2,7 @@
 use crate::outcome::Outcome;
 use crate::thread::Thread;
 use arachne_lang::Class;
+use std::fmt;
 use thiserror::Error;
 
 /// Why a thread paused.
@@ -11,7 +12,7 @@ pub enum Pause<'p> {
     Budget,
     /// It forks a child of this class: give the child away and answer `forked`, or hand it to `in_place`.
     Forks(Class, Thread<'p>),
-    /// It awaits the outcome of a child: answer `joined`.
+    /// It awaits the outcome of a child: answer `joined`, or hand the child to `in_place`.
     Joins,
     /// It asks for this lock: answer `granted` once it has it.
     Asks(u64),
@@ -46,4 +47,25 @@ pub enum NotJoined<'p> {
     /// Memory was refused.
     #[error("out of memory")]
     Memory(Outcome<'p>),
+}
+
+/// Why a child was not placed. It comes back.
+#[derive(Drop, Error)]
+pub enum NotPlaced<'p> {
+    /// It is not the child that is awaited.
+    #[error("another thread")]
+    Foreign(Thread<'p>),
+    /// Memory was refused.
+    #[error("out of memory")]
+    Memory(Thread<'p>),
+}
+
+/// Says why, without the child.
+impl<'p> fmt::Debug for NotPlaced<'p> {
+    fn fmt<W: fmt::Write>(&self, f: &mut fmt::Formatter<W>) -> fmt::Result {
+        match self {
+            NotPlaced::Foreign(_) => write!(f, "Foreign"),
+            NotPlaced::Memory(_) => write!(f, "Memory"),
+        }
+    }
 }

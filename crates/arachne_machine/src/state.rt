@@ -1,12 +1,12 @@
 //! What a thread is between two steps.
 use crate::frame::{Control, Frame};
-use crate::line::{Label, ThreadLine};
+use crate::line::{Label, Ran, ThreadLine};
 use crate::lines::{Below, Lines};
 use crate::outcome::Outcome;
 use crate::pause::Pending;
 use crate::spares::Spares;
 use crate::tables::zeros;
-use arachne_lang::{Class, Name, Program, Sequence};
+use arachne_lang::{Class, Expr, Name, Program, Sequence};
 use std::alloc::{AllocError, Global};
 use std::mem::replace;
 
@@ -26,7 +26,7 @@ impl Own {
             name: Name::root(alloc),
             label: Label {
                 tag: 0,
-                in_place: false,
+                ran: Ran::Slot,
             },
             holds: Vec::new(alloc),
         }
@@ -73,18 +73,20 @@ pub enum Stop<'p> {
 pub enum Progress<'p> {
     /// This value is handed to the newest frame.
     Value(u64),
-    /// The step is made, and the thread stops where there is a reason to.
+    /// The step is made, and this expression is begun next.
+    Begin(&'p Expr),
+    /// The step is made: the thread stops where there is a reason to, and else its control says what is next.
     Made(Option<Stop<'p>>),
 }
 
 impl<'p> State<'p> {
-    ghost use Rattle.std.specs.Prelude.{◌≡◌, ◌-◌, ◌∷◌, IfOk, OnErr, OnOk, None, Some, false};
+    ghost use Rattle.std.specs.Prelude.{◌≡◌, ◌≤◌, ◌-◌, ◌∷◌, IfOk, OnErr, OnOk, None, Some, false};
     ghost use Rattle.arachne_lang.specs.Program.{source_of};
     ghost use Rattle.arachne_machine.specs.Sound.{IsSound};
     ghost use Rattle.arachne_machine.specs.Ending.{locks_of};
     ghost use Rattle.arachne_machine.specs.Suspended.{own_line_of};
     ghost use Rattle.arachne_machine.specs.Faultless.{IsFaultlessNext, IsWithoutFault};
-    ghost use Rattle.arachne_machine.specs.Steps.{pending_of, suspended, task_begun, IsBeginning, IsNumbered, IsRenewed, IsUnchanged, GoesWithin, IsNew, AfterSteps, IsSpent, TakesAll};
+    ghost use Rattle.arachne_machine.specs.Steps.{current, pending_of, suspended, task_begun, IsBeginning, IsLeftOver, IsNumbered, IsRenewed, IsUnchanged, GoesWithin, IsNew, AfterSteps, IsSpent, OnValue, Reaches, TakesAll};
     ghost use Rattle.arachne_machine.specs.declared.pause.Pending.TheVariants as pause;
     ghost use Rattle.arachne_machine.specs.declared.frame.Control.TheVariants as control;
 
@@ -106,7 +108,7 @@ impl<'p> State<'p> {
     {
         let label = Label {
             tag,
-            in_place: false,
+            ran: Ran::Slot,
         };
         let holds = zeros(alloc, program.locks)?;
         let sums = zeros(alloc, program.ledgers)?;
@@ -173,37 +175,99 @@ impl<'p> State<'p> {
         ensures err_locks { OnErr result (locks_of self.new ≡ locks_of self.old) }
         ensures running { OnErr result (pending_of self.new.control ≡ None) }
     {
-        let budget = *left;
-        for counter in 0..budget {
-            if let Some(stop) = self.step(spares)? {
-                *left = budget - counter - 1;
-                return Ok(Some(stop));
-            }
+        let mut rest = *left;
+        let mut begins = self.beginning();
+        while rest > 0 {
+            rest -= 1;
+            let progress = match self.make(begins, &mut rest, spares) {
+                Ok(progress) => progress,
+                Err(refused) => {
+                    self.settle(begins);
+                    return Err(refused);
+                }
+            };
+            begins = match progress {
+                Progress::Begin(expr) => Some(expr),
+                Progress::Made(None) => None,
+                Progress::Made(Some(stop)) => {
+                    *left = rest;
+                    return Ok(Some(stop));
+                }
+                Progress::Value(_) => unreachable!(),
+            };
         }
+        self.settle(begins);
         *left = 0;
         Ok(None)
     }
 
-    /// One step: it begins an expression and hands on its value where that is known at once, or begins a part of a sweep, or hands on a
-    /// value that was left over.
+    /// The expression that is begun next, where one is.
     #[inline(always)]
-    fn step(&mut self, spares: &mut Spares<'p>) -> Result<Option<Stop<'p>>, AllocError>
-        requires running { pending_of self.old.control ≡ None }
-        requires numbered { IsNumbered self.old }
-        ensures ok { IfOk result (λ stop. AfterSteps 1 self.old stop self.new) }
+    fn beginning(&self) -> Option<&'p Expr>
+        ensures current { current result self.now ≡ self.now }
+        ensures left_over { result ≡ None → pending_of self.now.control ≡ None → IsLeftOver self.now.control }
+    {
+        match self.control {
+            Control::Begin(expr) => Some(expr),
+            _ => None,
+        }
+    }
+
+    /// Writes down that this expression is begun next, where one is.
+    #[inline(always)]
+    fn settle(&mut self, begins: Option<&'p Expr>)
+        ensures { self.new ≡ current begins.entry self.old }
+    {
+        if let Some(expr) = begins {
+            self.control = Control::Begin(expr);
+        }
+    }
+
+    /// A step, and with it further ones of those that are left, which need nothing but what is known then. It begins this expression,
+    /// or else a part of a sweep, or takes a value that was left over; and hands on the value that is known at once.
+    #[inline(always)]
+    fn make(
+        &mut self,
+        begins: Option<&'p Expr>,
+        left: &mut u32,
+        spares: &mut Spares<'p>,
+    ) -> Result<Progress<'p>, AllocError>
+        requires left_over { begins ≡ None → IsLeftOver self.old.control }
+        requires numbered { IsNumbered (current begins self.old) }
+        ensures ok { IfOk result (λ progress. Reaches left.old left.new (current begins.entry self.old) progress self.new) }
+        ensures handed { IfOk result (λ progress. OnValue progress ⊥) }
+        ensures fewer { left.new ≤ left.old }
         ensures err { OnErr result (IsUnchanged self.old self.new) }
     {
-        let value = match self.control {
-            Control::Begin(expr) => match self.begin(expr, spares)? {
-                Progress::Value(value) => value,
-                Progress::Made(stop) => return Ok(stop),
-            },
-            Control::Give(value) => value,
-            Control::Cover(stretch) => return self.cover(stretch, spares),
-            _ => unreachable!(),
+        let progress = match begins {
+            Some(expr) => self.begin(expr, left, spares)?,
+            None => self.resume(left, spares)?,
         };
-        let stop = self.give(value)?;
-        Ok(stop)
+        match progress {
+            Progress::Value(value) => self.give(value, left),
+            progress => Ok(progress),
+        }
+    }
+
+    /// A value that was left over is taken, or a part of a sweep is begun.
+    #[inline(always)]
+    fn resume(
+        &mut self,
+        left: &mut u32,
+        spares: &mut Spares<'p>,
+    ) -> Result<Progress<'p>, AllocError>
+        requires left_over { IsLeftOver self.old.control }
+        requires numbered { IsNumbered self.old }
+        ensures ok { IfOk result (λ progress. Reaches left.old left.new self.old progress self.new) }
+        ensures same { IfOk result (λ progress. OnValue progress (IsUnchanged self.old self.new)) }
+        ensures fewer { left.new ≤ left.old }
+        ensures err { OnErr result (IsUnchanged self.old self.new) }
+    {
+        match self.control {
+            Control::Give(value) => Ok(Progress::Value(value)),
+            Control::Cover(stretch) => self.cover(stretch, left, spares),
+            _ => unreachable!(),
+        }
     }
 
     /// The pause that is not answered.
@@ -254,7 +318,7 @@ impl<'p> State<'p> {
             name,
             tag: label.tag,
             holds: Sequence::from(holds),
-            in_place: label.in_place,
+            ran: label.ran,
         }
     }
 

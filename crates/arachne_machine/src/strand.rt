@@ -2,7 +2,7 @@
 ghost use Rattle.std.specs.Prelude.{◌≡◌, ◌≢◌, ◌↔◌, ◌≤◌, ◌+◌, ◌-◌, ℕ, List, [], ◌∷◌, ◌++◌, None, Some, IfOk, OnOk, IfErr, OnErr, IsTrue};
 ghost use Rattle.arachne_machine.specs.Suspended.{SameThread, MakesSteps, IsFresh, IsNext, IsAnswered, Joined, IsAsk, IsFree, IsTally, awaited, own_line_of, raised};
 ghost use Rattle.arachne_machine.specs.Advance.{Advanced, IsForeign, IsSpentAt, TakesAllAt, handed_back, pending_at, shown};
-ghost use Rattle.arachne_machine.specs.Nested.{in_place_of, with_tag};
+ghost use Rattle.arachne_machine.specs.Nested.{in_place_of, spilled_of, with_tag};
 ghost use Rattle.arachne_machine.specs.Stops.{halt_of, IsSoundStop};
 ghost use Rattle.arachne_lang.specs.Program.{source_of};
 ghost use Rattle.arachne_machine.specs.Outcome.{Finished};
@@ -15,6 +15,7 @@ ghost use Rattle.arachne_lang.specs.Checked.{IsChecked};
 ghost use Rattle.arachne_machine.specs.declared.pause.Pending.TheVariants as pause;
 
 use crate::frame::Control;
+use crate::line::Ran;
 use crate::lines::Lines;
 use crate::outcome::Outcome;
 use crate::pause::{NotJoined, Pending};
@@ -277,7 +278,14 @@ impl<'p> Strand<'p> {
     pub fn run_in_place(&mut self)
         ensures { self.new ≡ in_place_of self.old }
     {
-        self.state.own.label.in_place = true;
+        self.state.own.label.ran = Ran::InPlace;
+    }
+
+    /// Notes that a place was found for it while it waited.
+    pub fn set_spilled(&mut self)
+        ensures { self.new ≡ spilled_of self.old }
+    {
+        self.state.own.label.ran = Ran::Spill;
     }
 
     /// Its name.

@@ -1,8 +1,8 @@
 //! A thread with those that run in its place, as callers advance, answer and join it.
 ghost use Rattle.std.specs.Prelude.{◌≡◌, ◌≢◌, ◌↔◌, ◌≤◌, ◌+◌, ◌-◌, ℕ, ◌∷◌, [], ◌++◌, false, None, Some, IfOk, OnOk, IfErr, OnErr, IsTrue};
 ghost use Rattle.arachne_machine.specs.Suspended.{IsAnswered, IsAsk, IsFree, IsFresh, IsNext, IsTally, Joined, SameThread, awaited, own_line_of, raised};
-ghost use Rattle.arachne_machine.specs.Advance.{AdvancedAlone, AwaitsAt, Moves, RefusedAlone, IsForeign, IsPassed, IsSpentAt, PausesAt, handed_back, pending_at, shown};
-ghost use Rattle.arachne_machine.specs.Nested.{AwaitsElsewhere, FallsBy, IsAlone, IsChildOf, IsNested, Nested, SameWhole, alone, in_place_of, pending_in, whole, with_tag, work_in};
+ghost use Rattle.arachne_machine.specs.Advance.{AdvancedAlone, AwaitsAt, Moves, RefusedAlone, IsForeign, IsNotAwaited, IsPassed, IsSpentAt, PausesAt, child_back, handed_back, pending_at, shown};
+ghost use Rattle.arachne_machine.specs.Nested.{AwaitsElsewhere, FallsBy, IsAlone, IsChildOf, IsNested, IsPlacing, MayBePlaced, Nested, PlacesAtFork, SameWhole, alone, begun_in, in_place_of, pending_in, spilled_of, whole, with_tag, work_in};
 ghost use Rattle.arachne_machine.specs.Faultless.{PausesWithin};
 ghost use Rattle.arachne_machine.specs.Stops.{HasJoinedNone};
 ghost use Rattle.arachne_machine.specs.Trace.{At, trace_of};
@@ -13,7 +13,7 @@ ghost use Rattle.arachne_machine.specs.declared.pause.Pending.TheVariants as pau
 
 use crate::lines::Lines;
 use crate::outcome::Outcome;
-use crate::pause::{NotJoined, Pause, Pending};
+use crate::pause::{NotJoined, NotPlaced, Pause, Pending};
 use crate::placed::Placed;
 use crate::spares::Spares;
 use crate::strand::{Halt, Strand};
@@ -106,6 +106,15 @@ impl<'p> Thread<'p> {
         ensures child { (t : Nested) → IsChildOf t self.old → IsChildOf t self.new }
     {
         self.running.set_tag(tag);
+    }
+
+    /// Notes of a thread that has not begun that a place was found for it while it waited.
+    pub fn set_spilled(&mut self)
+        requires { self.old.parents ≡ [] }
+        ensures spilled { self.new ≡ record self.old { running = spilled_of self.old.running } }
+        ensures whole { whole self.new ≡ spilled_of (whole self.old) }
+    {
+        self.running.set_spilled();
     }
 
     /// The thread in whose place the others run.
@@ -296,11 +305,36 @@ impl<'p> Thread<'p> {
         self.running.forked();
     }
 
+    /// Answers a fork with its child, which runs in this thread's place once it is awaited; or answers a join with the
+    /// child that is awaited, which runs in its place at once. Where it returns an error nothing has changed, and the
+    /// child comes back.
+    pub fn in_place(&mut self, child: Thread<'p>) -> Result<(), NotPlaced<'p>>
+        requires pending { IsPlacing (pending_in self.old) }
+        requires child { MayBePlaced self.old child }
+        requires forked { pending_in self.old ≡ Some pause.Forks → awaited self.old.running ≡ Some (whole child).name }
+        ensures whole { SameWhole self.old self.new }
+        ensures at_fork { pending_in self.old ≡ Some pause.Forks → OnOk result (PlacesAtFork self.old child.entry self.new) }
+        ensures at_join { pending_in self.old ≡ Some pause.Joins → OnOk result (self.new ≡ begun_in self.old child.entry) }
+        ensures pending { OnOk result (pending_in self.new ≡ None) }
+        ensures work { OnOk result (work_in self.new ≡ work_in self.old + work_in child.entry) }
+        ensures foreign { IsNotAwaited result ↔ (awaited self.old.running ≢ Some (whole child.entry).name) }
+        ensures err { OnErr result (self.new ≡ self.old) }
+        ensures handed_back { IfErr result (λ e. child_back e ≡ child.entry) }
+    {
+        match self.running.pending() {
+            Some(Pending::Joins) => self.begin_awaited(child),
+            _ => match self.place_forked(child) {
+                Ok(()) => Ok(()),
+                Err(child) => Err(NotPlaced::Memory(child)),
+            },
+        }
+    }
+
     /// Answers a fork with its child, which runs in this thread's place once it is awaited. Where memory is
     /// refused nothing has changed, and the child comes back.
-    pub fn in_place(&mut self, child: Thread<'p>) -> Result<(), Thread<'p>>
+    fn place_forked(&mut self, child: Thread<'p>) -> Result<(), Thread<'p>>
         requires pending { pending_in self.old ≡ Some pause.Forks }
-        requires child { IsChildOf self.old child }
+        requires child { MayBePlaced self.old child }
         ensures whole { SameWhole self.old self.new }
         ensures same { OnOk result (SameThread self.old.running self.new.running) }
         ensures sums { OnOk result (self.new.running.sums ≡ self.old.running.sums) }
@@ -330,6 +364,45 @@ impl<'p> Thread<'p> {
         self.placed.push_reserved(child);
         self.aside += below;
         self.running.forked();
+        Ok(())
+    }
+
+    /// The child that is awaited goes on in this thread's place. Where it returns an error nothing has changed, and the
+    /// child comes back.
+    fn begin_awaited(&mut self, child: Thread<'p>) -> Result<(), NotPlaced<'p>>
+        requires pending { pending_in self.old ≡ Some pause.Joins }
+        requires child { MayBePlaced self.old child }
+        ensures whole { SameWhole self.old self.new }
+        ensures ok { OnOk result (self.new ≡ begun_in self.old child.entry) }
+        ensures pending { OnOk result (pending_in self.new ≡ None) }
+        ensures work { OnOk result (work_in self.new ≡ work_in self.old + work_in child.entry) }
+        ensures foreign { IsNotAwaited result ↔ (awaited self.old.running ≢ Some (whole child.entry).name) }
+        ensures err { OnErr result (self.new ≡ self.old) }
+        ensures handed_back { IfErr result (λ e. child_back e ≡ child.entry) }
+    {
+        let is_awaited = self.running.awaits(child.name());
+        if !is_awaited {
+            return Err(NotPlaced::Foreign(child));
+        }
+        let room = self.placed.len() + self.aside + child.lines.len() + 1;
+        if self.parents.try_reserve(self.placed.len() + 1).is_err()
+            || self.lines.reserve(room).is_err()
+        {
+            return Err(NotPlaced::Memory(child));
+        }
+        let Thread {
+            alloc,
+            running: mut begins,
+            parents: _,
+            placed: _,
+            aside: _,
+            lines,
+        } = child;
+        begins.run_in_place();
+        self.lines.push_place(alloc);
+        self.lines.extend(lines);
+        let parent = replace(&mut self.running, begins);
+        self.parents.push_reserved(parent);
         Ok(())
     }
 

@@ -22,7 +22,7 @@ use Rattle.arachne_rule.proofs.Naming.{with_name-same, with_name-other}
 
 -- where a table of this shape has something
 abbrev pub IsIn : Shape → Place → Type 0
-IsIn shape p = (p.core < shape.cores) × (p.index < shape.slots)
+IsIn shape p = (p.core < shape.cores) × (p.index < shape.places_per_core)
 
 -- place words of different places are different words
 pub name-apart : (n : ℕ) (p q : Place) → p.index < 64 → q.index < 64 → name_index n p ≡ name_index n q → p ≡ q
@@ -40,7 +40,7 @@ module _ {T : Type 0} where
     pub home : (y : ℕ) → y < contexts_in shape → a.home y ≡ b.home y
     pub views : a.views ≡ b.views
 
-  pub same_board : (tag_in : T → ℕ) (bits : ℕ) (shape : Shape) (w : World) (d : ℕ → Phase) (b a : Board T) → w.cores ≡ shape.cores → w.slots ≡ shape.slots
+  pub same_board : (tag_in : T → ℕ) (bits : ℕ) (shape : Shape) (w : World) (d : ℕ → Phase) (b a : Board T) → w.cores ≡ shape.cores → w.slots ≡ shape.places_per_core
       → Shows tag_in bits w d b → Same shape b a → Shows tag_in bits w d a
   same_board tag_in bits shape w d b a ec es s o =
       let in_context : (x : ℕ) → IsContext w x → x < contexts_in shape = λ x x_in. subst (λ (n : ℕ). x < n) (λ i. ec i * es i) x_in in
@@ -65,7 +65,7 @@ module _ {T : Type 0} where
 
   -- an occupancy word and a view change
   pub core-steps : (shape : Shape) (s : Table T) (c m id : ℕ) (l : List (ℕ × Option T)) (u : Token Known)
-      → length s.words ≡ words_in shape → c < shape.cores → shape.slots ≤ 56
+      → length s.words ≡ words_in shape → c < shape.cores → shape.places_per_core ≤ 56
       → Same shape (record (board_of (contexts_in shape) s) { occ = with_at (λ (k : ℕ). get_or s.words (occ_index (contexts_in shape) k) 0) c m; views = set s.views id u })
       (board_of (contexts_in shape) (stepped s (occ_index (contexts_in shape) c) m id l u keeps))
   core-steps shape s c m id l u long c_in few =
@@ -103,7 +103,7 @@ module _ {T : Type 0} where
 
   -- a place word, slots and a view change
   pub name-steps : (shape : Shape) (s : Table T) (q : Place) (m id : ℕ) (l : List (ℕ × Option T)) (u : Token Known) (act : Act (Option T)) (home : ℕ → opt.Option (opt.Option (Option T)))
-      → length s.words ≡ words_in shape → IsIn shape q → shape.slots ≤ 56
+      → length s.words ≡ words_in shape → IsIn shape q → shape.places_per_core ≤ 56
       → ((y : ℕ) → y < contexts_in shape → get_elem? (homes_after s.homes l act) y ≡ home y)
       → Same shape (record (board_of (contexts_in shape) s) { name = with_name (λ (p : Place). get_or s.words (name_index (contexts_in shape) p) 0) q m; home = home; views = set s.views id u })
       (board_of (contexts_in shape) (stepped s (name_index (contexts_in shape) q) m id l u act))

@@ -59,7 +59,7 @@ with-bit old new i o q packed read set_is new_is i_in free =
     new_is ∙ ap occupancy_word set_is ∙ one_more o i (omega (arith, length-flags 56 old, ap (λ (r : Occupancy). length r.occupied) read)) free ∙ ap (λ (n : ℕ). n + index_sum i) (sym packed)
 
 module _ {T : Type 0} (tag_in : T → ℕ) (bits : ℕ) (shape : Shape) where
-  claims : (id weight : ℕ) (k : Known) (l : List (ℕ × Option T)) (p : Place) (old new : ℕ) → new ≡ old + index_sum p.index → p.core < shape.cores → p.index < shape.slots
+  claims : (id weight : ℕ) (k : Known) (l : List (ℕ × Option T)) (p : Place) (old new : ℕ) → new ≡ old + index_sum p.index → p.core < shape.cores → p.index < shape.places_per_core
       → get_or (occupancy_of old).occupied p.index false ≡ false → (occupancy_of old).closed ≡ false → (occupancy_of old).exclusive ≡ false
       → Allows (Holds tag_in bits shape) (contexts_in shape) id (held weight k, l) (occ_index (contexts_in shape) p.core) (λ m. either (eqb m old) new m)
       (Claims (step (contexts_in shape) (occ_index (contexts_in shape) p.core) old new none) (held weight k, l))
@@ -99,7 +99,7 @@ module _ {T : Type 0} (tag_in : T → ℕ) (bits : ℕ) (shape : Shape) where
       ))
 
   pub claim-allowed : (slots id : ℕ) (me : Mine T) (p : Place) (i old new : ℕ) → slots ≡ contexts_in shape → IsLive me → i ≡ occ_index slots p.core → new ≡ old + index_sum p.index
-      → p.core < shape.cores → p.index < shape.slots
+      → p.core < shape.cores → p.index < shape.places_per_core
       → get_or (occupancy_of old).occupied p.index false ≡ false → (occupancy_of old).closed ≡ false → (occupancy_of old).exclusive ≡ false
       → Allows (Holds tag_in bits shape) slots id me i (λ m. either (eqb m old) new m) (Claims (step slots i old new none) me)
   claim-allowed slots id me p i old new laid live there more c_in i_in vacant opened shared =
@@ -108,7 +108,7 @@ module _ {T : Type 0} (tag_in : T → ℕ) (bits : ℕ) (shape : Shape) where
 
   -- ---- a whole core
 
-  claims-alone : (id weight : ℕ) (k : Known) (l : List (ℕ × Option T)) (c : ℕ) → c < shape.cores → 0 < shape.slots
+  claims-alone : (id weight : ℕ) (k : Known) (l : List (ℕ × Option T)) (c : ℕ) → c < shape.cores → 0 < shape.places_per_core
       → Allows (Holds tag_in bits shape) (contexts_in shape) id (held weight k, l) (occ_index (contexts_in shape) c) (λ m. either (eqb m 0) (2 ^ 63 + index_sum 0) m)
       (ClaimsAlone (step (contexts_in shape) (occ_index (contexts_in shape) c) 0 (2 ^ 63 + index_sum 0) none) (held weight k, l))
   claims-alone id weight k l c c_in some_slot s hs long mine small =
@@ -144,7 +144,7 @@ module _ {T : Type 0} (tag_in : T → ℕ) (bits : ℕ) (shape : Shape) where
         λ q at_q. ((λ hit. absurd (miss hit)), (λ _. refl)),
       ))
 
-  pub alone-allowed : (slots id : ℕ) (me : Mine T) (c i old new : ℕ) → slots ≡ contexts_in shape → IsLive me → i ≡ occ_index slots c → old ≡ 0 → new ≡ 2 ^ 63 + index_sum 0 → c < shape.cores → 0 < shape.slots
+  pub alone-allowed : (slots id : ℕ) (me : Mine T) (c i old new : ℕ) → slots ≡ contexts_in shape → IsLive me → i ≡ occ_index slots c → old ≡ 0 → new ≡ 2 ^ 63 + index_sum 0 → c < shape.cores → 0 < shape.places_per_core
       → Allows (Holds tag_in bits shape) slots id me i (λ m. either (eqb m old) new m) (ClaimsAlone (step slots i old new none) me)
   alone-allowed slots id me c i old new laid live there old_is new_is c_in some_slot =
       subst (λ (a : ℕ). Allows (Holds tag_in bits shape) slots id me i (λ m. either (eqb m a) new m) (ClaimsAlone (step slots i a new none) me)) (sym old_is)

@@ -25,6 +25,7 @@ pub mod Carriers
 pub mod Boards
 pub mod Histories
 pub mod Stepping
+pub mod Keeping
 pub mod OwnWords
 pub mod LookSteps
 pub mod ClaimSteps

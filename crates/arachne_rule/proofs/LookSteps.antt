@@ -117,7 +117,7 @@ module _ {T : Type 0} (tag_in : T → ℕ) (bits : ℕ) (shape : Shape) where
       let n : ℕ = contexts_in shape in
       let i : ℕ = name_index n p in
       let p_is : IsPlace w p = (omega (arith, p_in.0, hs.fits.cores), omega (arith, p_in.1, hs.fits.slots)) in
-      let few : shape.slots ≤ 56 = subst (λ (m : ℕ). m ≤ 56) hs.fits.slots hs.shows.fits.1 in (
+      let few : shape.places_per_core ≤ 56 = subst (λ (m : ℕ). m ≤ 56) hs.fits.slots hs.shows.fits.1 in (
         held weight (noted kind.Learn i (get_or s.words i 0) (get_or s.words i 0) k),
         keeps,
         tt,
@@ -133,7 +133,7 @@ module _ {T : Type 0} (tag_in : T → ℕ) (bits : ℕ) (shape : Shape) where
         ),
       )
 
-  pub learn-allowed : (slots id : ℕ) (me : Mine T) (p : Place) (i : ℕ) → slots ≡ contexts_in shape → IsLive me → i ≡ name_index slots p → p.core < shape.cores → p.index < shape.slots
+  pub learn-allowed : (slots id : ℕ) (me : Mine T) (p : Place) (i : ℕ) → slots ≡ contexts_in shape → IsLive me → i ≡ name_index slots p → p.core < shape.cores → p.index < shape.places_per_core
       → Allows (Holds tag_in bits shape) slots id me i (λ m. m) (LearnsName (step slots i 0 0 none) me)
   learn-allowed slots id me p i laid live there c_in i_in =
       for-seat (λ m j e. Allows (Holds tag_in bits shape) m id e j (λ q. q) (LearnsName (step m j 0 0 none) e)) slots i (contexts_in shape) (name_index (contexts_in shape) p) me

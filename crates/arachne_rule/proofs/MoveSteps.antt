@@ -129,7 +129,7 @@ module _ {T : Type 0} (tag_in : T → ℕ) (bits : ℕ) (shape : Shape) where
         ap tells (sym (cond-false (eqb found old) x found (ne_eqb found old miss))),
       ))
 
-  pub name-target-allowed : (slots id : ℕ) (me : Mine T) (q : Place) (c : Carried) (i x old : ℕ) → slots ≡ contexts_in shape → IsLive me → i ≡ name_index slots q → q.core < shape.cores → q.index < shape.slots → x < slots → c.context < slots
+  pub name-target-allowed : (slots id : ℕ) (me : Mine T) (q : Place) (c : Carried) (i x old : ℕ) → slots ≡ contexts_in shape → IsLive me → i ≡ name_index slots q → q.core < shape.cores → q.index < shape.places_per_core → x < slots → c.context < slots
       → Carries me.0.known c → c.held ≡ false → c.named ≡ false → old ≡ c.context
       → Allows (Holds tag_in bits shape) slots id me i (λ m. either (eqb m old) x m) (NamesTarget (step slots i old x none) me)
   name-target-allowed slots id me q c i x old laid live there core_in index_in x_in c_in has free unnamed old_is =

@@ -50,7 +50,7 @@ module _ {T : Type 0} (tag_in : T → ℕ) (bits : ℕ) (shape : Shape) (words :
   empty (suc m) zero l = refl
   empty (suc m) (suc x) l = empty m x (omega (arith, l))
 
-  shows-opening : Shows tag_in bits (opening_world shape) (λ x. settled (first_place shape.slots x)) (board_of (contexts_in shape) start)
+  shows-opening : Shows tag_in bits (opening_world shape) (λ x. settled (first_place shape.places_per_core x)) (board_of (contexts_in shape) start)
   shows-opening =
       let w : World = opening_world shape in
       let o : IsOpening w shape.first = record { within = is.first; at = λ x _. refl; generation = λ x _. refl; state = λ x _. refl; occupied = λ p _. refl; closed = λ c _. refl; alone = λ c _. refl; given = λ t. refl; ended = λ t. refl } in
@@ -70,10 +70,10 @@ module _ {T : Type 0} (tag_in : T → ℕ) (bits : ℕ) (shape : Shape) (words :
           within = owned.placed x x_in;
           coherent = (refl, refl, refl);
           mark = first_words.mark x x_in;
-          named = λ _. first_words.name (first_place shape.slots x) (owned.placed x x_in).0 (owned.placed x x_in).1 ∙ div-add-mod' x shape.slots;
+          named = λ _. first_words.name (first_place shape.places_per_core x) (owned.placed x x_in).0 (owned.placed x x_in).1 ∙ div-add-mod' x shape.places_per_core;
           value = λ _. empty (contexts_in shape) x x_in;
         };
-        names = λ p p_in. subst (IsContext w) (sym (first_words.name p p_in.0 p_in.1)) (number-in shape.cores shape.slots p p_in.0 p_in.1);
+        names = λ p p_in. subst (IsContext w) (sym (first_words.name p p_in.0 p_in.1)) (number-in shape.cores shape.places_per_core p p_in.0 p_in.1);
         carried = λ h x _. ap (carried_at x) (nobody h);
         seats = begins blank;
         given = λ t. refl;
@@ -88,7 +88,7 @@ module _ {T : Type 0} (tag_in : T → ℕ) (bits : ℕ) (shape : Shape) (words :
   pub opens : Holds tag_in bits shape start
   opens = record {
     world = opening_world shape;
-    phase = λ x. settled (first_place shape.slots x);
+    phase = λ x. settled (first_place shape.places_per_core x);
     first = words;
     history = [];
     fits = record { cores = refl; slots = refl; last = refl; words = first_words.long; homes = long-enough T (contexts_in shape) };

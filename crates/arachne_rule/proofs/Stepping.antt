@@ -51,7 +51,7 @@ module _ {T : Type 0} (tag_in : T → ℕ) (bits : ℕ) (shape : Shape) (s : Tab
       (noted_board tag_in bits v d (record a { views = set s.views id (held weight k') }) shows id weight k' (set_here s.views id (held weight k') (there-in s.views id (held weight k) mine)) k'' same given ended)
 
   -- one step of any kind
-  makes-step : (kind : Kind) (i new : ℕ) (l : List (ℕ × Option T)) (act : Act (Option T)) (e : Event) (d : ℕ → Phase) (k' : Known) → k'.records ≡ k.records
+  unfoldable pub makes-step : (kind : Kind) (i new : ℕ) (l : List (ℕ × Option T)) (act : Act (Option T)) (e : Event) (d : ℕ → Phase) (k' : Known) → k'.records ≡ k.records
       → Allowed w e → Makes bits w (entry id kind i (get_or s.words i 0) new e)
       → length (homes_after s.homes l act) ≡ length s.homes
       → Shows tag_in bits (after w e) d (board_of n (stepped s i new id l (held weight (noted kind i (get_or s.words i 0) new k')) act))

@@ -34,37 +34,37 @@ alone-release : 0x8100000000000001 - release_sum (alone_context 0 0 0) ≡ 0
 alone-release = refl
 
 -- after the end of a thread of generation 0 at the first place of core 0, and at the last generation
-next-mark : mark_word 4 (marked_free (claimed_again (taken_context 0 (marked_of 4 3) 7))) ≡ 0x4000
+next-mark : mark_word 6 (marked_free (claimed_again (taken_context 0 (marked_of 6 3) 7))) ≡ 0x10000
 next-mark = refl
 
-last-mark : mark_word 4 (marked_spent (taken_context 0 (marked_of 4 0xFFFFFFFFFFFFC003) 7)) ≡ 0xFFFFFFFFFFFFC005
+last-mark : mark_word 6 (marked_spent (taken_context 0 (marked_of 6 0xFFFFFFFFFFFF0003) 7)) ≡ 0xFFFFFFFFFFFF0005
 last-mark = refl
 
 -- a thread that is left: context 1 of generation 2, with the value 9
-left-thread : left_from {T = ℕ} 4 0 (0x4000 ∷ 0x8001 ∷ []) (None ∷ Some 9 ∷ []) ≡ (record { context = 1; generation = 2 }, 9) ∷ []
+left-thread : left_from {T = ℕ} 6 0 (0x10000 ∷ 0x20001 ∷ []) (None ∷ Some 9 ∷ []) ≡ (record { context = 1; generation = 2 }, 9) ∷ []
 left-thread = refl
 
 -- ---- a history on one core of one place: a claim, a post, a lost take, a take, the end of the thread, and the release
 
 abbrev small : Shape
-small = record { cores = 1; slots = 1; first = 0; last = 3 }
+small = record { cores = 1; places_per_core = 1; first = 0; last = 3 }
 
 abbrev step-of : ℕ → Kind → ℕ → ℕ → ℕ → Event → Entry
 step-of seat kind word before after event = record { seat = seat; step = record { kind = kind; word = word; before = before; after = after }; event = event }
 
 abbrev story : List Entry
 story =
-    step-of 0 kind.Release 9 0x0100000000000001 0 (event.Release 0 0) ∷
-    step-of 0 kind.Retire 0 3 0x4000 (event.Retire 0 0) ∷
+    step-of 0 kind.Release 17 0x0100000000000001 0 (event.Release 0 0) ∷
+    step-of 0 kind.Retire 0 3 0x10000 (event.Retire 0 0) ∷
     step-of 0 kind.Take 0 1 3 (event.Take 0 0) ∷
     step-of 1 kind.Take 0 1 1 event.Still ∷
     step-of 0 kind.Post 0 0 1 (event.Post 0 0 7) ∷
-    step-of 0 kind.Claim 9 0 0x0100000000000001 (event.Claim 0 0) ∷ []
+    step-of 0 kind.Claim 17 0 0x0100000000000001 (event.Claim 0 0) ∷ []
 
 abbrev first-words : List ℕ
-first-words = replicate 81 0
+first-words = replicate 89 0
 
-story-is-lawful : IsHistory 4 (opening_world small) first-words story
+story-is-lawful : IsHistory 6 (opening_world small) first-words story
 story-is-lawful = (
   (
     (
@@ -86,7 +86,7 @@ story-is-lawful = (
 )
 
 -- at the end the core's word is 0, the mark word is that of generation 1, and the thread was given and has ended once
-story-ends : (get_or (words_after first-words story) 9 0 ≡ 0) × (get_or (words_after first-words story) 0 0 ≡ 0x4000) × ((world_after (opening_world small) story).state 0 ≡ state.Free)
+story-ends : (get_or (words_after first-words story) 17 0 ≡ 0) × (get_or (words_after first-words story) 0 0 ≡ 0x10000) × ((world_after (opening_world small) story).state 0 ≡ state.Free)
     × ((world_after (opening_world small) story).given (record { context = 0; generation = 0 }, 7) ≡ 1) × ((world_after (opening_world small) story).ended (record { context = 0; generation = 0 }, 7) ≡ 1)
 story-ends = (refl, refl, refl, refl, refl)
 
@@ -95,10 +95,10 @@ story-records : (records_of 1 story ≡ record { kind = kind.Take; word = 0; bef
 story-records = (refl, refl)
 
 -- a look isn't a step that changes the word, and a claim isn't a step that leaves the count
-no-look : Makes 4 (opening_world small) (step-of 0 kind.Look 9 0 1 event.Still) → ⊥
+no-look : Makes 6 (opening_world small) (step-of 0 kind.Look 17 0 1 event.Still) → ⊥
 no-look (inl m) = m.0
 no-look (inr m) = cc
 
-no-count : Makes 4 (opening_world small) (step-of 0 kind.Claim 9 0 1 (event.Claim 0 0)) → ⊥
+no-count : Makes 6 (opening_world small) (step-of 0 kind.Claim 17 0 1 (event.Claim 0 0)) → ⊥
 no-count (inl m) = cc
 no-count (inr m) = cc

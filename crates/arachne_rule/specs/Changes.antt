@@ -1,5 +1,6 @@
 -- What each kind of step makes of what its seat knows, of the phases, and of the words.
 use Rattle.std.specs.Prelude.{ℕ, ◌+◌, ◌^◌, true, false, if◌then◌else◌, ◌∷◌}
+use Rattle.arachne_core.specs.declared.layout.TheConstants.{MASK_BITS}
 use Rattle.arachne_core.specs.declared.place.Place.{Place}
 use Rattle.arachne_core.specs.declared.mark.Mark.{Mark}
 use Rattle.arachne_core.specs.declared.mark.Mark.TheVariants as mark
@@ -84,7 +85,7 @@ marked_spent c = record { mark = mark.Spent; alone = false; place = c.place; gen
 
 -- what the claim of an index adds to the word of its core
 abbrev pub index_sum : ℕ → ℕ
-index_sum i = 2 ^ i + 2 ^ 56
+index_sum i = 2 ^ i + 2 ^ MASK_BITS
 
 -- what the end of a claim takes away from the word of its core
 abbrev pub release_sum : Carried → ℕ

@@ -73,9 +73,9 @@ Makes bits w e = (IsExchange e.step.kind × (e.step.after ≡ e.step.before) × 
 abbrev pub opening_world : Shape → World
 opening_world shape = record {
   cores = shape.cores;
-  slots = shape.slots;
+  slots = shape.places_per_core;
   last = shape.last;
-  at = first_place shape.slots;
+  at = first_place shape.places_per_core;
   occupied = λ p. false;
   generation = λ x. shape.first;
   state = λ x. Free;

@@ -1,33 +1,35 @@
--- Where the words lie: the mark word of context x is word x. Behind the n mark words each core has a block of eighty words, in which its
--- occupancy word is the ninth, and from the seventeenth on stand the place words of its indexes. So the occupancy word has its cache line alone.
+-- Where the words lie: the mark word of context x is word x. Behind the n mark words each core has a block, with its occupancy word and,
+-- further on, the place words of its indexes. No other word is within two cache lines of an occupancy word.
 use Rattle.std.specs.Prelude.{◌≡◌, ℕ, ◌+◌, ◌-◌, ◌*◌, ◌^◌, ◌<◌, ◌≤◌, false, List, length, slice_index, Option}
 use lib.ListN.{get_elem?}
 use Rattle.atomic_table.specs.Seated.{TableId}
 use Rattle.atomic_table.specs.Table.{State}
+use Rattle.arachne_core.specs.declared.layout.TheConstants.{CORES, SLOTS}
 use Rattle.arachne_core.specs.declared.place.Place.{Place}
 use Rattle.arachne_core.specs.declared.mark.Mark.TheVariants as mark
 use Rattle.arachne_core.specs.Place.{first_place, number_of}
 use Rattle.arachne_core.specs.Marked.{mark_word}
 use Rattle.arachne_weights.specs.declared.token.Token.{Token}
+use Rattle.arachne_rule.specs.declared.layout.TheConstants.{BLOCK, NAMES, OCCUPANCY}
 use Rattle.arachne_rule.specs.declared.view.Known.{Known}
 use Rattle.arachne_rule.specs.declared.view.Shape.{Shape}
 use Rattle.arachne_rule.specs.Rule.{Board}
 
 -- the number of contexts, which is that of the places
 abbrev pub contexts_in : Shape → ℕ
-contexts_in shape = shape.cores * shape.slots
+contexts_in shape = shape.cores * shape.places_per_core
 
 -- the occupancy word of core c, where there are n contexts
 abbrev pub occ_index : ℕ → ℕ → ℕ
-occ_index n c = n + 80 * c + 8
+occ_index n c = n + BLOCK * c + OCCUPANCY
 
 -- the place word of a place
 abbrev pub name_index : ℕ → Place → ℕ
-name_index n p = n + 80 * p.core + 16 + p.index
+name_index n p = n + BLOCK * p.core + NAMES + p.index
 
 -- how many words there are
 abbrev pub words_in : Shape → ℕ
-words_in shape = contexts_in shape + 80 * shape.cores
+words_in shape = contexts_in shape + BLOCK * shape.cores
 
 -- the words and slots of a table with n contexts, as maps
 abbrev pub board_of : {T : Type 0} → ℕ → State (Option T) (Token Known) → Board T
@@ -42,8 +44,8 @@ board_of n s = record {
 -- the words have fields for such a machine
 pub record IsShape (bits : ℕ) (shape : Shape) : Type 0 where
   pub cores : shape.cores ≤ 2 ^ bits
-  pub some : 0 < shape.slots
-  pub slots : shape.slots ≤ 56
+  pub some : 0 < shape.places_per_core
+  pub slots : shape.places_per_core ≤ SLOTS
   pub last : shape.last < 2 ^ (54 - bits)
   pub first : shape.first ≤ shape.last
 
@@ -52,8 +54,8 @@ pub record AreFirstWords (bits : ℕ) (shape : Shape) (words : List ℕ) : Type 
   pub long : length words ≡ words_in shape
   pub occ : (c : ℕ) → c < shape.cores → slice_index words (occ_index (contexts_in shape) c) ≡ 0
   pub mark : (x : ℕ) → x < contexts_in shape
-      → slice_index words x ≡ mark_word bits (record { mark = mark.Free; alone = false; place = first_place shape.slots x; generation = shape.first })
-  pub name : (p : Place) → p.core < shape.cores → p.index < shape.slots → slice_index words (name_index (contexts_in shape) p) ≡ number_of shape.slots p
+      → slice_index words x ≡ mark_word bits (record { mark = mark.Free; alone = false; place = first_place shape.places_per_core x; generation = shape.first })
+  pub name : (p : Place) → p.core < shape.cores → p.index < shape.places_per_core → slice_index words (name_index (contexts_in shape) p) ≡ number_of shape.places_per_core p
 
 -- ---- the type that owns the table, as contracts see it
 
@@ -66,4 +68,4 @@ pub record Contexts : Type 0 where
 pub record IsLaidOut (c : Contexts) : Type 0 where
   pub words : c.table.words ≡ words_in c.shape
   pub slots : c.table.slots ≡ contexts_in c.shape
-  pub few : (c.shape.cores ≤ 64) × (0 < c.shape.slots) × (c.shape.slots ≤ 56) × (c.table.slots ≤ 3584)
+  pub few : (c.shape.cores ≤ CORES) × (0 < c.shape.places_per_core) × (c.shape.places_per_core ≤ SLOTS) × (c.table.slots ≤ CORES * SLOTS)

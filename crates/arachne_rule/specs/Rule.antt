@@ -4,6 +4,7 @@ use mathlib.Core.Option as slot
 use lib.ListN.{get_elem?}
 use Rattle.std.specs.declared.option.Option.{Option}
 use Rattle.std.specs.declared.option.Option.TheVariants.{None, Some}
+use Rattle.arachne_core.specs.declared.layout.TheConstants.{SLOTS}
 use Rattle.arachne_core.specs.declared.place.Place.{Place}
 use Rattle.arachne_core.specs.declared.state.State.{State}
 use Rattle.arachne_core.specs.declared.state.State.TheVariants.{Free, Claimed, Ready, Blocked, Held, Spent}
@@ -122,7 +123,7 @@ module _ {T : Type 0} (tag_in : T → ℕ) where
   -- has posted and has ended is its share of the World.
   pub record Shows (bits : ℕ) (w : World) (d : ℕ → Phase) (b : Board T) : Type 0 where
     pub owned : OwnedOnce w
-    pub fits : (w.cores ≤ 2 ^ bits) × (w.slots ≤ 56) × (w.last < 2 ^ (54 - bits))
+    pub fits : (w.cores ≤ 2 ^ bits) × (w.slots ≤ SLOTS) × (w.last < 2 ^ (54 - bits))
     pub cores : (c : ℕ) → c < w.cores → ShowsWord w c (b.occ c)
     pub contexts : (x : ℕ) → IsContext w x → ShowsContext bits w d b x
     pub names : (p : Place) → IsPlace w p → IsContext w (b.name p)

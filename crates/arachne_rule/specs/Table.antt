@@ -1,13 +1,14 @@
 -- What holds of a table between any two steps.
-use Rattle.std.specs.Prelude.{◌≡◌, ℕ, List, length, Option}
+use Rattle.std.specs.Prelude.{◌≡◌, ℕ, ◌∷◌, List, length, Option}
 use mathlib.Core.Option.{some}
 use lib.ListN.{get_elem?}
-use Rattle.atomic_table.specs.Table.{State, Me}
-use Rattle.arachne_core.specs.World.{World}
+use Rattle.atomic_table.specs.Table.{State, Me, Act, stepped}
+use Rattle.arachne_core.specs.World.{World, after}
 use Rattle.arachne_weights.specs.declared.token.Token.{Token}
 use Rattle.arachne_weights.specs.Tokens.{held}
 use Rattle.arachne_rule.specs.declared.view.Known.{Known}
 use Rattle.arachne_rule.specs.declared.view.Shape.{Shape}
+use Rattle.arachne_rule.specs.Views.{noted}
 use Rattle.arachne_rule.specs.Rule.{Phase, Shows}
 use Rattle.arachne_rule.specs.Layout.{contexts_in, words_in, board_of, AreFirstWords}
 use Rattle.arachne_rule.specs.History.{Entry, opening_world, world_after, words_after, records_of, IsHistory, AreOfSeats}
@@ -23,7 +24,7 @@ Mine T = Me (Option T) (Token Known)
 -- The World has the table's shape, and the table the words and slots for it.
 pub record Fits {T : Type 0} (shape : Shape) (w : World) (s : Table T) : Type 0 where
   pub cores : w.cores ≡ shape.cores
-  pub slots : w.slots ≡ shape.slots
+  pub slots : w.slots ≡ shape.places_per_core
   pub last : w.last ≡ shape.last
   pub words : length s.words ≡ words_in shape
   pub homes : length s.homes ≡ contexts_in shape
@@ -47,3 +48,14 @@ pub record Holds {T : Type 0} (tag_in : T → ℕ) (bits : ℕ) (shape : Shape) 
   pub fits : Fits shape world s
   pub shows : Shows tag_in bits world phase (board_of (contexts_in shape) s)
   pub tells : Tells bits shape world first history s
+
+-- the table after a step of a seat that knows this then, the step itself aside, and does this with slots
+abbrev pub after_step : {T : Type 0} → Table T → Entry → ℕ → Known → List (ℕ × Option T) → Act (Option T) → Table T
+after_step s e weight known slots act =
+    stepped s e.step.word e.step.after e.seat slots (held weight (noted e.step.kind e.step.word e.step.before e.step.after known)) act
+
+-- the rule holds after one step more, which is the newest of the history, and the World is the one after its event
+pub record HoldsAfter {T : Type 0} (tag_in : T → ℕ) (bits : ℕ) (shape : Shape) {s : Table T} (old : Holds tag_in bits shape s) (e : Entry) (t : Table T) : Type 0 where
+  pub rule : Holds tag_in bits shape t
+  pub history : rule.history ≡ e ∷ old.history
+  pub world : rule.world ≡ after old.world e.event

@@ -2,10 +2,10 @@
 //!
 //! A law speaks of a board that shows a World, and of the seat that makes the step. It says that the step's event is allowed there, and
 //! that the board with the one word changed shows the World after that event. So between any two steps the World is owned once.
-ghost use Rattle.std.specs.Prelude.{◌≡◌, ◌≢◌, ℕ, ◌+◌, ◌-◌, ◌*◌, ◌^◌, ◌<◌, ◌⊎◌, Some, None, true, bit_and, bit_or, Option, List, [], ◌∷◌, ◌++◌, length, replicate, slice_set, false};
+ghost use Rattle.std.specs.Prelude.{◌≡◌, ◌≢◌, ℕ, ◌+◌, ◌-◌, ◌*◌, ◌^◌, ◌<◌, ◌≤◌, ◌⊎◌, Some, None, true, bit_and, bit_or, Option, List, [], ◌∷◌, ◌++◌, length, replicate, slice_set, false};
 ghost use mathlib.Core.Option as slot;
 ghost use lib.ListN.{get_elem?};
-ghost use Rattle.atomic_table.specs.Table.{opening};
+ghost use Rattle.atomic_table.specs.Table.{Act, homes_after, opening};
 ghost use Rattle.arachne_core.specs.declared.place.Place.{Place};
 ghost use Rattle.arachne_core.specs.declared.event.Event.TheVariants as event;
 ghost use Rattle.arachne_core.specs.declared.mark.Mark.TheVariants as mark;
@@ -24,10 +24,13 @@ ghost use Rattle.arachne_rule.specs.Views.{blank, with_context, without_context,
 ghost use Rattle.arachne_rule.specs.Rule.{Phase, Board, Knows, views_with, settled, is_closed, is_exclusive, is_occupied, HasNoOccupied, Shows};
 ghost use Rattle.arachne_rule.specs.Changes.{with_name, claimed_context, alone_context, taken_context, claimed_again, left_context, posted, retired, spent_known, marked_as, marked_free, marked_spent, index_sum, release_sum, taken_phase, moved_phase};
 ghost use Rattle.arachne_rule.specs.Plays.{Carries, IsRestMark, HasEnded, IsGone};
-ghost use Rattle.arachne_rule.specs.Layout.{IsShape, AreFirstWords, contexts_in};
-ghost use Rattle.arachne_rule.specs.History.{opening_world, words_after, events_of, records_of, IsStepOf};
-ghost use Rattle.arachne_rule.specs.Table.{Table, Holds};
+ghost use Rattle.arachne_rule.specs.Layout.{IsShape, AreFirstWords, contexts_in, occ_index, name_index, board_of};
+ghost use Rattle.arachne_rule.specs.History.{Entry, opening_world, words_after, events_of, records_of, IsNext, IsStepOf};
+ghost use Rattle.arachne_rule.specs.Table.{Table, Holds, HoldsAfter, after_step};
 ghost use Rattle.arachne_rule.specs.Ending.{IsSettled, left_from};
+
+use crate::layout::SPACING;
+use arachne_core::SLOTS;
 
 // ---- loads
 
@@ -274,6 +277,25 @@ pub fn a_table_shows_a_run<T>()
         → OwnedOnce rule.world
         × IsRun (opening_world shape) (events_of rule.history) × (after_all (opening_world shape) (events_of rule.history) ≡ rule.world)
         × (s.words ≡ words_after rule.first rule.history) }
+{}
+
+/// A step that may come next, and after which the World of its event is shown, keeps the rule, whatever its kind. It is the newest of the
+/// history then.
+pub fn a_step_keeps_the_rule<T>()
+    ensures { (tag_in : T → ℕ) (bits : ℕ) (shape : Shape) (s : Table T) → (rule : Holds tag_in bits shape s) → (weight : ℕ) (k known : Known) (e : Entry)
+        → (slots : List (ℕ × Option T)) (act : Act (Option T)) (d : ℕ → Phase)
+        → get_elem? s.views e.seat ≡ slot.some (held weight k) → known.records ≡ k.records → IsNext bits rule.world s.words e
+        → length (homes_after s.homes slots act) ≡ length s.homes
+        → Shows tag_in bits (after rule.world e.event) d (board_of (contexts_in shape) (after_step s e weight known slots act))
+        → HoldsAfter tag_in bits shape rule e (after_step s e weight known slots act) }
+{}
+
+/// At least two cache lines lie between a core's occupancy word and any other word of the table.
+pub fn an_occupancy_word_stands_apart()
+    ensures marks { (shape : Shape) (core x : ℕ) → x < contexts_in shape → x + SPACING ≤ occ_index (contexts_in shape) core }
+    ensures cores { (n core next : ℕ) → core < next → occ_index n core + SPACING ≤ occ_index n next }
+    ensures names { (n core : ℕ) (p : Place) → p.index < SLOTS
+        → (name_index n p + SPACING ≤ occ_index n core) ⊎ (occ_index n core + SPACING ≤ name_index n p) }
 {}
 
 /// What a seat in use has noted are exactly its own steps. Each of them is in the history at its place: it found what stood in its word, and

@@ -5,6 +5,8 @@
 #![tactic(auto)]
 
 pub mod laws;
+mod layout;
 mod view;
 
+pub use layout::{BLOCK, NAMES, OCCUPANCY, SPACING};
 pub use view::{Carried, Kind, Known, Record, Shape, View};

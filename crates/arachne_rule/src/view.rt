@@ -91,7 +91,7 @@ pub type View = Token<Known>;
 /// The key of a table: how many cores it has, how many places each of them, and the first and the last generation.
 pub struct Shape {
     pub cores: u8,
-    pub slots: u8,
+    pub places_per_core: u8,
     pub first: u64,
     pub last: u64,
 }

@@ -1,8 +1,8 @@
 -- Which setups of a run are refused.
 use Rattle.std.specs.Prelude.{◌≡◌, ◌⊎◌, true, false, ℕ, ◌==◌, Bool, ◌&&◌, nat_le, if◌then◌else◌, List, Option, None, Some}
-use Rattle.arachne_core.specs.declared.layout.TheConstants.{CORES}
+use Rattle.arachne_core.specs.declared.layout.TheConstants.{CORES, SLOTS}
 use Rattle.arachne_run.specs.declared.fault.RunFault.{RunFault}
-use Rattle.arachne_run.specs.declared.fault.RunFault.TheVariants.{Cores, Quantum, Choosers, Orders, Memory, Foreign, Threads, Ledgers, Token, KernelThread}
+use Rattle.arachne_run.specs.declared.fault.RunFault.TheVariants.{Cores, Quantum, Slots, Choosers, Orders, Memory, Foreign, Threads, Ledgers, Token, KernelThread}
 use Rattle.arachne_run.specs.declared.fault.WorkerFault.{WorkerFault}
 use Rattle.arachne_run.specs.declared.fault.WorkerFault.TheVariants as worker
 use Rattle.arachne_policy.specs.declared.orders.CoreOrder.{CoreOrder}
@@ -13,11 +13,11 @@ use Rattle.arachne_policy.specs.Orders.{IsFirstFault}
 abbrev pub is_within : ℕ → ℕ → ℕ → Bool
 is_within least most n = nat_le least n && nat_le n most
 
--- what is wrong with so many cores, this quantum and so many choosers: the first of these that is
-abbrev pub refusal_of : ℕ → ℕ → ℕ → Option RunFault
-refusal_of cores quantum choosers =
+-- what is wrong with so many cores, this quantum, so many places a core and so many choosers: the first of these that is
+abbrev pub refusal_of : ℕ → ℕ → ℕ → ℕ → Option RunFault
+refusal_of cores quantum slots choosers =
     if is_within 1 CORES cores then
-    (if is_within 1 10000 quantum then (if choosers == cores then None else Some Choosers) else Some Quantum)
+    (if is_within 1 10000 quantum then (if is_within 1 SLOTS slots then (if choosers == cores then None else Some Choosers) else Some Slots) else Some Quantum)
     else Some Cores
 
 -- it is the first fault of these orders on so many cores
@@ -25,15 +25,16 @@ abbrev pub IsFirstOrderFault : ℕ → List CoreOrder → RunFault → Type 0
 IsFirstOrderFault cores orders fault = (first : OrderFault) × IsFirstFault cores orders first × (fault ≡ Orders first)
 
 -- It is what is wrong with a setup: with its numbers, or with its orders where nothing is wrong with its numbers.
-abbrev pub IsSetupFault : ℕ → ℕ → ℕ → List CoreOrder → RunFault → Type 0
-IsSetupFault cores quantum choosers orders fault =
-    (refusal_of cores quantum choosers ≡ Some fault)
-    ⊎ ((refusal_of cores quantum choosers ≡ None) × IsFirstOrderFault cores orders fault)
+abbrev pub IsSetupFault : ℕ → ℕ → ℕ → ℕ → List CoreOrder → RunFault → Type 0
+IsSetupFault cores quantum slots choosers orders fault =
+    (refusal_of cores quantum slots choosers ≡ Some fault)
+    ⊎ ((refusal_of cores quantum slots choosers ≡ None) × IsFirstOrderFault cores orders fault)
 
 -- It tells of a setup, and not of what a run met on its way.
 abbrev pub is_of_setup : RunFault → Bool
 is_of_setup Cores = true
 is_of_setup Quantum = true
+is_of_setup Slots = true
 is_of_setup Choosers = true
 is_of_setup (Orders first) = true
 is_of_setup Memory = false

@@ -5,7 +5,7 @@ use Rattle.arachne_contexts.specs.declared.held.Held.{Held}
 use Rattle.arachne_ledger.specs.Views.{IsShareOf}
 use Rattle.arachne_sleep.specs.SleepLocks.{AreSeatsOf}
 use Rattle.arachne_arbiter.specs.Orders.{Progress}
-use Rattle.arachne_core.specs.declared.layout.TheConstants.{CORES}
+use Rattle.arachne_core.specs.declared.layout.TheConstants.{CORES, SLOTS}
 use Rattle.arachne_run.specs.declared.machine.Machine.{Machine}
 use Rattle.arachne_run.specs.declared.tokens.Tokens.{Tokens}
 use Rattle.arachne_run.specs.declared.reserve.Reserve.{Reserve}
@@ -51,10 +51,14 @@ thread_in tag held = Thread held.hold (tag held.value)
 abbrev pub IsSameThread : {T H : Type 0} → (T → ℕ) → Held T H → Held T H → Type 0
 IsSameThread tag old new = (new.hold ≡ old.hold) × (tag new.value ≡ tag old.value)
 
--- its table has its cores, of which there are one to sixteen, as many as the shared words are for, and a slice has a step at least
-pub record IsSetUp {Table : Type 0} (core_count : Table → ℕ) (machine : Machine Table) : Type 0 where
+-- its table has its cores, of which there are one to 64, as many as the shared words are for, each with its places, one to 56, and a slice
+-- has a step at least
+pub record IsSetUp {Table : Type 0} (core_count slot_count : Table → ℕ) (machine : Machine Table) : Type 0 where
   pub cores : core_count machine.table ≡ machine.cores
   pub some : 1 ≤ machine.cores
   pub few : machine.cores ≤ CORES
+  pub slots : slot_count machine.table ≡ machine.slots
+  pub some_slots : 1 ≤ machine.slots
+  pub few_slots : machine.slots ≤ SLOTS
   pub shared : machine.shared ≡ machine.cores
   pub some_steps : 1 ≤ machine.quantum

@@ -56,14 +56,14 @@ pub(crate) fn work_all<
     tokens: Tokens<C::Seat>,
 ) -> Option<Tokens<C::Seat>>
     requires tokens { AreIdle C.sits C.idle machine.now tokens }
-    requires set_up { IsSetUp C.core_count machine.now }
+    requires set_up { IsSetUp C.core_count C.slot_count machine.now }
     ensures { IfSome result (AreIdle C.sits C.idle machine.now) }
 {
     thread::scope(
         thread::scope_env(),
         rt,
         |scope| -> Option<Tokens<C::Seat>>
-            requires { IsSync H.row × AreIdle C.sits C.idle machine.now tokens × IsSetUp C.core_count machine.now }
+            requires { IsSync H.row × AreIdle C.sits C.idle machine.now tokens × IsSetUp C.core_count C.slot_count machine.now }
             ensures { IfSome result (AreIdle C.sits C.idle machine.entry.now) }
         {
             let mut tokens = tokens;
@@ -81,7 +81,7 @@ pub(crate) fn work_all<
                 let started = scope.spawn_with(
                     Returns::to(machine),
                     move || -> Option<Tokens<C::Seat>>
-                        requires { AreIdle C.sits C.idle machine.now theirs × IsSetUp C.core_count machine.now × (core < machine.now.cores) }
+                        requires { AreIdle C.sits C.idle machine.now theirs × IsSetUp C.core_count C.slot_count machine.now × (core < machine.now.cores) }
                         ensures { IfSome result (AreIdle C.sits C.idle machine.entry.now) }
                     {
                         work_on::<H, T, C, R, G>(
@@ -167,7 +167,7 @@ fn work_from_root<H: Wait, T: RunJob, C: Contexts<T>, R: Rng + Drop, G: Gate>(
     tokens: Tokens<C::Seat>,
 ) -> Option<Tokens<C::Seat>>
     requires tokens { AreIdle C.sits C.idle machine.now tokens }
-    requires set_up { IsSetUp C.core_count machine.now }
+    requires set_up { IsSetUp C.core_count C.slot_count machine.now }
     ensures { IfSome result (AreIdle C.sits C.idle machine.now) }
 {
     let Some(chooser) = chooser else {
@@ -204,7 +204,7 @@ fn work_on<H: Wait, T: RunJob, C: Contexts<T>, R: Rng + Drop, G: Gate>(
     of: PhantomData<(T, R)>,
 ) -> Option<Tokens<C::Seat>>
     requires tokens { AreIdle C.sits C.idle machine.now tokens }
-    requires set_up { IsSetUp C.core_count machine.now }
+    requires set_up { IsSetUp C.core_count C.slot_count machine.now }
     requires core { core < machine.now.cores }
     ensures { IfSome result (AreIdle C.sits C.idle machine.now) }
 {

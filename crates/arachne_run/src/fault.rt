@@ -6,12 +6,15 @@ use thiserror::Error;
 /// Why a run has no report. Where several workers meet one, the first that was recorded is answered.
 #[derive(Clone, Copy, Debug, PartialEq, Eq, Error)]
 pub enum RunFault {
-    /// The setup has no core, or more than 16.
-    #[error("the number of cores is not 1 to 16")]
+    /// The setup has no core, or more than 64.
+    #[error("the number of cores is not 1 to 64")]
     Cores,
     /// The setup's quantum is 0, or more than 10,000.
     #[error("the quantum is not 1 to 10,000")]
     Quantum,
+    /// The setup's cores have no place, or more than 56 each.
+    #[error("the number of places a core is not 1 to 56")]
+    Slots,
     /// The caller gave fewer choosers than the setup has cores, or more.
     #[error("there is not one chooser for each core")]
     Choosers,

@@ -16,7 +16,7 @@ pub trait Gate {
     fn applied(&self, _orders: usize) {}
 
     /// Called by core 0's kernel thread once threads were moved away from a closed core to these, a bit for each core.
-    fn moved(&self, _receivers: u16) {}
+    fn moved(&self, _receivers: u64) {}
 }
 
 /// The gate that does nothing.

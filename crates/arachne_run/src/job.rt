@@ -13,7 +13,7 @@ use crate::wanted::{OutcomeReceiver, OutcomeSender, Wanted};
 use arachne_contexts::Tagged;
 use arachne_core::ThreadId;
 use arachne_lang::Program;
-use arachne_machine::{NotJoined, Outcome, Pause, Pending, Thread};
+use arachne_machine::{NotJoined, NotPlaced, Outcome, Pause, Pending, Thread};
 use std::alloc::{AllocError, Global};
 use std::marker::Model;
 use std::snapshot::Snapshot;
@@ -115,7 +115,8 @@ impl<'p> RunJob for Job<'p> {
         child.set_tag(tag);
         match self.thread.in_place(child) {
             Ok(()) => Ok(()),
-            Err(_) => Err(WorkerFault::Memory),
+            Err(NotPlaced::Memory(_)) => Err(WorkerFault::Memory),
+            Err(NotPlaced::Foreign(_)) => Err(WorkerFault::Foreign),
         }
     }
 

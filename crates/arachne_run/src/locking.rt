@@ -12,6 +12,7 @@ use crate::worker::{Kit, Worker};
 use arachne_contexts::{Contexts, Held, Identified};
 use arachne_core::ThreadId;
 use arachne_sleep::{AskFault, Asked, Freed, Pass, Tried, Who};
+use crossbeam_utils::Backoff;
 use rand_core::Rng;
 use std::sync::Wait;
 
@@ -120,14 +121,15 @@ impl<'a, H: Wait, T: RunJob, C: Contexts<T>, R: Rng, G: Gate> Worker<'a, H, T, C
         ensures { AreKept C.sits C.has self.now.machine.now kit.old.tokens kit.new.tokens }
     {
         let who = asker(held);
+        let backoff = Backoff::new();
         for _ in self.rt.forever() {
             let locks = &self.machine.locks;
-            match locks.ask(self.rt, &mut kit.tokens.lock_seats, lock, who) {
+            match locks.ask(&mut kit.tokens.lock_seats, lock, who) {
                 Tried::Answered(Ok(Asked::Granted(pass))) => return Ok(Some(pass)),
                 Tried::Answered(Ok(Asked::Queued { at: _ })) => return Ok(None),
                 Tried::Answered(Err(AskFault::Memory)) => return Err(WorkerFault::Memory),
                 Tried::Answered(Err(AskFault::AlreadyIn)) => return Err(WorkerFault::Threads),
-                Tried::Contended => {}
+                Tried::Contended => backoff.snooze(),
             }
         }
         unreachable!()
@@ -145,15 +147,12 @@ impl<'a, H: Wait, T: RunJob, C: Contexts<T>, R: Rng, G: Gate> Worker<'a, H, T, C
         ensures { AreKept C.sits C.has self.now.machine.now kit.old.tokens kit.new.tokens }
     {
         let who = asker(held);
+        let backoff = Backoff::new();
         for _ in self.rt.forever() {
             let locks = &self.machine.locks;
-            if let Tried::Answered(pass) = locks.check(
-                self.rt,
-                &mut kit.tokens.lock_seats,
-                lock,
-                who,
-            ) {
-                return pass;
+            match locks.check(&mut kit.tokens.lock_seats, lock, who) {
+                Tried::Answered(pass) => return pass,
+                Tried::Contended => backoff.snooze(),
             }
         }
         unreachable!()
@@ -171,9 +170,10 @@ impl<'a, H: Wait, T: RunJob, C: Contexts<T>, R: Rng, G: Gate> Worker<'a, H, T, C
         ensures { AreKept C.sits C.has self.now.machine.now kit.old.tokens kit.new.tokens }
     {
         let who = asker(held);
+        let backoff = Backoff::new();
         for _ in self.rt.forever() {
             let locks = &self.machine.locks;
-            match locks.free(self.rt, &mut kit.tokens.lock_seats, lock, who) {
+            match locks.free(&mut kit.tokens.lock_seats, lock, who) {
                 Tried::Answered(
                     Ok(
                         Freed {
@@ -184,7 +184,7 @@ impl<'a, H: Wait, T: RunJob, C: Contexts<T>, R: Rng, G: Gate> Worker<'a, H, T, C
                 ) => return Ok(Some(next.id)),
                 Tried::Answered(Ok(Freed { next: None, .. })) => return Ok(None),
                 Tried::Answered(Err(_)) => return Err(WorkerFault::Threads),
-                Tried::Contended => {}
+                Tried::Contended => backoff.snooze(),
             }
         }
         unreachable!()

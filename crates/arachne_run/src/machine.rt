@@ -10,6 +10,7 @@ use crate::shared::Shared;
 use crate::tokens::Tokens;
 use arachne_arbiter::Arbiter;
 use arachne_contexts::{Contexts, Seats, Tagged};
+use arachne_core::{CORES, SLOTS};
 use arachne_lang::Program;
 use arachne_ledger::Ledgers;
 use arachne_policy::CoreOrder;
@@ -25,6 +26,8 @@ pub(crate) struct Machine<C> {
     pub(crate) locks: SleepLocks,
     pub(crate) shared: Shared,
     pub(crate) cores: u8,
+    /// How many places each core has.
+    pub(crate) slots: u8,
     pub(crate) quantum: u32,
     /// How many orders there are.
     pub(crate) orders: usize,
@@ -46,21 +49,24 @@ impl<C: Seats + Drop> Machine<C> {
     pub(crate) fn new(
         alloc: Global,
         cores: u8,
+        slots: u8,
         quantum: u32,
         orders: Vec<CoreOrder>,
         program: &Program,
     ) -> Result<(Machine<C>, Tokens<C::Seat>), AllocError>
         requires some { 1 ≤ cores }
-        requires most { cores ≤ 16 }
+        requires most { cores ≤ CORES }
+        requires some_slots { 1 ≤ slots }
+        requires most_slots { slots ≤ SLOTS }
         requires some_steps { 1 ≤ quantum }
         requires orders { AreInOrder cores orders.items }
         ensures tokens { IfOk result (λ made. AreIdle C.sits C.idle made.0 made.1) }
-        ensures set_up { IfOk result (λ made. IsSetUp C.core_count made.0) }
+        ensures set_up { IfOk result (λ made. IsSetUp C.core_count C.slot_count made.0) }
         ensures orders { IfOk result (λ made. made.0.orders ≡ length orders.items) }
         ensures locks { IfOk result (λ made. length made.0.locks ≡ program.now.locks) }
     {
         let count = orders.len();
-        let (table, seat) = C::new(alloc, cores, 0)?;
+        let (table, seat) = C::new(alloc, cores, slots, 0)?;
         let (ledgers, share) = Ledgers::new(alloc, usize::from(program.ledgers))?;
         let (locks, lock_seats) = SleepLocks::new(alloc, program.locks)?;
         let arbiter = Arbiter::new(alloc, orders, cores)?;
@@ -70,6 +76,7 @@ impl<C: Seats + Drop> Machine<C> {
             locks,
             shared: Shared::new(alloc, cores)?,
             cores,
+            slots,
             quantum,
             orders: count,
         };

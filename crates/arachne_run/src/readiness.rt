@@ -1,7 +1,7 @@
 //! At which places threads may be ready, and which workers sleep.
 ghost use Rattle.std.specs.Prelude.{◌≡◌, IfOk};
 
-use arachne_core::{CORES, Place, SLOTS};
+use arachne_core::{CORES, FULL_MASK, Place, SLOTS};
 use crossbeam_utils::CachePadded;
 use std::alloc::{AllocError, Global};
 use std::marker::Model;
@@ -13,8 +13,6 @@ use std::time::Duration;
 const SLEEPS: u64 = 1;
 
 const INDEX_SHIFT: u32 = 1;
-
-const ALL_INDEXES: u64 = (1 << 56) - 1;
 
 /// The bit of an index in a set of indexes, and no bit where there is no such index.
 pub(crate) fn bit_of(index: u8) -> u64 {
@@ -60,10 +58,10 @@ impl Readiness {
     }
 
     /// Threads of these cores may be ready at any index.
-    pub(crate) fn hint_cores(&self, cores: u16) {
+    pub(crate) fn hint_cores(&self, cores: u64) {
         for core in 0..CORES {
             if cores >> u32::from(core) & 1 == 1 {
-                self.hint_indexes(core, ALL_INDEXES);
+                self.hint_indexes(core, FULL_MASK);
             }
         }
     }

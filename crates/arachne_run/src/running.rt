@@ -53,10 +53,10 @@ pub fn run<
     ensures one_holder { IfOk result (λ report. All HasOneHolderAtATime (histories_in report)) }
     ensures grants { IfOk result (λ report. GrantsAreHolds report.threads (histories_in report)) }
     ensures applied { IfOk result (λ report. report.applied ≤ length setup.orders.items) }
-    ensures refused { (fault : RunFault) → refusal_of setup.cores setup.quantum (vec_len choosers) ≡ Some fault → result ≡ Err fault }
-    ensures of_setup { IfErr result (λ fault. is_of_setup fault ≡ true → IsSetupFault setup.cores setup.quantum (vec_len choosers) setup.orders.items fault) }
+    ensures refused { (fault : RunFault) → refusal_of setup.cores setup.quantum setup.slots (vec_len choosers) ≡ Some fault → result ≡ Err fault }
+    ensures of_setup { IfErr result (λ fault. is_of_setup fault ≡ true → IsSetupFault setup.cores setup.quantum setup.slots (vec_len choosers) setup.orders.items fault) }
     ensures in_order { IsOk result → AreInOrder setup.cores setup.orders.items }
-    ensures order_refused { refusal_of setup.cores setup.quantum (vec_len choosers) ≡ None → (AreInOrder setup.cores setup.orders.items → ⊥) → IfErr result (IsFirstOrderFault setup.cores setup.orders.items) }
+    ensures order_refused { refusal_of setup.cores setup.quantum setup.slots (vec_len choosers) ≡ None → (AreInOrder setup.cores setup.orders.items → ⊥) → IfErr result (IsFirstOrderFault setup.cores setup.orders.items) }
 {
     setup.check(choosers.len())?;
     let mut choosers = choosers;
@@ -65,6 +65,7 @@ pub fn run<
     let (machine, tokens) = Machine::<C>::new(
         alloc,
         setup.cores as u8,
+        setup.slots as u8,
         setup.quantum as u32,
         setup.orders,
         program,

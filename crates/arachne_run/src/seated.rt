@@ -27,7 +27,7 @@ impl<'a, H: Wait, T: RunJob, C: Contexts<T>, R: Rng, G: Gate> Worker<'a, H, T, C
         table.look(self.rt, &mut kit.tokens.seat, self.core)
     }
 
-    /// The thread at a place, if it is ready.
+    /// The thread at a place, if there is one that is ready.
     pub(crate) fn take(
         &self,
         kit: &mut Kit<C::Seat, R, T::Spares>,
@@ -38,6 +38,9 @@ impl<'a, H: Wait, T: RunJob, C: Contexts<T>, R: Rng, G: Gate> Worker<'a, H, T, C
         requires index { place.index < SLOTS }
         ensures { MatchOption result (AreKept C.sits C.has self.now.machine.now kit.old.tokens kit.new.tokens) (λ held. AreMore C.sits C.has self.now.machine.now (thread_in T.tag_of held) kit.old.tokens kit.new.tokens) }
     {
+        if place.index >= self.machine.slots {
+            return None;
+        }
         let table = &self.machine.table;
         match table.take(self.rt, &mut kit.tokens.seat, place.core, place.index) {
             Taken::Run(held) => Some(held),

@@ -5,7 +5,7 @@ ghost use Rattle.arachne_run.specs.declared.fault.RunFault.{RunFault};
 ghost use Rattle.arachne_run.specs.Setups.{IsFirstOrderFault, IsSetupFault, refusal_of};
 
 use crate::fault::RunFault;
-use arachne_core::CORES;
+use arachne_core::{CORES, SLOTS};
 use arachne_policy::{CoreOrder, check_orders};
 
 const MAX_QUANTUM: u64 = 10_000;
@@ -13,8 +13,10 @@ const MAX_QUANTUM: u64 = 10_000;
 /// The machine that a run goes on, and what happens to its cores.
 #[derive(Debug, Drop)]
 pub struct Setup {
-    /// How many cores there are, 1 to 16.
+    /// How many cores there are, 1 to 64.
     pub cores: u64,
+    /// How many threads each core has places for, 1 to 56.
+    pub slots: u64,
     /// The most steps of a slice, 1 to 10,000.
     pub quantum: u64,
     /// When cores are taken back and granted again.
@@ -24,17 +26,20 @@ pub struct Setup {
 impl Setup {
     /// Whether a run with so many choosers can be set up so. The first fault is answered.
     pub(crate) fn check(&self, choosers: usize) -> Result<(), RunFault>
-        ensures refused { (fault : RunFault) → refusal_of self.now.cores self.now.quantum choosers ≡ Some fault → result ≡ Err fault }
-        ensures accepted { IsOk result → refusal_of self.now.cores self.now.quantum choosers ≡ None }
+        ensures refused { (fault : RunFault) → refusal_of self.now.cores self.now.quantum self.now.slots choosers ≡ Some fault → result ≡ Err fault }
+        ensures accepted { IsOk result → refusal_of self.now.cores self.now.quantum self.now.slots choosers ≡ None }
         ensures orders { IsOk result → AreInOrder self.now.cores self.now.orders.items }
-        ensures fault { IfErr result (IsSetupFault self.now.cores self.now.quantum choosers self.now.orders.items) }
-        ensures order { refusal_of self.now.cores self.now.quantum choosers ≡ None → IfErr result (IsFirstOrderFault self.now.cores self.now.orders.items) }
+        ensures fault { IfErr result (IsSetupFault self.now.cores self.now.quantum self.now.slots choosers self.now.orders.items) }
+        ensures order { refusal_of self.now.cores self.now.quantum self.now.slots choosers ≡ None → IfErr result (IsFirstOrderFault self.now.cores self.now.orders.items) }
     {
         if self.cores < 1 || self.cores > u64::from(CORES) {
             return Err(RunFault::Cores);
         }
         if self.quantum < 1 || self.quantum > MAX_QUANTUM {
             return Err(RunFault::Quantum);
+        }
+        if self.slots < 1 || self.slots > u64::from(SLOTS) {
+            return Err(RunFault::Slots);
         }
         if choosers as u64 != self.cores {
             return Err(RunFault::Choosers);

@@ -85,7 +85,7 @@ impl<'a, H: Wait, T: RunJob, C: Contexts<T>, R: Rng, G: Gate> Worker<'a, H, T, C
         ensures tokens { AreOf C.sits self.now.machine.now kit.new.tokens }
         ensures out { KeepsOut (C.has self.now.machine.now.table) kit.old.tokens.seat kit.new.tokens.seat }
     {
-        if context >= u32::from(self.machine.cores) * u32::from(SLOTS) {
+        if context >= u32::from(self.machine.cores) * u32::from(self.machine.slots) {
             return None;
         }
         let table = &self.machine.table;
@@ -129,6 +129,9 @@ impl<'a, H: Wait, T: RunJob, C: Contexts<T>, R: Rng, G: Gate> Worker<'a, H, T, C
         ensures out { KeepsOut (C.has self.now.machine.now.table) kit.old.tokens.seat kit.new.tokens.seat }
     {
         if place.core == self.core || place.core >= self.machine.cores {
+            return Moved::Unposted;
+        }
+        if place.index >= self.machine.slots {
             return Moved::Unposted;
         }
         let table = &self.machine.table;

@@ -86,7 +86,7 @@ pub(crate) struct Worker<'a, H, T, C: Seats, R, G> {
     pub(crate) gate: &'a G,
     pub(crate) core: u8,
     pub(crate) of: PhantomData<(T, R)>,
-    ghost set_up: { IsSetUp C.core_count machine.now },
+    ghost set_up: { IsSetUp C.core_count C.slot_count machine.now },
     ghost within: { core < machine.now.cores },
 }
 
@@ -558,6 +558,7 @@ impl<'a, H: Wait, T: RunJob, C: Contexts<T>, R: Rng, G: Gate> Worker<'a, H, T, C
             rt: self.rt,
             table: &self.machine.table,
             count: self.machine.cores,
+            slots: self.machine.slots,
             of: PhantomData,
         }
     }

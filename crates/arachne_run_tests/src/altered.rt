@@ -44,12 +44,15 @@ impl<T: Tagged + Drop> Seats for Altered<T> {
 
     ghost core_count = { λ table. table.inner.cores };
 
+    ghost slot_count = { λ table. table.inner.slots };
+
     fn new(
         alloc: Global,
         cores: u8,
+        slots: u8,
         first_generation: u64,
     ) -> Result<(Altered<T>, LockedSeat), AllocError> {
-        let (inner, seat) = LockedContexts::new(alloc, cores, first_generation)?;
+        let (inner, seat) = LockedContexts::new(alloc, cores, slots, first_generation)?;
         let alteration = match cores {
             5 => Alteration::HandsBack,
             6 => Alteration::RefusesMemory,
@@ -98,7 +101,10 @@ impl<T: Tagged + Drop> Contexts<T> for Altered<T> {
         core: u8,
     ) -> Result<Claimed<LockedClaim>, AllocError> {
         match self.alteration {
-            Alteration::IsFull if core > 0 => Ok(Claimed::Full(FULL)),
+            Alteration::IsFull if core > 0 => {
+                let _ = self.inner.slots();
+                Ok(Claimed::Full(FULL))
+            }
             Alteration::RefusesMemory if self.inner.look(rt, seat, core) != 0 => Err(AllocError),
             _ => self.inner.claim(rt, seat, core),
         }

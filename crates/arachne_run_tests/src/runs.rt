@@ -6,6 +6,7 @@ ghost use Rattle.arachne_lang.specs.Checked.{IsChecked};
 use crate::altered::Altered;
 use crate::choosers::{Draws, Progression};
 use crate::gates::Watch;
+use arachne_core::SLOTS;
 use arachne_lang::{Program, check, parse};
 use arachne_policy::CoreOrder;
 use arachne_run::{Job, Report, RunFault, Setup, run};
@@ -116,6 +117,7 @@ fn setup_of(
     }
     let setup = Setup {
         cores,
+        slots: u64::from(SLOTS),
         quantum,
         orders,
     };

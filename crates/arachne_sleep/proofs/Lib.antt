@@ -1,8 +1,12 @@
 pub mod Consistency
-pub mod Dealing
 pub mod Histories
 pub mod OneHolderLaw
 pub mod Seating
-pub mod SomeLocks
+pub mod Dealing
 pub mod Threads
 mod WorkedHistories
+pub mod Growing
+pub mod Traces
+pub mod Keeps
+pub mod Visiting
+pub mod Crossing

@@ -4,6 +4,12 @@ pub mod OneHolder
 pub mod Lock
 pub mod WaitQueue
 pub mod Inside
-pub mod Seats
-pub mod SleepLock
 pub mod SleepLocks
+pub mod Histories
+pub mod Words
+pub mod Logs
+pub mod Trace
+pub mod Rule
+pub mod Steps
+pub mod Views
+pub mod Calls

@@ -1,17 +1,21 @@
 //! Sleep locks, which block a user thread and leave its core to others.
 //!
 //! [`LockState`] is the state of one: who owns it, who waits for it in which order, and the history of all that was
-//! asked, granted and freed. [`SleepLock`] is one that kernel threads share, each through a [`LockSeat`].
-//! [`SleepLocks`] are several, with [`LockSeats`].
+//! asked, granted and freed. [`SleepLock`] is one that kernel threads share, each through a [`LockSeat`], which keeps
+//! what was done through it. [`SleepLocks`] are several, with [`LockSeats`]. No call waits.
 #![tactic(auto)]
 
 mod answer;
 mod event;
+pub mod guard_laws;
+mod guarded_state;
 pub mod laws;
 mod lock_seat;
 mod lock_state;
 mod sleep_lock;
 mod sleep_locks;
+mod steps;
+mod view;
 mod wait_queue;
 mod who;
 

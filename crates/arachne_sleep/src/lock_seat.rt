@@ -1,65 +1,37 @@
-use arachne_weights::{Token, Weight};
-use atomic_table::{Join, Seat, Split, TableRule};
+//! What a kernel thread has of a lock.
+ghost use Rattle.std.specs.Prelude.{◌↔◌, IsTrue};
+ghost use Rattle.arachne_sleep.specs.Views.{IsWhole};
+
+use crate::guarded_state::GuardedState;
+use crate::view::View;
+use arachne_weights::Weight;
+use atomic_table::Seat;
 use std::marker::Model;
 
-/// What the rule of a lock's seats sees of one. No value of it is made.
-pub type View = Token<()>;
-
-/// The rule of a lock's seats: at first one has the whole weight, and all others came about by splits and joins.
-pub struct Dealt;
-
-impl TableRule<(), View, ()> for Dealt {
-    ghost use Rattle.arachne_sleep.specs.Seats.{AreDealt, opening_seat};
-
-    ghost holds = { AreDealt };
-
-    ghost first = { opening_seat };
-}
-
-pub(crate) struct Deal;
-
-impl Split<View> for Deal {
-    ghost use Rattle.arachne_sleep.specs.Seats.{first_seat, second_seat};
-
-    ghost left = { first_seat };
-
-    ghost right = { second_seat };
-}
-
-impl Join<View> for Deal {
-    ghost use Rattle.arachne_sleep.specs.Seats.{joined_seat, spent_seat};
-
-    ghost both = { joined_seat };
-
-    ghost spent = { spent_seat };
-}
-
-/// A part of the right to use one sleep lock.
+/// A part of the right to use one sleep lock, with what was done through it.
 ///
 /// It is used, split and joined with the lock that it came from. A seat that is dropped takes its weight with it, so
 /// that no seat is whole any more.
 #[derive(Drop)]
 pub struct LockSeat {
-    pub(crate) seat: Seat<(), View>,
+    pub(crate) seat: Seat<GuardedState, View>,
     pub(crate) weight: Weight,
 }
 
-// Clauses see the table that it came from, and its weight.
+// Clauses see the table that it came from, its weight and its log.
 impl Model for LockSeat {
-    ghost use Rattle.arachne_sleep.specs.SleepLock.{SeatView};
-    ghost use Rattle.arachne_sleep.specs.Seats.{IsSeated};
+    ghost use Rattle.std.specs.Prelude.{◌≡◌};
+    ghost use Rattle.arachne_sleep.specs.Views.{SeatView};
+    ghost use Rattle.arachne_sleep.specs.Steps.{idle};
 
     ghost Value = { SeatView };
 
-    ghost view = { λ s. record { table = s.seat.table_id; weight = s.weight } };
+    ghost view = { λ s. record { table = s.seat.table_id; weight = s.weight; log = s.seat.me.0.known.log } };
 
-    ghost invariant = { λ s. IsSeated s.weight s.seat.me };
+    ghost invariant = { λ s. s.seat.me ≡ idle s.weight s.seat.me.0.known.log };
 }
 
 impl LockSeat {
-    ghost use Rattle.std.specs.Prelude.{◌↔◌, IsTrue};
-    ghost use Rattle.arachne_sleep.specs.SleepLock.{IsWhole};
-
     /// Whether all other seats of its lock were joined into it.
     pub fn is_whole(&self) -> bool
         ensures { IsTrue result ↔ IsWhole self.now }

@@ -1,60 +1,87 @@
-//! A sleep lock that kernel threads share.
-ghost use Rattle.std.specs.Prelude.{◌≡◌, ◌↔◌, IsTrue, IsOk, IfOk, IfSome};
-ghost use Rattle.arachne_weights.specs.Weight.{whole, first_part, second_part, joined};
+//! A sleep lock that kernel threads share, and in whose calls none of them waits.
+ghost use Rattle.std.specs.Prelude.{◌≡◌, ◌↔◌, List, MatchBool, IsTrue, IsOk, IfOk, None, [], ◌∷◌};
 ghost use Rattle.arachne_sleep.specs.History.{IsSound};
 ghost use Rattle.arachne_sleep.specs.OneHolder.{HasOneHolderAtATime};
-ghost use Rattle.arachne_sleep.specs.SleepLock.{IsSeatOf, IsWhole, IfAnswered, IsAskedOfSome, IsFreedBySome, IsPassOfSome};
+ghost use Rattle.arachne_sleep.specs.Logs.{contended_log, given_back_log};
+ghost use Rattle.arachne_sleep.specs.Rule.{IsFirstSlot};
+ghost use Rattle.arachne_sleep.specs.Steps.{idle, HasTaken, Visits, IsReturnable};
+ghost use Rattle.arachne_sleep.specs.Views.{Guarded, IsSeatOf, IsWhole, whole_seat, first_half, second_half, joined_with};
+ghost use Rattle.arachne_sleep.specs.Calls.{IsAsked, IsFreed, IsChecked, pass_asked, AskAnswer, FreeAnswer, CheckAnswer, IsToldBy};
 
 use crate::answer::{AskFault, Asked, Freed, NotHolder, Pass, Tried};
 use crate::event::LockEvent;
-use crate::lock_seat::{Deal, Dealt, LockSeat, View};
-use crate::lock_state::LockState;
+use crate::guarded_state::GuardedState;
+use crate::lock_seat::LockSeat;
+use crate::steps::{Deal, GiveBack, GuardRule, Take};
+use crate::view::View;
 use crate::who::Who;
 use arachne_weights::Weight;
-use atomic_table::Table;
+use atomic_table::{Seat, Table};
 use std::alloc::{AllocError, Global};
 use std::marker::Model;
-use std::sync::{Mutex, Wait};
 
-/// A sleep lock behind a mutex. Each kernel thread uses it through a seat of its own.
+/// How many words the table has. Processors fetch cache lines in pairs, so two lines of unused words are on each side
+/// of the guard word.
+const WORDS: usize = 32;
+
+/// Where the guard word is.
+const GUARD: usize = 16;
+
+/// The guard word while the state is at home.
+const HOME: u64 = 0;
+
+/// The guard word while the state is with a seat.
+const TAKEN: u64 = 1;
+
+/// A sleep lock on a word: 0 while its state is at home in a slot, 1 while the state is with a seat.
 ///
-/// Of a state behind a mutex no clause knows more than that it is sound, so each answer is the one that some lock with
-/// this number and a sound history gives.
+/// Each kernel thread uses it through a seat of its own. `ask`, `free` and `check` try the guard word once. Where it is
+/// taken they return `Contended`, and nothing has changed; else they call the state, and give the guard back, whatever
+/// the answer is.
 #[derive(Drop)]
 pub struct SleepLock {
-    // Kept beside the state, of which nothing but its type is known.
     number: u8,
-    state: Mutex<LockState>,
-    // It knows the weights of all seats. Its one word isn't used.
-    table: Table<(), View, (), Dealt, Global>,
+    table: Table<GuardedState, View, u8, GuardRule, Global>,
 }
 
-// Clauses see the lock's number and the table of its seats.
+// Clauses see the lock's number and its table.
 impl Model for SleepLock {
-    ghost use Rattle.std.specs.Prelude.{◌≡◌};
-    ghost use Rattle.arachne_sleep.specs.SleepLock.{SleepLockView};
+    ghost use Rattle.arachne_sleep.specs.Views.{SleepLockView, IsLaidOut};
 
     ghost Value = { SleepLockView };
 
     ghost view = { λ l. record { table = l.table.shared.table_id; number = l.number } };
 
-    ghost invariant = { λ l. l.table.shared.table_id.words ≡ 1 };
+    ghost invariant = { λ l. IsLaidOut l.table.shared.table_id l.table.shared.key l.number };
+}
+
+/// The slots of a new lock.
+fn first_slots(alloc: Global, number: u8) -> Result<Vec<GuardedState>, AllocError>
+    ensures { IfOk result (λ slots. IsFirstSlot number slots.items) }
+{
+    let mut slots = Vec::with_capacity(alloc, 1)?;
+    slots.push(GuardedState::new(alloc, number))?;
+    Ok(slots)
 }
 
 impl SleepLock {
     /// A lock that nobody has asked for yet, and its whole seat.
     pub fn new(alloc: Global, lock: u8) -> Result<(SleepLock, LockSeat), AllocError>
         ensures number { IfOk result (λ made. made.0.number ≡ lock) }
-        ensures seat { IfOk result (λ made. made.1 ≡ record { table = made.0.table; weight = whole }) }
+        ensures seat { IfOk result (λ made. made.1 ≡ whole_seat made.0) }
     {
-        let (table, seat) = Table::of_words(alloc, &[0], &())?;
-        let lock = SleepLock {
-            number: lock,
-            state: Mutex::new(LockState::new(alloc, lock)),
-            table,
+        let slots = first_slots(alloc, lock)?;
+        let Ok((table, seat)) = Table::new(alloc, &[HOME; WORDS], slots, &lock) else {
+            return Err(AllocError);
         };
         let weight = Weight::whole();
-        Ok((lock, LockSeat { seat, weight }))
+        Ok((
+            SleepLock {
+                number: lock,
+                table,
+            },
+            LockSeat { seat, weight },
+        ))
     }
 
     /// The lock's number.
@@ -67,51 +94,54 @@ impl SleepLock {
     /// Asks for the lock. The thread holds it at once where nobody owns it, and waits otherwise.
     ///
     /// A thread that is in already is told so. Where memory is refused nothing changes.
-    pub fn ask<R: Wait>(
-        &self,
-        rt: &R,
-        seat: &mut LockSeat,
-        who: Who,
-    ) -> Tried<Result<Asked, AskFault>>
+    pub fn ask(&self, seat: &mut LockSeat, who: Who) -> Tried<Result<Asked, AskFault>>
         requires { IsSeatOf self.now seat.old }
-        ensures seat { seat.new ≡ seat.old }
-        ensures asked { IfAnswered result (λ answer. IfOk answer (IsAskedOfSome self.now.number who)) }
+        ensures seat { IsSeatOf self.now seat.new × (seat.new.weight ≡ seat.old.weight) }
+        ensures answer { AskAnswer self.now.number who seat.old result seat.new }
     {
-        let _ = seat;
-        Tried::Answered(self.state.lock(rt).ask_as(self.number, who))
+        if !self.take(&mut seat.seat) {
+            return Tried::Contended;
+        }
+        let answer = self.ask_guarded(&mut seat.seat, who);
+        self.give_back(&mut seat.seat);
+        Tried::Answered(answer)
     }
 
     /// Frees the lock, which goes to the thread that has waited longest, if any waits. A thread that doesn't own the
     /// lock is told so.
-    pub fn free<R: Wait>(
-        &self,
-        rt: &R,
-        seat: &mut LockSeat,
-        who: Who,
-    ) -> Tried<Result<Freed, NotHolder>>
+    pub fn free(&self, seat: &mut LockSeat, who: Who) -> Tried<Result<Freed, NotHolder>>
         requires { IsSeatOf self.now seat.old }
-        ensures seat { seat.new ≡ seat.old }
-        ensures freed { IfAnswered result (λ answer. IfOk answer (IsFreedBySome who)) }
+        ensures seat { IsSeatOf self.now seat.new × (seat.new.weight ≡ seat.old.weight) }
+        ensures answer { FreeAnswer self.now.number who seat.old result seat.new }
     {
-        let _ = seat;
-        Tried::Answered(self.state.lock(rt).free_as(who))
+        if !self.take(&mut seat.seat) {
+            return Tried::Contended;
+        }
+        let answer = self.free_guarded(&mut seat.seat, who);
+        self.give_back(&mut seat.seat);
+        Tried::Answered(answer)
     }
 
     /// The pass of a thread that owns the lock, and `None` for any other.
-    pub fn check<R: Wait>(&self, rt: &R, seat: &mut LockSeat, who: Who) -> Tried<Option<Pass>>
+    pub fn check(&self, seat: &mut LockSeat, who: Who) -> Tried<Option<Pass>>
         requires { IsSeatOf self.now seat.old }
-        ensures seat { seat.new ≡ seat.old }
-        ensures pass { IfAnswered result (λ answer. IfSome answer (IsPassOfSome self.now.number who)) }
+        ensures seat { IsSeatOf self.now seat.new × (seat.new.weight ≡ seat.old.weight) }
+        ensures answer { CheckAnswer self.now.number who seat.old result seat.new }
     {
-        let _ = seat;
-        Tried::Answered(self.state.lock(rt).check_as(self.number, who))
+        if !self.take(&mut seat.seat) {
+            return Tried::Contended;
+        }
+        let answer = self.check_guarded(&mut seat.seat, who);
+        self.give_back(&mut seat.seat);
+        Tried::Answered(answer)
     }
 
-    /// Halves the weight, rounded up for the first seat. At weight 1 or 0 neither gets any.
+    /// Halves the weight, rounded up for the first seat, which keeps what it has done. The second has seen what the
+    /// first has. At weight 1 or 0 neither gets any.
     pub fn split(&self, seat: LockSeat) -> (LockSeat, LockSeat)
         requires { IsSeatOf self.now seat }
-        ensures first { result.0 ≡ record seat { weight = first_part seat.weight } }
-        ensures second { result.1 ≡ record seat { weight = second_part seat.weight } }
+        ensures first { result.0 ≡ first_half seat }
+        ensures second { result.1 ≡ second_half seat }
     {
         let mut seat = seat;
         let other = self.split_off(&mut seat);
@@ -120,8 +150,8 @@ impl SleepLock {
 
     pub(crate) fn split_off(&self, seat: &mut LockSeat) -> LockSeat
         requires { IsSeatOf self.now seat.old }
-        ensures first { seat.new ≡ record seat.old { weight = first_part seat.old.weight } }
-        ensures second { result ≡ record seat.old { weight = second_part seat.old.weight } }
+        ensures first { seat.new ≡ first_half seat.old }
+        ensures second { result ≡ second_half seat.old }
     {
         let (first, second) = seat.weight.split();
         let other = self.table.shared.split_seat::<Deal>(&mut seat.seat);
@@ -132,11 +162,11 @@ impl SleepLock {
         }
     }
 
-    /// Adds up weights, to at most the whole.
+    /// Adds up weights, to at most the whole, and what both have done and seen.
     pub fn join_seats(&self, seat: LockSeat, other: LockSeat) -> LockSeat
         requires seat { IsSeatOf self.now seat }
         requires other { IsSeatOf self.now other }
-        ensures { result ≡ record seat { weight = joined seat.weight other.weight } }
+        ensures { result ≡ joined_with seat other }
     {
         let mut seat = seat;
         self.join_into(&mut seat, other);
@@ -146,7 +176,7 @@ impl SleepLock {
     pub(crate) fn join_into(&self, seat: &mut LockSeat, other: LockSeat)
         requires seat { IsSeatOf self.now seat.old }
         requires other { IsSeatOf self.now other }
-        ensures { seat.new ≡ record seat.old { weight = joined seat.old.weight other.weight } }
+        ensures { seat.new ≡ joined_with seat.old other }
     {
         let LockSeat {
             seat: spent,
@@ -170,9 +200,80 @@ impl SleepLock {
         ensures closed { IsOk result }
         ensures sound { IfOk result (λ history. IsSound history.items) }
         ensures one_holder { IfOk result (λ history. HasOneHolderAtATime history.items) }
+        ensures told { IfOk result (λ history. IsToldBy seat.log history.items) }
     {
-        let SleepLock { state, .. } = self;
-        drop(seat);
-        Ok(state.into_inner().into_history())
+        Ok(self.into_history(seat))
+    }
+
+    pub(crate) fn into_history(self, seat: LockSeat) -> Vec<LockEvent>
+        requires own { IsSeatOf self seat }
+        requires whole { IsWhole seat }
+        ensures sound { IsSound result.items }
+        ensures told { IsToldBy seat.log result.items }
+    {
+        let SleepLock { table, number: _ } = self;
+        let LockSeat { seat, weight: _ } = seat;
+        let mut closed = table.close_with(seat);
+        let guarded = closed.take(0);
+        closed.free();
+        guarded.into_history()
+    }
+
+    /// Tries the guard once. Won, the state has come to the seat.
+    fn take(&self, seat: &mut Seat<GuardedState, View>) -> bool
+        requires own { seat.old.table_id ≡ self.now.table }
+        requires idle { seat.old.me ≡ idle seat.old.me.0.weight seat.old.me.0.known.log }
+        ensures own { seat.new.table_id ≡ seat.old.table_id }
+        ensures told { MatchBool result
+            (HasTaken seat.old.me.0.weight seat.old.me.0.known.log seat.new.me)
+            (seat.new.me ≡ idle seat.old.me.0.weight (contended_log seat.old.me.0.known.log)) }
+    {
+        let shared = &self.table.shared;
+        shared.compare_exchange::<Take>(seat, GUARD, HOME, TAKEN) == HOME
+    }
+
+    /// Gives the guard back, and with it the state.
+    fn give_back(&self, seat: &mut Seat<GuardedState, View>)
+        requires own { seat.old.table_id ≡ self.now.table }
+        requires guarded { (guarded : Guarded) × (before : List LockEvent) × IsReturnable seat.old.me guarded before }
+        ensures own { seat.new.table_id ≡ seat.old.table_id }
+        ensures told { (guarded : Guarded) → seat.old.me.1 ≡ (0, guarded) ∷ []
+            → seat.new.me ≡ idle seat.old.me.0.weight (given_back_log seat.old.me.0.known.log guarded.state.history guarded.last_pass) }
+    {
+        self.table.shared.store::<GiveBack>(seat, GUARD, HOME);
+    }
+
+    fn ask_guarded(&self, seat: &mut Seat<GuardedState, View>, who: Who) -> Result<Asked, AskFault>
+        requires own { seat.old.table_id ≡ self.now.table }
+        requires held { (guarded : Guarded) × (seat.old.me.1 ≡ (0, guarded) ∷ []) }
+        ensures own { seat.new.table_id ≡ seat.old.table_id }
+        ensures asked { (old new : Guarded) × Visits seat.old.me seat.new.me old new × IsAsked old.state new.state who result
+            × (new.last_pass ≡ pass_asked result) × IsSound new.state.history }
+    {
+        seat.slot_mut(&self.table.shared, 0).ask(who)
+    }
+
+    fn free_guarded(
+        &self,
+        seat: &mut Seat<GuardedState, View>,
+        who: Who,
+    ) -> Result<Freed, NotHolder>
+        requires own { seat.old.table_id ≡ self.now.table }
+        requires held { (guarded : Guarded) × (seat.old.me.1 ≡ (0, guarded) ∷ []) }
+        ensures own { seat.new.table_id ≡ seat.old.table_id }
+        ensures freed { (old new : Guarded) × Visits seat.old.me seat.new.me old new × IsFreed old.state new.state who result
+            × (new.last_pass ≡ None) × IsSound new.state.history }
+    {
+        seat.slot_mut(&self.table.shared, 0).free(who)
+    }
+
+    fn check_guarded(&self, seat: &mut Seat<GuardedState, View>, who: Who) -> Option<Pass>
+        requires own { seat.old.table_id ≡ self.now.table }
+        requires held { (guarded : Guarded) × (seat.old.me.1 ≡ (0, guarded) ∷ []) }
+        ensures own { seat.new.table_id ≡ seat.old.table_id }
+        ensures checked { (old new : Guarded) × Visits seat.old.me seat.new.me old new × IsChecked old.state new.state who result
+            × (new.last_pass ≡ result) × IsSound new.state.history }
+    {
+        seat.slot_mut(&self.table.shared, 0).check(who)
     }
 }

@@ -1,9 +1,11 @@
 //! All sleep locks of a run.
-ghost use Rattle.std.specs.Prelude.{◌≡◌, ◌<◌, ◌↔◌, All, IsTrue, IsOk, IfOk, IfErr, IfSome, length};
+ghost use Rattle.std.specs.Prelude.{◌≡◌, ◌<◌, ◌↔◌, All, IsTrue, IsOk, IfOk, IfErr, IfSome, length, map};
+ghost use Rattle.std.specs.List.{AllZip};
 ghost use Rattle.arachne_sleep.specs.History.{IsSound};
 ghost use Rattle.arachne_sleep.specs.OneHolder.{HasOneHolderAtATime};
-ghost use Rattle.arachne_sleep.specs.SleepLock.{IsWhole, IfAnswered, IsAskedOfSome, IsFreedBySome, IsPassOfSome};
-ghost use Rattle.arachne_sleep.specs.SleepLocks.{AreSeatsOf};
+ghost use Rattle.arachne_sleep.specs.Views.{IsWhole, whole_seat, first_half, second_half};
+ghost use Rattle.arachne_sleep.specs.Calls.{AskAnswer, FreeAnswer, CheckAnswer, IsToldBy};
+ghost use Rattle.arachne_sleep.specs.SleepLocks.{AreSeatsOf, ChangesAt, all_joined};
 
 use crate::answer::{AskFault, Asked, Freed, NotHolder, Pass, Tried};
 use crate::event::LockEvent;
@@ -12,7 +14,6 @@ use crate::sleep_lock::SleepLock;
 use crate::who::Who;
 use std::alloc::{AllocError, Global};
 use std::marker::Model;
-use std::sync::Wait;
 
 /// Some number of locks, numbered from 0, that kernel threads share.
 #[derive(Drop)]
@@ -22,7 +23,7 @@ pub struct SleepLocks {
 
 impl Model for SleepLocks {
     ghost use Rattle.std.specs.Prelude.{List};
-    ghost use Rattle.arachne_sleep.specs.SleepLock.{SleepLockView};
+    ghost use Rattle.arachne_sleep.specs.Views.{SleepLockView};
     ghost use Rattle.arachne_sleep.specs.SleepLocks.{AreNumbered};
 
     ghost Value = { List SleepLockView };
@@ -40,7 +41,7 @@ pub struct LockSeats {
 
 impl Model for LockSeats {
     ghost use Rattle.std.specs.Prelude.{List};
-    ghost use Rattle.arachne_sleep.specs.SleepLock.{SeatView};
+    ghost use Rattle.arachne_sleep.specs.Views.{SeatView};
 
     ghost Value = { List SeatView };
 
@@ -53,6 +54,7 @@ impl SleepLocks {
         ensures count { IfOk result (λ made. length made.0 ≡ count) }
         ensures own { IfOk result (λ made. AreSeatsOf made.0 made.1) }
         ensures whole { IfOk result (λ made. All IsWhole made.1) }
+        ensures seats { IfOk result (λ made. made.1 ≡ map whole_seat made.0) }
     {
         let mut locks = Vec::with_capacity(alloc, usize::from(count))?;
         let mut seats = Vec::with_capacity(alloc, usize::from(count))?;
@@ -72,54 +74,36 @@ impl SleepLocks {
     }
 
     /// As [`SleepLock::ask`].
-    pub fn ask<R: Wait>(
-        &self,
-        rt: &R,
-        seats: &mut LockSeats,
-        lock: u8,
-        who: Who,
-    ) -> Tried<Result<Asked, AskFault>>
+    pub fn ask(&self, seats: &mut LockSeats, lock: u8, who: Who) -> Tried<Result<Asked, AskFault>>
         requires own { AreSeatsOf self.now seats.old }
         requires lock { lock < length self.now }
-        ensures seats { seats.new ≡ seats.old }
-        ensures asked { IfAnswered result (λ answer. IfOk answer (IsAskedOfSome lock who)) }
+        ensures own { AreSeatsOf self.now seats.new }
+        ensures asked { ChangesAt lock seats.old seats.new (λ old new. AskAnswer lock who old result new) }
     {
         let k = usize::from(lock);
-        self.locks[k].ask(rt, &mut seats.seats[k], who)
+        self.locks[k].ask(&mut seats.seats[k], who)
     }
 
     /// As [`SleepLock::free`].
-    pub fn free<R: Wait>(
-        &self,
-        rt: &R,
-        seats: &mut LockSeats,
-        lock: u8,
-        who: Who,
-    ) -> Tried<Result<Freed, NotHolder>>
+    pub fn free(&self, seats: &mut LockSeats, lock: u8, who: Who) -> Tried<Result<Freed, NotHolder>>
         requires own { AreSeatsOf self.now seats.old }
         requires lock { lock < length self.now }
-        ensures seats { seats.new ≡ seats.old }
-        ensures freed { IfAnswered result (λ answer. IfOk answer (IsFreedBySome who)) }
+        ensures own { AreSeatsOf self.now seats.new }
+        ensures freed { ChangesAt lock seats.old seats.new (λ old new. FreeAnswer lock who old result new) }
     {
         let k = usize::from(lock);
-        self.locks[k].free(rt, &mut seats.seats[k], who)
+        self.locks[k].free(&mut seats.seats[k], who)
     }
 
     /// As [`SleepLock::check`].
-    pub fn check<R: Wait>(
-        &self,
-        rt: &R,
-        seats: &mut LockSeats,
-        lock: u8,
-        who: Who,
-    ) -> Tried<Option<Pass>>
+    pub fn check(&self, seats: &mut LockSeats, lock: u8, who: Who) -> Tried<Option<Pass>>
         requires own { AreSeatsOf self.now seats.old }
         requires lock { lock < length self.now }
-        ensures seats { seats.new ≡ seats.old }
-        ensures pass { IfAnswered result (λ answer. IfSome answer (IsPassOfSome lock who)) }
+        ensures own { AreSeatsOf self.now seats.new }
+        ensures pass { ChangesAt lock seats.old seats.new (λ old new. CheckAnswer lock who old result new) }
     {
         let k = usize::from(lock);
-        self.locks[k].check(rt, &mut seats.seats[k], who)
+        self.locks[k].check(&mut seats.seats[k], who)
     }
 
     /// Splits each seat. Where there is no memory for the others' list the seats come back.
@@ -131,6 +115,7 @@ impl SleepLocks {
         requires { AreSeatsOf self.now seats }
         ensures first { IfOk result (λ parts. AreSeatsOf self.now parts.0) }
         ensures second { IfOk result (λ parts. AreSeatsOf self.now parts.1) }
+        ensures halves { IfOk result (λ parts. (parts.0 ≡ map first_half seats) × (parts.1 ≡ map second_half seats)) }
         ensures err { IfErr result (λ back. back ≡ seats) }
     {
         let Ok(mut others) = Vec::with_capacity(alloc, self.locks.len()) else {
@@ -147,14 +132,12 @@ impl SleepLocks {
     pub fn join_seats(&self, seats: LockSeats, others: LockSeats) -> LockSeats
         requires seats { AreSeatsOf self.now seats }
         requires others { AreSeatsOf self.now others }
-        ensures { AreSeatsOf self.now result }
+        ensures own { AreSeatsOf self.now result }
+        ensures joined { result ≡ all_joined seats others }
     {
         let LockSeats { seats: mut own } = seats;
         let LockSeats { seats: mut others } = others;
-        for _ in 0..self.locks.len() {
-            let Some(other) = others.pop() else {
-                break;
-            };
+        while let Some(other) = others.pop() {
             let k = others.len();
             self.locks[k].join_into(&mut own[k], other);
         }
@@ -180,6 +163,7 @@ impl SleepLocks {
         ensures count { IfOk result (λ histories. length histories.items ≡ length self) }
         ensures sound { IfOk result (λ histories. All (λ history. IsSound history.items) histories.items) }
         ensures one_holder { IfOk result (λ histories. All (λ history. HasOneHolderAtATime history.items) histories.items) }
+        ensures told { IfOk result (λ histories. AllZip (λ seat history. IsToldBy seat.log history.items) seats histories.items) }
         ensures err { IfErr result (λ back. (back.0 ≡ self) × (back.1 ≡ seats)) }
     {
         let count = self.locks.len();
@@ -192,10 +176,7 @@ impl SleepLocks {
             let (Some(lock), Some(seat)) = (locks.pop(), seats.pop()) else {
                 unreachable!()
             };
-            match lock.close(seat) {
-                Ok(history) => histories.push_reserved(history),
-                Err(_) => unreachable!(),
-            }
+            histories.push_reserved(lock.into_history(seat));
         }
         histories.reverse();
         Ok(histories)

@@ -3,6 +3,7 @@ ghost use Rattle.std.specs.Prelude.{ℕ};
 
 mod contention;
 mod rows;
+mod sizes;
 mod steps;
 
 use crate::{LockedContexts, Tagged, WordContexts};
@@ -23,13 +24,29 @@ impl Tagged for Job {
 #[test]
 fn a_table_behind_a_lock_gives_each_row(rt: HostRuntime) -> Result<(), Fail> {
     let runs = rows::give::<LockedContexts<Job>, HostRuntime>(&rt, rt.alloc())?;
-    assert!(rt; runs == 10);
+    assert!(rt; runs == 12);
     Ok(())
 }
 
 #[test]
 fn a_table_of_words_gives_each_row(rt: HostRuntime) -> Result<(), Fail> {
     let runs = rows::give::<WordContexts<Job>, HostRuntime>(&rt, rt.alloc())?;
-    assert!(rt; runs == 10);
+    assert!(rt; runs == 12);
+    Ok(())
+}
+
+#[test]
+fn tables_behind_a_lock_are_filled(rt: HostRuntime) -> Result<(), Fail> {
+    sizes::fill_tables::<LockedContexts<Job>, HostRuntime>(&rt, rt.alloc())?;
+    let spent = sizes::spend_core::<LockedContexts<Job>, HostRuntime>(&rt, rt.alloc())?;
+    assert!(rt; spent == (0x38ffffffffffffff, 0x78ffffffffffffff, false));
+    Ok(())
+}
+
+#[test]
+fn tables_of_words_are_filled(rt: HostRuntime) -> Result<(), Fail> {
+    sizes::fill_tables::<WordContexts<Job>, HostRuntime>(&rt, rt.alloc())?;
+    let spent = sizes::spend_core::<WordContexts<Job>, HostRuntime>(&rt, rt.alloc())?;
+    assert!(rt; spent == (0x38ffffffffffffff, 0x78ffffffffffffff, false));
     Ok(())
 }

@@ -108,6 +108,31 @@ fn each_call_on_two_ledgers(rt: HostRuntime) -> Result<(), Fail> {
     Ok(())
 }
 
+const NUMBERS: [u64; 16] = [1, 2, 3, 4, 5, 6, 7, 8, 9, 10, 11, 12, 13, 14, 15, 16];
+
+/// Adds to each ledger its place among them, from 1.
+fn add_to_each(ledgers: &Ledgers, mut share: Share) -> Share
+    requires share { IsShareOf ledgers.now share }
+    ensures { IsShareOf ledgers.now result }
+{
+    for ledger in 0..ledgers.count() {
+        ledgers.add(&mut share, ledger, (ledger as u64).wrapping_add(1));
+    }
+    share
+}
+
+#[test]
+fn one_to_sixteen_ledgers(rt: HostRuntime) -> Result<(), Fail> {
+    for count in 1..17 {
+        let (ledgers, share) = make_ledgers(rt.alloc(), count)?;
+        let share = add_to_each(&ledgers, share);
+        assert!(rt; share.is_whole());
+        let sums = sums(rt.alloc(), ledgers, share).ok_or("no memory")?;
+        assert!(rt; sums.as_slice() == &NUMBERS[..count]);
+    }
+    Ok(())
+}
+
 #[test]
 fn there_may_be_no_ledger(rt: HostRuntime) -> Result<(), Fail> {
     let (ledgers, share) = make_ledgers(rt.alloc(), 0)?;

@@ -1,14 +1,14 @@
 //! What no clause says of threads that are cut anywhere: worked values, refused memory, and outcomes of other threads.
-ghost use Rattle.std.specs.Prelude.{◌≡◌, ◌≤◌, [], false, None, Some, IfOk, OnOk, IsTrue};
+ghost use Rattle.std.specs.Prelude.{◌≡◌, ◌≤◌, [], false, None, Some, IfOk, IfSome, OnOk, IsTrue};
 ghost use Rattle.arachne_lang.specs.Program.{source_of};
 ghost use Rattle.arachne_machine.specs.declared.pause.Pending.TheVariants as pause;
-ghost use Rattle.arachne_machine.specs.Nested.{Nested, IsChildOf, SameWhole, pending_in, whole};
+ghost use Rattle.arachne_machine.specs.Nested.{Nested, IsAlone, IsChildOf, SameWhole, pending_in, whole};
 
 mod ways;
 
 use arachne_lang::{Class, Meaning, Name, Program, TextFault, parse};
 use arachne_machine::{
-    NotJoined, Outcome, OutcomeParts, Pause, Pending, Thread, ThreadLine, run_alone,
+    NotJoined, NotPlaced, Outcome, OutcomeParts, Pause, Pending, Ran, Thread, ThreadLine, run_alone,
 };
 use std::alloc::Global;
 use std::process::Abort;
@@ -86,8 +86,10 @@ fn place<'p>(thread: &mut Thread<'p>, mut child: Thread<'p>, heard: &mut Heard) 
 {
     child.set_tag(heard.next);
     heard.next = heard.next.wrapping_add(1);
-    let Err(child) = thread.in_place(child) else {
-        return Ok(());
+    let child = match thread.in_place(child) {
+        Ok(()) => return Ok(()),
+        Err(NotPlaced::Memory(child)) => child,
+        Err(NotPlaced::Foreign(_)) => return Err("refused as foreign at its fork")?,
     };
     if thread.in_place(child).is_err() {
         return Err("memory was refused twice")?;
@@ -165,9 +167,13 @@ fn numbers(alloc: Global, name: &Name) -> Result<Vec<u64>, Fail> {
     Ok(numbers)
 }
 
-/// A thread's name, its tag, whether it ran in place, and its holds.
+/// A thread's name, its tag, where it ran, and its holds.
 fn told_line(alloc: Global, line: &ThreadLine) -> Result<String, Fail> {
-    let mark = if line.in_place { "+" } else { "-" };
+    let mark = match line.ran {
+        Ran::Slot => "-",
+        Ran::Spill => "~",
+        Ran::InPlace => "+",
+    };
     let (name, holds) = (numbers(alloc, &line.name)?, line.holds.as_slice());
     Ok(format!(in alloc; " {name:?}{}{mark}{holds:?}", line.tag)?)
 }
@@ -301,7 +307,7 @@ fn chain(alloc: Global) -> Result<Program, Fail> {
 fn counts_on(parts: &OutcomeParts) -> bool {
     let mut tag = 9u64;
     for line in parts.lines.as_slice() {
-        if line.tag != tag || line.in_place != (tag > 9) {
+        if line.tag != tag || (line.ran == Ran::InPlace) != (tag > 9) {
             return false;
         }
         tag = tag.wrapping_add(1);
@@ -461,6 +467,84 @@ fn foreign_outcome_comes_back(rt: HostRuntime) -> Result<(), Fail> {
     let (is_refused, told) = second_root(rt.alloc(), &program)?;
     assert!(rt; is_refused);
     assert!(rt; told.as_str() == "5 [0] []2-[0] [0]0-[0]");
+    Ok(())
+}
+
+/// The child that a thread forks next, which is given away.
+fn given_away<'p>(thread: &mut Thread<'p>) -> Result<Thread<'p>, Fail>
+    ensures { IfOk result IsAlone }
+{
+    if thread.pending().is_some() {
+        return Err("a pause is not answered")?;
+    }
+    let pause = match thread.advance(100) {
+        Ok(pause) => pause,
+        Err(_) => thread.advance(100)?,
+    };
+    let Pause::Forks(_, child) = pause else {
+        return Err("no fork")?;
+    };
+    thread.forked();
+    Ok(child)
+}
+
+/// Hands a child to a thread that awaits one, to go on in its place. It comes back where it is another.
+fn begin<'p>(thread: &mut Thread<'p>, child: Thread<'p>) -> Result<Option<Thread<'p>>, Fail>
+    requires { IsAlone child }
+    ensures { IfOk result (λ back. IfSome back IsAlone) }
+{
+    let Some(Pending::Joins) = thread.pending() else {
+        return Err("awaits no child")?;
+    };
+    if child.pending().is_some() || !are_same(child.program(), thread.program()) {
+        return Err("no child of its program")?;
+    }
+    let child = match thread.in_place(child) {
+        Ok(()) => return Ok(None),
+        Err(NotPlaced::Foreign(child)) => return Ok(Some(child)),
+        Err(NotPlaced::Memory(child)) => child,
+    };
+    match thread.in_place(child) {
+        Ok(()) => Ok(None),
+        Err(_) => Err("memory was refused twice")?,
+    }
+}
+
+const TWO_FORKS: &str = "(fork n (num 2) (fork n (num 3) (num 4) (add (var 0) (var 1))) (add (var 0) (var 1)))";
+
+/// A thread refuses the first of two children while it awaits the second, which it then takes in its place. The first ends by itself, as one for which
+/// a place was found while it waited.
+fn second_in_place<'p>(thread: &mut Thread<'p>) -> Result<(), Fail> {
+    let first = given_away(thread)?;
+    let second = given_away(thread)?;
+    go_on(thread)?;
+    let Some(mut first) = begin(thread, first)? else {
+        return Err("another child was placed")?;
+    };
+    if begin(thread, second)?.is_some() {
+        return Err("the awaited child was refused")?;
+    }
+    go_on(thread)?;
+    first.set_spilled();
+    let outcome = ended(first)?;
+    join_child(thread, outcome);
+    Ok(())
+}
+
+/// What is told of the threads of `TWO_FORKS`.
+fn told_of_two(alloc: Global, program: &Program) -> Result<String, Fail> {
+    let mut thread = start(alloc, program, 9)?;
+    second_in_place(&mut thread)?;
+    let parts = parts(ended(thread)?)?;
+    told(alloc, &parts)
+}
+
+/// Run with each allocation refused in turn (`rt try --test --fail-alloc N`) this gives the same.
+#[test]
+fn an_awaited_child_begins_in_place(rt: HostRuntime) -> Result<(), Fail> {
+    let program = program(rt.alloc(), 0, TWO_FORKS)?;
+    let told = told_of_two(rt.alloc(), &program)?;
+    assert!(rt; told.as_str() == "9 [] []9-[] [1]0+[] [0]0~[]", "{told}");
     Ok(())
 }
 

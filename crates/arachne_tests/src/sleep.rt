@@ -1,4 +1,5 @@
 //! One run of asks, looks and frees, by each form of lock, a call a row with its answer.
+mod contended;
 mod several;
 mod shared;
 

@@ -7,42 +7,43 @@ use Rattle.arachne_core.specs.declared.layout.TheConstants.{CORE_BITS, SLOTS}
 use Rattle.arachne_core.specs.declared.mark.Mark.TheVariants as mark
 use Rattle.arachne_core.specs.Place.{first_place}
 use Rattle.arachne_core.specs.Marked.{mark_word}
+use Rattle.arachne_rule.specs.declared.layout.TheConstants.{BLOCK, NAMES, OCCUPANCY}
 use Rattle.arachne_rule.specs.Layout.{AreFirstWords}
 use Rattle.arachne_words.specs.FirstWords.{first_word, block_word}
 
-pub block-before : (core offset : ℕ) → offset < 16 → block_word core offset ≡ 0
-block-before core offset h = cond-true (ltb offset 16) _ _ (lt-ltb offset 16 h)
+pub block-before : (slots core offset : ℕ) → offset < NAMES → block_word slots core offset ≡ 0
+block-before slots core offset h = cond-true (ltb offset NAMES) _ _ (lt-ltb offset NAMES h)
 
-pub block-name : (core offset : ℕ) → 16 ≤ offset → offset - 16 < SLOTS → block_word core offset ≡ core * SLOTS + (offset - 16)
-block-name core offset h l = cond-false (ltb offset 16) _ _ (le-ltb offset 16 h) ∙ cond-true (ltb (offset - 16) SLOTS) _ _ (lt-ltb (offset - 16) SLOTS l)
+pub block-name : (slots core offset : ℕ) → NAMES ≤ offset → offset - NAMES < slots → block_word slots core offset ≡ core * slots + (offset - NAMES)
+block-name slots core offset h l = cond-false (ltb offset NAMES) _ _ (le-ltb offset NAMES h) ∙ cond-true (ltb (offset - NAMES) slots) _ _ (lt-ltb (offset - NAMES) slots l)
 
-pub block-behind : (core offset : ℕ) → 16 ≤ offset → SLOTS ≤ offset - 16 → block_word core offset ≡ 0
-block-behind core offset h l = cond-false (ltb offset 16) _ _ (le-ltb offset 16 h) ∙ cond-false (ltb (offset - 16) SLOTS) _ _ (le-ltb (offset - 16) SLOTS l)
+pub block-behind : (slots core offset : ℕ) → NAMES ≤ offset → slots ≤ offset - NAMES → block_word slots core offset ≡ 0
+block-behind slots core offset h l = cond-false (ltb offset NAMES) _ _ (le-ltb offset NAMES h) ∙ cond-false (ltb (offset - NAMES) slots) _ _ (le-ltb (offset - NAMES) slots l)
 
-pub word-mark : (n generation i : ℕ) → i < n → first_word n generation i ≡ mark_word CORE_BITS (record { mark = mark.Free; alone = false; place = first_place SLOTS i; generation = generation })
-word-mark n generation i h = cond-true (ltb i n) _ _ (lt-ltb i n h)
+pub word-mark : (slots n generation i : ℕ) → i < n → first_word slots n generation i ≡ mark_word CORE_BITS (record { mark = mark.Free; alone = false; place = first_place slots i; generation = generation })
+word-mark slots n generation i h = cond-true (ltb i n) _ _ (lt-ltb i n h)
 
-pub word-block : (n generation i : ℕ) → n ≤ i → first_word n generation i ≡ block_word ((i - n) / 80) ((i - n) % 80)
-word-block n generation i h = cond-false (ltb i n) _ _ (le-ltb i n h)
+pub word-block : (slots n generation i : ℕ) → n ≤ i → first_word slots n generation i ≡ block_word slots ((i - n) / BLOCK) ((i - n) % BLOCK)
+word-block slots n generation i h = cond-false (ltb i n) _ _ (le-ltb i n h)
 
-pub are-first : (cores generation last : ℕ) (ws : List ℕ) → length ws ≡ cores * 56 + 80 * cores
-    → ((i : ℕ) → i < cores * 56 + 80 * cores → get_or ws i 0 ≡ first_word (cores * 56) generation i)
-    → AreFirstWords CORE_BITS (record { cores = cores; slots = SLOTS; first = generation; last = last }) ws
-are-first cores generation last ws long each =
-    let n : ℕ = cores * 56 in record {
+pub are-first : (cores slots generation last : ℕ) (ws : List ℕ) → slots ≤ SLOTS → length ws ≡ cores * slots + BLOCK * cores
+    → ((i : ℕ) → i < cores * slots + BLOCK * cores → get_or ws i 0 ≡ first_word slots (cores * slots) generation i)
+    → AreFirstWords CORE_BITS (record { cores = cores; places_per_core = slots; first = generation; last = last }) ws
+are-first cores slots generation last ws few long each =
+    let n : ℕ = cores * slots in record {
       long = long;
       occ = λ c c_in.
-          let i : ℕ = n + 80 * c + 8 in
-          each i (omega (arith, c_in)) ∙ word-block n generation i (omega arith)
-          ∙ block-before ((i - n) / 80) ((i - n) % 80) (omega arith);
-      mark = λ x x_in. each x (omega (arith, x_in)) ∙ word-mark n generation x x_in;
+          let i : ℕ = n + BLOCK * c + OCCUPANCY in
+          each i (omega (arith, c_in)) ∙ word-block slots n generation i (omega arith)
+          ∙ block-before slots ((i - n) / BLOCK) ((i - n) % BLOCK) (omega arith);
+      mark = λ x x_in. each x (omega (arith, x_in)) ∙ word-mark slots n generation x x_in;
       name = λ p core_in index_in.
-          let i : ℕ = n + 80 * p.core + 16 + p.index in
-          let small : p.index < 56 = index_in in
-          let offset : (i - n) % 80 ≡ 16 + p.index = omega (arith, small) in
-          let core : (i - n) / 80 ≡ p.core = omega (arith, small) in
-          each i (omega (arith, core_in, small)) ∙ word-block n generation i (omega arith)
-          ∙ (λ j. block_word (core j) (offset j)) ∙ block-name p.core (16 + p.index) (omega arith) (omega (arith, small)) ∙ omega arith;
+          let i : ℕ = n + BLOCK * p.core + NAMES + p.index in
+          let small : p.index < SLOTS = omega (arith, index_in, few) in
+          let offset : (i - n) % BLOCK ≡ NAMES + p.index = omega (arith, small) in
+          let core : (i - n) / BLOCK ≡ p.core = omega (arith, small) in
+          each i (omega (arith, core_in, small)) ∙ word-block slots n generation i (omega arith)
+          ∙ (λ j. block_word slots (core j) (offset j)) ∙ block-name slots p.core (NAMES + p.index) (omega arith) (omega (arith, index_in)) ∙ omega arith;
     }
 
 -- one word more

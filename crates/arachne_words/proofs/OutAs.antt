@@ -43,7 +43,7 @@ module _ (c : Contexts) where
   after-claim E core k k' (claimed.Closed word) inside a outs has = same-out k.carried k'.carried (ap (λ (s : Known). s.carried) a.1) outs has
   after-claim E core k k' (claimed.Lost word) inside a outs has = same-out k.carried k'.carried (ap (λ (s : Known). s.carried) a.2) outs has
 
-  pub after-claim-alone : (E : Type 0) (core : ℕ) (k k' : Known) (answer : Claimed ClaimView) → core < c.shape.cores → 0 < c.shape.slots → ClaimAloneAnswer c core k answer k'
+  pub after-claim-alone : (E : Type 0) (core : ℕ) (k k' : Known) (answer : Claimed ClaimView) → core < c.shape.cores → 0 < c.shape.places_per_core → ClaimAloneAnswer c core k answer k'
       → (outs : List (Out ClaimView HoldView)) → AreOutAs c k.carried outs → AreOutAs c k'.carried (with_claim {E = E} (Ok answer) outs)
   after-claim-alone E core k k' (claimed.Place claim) inside some a outs has =
       let placed = subst (IsPlaceIn c.shape) (sym a.place_is) (inside, some) in

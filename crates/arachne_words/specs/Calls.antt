@@ -79,14 +79,14 @@ pub record HasClaimed (c : Contexts) (core : ℕ) (k : Known) (claim : ClaimView
   pub core_is : claim.place.core ≡ core
   pub shared : claim.alone ≡ false
   pub is_open : (occupancy_of word).closed ≡ false
-  pub lowest : IsLowestFree c.shape.slots (occupancy_of word) claim.place.index
+  pub lowest : IsLowestFree c.shape.places_per_core (occupancy_of word) claim.place.index
   pub inside : context < c.table.slots
   pub fresh : carried_at context k.carried ≡ []
   pub steps : after ≡ won_claim (occ_index c.table.slots core) word (claimed_by claim context generation) (looked (occ_index c.table.slots core) word k)
 
 abbrev pub ClaimAnswer : Contexts → ℕ → Known → Claimed ClaimView → Known → Type 0
 ClaimAnswer c core k (claimed.Place claim) after = HasClaimed c core k claim after
-ClaimAnswer c core k (claimed.Full word) after = ((occupancy_of word).closed ≡ false) × HasNoPlace c.shape.slots (occupancy_of word) × (after ≡ looked (occ_index c.table.slots core) word k)
+ClaimAnswer c core k (claimed.Full word) after = ((occupancy_of word).closed ≡ false) × HasNoPlace c.shape.places_per_core (occupancy_of word) × (after ≡ looked (occ_index c.table.slots core) word k)
 ClaimAnswer c core k (claimed.Closed word) after = ((occupancy_of word).closed ≡ true) × (after ≡ looked (occ_index c.table.slots core) word k)
 ClaimAnswer c core k (claimed.Lost word) after = (seen : ℕ) × (word ≢ seen) × (after ≡ lost_claim (occ_index c.table.slots core) word (looked (occ_index c.table.slots core) seen k))
 

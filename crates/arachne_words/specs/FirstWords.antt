@@ -1,16 +1,17 @@
 -- The words of a table at first, by their index.
 use Rattle.std.specs.Prelude.{ℕ, ◌+◌, ◌-◌, ◌*◌, ◌/◌, ◌%◌, false, if◌then◌else◌, nat_lt}
-use Rattle.arachne_core.specs.declared.layout.TheConstants.{CORE_BITS, SLOTS}
+use Rattle.arachne_core.specs.declared.layout.TheConstants.{CORE_BITS}
 use Rattle.arachne_core.specs.declared.mark.Mark.TheVariants as mark
 use Rattle.arachne_core.specs.Place.{first_place}
+use Rattle.arachne_rule.specs.declared.layout.TheConstants.{BLOCK, NAMES}
 use Rattle.arachne_core.specs.Marked.{mark_word}
 
--- in a core's block: the place words begin at the seventeenth, and the others are 0
-abbrev pub block_word : ℕ → ℕ → ℕ
-block_word core offset = if nat_lt offset 16 then 0 else if nat_lt (offset - 16) SLOTS then core * SLOTS + (offset - 16) else 0
+-- in the block of a core of so many places: its place words name the contexts that stand there at first, and the others are 0
+abbrev pub block_word : ℕ → ℕ → ℕ → ℕ
+block_word slots core offset = if nat_lt offset NAMES then 0 else if nat_lt (offset - NAMES) slots then core * slots + (offset - NAMES) else 0
 
 -- where there are n contexts, each of the same generation: their mark words, and then the blocks
-abbrev pub first_word : ℕ → ℕ → ℕ → ℕ
-first_word n generation i =
-    if nat_lt i n then mark_word CORE_BITS (record { mark = mark.Free; alone = false; place = first_place SLOTS i; generation = generation })
-    else block_word ((i - n) / 80) ((i - n) % 80)
+abbrev pub first_word : ℕ → ℕ → ℕ → ℕ → ℕ
+first_word slots n generation i =
+    if nat_lt i n then mark_word CORE_BITS (record { mark = mark.Free; alone = false; place = first_place slots i; generation = generation })
+    else block_word slots ((i - n) / BLOCK) ((i - n) % BLOCK)

@@ -49,7 +49,7 @@ ToAnswer c x seen target y generation k answer after = ⊥
 -- a place of the core was claimed, the lowest free one of the word that was seen and exchanged, and with it a context
 pub record HasRoom (c : Contexts) (to : ℕ) (k : Known) (room index y generation : ℕ) (after : Known) : Type 0 where
   pub is_open : (occupancy_of room).closed ≡ false
-  pub lowest : IsLowestFree c.shape.slots (occupancy_of room) index
+  pub lowest : IsLowestFree c.shape.places_per_core (occupancy_of room) index
   pub inside : y < c.table.slots
   pub fresh : carried_at y k.carried ≡ []
   pub steps : after ≡ won_claim (occ_index c.table.slots to) room (claimed_by (shared_claim (record { core = to; index = index })) y generation) (looked (occ_index c.table.slots to) room k)
@@ -61,7 +61,7 @@ HasTried c x seen to k answer after = (room index y generation : ℕ) × (claime
 
 -- what came of a move of a thread at rest, once the target core was looked at: it has no room, or its word changed, or a place was claimed
 abbrev pub SeenAnswer : Contexts → ℕ → Marked → ℕ → Known → Moved → Known → Type 0
-SeenAnswer c x seen to k (moved.NoRoom word) after = (((occupancy_of word).closed ≡ true) ⊎ HasNoPlace c.shape.slots (occupancy_of word)) × (after ≡ looked (occ_index c.table.slots to) word k)
+SeenAnswer c x seen to k (moved.NoRoom word) after = (((occupancy_of word).closed ≡ true) ⊎ HasNoPlace c.shape.places_per_core (occupancy_of word)) × (after ≡ looked (occ_index c.table.slots to) word k)
 SeenAnswer c x seen to k (moved.Lost word) after = ((room : ℕ) × (word ≢ room) × (after ≡ lost_claim (occ_index c.table.slots to) word (looked (occ_index c.table.slots to) room k)))
     ⊎ HasTried c x seen to k (moved.Lost word) after
 SeenAnswer c x seen to k answer after = HasTried c x seen to k answer after

@@ -7,14 +7,14 @@ use Rattle.arachne_rule.specs.Layout.{Contexts, IsLaidOut}
 
 -- the place is one of the table's
 abbrev pub IsPlaceIn : Shape → Place → Type 0
-IsPlaceIn shape p = (p.core < shape.cores) × (p.index < shape.slots)
+IsPlaceIn shape p = (p.core < shape.cores) × (p.index < shape.places_per_core)
 
 -- the table is laid out for its shape, whose numbers have room in the words
-pub record IsSized (c : Contexts) (slots last : ℕ) : Type 0 where
+pub record IsSized (c : Contexts) (places_per_core last : ℕ) : Type 0 where
   pub laid_out : IsLaidOut c
-  pub slots_is : slots ≡ c.shape.slots
+  pub places_is : places_per_core ≡ c.shape.places_per_core
   pub last_is : last ≡ c.shape.last
   pub some_core : 0 < c.shape.cores
   pub cores_fit : c.shape.cores ≤ CORES
-  pub slots_fit : c.shape.slots ≡ SLOTS
+  pub places_fit : c.shape.places_per_core ≤ SLOTS
   pub last_fit : c.shape.last ≡ LAST_GENERATION

@@ -14,33 +14,32 @@ use crate::seat::{WordClaim, WordSeat};
 use crate::steps::{Claim, ClaimAlone, Release};
 use crate::table::WordContexts;
 use arachne_contexts::{Claimed, Tagged};
-use arachne_core::{OccWord, Place};
+use arachne_core::{COUNT_ONE, EXCLUSIVE, OccWord, Place, SLOTS};
 
 /// The word of a core that was claimed whole.
-const WHOLE_CORE: u64 = (1 << 63) + (1 << 56) + 1;
+const WHOLE_CORE: u64 = EXCLUSIVE + COUNT_ONE + 1;
 
 /// What a claim adds to the word of its core, and its end takes away: the index's bit, one in the count, and the exclusive
 /// bit where the core was claimed whole.
 fn claim_sum(index: u8, alone: bool) -> u64
-    requires { index < 56 }
+    requires { index < SLOTS }
     ensures { result ≡ sum_of alone index }
 {
-    let sum = (1 << u32::from(index)) + (1 << 56);
-    if alone { sum + (1 << 63) } else { sum }
+    let sum = (1 << u32::from(index)) + COUNT_ONE;
+    if alone { sum + EXCLUSIVE } else { sum }
 }
 
 impl<T: Tagged + Drop> WordContexts<T> {
     /// The lowest free index of a core that isn't one thread's alone.
     pub(crate) fn free_index(&self, seen: OccWord) -> Option<u8>
-        ensures some { IfSome result (IsLowestFree self.now.shape.slots seen) }
-        ensures none { IfNone result (HasNoPlace self.now.shape.slots seen) }
+        ensures some { IfSome result (IsLowestFree self.now.shape.places_per_core seen) }
+        ensures none { IfNone result (HasNoPlace self.now.shape.places_per_core seen) }
     {
-        let slots = self.slots;
+        let places = self.places_per_core;
         if seen.is_exclusive() {
             return None;
         }
-        let index = seen.lowest_free()?;
-        if index < slots { Some(index) } else { None }
+        seen.lowest_free_below(places)
     }
 
     pub(crate) fn try_claim(
@@ -51,7 +50,7 @@ impl<T: Tagged + Drop> WordContexts<T> {
     ) -> Result<(), u64>
         requires own { seat.old.table ≡ self.now.table }
         requires core { place.core < self.now.shape.cores }
-        requires index { IsLowestFree self.now.shape.slots seen place.index }
+        requires index { IsLowestFree self.now.shape.places_per_core seen place.index }
         requires opened { seen.closed ≡ false }
         ensures won { IfOk result (λ _. (x g : ℕ) × (x < self.now.table.slots) × (carried_at x seat.old.known.carried ≡ [])
             × (seat.new ≡ record seat.old { known = won_claim (occ_index self.now.table.slots place.core) (occupancy_word seen) (claimed_by (record { place = place; alone = false }) x g) seat.old.known })) }
@@ -76,7 +75,7 @@ impl<T: Tagged + Drop> WordContexts<T> {
         ensures seat { (seat.new.table ≡ seat.old.table) × (seat.new.weight ≡ seat.old.weight) }
         ensures answer { ClaimAnswer self.now core seat.old.known result seat.new.known }
     {
-        let _ = &self.slots;
+        let _ = &self.places_per_core;
         let seen = self.see_core(&mut seat.at, core);
         if seen.is_closed() {
             return Claimed::Closed(seen.word());
@@ -121,7 +120,7 @@ impl<T: Tagged + Drop> WordContexts<T> {
         ensures seat { (seat.new.table ≡ seat.old.table) × (seat.new.weight ≡ seat.old.weight) }
         ensures answer { ClaimAloneAnswer self.now core seat.old.known result seat.new.known }
     {
-        let _ = &self.slots;
+        let _ = &self.places_per_core;
         let seen = self.see_core(&mut seat.at, core);
         if seen.is_closed() {
             return Claimed::Closed(seen.word());
@@ -148,7 +147,7 @@ impl<T: Tagged + Drop> WordContexts<T> {
         ensures { (x g : ℕ) → x < self.now.table.slots → Carries seat.old.known (claimed_by (record { place = place; alone = alone }) x g)
             → (found : ℕ) × (seat.new ≡ record seat.old { known = released (occ_index self.now.table.slots place.core) found (release_sum (claimed_by (record { place = place; alone = alone }) x g)) (claimed_by (record { place = place; alone = alone }) x g) seat.old.known }) }
     {
-        let _ = &self.slots;
+        let _ = &self.places_per_core;
         let less = claim_sum(place.index, alone);
         let word = self.core_word(place.core);
         let shared = &self.table.shared;

@@ -39,18 +39,23 @@ impl<T: Tagged + Drop + Send> Seats for WordContexts<T> {
 
     ghost core_count = { λ table. table.shape.cores };
 
+    ghost slot_count = { λ table. table.shape.places_per_core };
+
     fn new(
         alloc: Global,
         cores: u8,
+        slots: u8,
         first_generation: u64,
     ) -> Result<(WordContexts<T>, WordSeat<T>), AllocError>
         requires some { 1 ≤ cores }
         requires cores { cores ≤ CORES }
+        requires some_slots { 1 ≤ slots }
+        requires slots { slots ≤ SLOTS }
         requires generation { first_generation ≤ LAST_GENERATION }
-        ensures contexts { IfOk result (λ made. made.0.shape ≡ record { cores = cores; slots = SLOTS; first = first_generation; last = LAST_GENERATION }) }
+        ensures contexts { IfOk result (λ made. made.0.shape ≡ record { cores = cores; places_per_core = slots; first = first_generation; last = LAST_GENERATION }) }
         ensures seat { IfOk result (λ made. made.1 ≡ record { table = made.0.table; weight = whole; known = blank }) }
     {
-        WordContexts::new(alloc, cores, first_generation)
+        WordContexts::new(alloc, cores, slots, first_generation)
     }
 
     fn split<R: Wait>(&self, rt: &R, seat: WordSeat<T>) -> (WordSeat<T>, WordSeat<T>)
@@ -107,7 +112,7 @@ impl<T: Tagged + Drop + Send> Contexts<T> for WordContexts<T> {
 
     fn look_mark<R: Wait>(&self, rt: &R, seat: &mut WordSeat<T>, context: u32) -> u64
         requires seat { seat.old.table ≡ self.now.table }
-        requires context { context < self.now.shape.cores * SLOTS }
+        requires context { context < self.now.shape.cores * self.now.shape.places_per_core }
         ensures seat { seat.new.table ≡ self.now.table }
         ensures weight { seat.new.weight ≡ seat.old.weight }
         ensures out { KeepsOut (IsOutWith self.now) seat.old seat.new }
@@ -115,7 +120,7 @@ impl<T: Tagged + Drop + Send> Contexts<T> for WordContexts<T> {
         ensures steps { seat.new ≡ record seat.old { known = looked context result seat.old.known } }
     {
         let _ = rt;
-        let _ = &self.slots;
+        let _ = &self.places_per_core;
         WordContexts::look_mark(self, seat, context)
     }
 
@@ -130,12 +135,12 @@ impl<T: Tagged + Drop + Send> Contexts<T> for WordContexts<T> {
         ensures seat { seat.new.table ≡ self.now.table }
         ensures weight { seat.new.weight ≡ seat.old.weight }
         ensures out { GetsClaim (IsOutWith self.now) seat.old seat.new result }
-        ensures answer { IfOk result (ClaimsOn (λ claim. claim.place) core) }
+        ensures answer { IfOk result (ClaimsOn self.now.shape.places_per_core (λ claim. claim.place) core) }
         ensures ok { IsOk result }
         ensures steps { IfOk result (λ claimed. ClaimAnswer self.now core seat.old.known claimed seat.new.known) }
     {
         let _ = rt;
-        let _ = &self.slots;
+        let _ = &self.places_per_core;
         Ok(WordContexts::claim(self, seat, core))
     }
 
@@ -155,7 +160,7 @@ impl<T: Tagged + Drop + Send> Contexts<T> for WordContexts<T> {
         ensures steps { IfOk result (λ claimed. ClaimAloneAnswer self.now core seat.old.known claimed seat.new.known) }
     {
         let _ = rt;
-        let _ = &self.slots;
+        let _ = &self.places_per_core;
         Ok(WordContexts::claim_alone(self, seat, core))
     }
 
@@ -208,7 +213,7 @@ impl<T: Tagged + Drop + Send> Contexts<T> for WordContexts<T> {
     ) -> Taken<T, WordHold>
         requires seat { seat.old.table ≡ self.now.table }
         requires core { core < self.now.shape.cores }
-        requires index { index < SLOTS }
+        requires index { index < self.now.shape.places_per_core }
         ensures seat { seat.new.table ≡ self.now.table }
         ensures weight { seat.new.weight ≡ seat.old.weight }
         ensures out { GetsThread (IsOutWith self.now) T.tag_of seat.old seat.new result }
@@ -216,7 +221,7 @@ impl<T: Tagged + Drop + Send> Contexts<T> for WordContexts<T> {
         ensures steps { TakeAnswer T.tag_of self.now (record { core = core; index = index }) seat.old.known result seat.new.known }
     {
         let _ = rt;
-        let _ = &self.slots;
+        let _ = &self.places_per_core;
         WordContexts::take(self, seat, core, index)
     }
 
@@ -313,18 +318,18 @@ impl<T: Tagged + Drop + Send> Contexts<T> for WordContexts<T> {
     fn move_one<R: Wait>(&self, rt: &R, seat: &mut WordSeat<T>, place: Place, to: u8) -> Moved
         requires seat { seat.old.table ≡ self.now.table }
         requires core { place.core < self.now.shape.cores }
-        requires index { place.index < SLOTS }
+        requires index { place.index < self.now.shape.places_per_core }
         requires target { to < self.now.shape.cores }
         requires apart { to ≢ place.core }
         ensures seat { seat.new.table ≡ self.now.table }
         ensures weight { seat.new.weight ≡ seat.old.weight }
         ensures out { KeepsOut (IsOutWith self.now) seat.old seat.new }
-        ensures answer { MovesAs result }
+        ensures answer { MovesAs self.now.shape.places_per_core result }
         ensures carried { seat.new.known.carried ≡ seat.old.known.carried }
         ensures steps { MoveAnswer self.now place to seat.old.known result seat.new.known }
     {
         let _ = rt;
-        let _ = &self.slots;
+        let _ = &self.places_per_core;
         WordContexts::move_one(self, seat, place, to)
     }
 

@@ -41,7 +41,7 @@ impl<T: Tagged + Drop> WordContexts<T> {
         };
         let WordContexts {
             table,
-            slots: _,
+            places_per_core: _,
             last: _,
         } = self;
         let WordSeat {

@@ -3,41 +3,48 @@ ghost use Rattle.std.specs.Prelude.{◌≡◌, ◌+◌, ◌*◌, ◌<◌, ◌≤
 ghost use Rattle.arachne_core.specs.declared.layout.TheConstants.{CORES, LAST_GENERATION, SLOTS};
 ghost use Rattle.arachne_words.specs.FirstWords.{first_word};
 
-use crate::table::{BLOCK, NAMES};
-use arachne_core::{Mark, MarkWord, Place, SLOTS};
+use arachne_core::{Mark, MarkWord, Place};
+use arachne_rule::{BLOCK, NAMES};
 use std::alloc::{AllocError, Global};
 
-/// The word at this index, where each core has its places and there are so many contexts.
-fn word_at(contexts: usize, generation: u64, index: usize) -> u64
-    requires contexts { contexts ≤ CORES * SLOTS }
+/// The word at this index, where each core has so many places and there are so many contexts.
+fn word_at(contexts: usize, slots: u8, generation: u64, index: usize) -> u64
+    requires slots { slots ≤ SLOTS }
+    requires contexts { contexts ≤ CORES * slots }
     requires generation { generation ≤ LAST_GENERATION }
-    requires index { index < contexts + 80 * CORES }
-    ensures { result ≡ first_word contexts generation index }
+    requires index { index < contexts + BLOCK * CORES }
+    ensures { result ≡ first_word slots contexts generation index }
 {
     if index < contexts {
-        let place = Place::of_context(index as u32);
+        let place = Place::of_context(index as u32, slots);
         return MarkWord::new(Mark::Free, false, place, generation).word();
     }
     let core = (index - contexts) / BLOCK;
     let offset = (index - contexts) % BLOCK;
-    if offset < NAMES || offset - NAMES >= usize::from(SLOTS) {
+    if offset < NAMES || offset - NAMES >= usize::from(slots) {
         return 0;
     }
-    (core * usize::from(SLOTS) + (offset - NAMES)) as u64
+    (core * usize::from(slots) + (offset - NAMES)) as u64
 }
 
 /// The words of a table whose contexts are free and have this generation.
-pub(crate) fn first_words(alloc: Global, cores: u8, generation: u64) -> Result<Vec<u64>, AllocError>
+pub(crate) fn first_words(
+    alloc: Global,
+    cores: u8,
+    slots: u8,
+    generation: u64,
+) -> Result<Vec<u64>, AllocError>
     requires cores { cores ≤ CORES }
+    requires slots { slots ≤ SLOTS }
     requires generation { generation ≤ LAST_GENERATION }
-    ensures length { IfOk result (λ words. vec_len words ≡ cores * SLOTS + 80 * cores) }
-    ensures words { IfOk result (λ words. (i : ℕ) → i < cores * SLOTS + 80 * cores → slice_index words.items i ≡ first_word (cores * SLOTS) generation i) }
+    ensures length { IfOk result (λ words. vec_len words ≡ cores * slots + BLOCK * cores) }
+    ensures words { IfOk result (λ words. (i : ℕ) → i < cores * slots + BLOCK * cores → slice_index words.items i ≡ first_word slots (cores * slots) generation i) }
 {
-    let contexts = usize::from(cores) * usize::from(SLOTS);
+    let contexts = usize::from(cores) * usize::from(slots);
     let count = contexts + BLOCK * usize::from(cores);
     let mut words = Vec::with_capacity(alloc, count)?;
     for index in 0..count {
-        words.push(word_at(contexts, generation, index))?;
+        words.push(word_at(contexts, slots, generation, index))?;
     }
     Ok(words)
 }

@@ -60,7 +60,7 @@ impl<T: Tagged + Drop> WordContexts<T> {
         }) }
         ensures lost { IfErr result (λ found. (found ≢ mark_word CORE_BITS seen) × (seat.new ≡ record seat.old { known = noted kind.Move context found found seat.old.known })) }
     {
-        let _ = &self.slots;
+        let _ = &self.places_per_core;
         let shared = &self.table.shared;
         let old = seen.word();
         let new = seen.with_place(target).word();
@@ -160,7 +160,7 @@ impl<T: Tagged + Drop> WordContexts<T> {
         ensures answer { (y g : ℕ) → y < self.now.table.slots → Carries seat.old.known (claimed_by (shared_claim target) y g)
             → ToAnswer self.now moving seen target y g seat.old.known result seat.new.known }
     {
-        let _ = &self.slots;
+        let _ = &self.places_per_core;
         let replaced = self.see_name(seat, target);
         let free = self.see_mark(seat, replaced);
         if let Err(found) = self.try_move(seat, moving, seen, target) {
@@ -195,7 +195,7 @@ impl<T: Tagged + Drop> WordContexts<T> {
         ensures carried { seat.new.known.carried ≡ seat.old.known.carried }
         ensures answer { SeenAnswer self.now moving seen to seat.old.known result seat.new.known }
     {
-        let _ = &self.slots;
+        let _ = &self.places_per_core;
         let room = self.see_core(seat, to);
         if room.is_closed() {
             return Moved::NoRoom(room.word());

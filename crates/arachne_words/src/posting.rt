@@ -74,7 +74,7 @@ impl<T: Tagged + Drop> WordContexts<T> {
         ensures posted { (x g : ℕ) → x < self.now.table.slots → Carries seat.old.known (claimed_by claim x g)
             → (result ≡ record { context = x; generation = g }) × HasPosted self.now seat.old.known claim (T.tag_of value) result seat.new.known }
     {
-        let _ = &self.slots;
+        let _ = &self.places_per_core;
         let WordClaim { place, alone } = claim;
         let context = self.take_slot(&mut seat.at, place);
         let generation = self.see_mark(&mut seat.at, context).generation();

@@ -11,44 +11,47 @@ use crate::seat::WordSeat;
 use crate::steps::Deal;
 use crate::table::WordContexts;
 use arachne_contexts::Tagged;
-use arachne_core::{LAST_GENERATION, SLOTS};
+use arachne_core::LAST_GENERATION;
 use arachne_rule::Shape;
 use arachne_weights::Weight;
 use atomic_table::Table;
 use std::alloc::{AllocError, Global};
 
 impl<T: Tagged + Drop> WordContexts<T> {
-    /// A table with so many cores, whose contexts are free and have this generation, and the seat with the whole weight.
+    /// A table with so many cores, each with so many places, whose contexts are free and have this generation, and the seat with the whole weight.
     pub fn new(
         alloc: Global,
         cores: u8,
+        slots: u8,
         first_generation: u64,
     ) -> Result<(WordContexts<T>, WordSeat<T>), AllocError>
         requires some { 1 ≤ cores }
         requires cores { cores ≤ CORES }
+        requires some_slots { 1 ≤ slots }
+        requires slots { slots ≤ SLOTS }
         requires generation { first_generation ≤ LAST_GENERATION }
-        ensures contexts { IfOk result (λ made. made.0.shape ≡ record { cores = cores; slots = SLOTS; first = first_generation; last = LAST_GENERATION }) }
+        ensures contexts { IfOk result (λ made. made.0.shape ≡ record { cores = cores; places_per_core = slots; first = first_generation; last = LAST_GENERATION }) }
         ensures seat { IfOk result (λ made. made.1 ≡ record { table = made.0.table; weight = whole; known = blank }) }
     {
-        let words = first_words(alloc, cores, first_generation)?;
+        let words = first_words(alloc, cores, slots, first_generation)?;
         let shape = Shape {
             cores,
-            slots: SLOTS,
+            places_per_core: slots,
             first: first_generation,
             last: LAST_GENERATION,
         };
-        let contexts = usize::from(cores) * usize::from(SLOTS);
+        let contexts = usize::from(cores) * usize::from(slots);
         let made = Table::vacant(alloc, words.as_slice(), contexts, &shape);
         let Shape {
             cores: _,
-            slots: _,
+            places_per_core: _,
             first: _,
             last: _,
         } = shape;
         let (table, seat) = made?;
         let contexts = WordContexts {
             table,
-            slots: SLOTS,
+            places_per_core: slots,
             last: LAST_GENERATION,
         };
         let seat = WordSeat {
@@ -64,7 +67,7 @@ impl<T: Tagged + Drop> WordContexts<T> {
         ensures first { seat.new ≡ record seat.old { weight = first_part seat.old.weight } }
         ensures second { result ≡ record { table = seat.old.table; weight = second_part seat.old.weight; known = blank; slots = [] } }
     {
-        let _ = &self.slots;
+        let _ = &self.places_per_core;
         let other = self.table.shared.split_seat::<Deal>(&mut seat.seat);
         CallSeat { seat: other }
     }
@@ -74,7 +77,7 @@ impl<T: Tagged + Drop> WordContexts<T> {
         requires nothing_out { (other.known.carried ≡ []) × (other.slots ≡ []) }
         ensures { seat.new ≡ record seat.old { weight = joined seat.old.weight other.weight; known = joined_known seat.old.known other.known } }
     {
-        let _ = &self.slots;
+        let _ = &self.places_per_core;
         let CallSeat { seat: spent } = other;
         self.table.shared.join_seat::<Deal>(&mut seat.seat, spent);
     }

@@ -15,28 +15,19 @@ use crate::seat::WordSeat;
 use crate::steps::{ContextRule, LearnName, LookCore, LookMark};
 use arachne_contexts::Tagged;
 use arachne_core::{MarkWord, OccWord, Place};
-use arachne_rule::{Shape, View};
+use arachne_rule::{BLOCK, NAMES, OCCUPANCY, Shape, View};
 use atomic_table::Table;
 use std::alloc::Global;
 use std::marker::Model;
 
-/// The words of a core's block.
-pub(crate) const BLOCK: usize = 80;
-
-/// Where the occupancy word is in the block, with a cache line for itself.
-const OCCUPANCY: usize = 8;
-
-/// Where the place words begin in the block.
-pub(crate) const NAMES: usize = 16;
-
 /// A context table on atomic words. Whoever has a seat may step on it, without waiting.
 ///
 /// Contracts see which table it is, and its shape.
-// In its methods a line `let _ = &self.slots;` opens the table for the prover, which learns its sizes (`IsSized`) there.
+// In its methods a line `let _ = &self.places_per_core;` opens the table for the prover, which learns its sizes (`IsSized`) there.
 #[derive(Drop)]
 pub struct WordContexts<T: Tagged + Drop> {
     pub(crate) table: Table<Option<T>, View, Shape, ContextRule, Global>,
-    pub(crate) slots: u8,
+    pub(crate) places_per_core: u8,
     pub(crate) last: u64,
 }
 
@@ -48,7 +39,7 @@ impl<T: Tagged + Drop> Model for WordContexts<T> {
 
     ghost view = { λ c. record { table = c.table.shared.table_id; shape = c.table.shared.key } };
 
-    ghost invariant = { λ c. IsSized (record { table = c.table.shared.table_id; shape = c.table.shared.key }) c.slots c.last };
+    ghost invariant = { λ c. IsSized (record { table = c.table.shared.table_id; shape = c.table.shared.key }) c.places_per_core c.last };
 }
 
 impl<T: Tagged + Drop> WordContexts<T> {
@@ -56,7 +47,7 @@ impl<T: Tagged + Drop> WordContexts<T> {
         requires { core < self.now.shape.cores }
         ensures { result ≡ occ_index self.now.table.slots core }
     {
-        let _ = &self.slots;
+        let _ = &self.places_per_core;
         self.table.slot_count() + BLOCK * usize::from(core) + OCCUPANCY
     }
 
@@ -64,7 +55,7 @@ impl<T: Tagged + Drop> WordContexts<T> {
         requires { IsPlaceIn self.now.shape place }
         ensures { result ≡ name_index self.now.table.slots place }
     {
-        let _ = &self.slots;
+        let _ = &self.places_per_core;
         self.table.slot_count() + BLOCK * usize::from(place.core) + NAMES + usize::from(place.index)
     }
 

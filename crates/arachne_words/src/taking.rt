@@ -84,7 +84,7 @@ impl<T: Tagged + Drop> WordContexts<T> {
         ensures seat { (seat.new.table ≡ seat.old.table) × (seat.new.weight ≡ seat.old.weight) }
         ensures answer { TakeAnswer T.tag_of self.now (record { core = core; index = index }) seat.old.known result seat.new.known }
     {
-        let _ = &self.slots;
+        let _ = &self.places_per_core;
         let place = Place { core, index };
         let context = self.see_name(&mut seat.at, place);
         let seen = self.see_mark(&mut seat.at, context);

@@ -39,9 +39,10 @@ Arguments:
   [ORDER]...  AFTER:grant:CORE or AFTER:release:CORE: once so many slices have ended, a core is granted or taken back
 
 Options:
-      --cores <N>    How many cores there are, 1 to 16 [default: 4]
+      --cores <N>    How many cores there are, 1 to 64 [default: 4]
       --seed <N>     From which the choices of the cores begin [default: 1]
       --quantum <N>  The most steps that a thread goes on for at a time, 1 to 10000 [default: 100]
+      --slots <N>    For how many threads each core has places, 1 to 56 [default: 56]
       --names        Print a line for each thread
   -h, --help         Print help
 

@@ -67,14 +67,33 @@ arachne 1|ledgers 0|locks 0|(sweep add 1 (num 0) (num 901) (var 0))| => 0 value 
 $ arachne run --cores=0 --quantum=0 0:grant:4
 arachne 1|ledgers 0|locks 0|(num 7)| => 1 !fault 20|
 
-$ arachne run --cores=17 --quantum=1 0:grant:1
+$ arachne run --cores=65 --quantum=1 0:grant:1
 arachne 1|ledgers 0|locks 0|(num 7)| => 1 !fault 20|
 
 $ arachne run --cores=18446744073709551615 --seed=2 0:grant:1
 arachne 1|ledgers 0|locks 0|(num 7)| => 1 !fault 20|
 
-$ arachne run --cores=4 --quantum=0 0:grant:4
+$ arachne run --cores=4 --quantum=0 --slots=0 0:grant:4
 arachne 1|ledgers 0|locks 0|(num 7)| => 1 !fault 21|
+
+$ arachne run --cores=65 --slots=0
+arachne 1|ledgers 0|locks 0|(num 7)| => 1 !fault 20|
+
+$ arachne run --slots=0
+$ arachne run --slots=57 0:release:0
+$ arachne run --cores=64 --slots=18446744073709551615 0:grant:64
+arachne 1|ledgers 0|locks 0|(num 7)| => 1 !fault 27|
+
+$ arachne run --cores=64 0:grant:64
+arachne 1|ledgers 0|locks 0|(num 7)| => 1 !fault 22 order 0|
+
+$ arachne run --cores 64 --names
+$ arachne run --cores 64 --quantum 1 --slots 1 --names 0:release:63 1:release:40 2:grant:63
+arachne 1|ledgers 0|locks 0|(sweep add 2 (num 0) (num 8) (var 0))| => 0 value 28|threads 4|thread /|thread /1|thread /0|thread /0/0|!
+
+$ arachne run --cores 1 --slots 3
+$ arachne run --cores 64 --slots 1
+arachne 1|ledgers 0|locks 0|[(fork n *60](num 1)[ (num 1) (add (var 0) (var 1)))*60]| => 0 value 61|threads 61|!
 
 $ arachne run --cores=16 --quantum=10001 0:grant:0
 arachne 1|ledgers 0|locks 0|(num 7)| => 1 !fault 21|
@@ -123,6 +142,6 @@ $ arachne eval --names 0:grant:1
 
 #[test]
 fn runs_end_as_they_are_to(rt: HostRuntime) -> Result<(), AllocError> {
-    assert!(rt; all_end(&rt, rt.alloc(), ROWS)? == 257);
+    assert!(rt; all_end(&rt, rt.alloc(), ROWS)? == 266);
     Ok(())
 }

@@ -2,6 +2,7 @@
 use super::locks::{events_of, grants, grants_are_holds, history};
 use super::programs::threads_of;
 use crate::gates::Watch;
+use arachne_machine::Ran;
 use arachne_run::{Report, RunFault};
 use std::alloc::Global;
 use std::sync::atomic::Ordering;
@@ -60,7 +61,7 @@ pub(super) fn number(report: &Report, watch: &Watch, fact: Fact) -> u64 {
 fn in_place(report: &Report) -> u64 {
     let mut count = 0u64;
     for line in report.threads.as_slice() {
-        count = count.wrapping_add(u64::from(line.in_place));
+        count = count.wrapping_add(u64::from(line.ran == Ran::InPlace));
     }
     count
 }

@@ -1,10 +1,14 @@
 //! More threads than places.
-use super::facts::{Fact, Telling};
+use super::facts::{Fact, Telling, number};
 use super::rows::{MACHINES, Row, rows_hold};
-use super::{FORMS, Source};
+use super::{FORMS, Form, Source, answer, checked, setup_of, text_of};
 use crate::choosers::{SPREAD, ZEROS};
-use crate::gates::Watching;
+use crate::gates::{Watch, Watching};
+use arachne_run::RunFault;
+use std::alloc::Global;
+use std::sync::Wait;
 use std::test::Fail;
+use std::thread::Threads;
 
 /// 61 threads that wait for one another.
 const CHAIN: Source = Source {
@@ -47,6 +51,7 @@ const ROWS: &[Row] = &[
             (2, 100, 2),
             (4, 100, 4),
             (16, 100, 16),
+            (64, 100, 64),
         ],
         draws: ZEROS,
         orders: &[],
@@ -72,4 +77,51 @@ const ROWS: &[Row] = &[
 #[test]
 fn threads_may_be_more_than_places(rt: HostRuntime) -> Result<(), Fail> {
     rows_hold(&rt, rt.alloc(), ROWS)
+}
+
+/// What the chain comes to on one core of so many places: its value, its threads and how many of them ran in place, or why it didn't run.
+type Chained = Result<(u64, u64, u64), RunFault>;
+
+/// On one core of three places three threads have one, and the others run in place. A core has 1 to 56.
+const FEW_PLACES: &[(u64, Chained)] = &[
+    (1, Ok((61, 61, 60))),
+    (3, Ok((61, 61, 58))),
+    (55, Ok((61, 61, 6))),
+    (56, Ok((61, 61, 5))),
+    (0, Err(RunFault::Slots)),
+    (57, Err(RunFault::Slots)),
+    (u64::MAX, Err(RunFault::Slots)),
+];
+
+/// Runs the chain on one core of so many places.
+fn chained<R: Threads + Wait + Sync>(
+    rt: &R,
+    alloc: Global,
+    form: Form,
+    slots: u64,
+) -> Result<Chained, Fail> {
+    let text = text_of(alloc, &CHAIN)?;
+    let program = checked(alloc, text.as_bytes())?;
+    let (mut setup, choosers) = setup_of(alloc, (1, 100, 1), ZEROS, &[])?;
+    setup.slots = slots;
+    let watch = Watch::new(Watching::Nothing);
+    match answer(rt, alloc, &program, form, setup, choosers, &watch) {
+        Ok(report) => Ok(Ok((
+            number(&report, &watch, Fact::Value),
+            number(&report, &watch, Fact::Threads),
+            number(&report, &watch, Fact::InPlace),
+        ))),
+        Err(fault) => Ok(Err(fault)),
+    }
+}
+
+#[test]
+fn cores_have_as_many_places_as_asked(rt: HostRuntime) -> Result<(), Fail> {
+    for &form in FORMS {
+        for &(slots, expected) in FEW_PLACES {
+            let found = chained(&rt, rt.alloc(), form, slots)?;
+            assert_eq!(rt; found, expected, "{slots} places");
+        }
+    }
+    Ok(())
 }

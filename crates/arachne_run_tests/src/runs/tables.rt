@@ -105,7 +105,7 @@ const ROWS: &[Row] = &[
         shows: "setups are looked at first",
         source: SEVEN,
         forms: FORMS,
-        machines: &[(0, 0, 0), (17, 0, 3), (17, 1, 17)],
+        machines: &[(0, 0, 0), (65, 0, 3), (65, 1, 65)],
         draws: ZEROS,
         orders: &[],
         watching: Watching::Nothing,

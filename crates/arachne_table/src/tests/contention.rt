@@ -4,7 +4,7 @@ ghost use Rattle.arachne_words.specs.Seats.{HasNothingOut};
 
 use super::Job;
 use crate::{Claimed, Contexts, Moved, Taken, WordContexts, WordSeat};
-use arachne_core::{Place, SLOTS, ThreadId};
+use arachne_core::{CORES, Place, SLOTS, ThreadId};
 use std::alloc::Global;
 use std::sync::Wait;
 use std::test::Fail;
@@ -14,11 +14,20 @@ use std::thread::Threads;
 const ROUNDS: u64 = 10_000;
 
 /// What a thread has done: its seat, twice the tag of each thread that it has posted, twice the tag and 1 of each that it has ended, and
-/// how many it has moved.
+/// how many it has posted and moved.
 #[derive(Drop)]
 struct Work<S> {
     seat: S,
     log: Vec<u64>,
+    posted: u64,
+    moved: u64,
+}
+
+/// Whether all is settled, how many threads each of two kernel threads has posted, and how many were moved.
+#[derive(Clone, Copy)]
+struct Outcome {
+    settled: bool,
+    posted: (u64, u64),
     moved: u64,
 }
 
@@ -41,6 +50,7 @@ fn post<C: Contexts<Job>, R: Wait>(
     match table.claim(rt, &mut work.seat, core).ok()? {
         Claimed::Place(claim) => {
             table.post(rt, &mut work.seat, claim, Job(tag)).ok()?;
+            work.posted = work.posted.wrapping_add(1);
             work.log.push(tag.wrapping_mul(2)).ok()
         }
         Claimed::Full(_) => Some(()),
@@ -64,7 +74,7 @@ fn end<C: Contexts<Job>, R: Wait>(
 ) -> Option<bool>
     requires seat { C.sits table.now work.old.seat × C.idle table.now work.old.seat }
     requires core { core < C.core_count table.now }
-    requires index { index < SLOTS }
+    requires index { index < C.slot_count table.now }
     ensures { IfSome result (λ _. C.sits table.now work.new.seat × C.idle table.now work.new.seat) }
 {
     match table.take(rt, &mut work.seat, core, index) {
@@ -87,6 +97,7 @@ fn end_all<C: Contexts<Job>, R: Wait>(
 ) -> Option<u64>
     requires seat { C.sits table.now work.old.seat × C.idle table.now work.old.seat }
     requires core { core < C.core_count table.now }
+    requires slots { SLOTS ≡ C.slot_count table.now }
     ensures { IfSome result (λ _. C.sits table.now work.new.seat × C.idle table.now work.new.seat) }
 {
     let mut ended: u64 = 0;
@@ -112,6 +123,7 @@ struct Part {
 fn move_away<C: Contexts<Job>, R: Wait>(rt: &R, table: &C, work: &mut Work<C::Seat>) -> u64
     requires seat { C.sits table.now work.old.seat × C.idle table.now work.old.seat }
     requires cores { 1 < C.core_count table.now }
+    requires slots { SLOTS ≡ C.slot_count table.now }
     ensures { C.sits table.now work.new.seat × C.idle table.now work.new.seat }
 {
     let mut moved: u64 = 0;
@@ -136,11 +148,13 @@ fn all_rounds<C: Contexts<Job>, R: Wait>(
 ) -> Option<Work<C::Seat>>
     requires seat { C.sits table.now seat × C.idle table.now seat }
     requires cores { (1 ≤ part.cores) × (part.cores ≡ C.core_count table.now) }
+    requires slots { SLOTS ≡ C.slot_count table.now }
     ensures { IfSome result (λ w. C.sits table.now w.seat × C.idle table.now w.seat) }
 {
     let mut work = Work {
         seat,
         log: Vec::new(alloc),
+        posted: 0,
         moved: 0,
     };
     for round in 0..ROUNDS {
@@ -166,6 +180,7 @@ fn work_side_by_side<R: Threads + Wait + Sync>(
     their: Part,
 ) -> Option<(WordWork, WordWork)>
     requires seat { (seat.table ≡ table.now.table) × HasNothingOut seat.known }
+    requires slots { SLOTS ≡ table.now.shape.places_per_core }
     requires own { (1 ≤ own.cores) × (own.cores ≡ table.now.shape.cores) }
     requires their { (1 ≤ their.cores) × (their.cores ≡ table.now.shape.cores) }
     ensures first { IfSome result (λ w. (w.0.seat.table ≡ table.now.table) × HasNothingOut w.0.seat.known) }
@@ -175,11 +190,11 @@ fn work_side_by_side<R: Threads + Wait + Sync>(
     let (first, second) = thread::join(
         rt,
         move || -> Option<WordWork>
-            requires { (first.table ≡ table.now.table) × HasNothingOut first.known × (1 ≤ own.cores) × (own.cores ≡ table.now.shape.cores) }
+            requires { (first.table ≡ table.now.table) × HasNothingOut first.known × (1 ≤ own.cores) × (own.cores ≡ table.now.shape.cores) × (SLOTS ≡ table.now.shape.places_per_core) }
             ensures { IfSome result (λ w. (w.seat.table ≡ table.entry.now.table) × HasNothingOut w.seat.known) }
         { all_rounds::<Words, R>(rt, table, alloc, first, own) },
         move || -> Option<WordWork>
-            requires { (second.table ≡ table.now.table) × HasNothingOut second.known × (1 ≤ their.cores) × (their.cores ≡ table.now.shape.cores) }
+            requires { (second.table ≡ table.now.table) × HasNothingOut second.known × (1 ≤ their.cores) × (their.cores ≡ table.now.shape.cores) × (SLOTS ≡ table.now.shape.places_per_core) }
             ensures { IfSome result (λ w. (w.seat.table ≡ table.entry.now.table) × HasNothingOut w.seat.known) }
         { all_rounds::<Words, R>(rt, table, alloc, second, their) },
     );
@@ -226,16 +241,15 @@ fn left(
     table.close(alloc, seat).ok()
 }
 
-/// Two kernel threads on one table of so many cores, one of which may move threads away. Answers whether all is settled, and how many
-/// threads were moved.
+/// Two kernel threads on one table of so many cores, one of which may move threads away.
 fn contend<R: Threads + Wait + Sync>(
     rt: &R,
     alloc: Global,
     cores: u8,
     moves: bool,
-) -> Result<(bool, u64), Fail>
+) -> Result<Outcome, Fail>
     requires some { 1 ≤ cores }
-    requires most { cores ≤ 16 }
+    requires most { cores ≤ CORES }
 {
     let own = Part {
         cores,
@@ -249,24 +263,31 @@ fn contend<R: Threads + Wait + Sync>(
         from: u8::from(moves),
         first_tag: ROUNDS,
     };
-    let (table, seat) = Words::new(alloc, cores, 0)?;
+    let (table, seat) = Words::new(alloc, cores, SLOTS, 0)?;
     let works = work_side_by_side(rt, &table, alloc, seat, own, their);
     let (first, second) = works.ok_or("no memory")?;
+    let posted = (first.posted, second.posted);
     let moved = first.moved.wrapping_add(second.moved);
     let left = left(alloc, table, first.seat, second.seat).ok_or("not closed")?;
-    Ok((is_settled(first.log, second.log, left)?, moved))
+    Ok(Outcome {
+        settled: is_settled(first.log, second.log, left)?,
+        posted,
+        moved,
+    })
 }
 
 #[test]
 fn two_threads_on_one_core_of_words(rt: HostRuntime) -> Result<(), Fail> {
-    let (settled, _) = contend(&rt, rt.alloc(), 1, false)?;
-    assert!(rt; settled);
+    let outcome = contend(&rt, rt.alloc(), 1, false)?;
+    assert!(rt; outcome.settled && outcome.posted.0 > 0 && outcome.posted.1 > 0);
     Ok(())
 }
 
 #[test]
 fn two_threads_one_of_which_moves_words(rt: HostRuntime) -> Result<(), Fail> {
-    let (settled, moved) = contend(&rt, rt.alloc(), 2, true)?;
-    assert!(rt; settled && moved > 0);
+    let outcome = contend(&rt, rt.alloc(), 2, true)?;
+    assert!(rt;
+        outcome.settled && outcome.posted.0 > 0 && outcome.posted.1 > 0 && outcome.moved > 0
+    );
     Ok(())
 }

@@ -3,7 +3,7 @@ ghost use Rattle.std.specs.Prelude.{◌≡◌, List, IfOk, IfSome, [], ◌∷◌
 ghost use Rattle.arachne_contexts.specs.Out.{Out, KeepsOut, Claim as a_claim, Thread as a_thread};
 
 use super::Job;
-use super::steps::{Answer, Step, answered, told_id};
+use super::steps::{Answer, Size, Step, answered, told_id};
 use crate::{Claimed, Contexts, Held, Placed, Rested, Taken};
 use arachne_core::{CORES, LAST_GENERATION, Rest, SLOTS, ThreadId};
 use std::alloc::Global;
@@ -21,6 +21,7 @@ enum Spend {
     Post(u64),
     End,
     Block,
+    Ready,
 }
 
 /// What the step answers that gets a claim or a thread, the steps while that is out, how it is spent, and what that answers.
@@ -43,6 +44,7 @@ enum Part {
 /// each thread's context, its generation and its tag.
 struct Run {
     cores: u8,
+    slots: u8,
     first_generation: u64,
     parts: &'static [Part],
     left: Option<&'static [(u32, u64, u64)]>,
@@ -64,16 +66,16 @@ fn go_on<C: Contexts<Job>, R: Wait>(
     rt: &R,
     table: &C,
     seat: &mut C::Seat,
-    cores: u8,
+    size: Size,
     steps: Rows,
 ) -> Result<(), Fail>
     requires seat { C.sits table.now seat.old }
     requires out { (outs : List (Out C.Claim C.Hold)) × C.has table.now seat.old outs }
-    requires cores { cores ≡ C.core_count table.now }
+    requires size { (size.cores ≡ C.core_count table.now) × (size.slots ≡ C.slot_count table.now) }
     ensures { IfOk result (λ _. C.sits table.now seat.new × KeepsOut (C.has table.now) seat.old seat.new) }
 {
     for &(step, answer) in steps {
-        let shown = answered(rt, table, seat, cores, step).ok_or("no such step")?;
+        let shown = answered(rt, table, seat, size, step).ok_or("no such step")?;
         same(answer, shown)?;
     }
     Ok(())
@@ -103,18 +105,18 @@ fn use_claim<C: Contexts<Job>, R: Wait>(
     rt: &R,
     table: &C,
     seat: &mut C::Seat,
-    cores: u8,
+    size: Size,
     claim: C::Claim,
     part: &Use,
 ) -> Result<(), Fail>
     requires seat { C.sits table.now seat.old }
     requires out { C.has table.now seat.old (a_claim claim ∷ []) }
-    requires cores { cores ≡ C.core_count table.now }
+    requires size { (size.cores ≡ C.core_count table.now) × (size.slots ≡ C.slot_count table.now) }
     ensures { IfOk result (λ _. C.sits table.now seat.new × C.idle table.now seat.new) }
 {
     let place = claim.place();
     same(part.got, ("place", place.core.into(), place.index.into()))?;
-    go_on(rt, table, seat, cores, part.steps)?;
+    go_on(rt, table, seat, size, part.steps)?;
     let spent = spend_claim(rt, table, seat, claim, part.spend).ok_or("not spent")?;
     same(part.spent, spent)
 }
@@ -124,16 +126,16 @@ fn with_claim<C: Contexts<Job>, R: Wait>(
     rt: &R,
     table: &C,
     seat: &mut C::Seat,
-    cores: u8,
+    size: Size,
     core: u8,
     alone: bool,
     part: &Use,
 ) -> Result<(), Fail>
     requires seat { C.sits table.now seat.old × C.idle table.now seat.old }
-    requires cores { cores ≡ C.core_count table.now }
+    requires size { (size.cores ≡ C.core_count table.now) × (size.slots ≡ C.slot_count table.now) }
     ensures { IfOk result (λ _. C.sits table.now seat.new × C.idle table.now seat.new) }
 {
-    if core >= cores {
+    if core >= size.cores {
         return Err("no such core".into());
     }
     let claimed = if alone {
@@ -142,14 +144,14 @@ fn with_claim<C: Contexts<Job>, R: Wait>(
         table.claim(rt, seat, core)?
     };
     match claimed {
-        Claimed::Place(claim) => use_claim(rt, table, seat, cores, claim, part),
+        Claimed::Place(claim) => use_claim(rt, table, seat, size, claim, part),
         Claimed::Full(word) => same(part.got, ("full", word, 0)),
         Claimed::Closed(word) => same(part.got, ("closed", word, 0)),
         Claimed::Lost(word) => same(part.got, ("lost", word, 0)),
     }
 }
 
-/// Ends the thread, or puts it back as blocked. What that answers.
+/// Ends the thread, or puts it back as blocked or as ready. What that answers.
 fn spend_thread<C: Contexts<Job>, R: Wait>(
     rt: &R,
     table: &C,
@@ -165,7 +167,11 @@ fn spend_thread<C: Contexts<Job>, R: Wait>(
         let job = table.finish(rt, seat, held).ok()?;
         return Some(("tag", job.0, 0));
     }
-    match table.put_back(rt, seat, held, Rest::Blocked).ok()? {
+    let rest = match spend {
+        Spend::Ready => Rest::Ready,
+        _ => Rest::Blocked,
+    };
+    match table.put_back(rt, seat, held, rest).ok()? {
         Rested::AsAsked => Some(("as asked", 0, 0)),
         Rested::WokenMeanwhile => Some(("woken meanwhile", 0, 0)),
     }
@@ -176,23 +182,23 @@ fn with_thread<C: Contexts<Job>, R: Wait>(
     rt: &R,
     table: &C,
     seat: &mut C::Seat,
-    cores: u8,
+    size: Size,
     core: u8,
     index: u8,
     part: &Use,
 ) -> Result<(), Fail>
     requires seat { C.sits table.now seat.old × C.idle table.now seat.old }
-    requires cores { cores ≡ C.core_count table.now }
+    requires size { (size.cores ≡ C.core_count table.now) × (size.slots ≡ C.slot_count table.now) }
     ensures { IfOk result (λ _. C.sits table.now seat.new × C.idle table.now seat.new) }
 {
-    if core >= cores || index >= SLOTS {
+    if core >= size.cores || index >= size.slots {
         return Err("no such place".into());
     }
     let Taken::Run(held) = table.take(rt, seat, core, index) else {
         return Err("not ready".into());
     };
     same(part.got, told_id(held.id()))?;
-    go_on(rt, table, seat, cores, part.steps)?;
+    go_on(rt, table, seat, size, part.steps)?;
     let spent = spend_thread(rt, table, seat, held, part.spend).ok_or("not spent")?;
     same(part.spent, spent)
 }
@@ -202,21 +208,21 @@ fn follow<C: Contexts<Job>, R: Wait>(
     rt: &R,
     table: &C,
     seat: &mut C::Seat,
-    cores: u8,
+    size: Size,
     parts: &[Part],
 ) -> Result<(), Fail>
     requires seat { C.sits table.now seat.old × C.idle table.now seat.old }
-    requires cores { cores ≡ C.core_count table.now }
+    requires size { (size.cores ≡ C.core_count table.now) × (size.slots ≡ C.slot_count table.now) }
     ensures { IfOk result (λ _. C.sits table.now seat.new × C.idle table.now seat.new) }
 {
     for part in parts {
         match part {
-            Part::Steps(steps) => go_on(rt, table, seat, cores, steps)?,
+            Part::Steps(steps) => go_on(rt, table, seat, size, steps)?,
             Part::Claim(core, alone, part) => {
-                with_claim(rt, table, seat, cores, *core, *alone, part)?
+                with_claim(rt, table, seat, size, *core, *alone, part)?
             }
             Part::Thread(core, index, part) => {
-                with_thread(rt, table, seat, cores, *core, *index, part)?
+                with_thread(rt, table, seat, size, *core, *index, part)?
             }
         }
     }
@@ -238,7 +244,7 @@ fn are_left(left: &[(ThreadId, Job)], expected: &[(u32, u64, u64)]) -> bool {
 }
 
 /// Splits the seat, joins both halves, and closes the table. The threads that are left.
-fn close<C: Contexts<Job> + Drop, R: Wait>(
+pub(super) fn close<C: Contexts<Job> + Drop, R: Wait>(
     rt: &R,
     alloc: Global,
     table: C,
@@ -259,12 +265,15 @@ fn close<C: Contexts<Job> + Drop, R: Wait>(
 
 /// Takes a run.
 fn take<C: Contexts<Job> + Drop, R: Wait>(rt: &R, alloc: Global, run: &Run) -> Result<(), Fail> {
-    let cores = run.cores;
-    if cores == 0 || cores > CORES || run.first_generation > LAST_GENERATION {
+    let Run { cores, slots, .. } = *run;
+    if cores == 0 || cores > CORES || slots == 0 || slots > SLOTS {
         return Err("no such table".into());
     }
-    let (table, mut seat) = C::new(alloc, cores, run.first_generation)?;
-    follow(rt, &table, &mut seat, cores, run.parts)?;
+    if run.first_generation > LAST_GENERATION {
+        return Err("no such table".into());
+    }
+    let (table, mut seat) = C::new(alloc, cores, slots, run.first_generation)?;
+    follow(rt, &table, &mut seat, Size { cores, slots }, run.parts)?;
     let Some(expected) = run.left else {
         return Ok(());
     };
@@ -276,9 +285,33 @@ fn take<C: Contexts<Job> + Drop, R: Wait>(rt: &R, alloc: Global, run: &Run) -> R
 }
 
 const RUNS: &[Run] = &[
+    // A core of three places is full with three.
+    Run {
+        cores: 1,
+        slots: 3,
+        first_generation: 0,
+        parts: &[
+            Part::Steps(&[
+                (Step::Fill(0), ("id", 2, 0)),
+                (Step::Look(0), ("word", 0x300000000000007, 0)),
+            ]),
+            Part::Claim(
+                0,
+                false,
+                Use {
+                    got: ("full", 0x300000000000007, 0),
+                    steps: &[],
+                    spend: Spend::Back,
+                    spent: ("back", 0, 0),
+                },
+            ),
+        ],
+        left: None,
+    },
     // A claim takes the lowest free index.
     Run {
         cores: 1,
+        slots: SLOTS,
         first_generation: 0,
         parts: &[
             Part::Claim(
@@ -325,6 +358,7 @@ const RUNS: &[Run] = &[
     // A place that is given back is free.
     Run {
         cores: 1,
+        slots: SLOTS,
         first_generation: 0,
         parts: &[
             Part::Claim(
@@ -356,6 +390,7 @@ const RUNS: &[Run] = &[
     // A closed core and a full one.
     Run {
         cores: 2,
+        slots: SLOTS,
         first_generation: 0,
         parts: &[
             Part::Steps(&[
@@ -406,6 +441,7 @@ const RUNS: &[Run] = &[
     // A core for one thread.
     Run {
         cores: 2,
+        slots: SLOTS,
         first_generation: 0,
         parts: &[
             Part::Claim(
@@ -450,6 +486,7 @@ const RUNS: &[Run] = &[
     // A thread is woken while it is held. When it has ended it is gone.
     Run {
         cores: 1,
+        slots: SLOTS,
         first_generation: 0,
         parts: &[
             Part::Steps(&[
@@ -486,15 +523,15 @@ const RUNS: &[Run] = &[
                 },
             ),
             Part::Steps(&[
-                (Step::Mark(0), ("word", 0x4000, 0)),
+                (Step::Mark(0), ("word", 0x10000, 0)),
                 (Step::Look(0), ("word", 0x0, 0)),
                 (Step::Wake(0, 0), ("gone", 0, 0)),
-                (Step::Mark(0), ("word", 0x4000, 0)),
+                (Step::Mark(0), ("word", 0x10000, 0)),
                 (Step::Look(0), ("word", 0x0, 0)),
                 (Step::Post(0, 4), ("id", 0, 1)),
-                (Step::Mark(0), ("word", 0x4001, 0)),
+                (Step::Mark(0), ("word", 0x10001, 0)),
                 (Step::Wake(0, 0), ("gone", 0, 0)),
-                (Step::Mark(0), ("word", 0x4001, 0)),
+                (Step::Mark(0), ("word", 0x10001, 0)),
             ]),
         ],
         left: None,
@@ -502,11 +539,12 @@ const RUNS: &[Run] = &[
     // The last generation is spent.
     Run {
         cores: 1,
+        slots: SLOTS,
         first_generation: LAST_GENERATION,
         parts: &[
             Part::Steps(&[
                 (Step::Post(0, 3), ("id", 0, LAST_GENERATION)),
-                (Step::Mark(0), ("word", 0xffffffffffffc001, 0)),
+                (Step::Mark(0), ("word", 0xffffffffffff0001, 0)),
             ]),
             Part::Thread(
                 0,
@@ -519,7 +557,7 @@ const RUNS: &[Run] = &[
                 },
             ),
             Part::Steps(&[
-                (Step::Mark(0), ("word", 0xffffffffffffc005, 0)),
+                (Step::Mark(0), ("word", 0xffffffffffff0005, 0)),
                 (Step::Look(0), ("word", 0x100000000000001, 0)),
                 (Step::Wake(0, LAST_GENERATION), ("gone", 0, 0)),
             ]),
@@ -536,9 +574,51 @@ const RUNS: &[Run] = &[
         ],
         left: None,
     },
+    // A held thread and one that has its core alone are not moved, and a thread is put back as ready.
+    Run {
+        cores: 2,
+        slots: SLOTS,
+        first_generation: 0,
+        parts: &[
+            Part::Steps(&[(Step::Post(0, 3), ("id", 0, 0))]),
+            Part::Thread(
+                0,
+                0,
+                Use {
+                    got: ("id", 0, 0),
+                    steps: &[
+                        (Step::Out, ("out", 1, 0)),
+                        (Step::Move(0, 0, 1), ("running", 0, 0)),
+                        (Step::Mark(0), ("word", 0x3, 0)),
+                    ],
+                    spend: Spend::Ready,
+                    spent: ("as asked", 0, 0),
+                },
+            ),
+            Part::Steps(&[(Step::Mark(0), ("word", 0x1, 0))]),
+            Part::Claim(
+                1,
+                true,
+                Use {
+                    got: ("place", 1, 0),
+                    steps: &[],
+                    spend: Spend::Post(4),
+                    spent: ("id", 56, 0),
+                },
+            ),
+            Part::Steps(&[
+                (Step::Move(1, 0, 0), ("alone", 0, 0)),
+                (Step::Move(0, 0, 1), ("no room", 0x8100000000000001, 0)),
+                (Step::Mark(56), ("word", 0x409, 0)),
+                (Step::Look(1), ("word", 0x8100000000000001, 0)),
+            ]),
+        ],
+        left: None,
+    },
     // A core is drained.
     Run {
         cores: 2,
+        slots: SLOTS,
         first_generation: 0,
         parts: &[
             Part::Steps(&[
@@ -595,6 +675,7 @@ const RUNS: &[Run] = &[
     // A thread goes there and back.
     Run {
         cores: 2,
+        slots: SLOTS,
         first_generation: 0,
         parts: &[
             Part::Steps(&[
@@ -626,6 +707,7 @@ const RUNS: &[Run] = &[
     // What is left comes back by context.
     Run {
         cores: 2,
+        slots: SLOTS,
         first_generation: 0,
         parts: &[
             Part::Steps(&[
@@ -649,6 +731,7 @@ const RUNS: &[Run] = &[
     // An id of no context is gone.
     Run {
         cores: 1,
+        slots: SLOTS,
         first_generation: 0,
         parts: &[Part::Steps(&[(Step::Wake(56, 0), ("gone", 0, 0))])],
         left: None,

@@ -4,7 +4,7 @@ ghost use Rattle.arachne_contexts.specs.Out.{Out, KeepsOut};
 
 use super::Job;
 use crate::{Claimed, Contexts, Moved, Woken};
-use arachne_core::{Place, SLOTS, ThreadId};
+use arachne_core::{Place, ThreadId};
 use std::sync::Wait;
 
 /// A step, with its core, with its context or with its place.
@@ -57,23 +57,34 @@ fn told_move(answer: Moved) -> Answer {
     }
 }
 
+/// How many cores a table has, and how many places each of them.
+#[derive(Clone, Copy)]
+pub(super) struct Size {
+    pub(super) cores: u8,
+    pub(super) slots: u8,
+}
+
 /// A step at a core.
 fn at_core<C: Contexts<Job>, R: Wait>(
     rt: &R,
     table: &C,
     seat: &mut C::Seat,
-    cores: u8,
+    size: Size,
     step: Step,
 ) -> Option<Answer>
     requires seat { C.sits table.now seat.old }
-    requires cores { cores ≡ C.core_count table.now }
+    requires size { (size.cores ≡ C.core_count table.now) × (size.slots ≡ C.slot_count table.now) }
     ensures { IfSome result (λ _. C.sits table.now seat.new × KeepsOut (C.has table.now) seat.old seat.new) }
 {
     match step {
-        Step::Look(core) if core < cores => Some(("word", table.look(rt, seat, core), 0)),
-        Step::Close(core) if core < cores => Some(("word", table.close_core(rt, seat, core), 0)),
-        Step::Open(core) if core < cores => Some(("word", table.open_core(rt, seat, core), 0)),
-        Step::Drained(core) if core < cores => {
+        Step::Look(core) if core < size.cores => Some(("word", table.look(rt, seat, core), 0)),
+        Step::Close(core) if core < size.cores => Some((
+            "word",
+            table.close_core(rt, seat, core),
+            0,
+        )),
+        Step::Open(core) if core < size.cores => Some(("word", table.open_core(rt, seat, core), 0)),
+        Step::Drained(core) if core < size.cores => {
             Some(("drained", u64::from(table.is_drained(rt, seat, core)), 0))
         }
         _ => None,
@@ -85,16 +96,16 @@ fn at_context<C: Contexts<Job>, R: Wait>(
     rt: &R,
     table: &C,
     seat: &mut C::Seat,
-    cores: u8,
+    size: Size,
     step: Step,
 ) -> Option<Answer>
     requires seat { C.sits table.now seat.old }
-    requires cores { cores ≡ C.core_count table.now }
+    requires size { (size.cores ≡ C.core_count table.now) × (size.slots ≡ C.slot_count table.now) }
     ensures { IfSome result (λ _. C.sits table.now seat.new × KeepsOut (C.has table.now) seat.old seat.new) }
 {
     match step {
         Step::Out => Some(("out", u64::from(table.out(seat)), 0)),
-        Step::Mark(context) if context < u32::from(cores) * 56 => {
+        Step::Mark(context) if context < u32::from(size.cores) * u32::from(size.slots) => {
             Some(("word", table.look_mark(rt, seat, context), 0))
         }
         Step::Wake(context, generation) => {
@@ -104,12 +115,12 @@ fn at_context<C: Contexts<Job>, R: Wait>(
             };
             Some(told_wake(table.wake(rt, seat, id)))
         }
-        Step::Move(core, index, to) if core < cores && index < SLOTS && to < cores && to != core =>
-            {
-                let place = Place { core, index };
-                Some(told_move(table.move_one(rt, seat, place, to)))
-            }
-        _ => at_core(rt, table, seat, cores, step),
+        Step::Move(core, index, to)
+            if core < size.cores && index < size.slots && to < size.cores && to != core => {
+            let place = Place { core, index };
+            Some(told_move(table.move_one(rt, seat, place, to)))
+        }
+        _ => at_core(rt, table, seat, size, step),
     }
 }
 
@@ -159,16 +170,17 @@ fn fill<C: Contexts<Job>, R: Wait>(
     table: &C,
     seat: &mut C::Seat,
     core: u8,
+    slots: u8,
 ) -> Option<Answer>
     requires seat { C.sits table.now seat.old }
     requires out { (outs : List (Out C.Claim C.Hold)) × C.has table.now seat.old outs }
     requires core { core < C.core_count table.now }
     ensures { IfSome result (λ _. C.sits table.now seat.new × KeepsOut (C.has table.now) seat.old seat.new) }
 {
-    for tag in 0..55 {
-        post(rt, table, seat, core, tag)?;
+    for tag in 1..slots {
+        post(rt, table, seat, core, u64::from(tag))?;
     }
-    post(rt, table, seat, core, 55)
+    post(rt, table, seat, core, u64::from(slots))
 }
 
 /// What a step answers. None where a core or a context is not there, or a claim isn't had.
@@ -176,18 +188,18 @@ pub(super) fn answered<C: Contexts<Job>, R: Wait>(
     rt: &R,
     table: &C,
     seat: &mut C::Seat,
-    cores: u8,
+    size: Size,
     step: Step,
 ) -> Option<Answer>
     requires seat { C.sits table.now seat.old }
     requires out { (outs : List (Out C.Claim C.Hold)) × C.has table.now seat.old outs }
-    requires cores { cores ≡ C.core_count table.now }
+    requires size { (size.cores ≡ C.core_count table.now) × (size.slots ≡ C.slot_count table.now) }
     ensures { IfSome result (λ _. C.sits table.now seat.new × KeepsOut (C.has table.now) seat.old seat.new) }
 {
     match step {
-        Step::Post(core, tag) if core < cores => post(rt, table, seat, core, tag),
-        Step::Second(core, tag) if core < cores => post_second(rt, table, seat, core, tag),
-        Step::Fill(core) if core < cores => fill(rt, table, seat, core),
-        _ => at_context(rt, table, seat, cores, step),
+        Step::Post(core, tag) if core < size.cores => post(rt, table, seat, core, tag),
+        Step::Second(core, tag) if core < size.cores => post_second(rt, table, seat, core, tag),
+        Step::Fill(core) if core < size.cores => fill(rt, table, seat, core, size.slots),
+        _ => at_context(rt, table, seat, size, step),
     }
 }

@@ -1,6 +1,8 @@
 //! Runs of the World: a step a row, with what it shows afterwards.
 
-use arachne_core::{CORES, Event, LAST_GENERATION, NotApplied, Place, Rest, ThreadId, World};
+use arachne_core::{
+    CORES, Event, LAST_GENERATION, NotApplied, Place, Rest, SLOTS, ThreadId, World,
+};
 use std::alloc::Global;
 use std::test::Fail;
 
@@ -85,14 +87,14 @@ fn event_of(step: Step) -> Option<Event> {
 
 /// The number that a step asks for, if it is a question, and what it names is there.
 fn asked(world: &World, step: Step) -> Option<u64> {
-    let cores = world.cores();
-    let contexts = u32::from(cores) * 56;
+    let (cores, slots) = (world.cores(), world.slots());
+    let contexts = u32::from(cores) * u32::from(slots);
     match step {
         Step::Occ(core) if core < cores => Some(world.occ(core).word()),
         Step::Mark(context) if context < contexts => Some(world.mark(context).word()),
         Step::Core(context) if context < contexts => Some(world.place_of(context).core.into()),
         Step::Index(context) if context < contexts => Some(world.place_of(context).index.into()),
-        Step::At(core, index) if core < cores && index < 56 => {
+        Step::At(core, index) if core < cores && index < slots => {
             Some(world.context_at(Place { core, index }).into())
         }
         _ => None,
@@ -123,6 +125,7 @@ fn shown(world: &mut World, step: Step) -> Option<Shown> {
 /// The cores of a run's World, the generation that its contexts begin with, for how many posts and retires it has room, and its steps.
 struct Run {
     cores: u8,
+    slots: u8,
     first_generation: u64,
     room: (usize, usize),
     steps: &'static [(Step, Shown)],
@@ -132,6 +135,7 @@ struct Run {
 fn begun(alloc: Global, run: &Run) -> Result<World, Fail> {
     let &Run {
         cores,
+        slots,
         first_generation,
         room: (posts, retires),
         ..
@@ -139,7 +143,10 @@ fn begun(alloc: Global, run: &Run) -> Result<World, Fail> {
     if cores == 0 || cores > CORES || first_generation > LAST_GENERATION {
         return Err("no such World")?;
     }
-    let mut world = World::new(alloc, cores, first_generation)?;
+    if slots == 0 || slots > SLOTS {
+        return Err("no such World")?;
+    }
+    let mut world = World::new(alloc, cores, slots, first_generation)?;
     world.reserve(posts, retires)?;
     Ok(world)
 }
@@ -149,6 +156,7 @@ const RUNS: &[Run] = &[
     // A closed core keeps its threads.
     Run {
         cores: 1,
+        slots: SLOTS,
         first_generation: 0,
         room: (1, 0),
         steps: &[
@@ -165,6 +173,7 @@ const RUNS: &[Run] = &[
     // A core closes beside a claimed place.
     Run {
         cores: 1,
+        slots: SLOTS,
         first_generation: 0,
         room: (1, 0),
         steps: &[
@@ -179,6 +188,7 @@ const RUNS: &[Run] = &[
     // A closed core drains.
     Run {
         cores: 1,
+        slots: SLOTS,
         first_generation: 0,
         room: (1, 1),
         steps: &[
@@ -186,16 +196,17 @@ const RUNS: &[Run] = &[
             (Step::Post(1, 0, 7), (0x100000000000001, 0x1)),
             (Step::Take(1, 0), (0x100000000000001, 0x3)),
             (Step::Close(0), (0x4100000000000001, 0x3)),
-            (Step::Retire(1, 0), (0x4100000000000001, 0x4000)),
-            (Step::Release(1, 0), (0x4000000000000000, 0x4000)),
+            (Step::Retire(1, 0), (0x4100000000000001, 0x10000)),
+            (Step::Release(1, 0), (0x4000000000000000, 0x10000)),
             (Step::Claim(1, 0), REFUSED),
-            (Step::Open(0), (0x0, 0x4000)),
-            (Step::Claim(1, 0), (0x100000000000001, 0x4000)),
+            (Step::Open(0), (0x0, 0x10000)),
+            (Step::Claim(1, 0), (0x100000000000001, 0x10000)),
         ],
     },
     // A thread is woken while it is held.
     Run {
         cores: 1,
+        slots: SLOTS,
         first_generation: 0,
         room: (1, 0),
         steps: &[
@@ -215,6 +226,7 @@ const RUNS: &[Run] = &[
     // A thread is woken while it is blocked.
     Run {
         cores: 1,
+        slots: SLOTS,
         first_generation: 0,
         room: (1, 0),
         steps: &[
@@ -232,6 +244,7 @@ const RUNS: &[Run] = &[
     // An id ends with its thread.
     Run {
         cores: 1,
+        slots: SLOTS,
         first_generation: 0,
         room: (2, 1),
         steps: &[
@@ -240,65 +253,69 @@ const RUNS: &[Run] = &[
             (Step::Take(1, 0), (0x100000000000001, 0x3)),
             (Step::Wake(0, 0), (0x100000000000001, 0x4)),
             (Step::Retire(0, 0), REFUSED),
-            (Step::Retire(1, 0), (0x100000000000001, 0x4000)),
+            (Step::Retire(1, 0), (0x100000000000001, 0x10000)),
             (Step::Release(0, 0), REFUSED),
-            (Step::Release(1, 0), (0x0, 0x4000)),
+            (Step::Release(1, 0), (0x0, 0x10000)),
             (Step::Wake(0, 0), REFUSED),
-            (Step::Claim(1, 0), (0x100000000000001, 0x4000)),
-            (Step::Post(1, 0, 8), (0x100000000000001, 0x4001)),
+            (Step::Claim(1, 0), (0x100000000000001, 0x10000)),
+            (Step::Post(1, 0, 8), (0x100000000000001, 0x10001)),
             (Step::Wake(0, 0), REFUSED),
-            (Step::Take(1, 0), (0x100000000000001, 0x4003)),
+            (Step::Take(1, 0), (0x100000000000001, 0x10003)),
             (Step::Wake(0, 0), REFUSED),
         ],
     },
     // The last generation is spent.
     Run {
         cores: 1,
+        slots: SLOTS,
         first_generation: LAST_GENERATION,
         room: (1, 1),
         steps: &[
-            (Step::Claim(0, 0), (0x100000000000001, 0xffffffffffffc000)),
-            (Step::Post(0, 0, 7), (0x100000000000001, 0xffffffffffffc001)),
-            (Step::Take(0, 0), (0x100000000000001, 0xffffffffffffc003)),
-            (Step::Retire(0, 0), (0x100000000000001, 0xffffffffffffc005)),
+            (Step::Claim(0, 0), (0x100000000000001, 0xffffffffffff0000)),
+            (Step::Post(0, 0, 7), (0x100000000000001, 0xffffffffffff0001)),
+            (Step::Take(0, 0), (0x100000000000001, 0xffffffffffff0003)),
+            (Step::Retire(0, 0), (0x100000000000001, 0xffffffffffff0005)),
             (Step::Claim(0, 0), REFUSED),
             (Step::Release(0, 0), REFUSED),
-            (Step::Close(0), (0x4100000000000001, 0xffffffffffffc005)),
+            (Step::Close(0), (0x4100000000000001, 0xffffffffffff0005)),
         ],
     },
     // The generation before the last is not spent.
     Run {
         cores: 1,
-        first_generation: 1125899906842622,
+        slots: SLOTS,
+        first_generation: 281474976710654,
         room: (1, 1),
         steps: &[
-            (Step::Claim(1, 0), (0x100000000000001, 0xffffffffffff8000)),
-            (Step::Post(1, 0, 7), (0x100000000000001, 0xffffffffffff8001)),
-            (Step::Take(1, 0), (0x100000000000001, 0xffffffffffff8003)),
-            (Step::Retire(1, 0), (0x100000000000001, 0xffffffffffffc000)),
-            (Step::Release(1, 0), (0x0, 0xffffffffffffc000)),
+            (Step::Claim(1, 0), (0x100000000000001, 0xfffffffffffe0000)),
+            (Step::Post(1, 0, 7), (0x100000000000001, 0xfffffffffffe0001)),
+            (Step::Take(1, 0), (0x100000000000001, 0xfffffffffffe0003)),
+            (Step::Retire(1, 0), (0x100000000000001, 0xffffffffffff0000)),
+            (Step::Release(1, 0), (0x0, 0xffffffffffff0000)),
         ],
     },
     // A woken thread of the last generation is spent.
     Run {
         cores: 1,
+        slots: SLOTS,
         first_generation: LAST_GENERATION,
         room: (1, 1),
         steps: &[
-            (Step::Claim(1, 0), (0x100000000000001, 0xffffffffffffc000)),
-            (Step::Post(1, 0, 7), (0x100000000000001, 0xffffffffffffc001)),
-            (Step::Take(1, 0), (0x100000000000001, 0xffffffffffffc003)),
+            (Step::Claim(1, 0), (0x100000000000001, 0xffffffffffff0000)),
+            (Step::Post(1, 0, 7), (0x100000000000001, 0xffffffffffff0001)),
+            (Step::Take(1, 0), (0x100000000000001, 0xffffffffffff0003)),
             (
                 Step::Wake(0, LAST_GENERATION),
-                (0x100000000000001, 0xffffffffffffc004),
+                (0x100000000000001, 0xffffffffffff0004),
             ),
-            (Step::Retire(1, 0), (0x100000000000001, 0xffffffffffffc005)),
+            (Step::Retire(1, 0), (0x100000000000001, 0xffffffffffff0005)),
             (Step::Wake(0, LAST_GENERATION), REFUSED),
         ],
     },
     // A thread has its core alone.
     Run {
         cores: 1,
+        slots: SLOTS,
         first_generation: 0,
         room: (1, 1),
         steps: &[
@@ -316,29 +333,31 @@ const RUNS: &[Run] = &[
             (Step::Wake(0, 0), (0x8100000000000001, 0xc)),
             (Step::Close(0), (0xc100000000000001, 0xc)),
             (Step::Open(0), (0x8100000000000001, 0xc)),
-            (Step::Retire(0, 0), (0x8100000000000001, 0x4000)),
-            (Step::Release(0, 0), (0x0, 0x4000)),
+            (Step::Retire(0, 0), (0x8100000000000001, 0x10000)),
+            (Step::Release(0, 0), (0x0, 0x10000)),
         ],
     },
     // A core stays alone with a spent context.
     Run {
         cores: 1,
+        slots: SLOTS,
         first_generation: LAST_GENERATION,
         room: (1, 1),
         steps: &[
-            (Step::Alone(1, 0), (0x8100000000000001, 0xffffffffffffc000)),
+            (Step::Alone(1, 0), (0x8100000000000001, 0xffffffffffff0000)),
             (
                 Step::Post(1, 0, 7),
-                (0x8100000000000001, 0xffffffffffffc009),
+                (0x8100000000000001, 0xffffffffffff0009),
             ),
-            (Step::Take(1, 0), (0x8100000000000001, 0xffffffffffffc00b)),
-            (Step::Retire(1, 0), (0x8100000000000001, 0xffffffffffffc005)),
+            (Step::Take(1, 0), (0x8100000000000001, 0xffffffffffff000b)),
+            (Step::Retire(1, 0), (0x8100000000000001, 0xffffffffffff0005)),
             (Step::Claim(1, 1), REFUSED),
         ],
     },
     // Threads move to another core.
     Run {
         cores: 2,
+        slots: SLOTS,
         first_generation: 0,
         room: (3, 0),
         steps: &[
@@ -381,6 +400,7 @@ const RUNS: &[Run] = &[
     // A thread moves there and back.
     Run {
         cores: 2,
+        slots: SLOTS,
         first_generation: 0,
         room: (1, 0),
         steps: &[
@@ -402,6 +422,7 @@ const RUNS: &[Run] = &[
     // Moves that are not allowed.
     Run {
         cores: 2,
+        slots: SLOTS,
         first_generation: 0,
         room: (2, 0),
         steps: &[
@@ -421,6 +442,7 @@ const RUNS: &[Run] = &[
     // An event names what is not there.
     Run {
         cores: 1,
+        slots: SLOTS,
         first_generation: 0,
         room: (1, 0),
         steps: &[
@@ -467,6 +489,7 @@ const RUNS: &[Run] = &[
     // A machine of sixteen cores.
     Run {
         cores: 16,
+        slots: SLOTS,
         first_generation: 0,
         room: (1, 1),
         steps: &[
@@ -488,9 +511,46 @@ const RUNS: &[Run] = &[
             (Step::Release(0, 895), (0x0, 0x3f70)),
         ],
     },
+    // A machine of sixty-four cores.
+    Run {
+        cores: 64,
+        slots: SLOTS,
+        first_generation: 0,
+        room: (1, 1),
+        steps: &[
+            (Step::Claim(0, 3583), (0x0, 0x0)),
+            (Step::Post(0, 3583, 7), (0x0, 0x0)),
+            (Step::Occ(63), (0x180000000000000, 0)),
+            (Step::Mark(3583), (0xff71, 0)),
+            (Step::At(63, 55), (0xdff, 0)),
+            (Step::Claim(0, 3584), REFUSED),
+            (Step::Close(64), REFUSED),
+            (Step::Close(63), (0x0, 0x0)),
+            (Step::Occ(63), (0x4180000000000000, 0)),
+        ],
+    },
+    // A machine of cores of three places each.
+    Run {
+        cores: 3,
+        slots: 3,
+        first_generation: 0,
+        room: (1, 1),
+        steps: &[
+            (Step::Claim(0, 0), (0x100000000000001, 0x0)),
+            (Step::Claim(0, 1), (0x200000000000003, 0x0)),
+            (Step::Claim(0, 2), (0x300000000000007, 0x0)),
+            (Step::Claim(0, 8), (0x300000000000007, 0x0)),
+            (Step::Occ(2), (0x100000000000004, 0)),
+            (Step::Mark(8), (0x820, 0)),
+            (Step::At(2, 2), (0x8, 0)),
+            (Step::Claim(0, 9), REFUSED),
+            (Step::Close(3), REFUSED),
+        ],
+    },
     // A post without room.
     Run {
         cores: 1,
+        slots: SLOTS,
         first_generation: 0,
         room: (0, 0),
         steps: &[
@@ -498,8 +558,8 @@ const RUNS: &[Run] = &[
             (Step::Post(0, 0, 7), (0x100000000000001, 0x1)),
             (Step::Mark(0), (0x1, 0)),
             (Step::Take(0, 0), (0x100000000000001, 0x3)),
-            (Step::Retire(0, 0), (0x100000000000001, 0x4000)),
-            (Step::Mark(0), (0x4000, 0)),
+            (Step::Retire(0, 0), (0x100000000000001, 0x10000)),
+            (Step::Mark(0), (0x10000, 0)),
         ],
     },
 ];

@@ -7,21 +7,22 @@ use std::test::Fail;
 /// Numbers, and what each is as a mark word: its mark, whether it is alone, its core and index, and its generation.
 /// No mark has the codes 6 and 7, and no core the index 56.
 const MARKS: &[(u64, &str)] = &[
-    (0x4850, "Free false 2 5 1"),
-    (0x4851, "Ready false 2 5 1"),
-    (0x4852, "Blocked false 2 5 1"),
-    (0x4853, "Held false 2 5 1"),
-    (0x4854, "Woken false 2 5 1"),
-    (0x4855, "Spent false 2 5 1"),
-    (0x4856, "none"),
-    (0x4857, "none"),
+    (0x10850, "Free false 2 5 1"),
+    (0x10851, "Ready false 2 5 1"),
+    (0x10852, "Blocked false 2 5 1"),
+    (0x10853, "Held false 2 5 1"),
+    (0x10854, "Woken false 2 5 1"),
+    (0x10855, "Spent false 2 5 1"),
+    (0x10856, "none"),
+    (0x10857, "none"),
     (0x9, "Ready true 0 0 0"),
     (0x370, "Free false 0 55 0"),
     (0x380, "none"),
-    (0x7f71, "Ready false 15 55 1"),
-    (0xffff_ffff_ffff_c001, "Ready false 0 0 1125899906842623"),
-    (0xffff_ffff_ffff_c005, "Spent false 0 0 1125899906842623"),
-    (0xffff_ffff_ffff_ff7d, "Spent true 15 55 1125899906842623"),
+    (0x13f71, "Ready false 15 55 1"),
+    (0xff71, "Ready false 63 55 0"),
+    (0xffff_ffff_ffff_0001, "Ready false 0 0 281474976710655"),
+    (0xffff_ffff_ffff_0005, "Spent false 0 0 281474976710655"),
+    (0xffff_ffff_ffff_ff7d, "Spent true 63 55 281474976710655"),
 ];
 
 /// What a number is as a mark word, whose parts have to make that number again.
@@ -40,14 +41,30 @@ fn shown_mark(alloc: Global, number: u64) -> Result<String, Fail> {
 
 /// Mark words, a mark with its code, and the word with that mark in place of its own.
 const WITH_MARK: &[(u64, Mark, u64, u64)] = &[
-    (0x4851, Mark::Free, 0, 0x4850),
-    (0x4851, Mark::Ready, 1, 0x4851),
-    (0x4851, Mark::Blocked, 2, 0x4852),
-    (0x4851, Mark::Held, 3, 0x4853),
-    (0x4851, Mark::Woken, 4, 0x4854),
-    (0x4851, Mark::Spent, 5, 0x4855),
-    (0xffff_ffff_ffff_c001, Mark::Spent, 5, 0xffff_ffff_ffff_c005),
+    (0x10851, Mark::Free, 0, 0x10850),
+    (0x10851, Mark::Ready, 1, 0x10851),
+    (0x10851, Mark::Blocked, 2, 0x10852),
+    (0x10851, Mark::Held, 3, 0x10853),
+    (0x10851, Mark::Woken, 4, 0x10854),
+    (0x10851, Mark::Spent, 5, 0x10855),
+    (0xffff_ffff_ffff_0001, Mark::Spent, 5, 0xffff_ffff_ffff_0005),
 ];
+
+/// Words of the first layout, and what each is in this one.
+const FIRST: &[(u64, Option<u64>)] = &[
+    (0x4851, Some(0x10851)),
+    (0x3f71, Some(0x3f71)),
+    (0x3fff_ffff_ffff_c005, Some(0xffff_ffff_ffff_0005)),
+    (0x4000_0000_0000_0001, None),
+    (0xffff_ffff_ffff_c001, None),
+    (0x4856, None),
+    (0x380, None),
+];
+
+/// The word in this layout of a number in the first one, if it has one.
+fn from_first(number: u64) -> Option<u64> {
+    Some(MarkWord::from_first(number)?.word())
+}
 
 /// The word of a number with another mark, if it is a mark word.
 fn with_mark(number: u64, mark: Mark) -> Option<u64> {
@@ -57,7 +74,7 @@ fn with_mark(number: u64, mark: Mark) -> Option<u64> {
 /// The word of a number with the last place in place of its own, if it is a mark word.
 fn at_the_last_place(number: u64) -> Option<u64> {
     let last = Place {
-        core: 15,
+        core: 63,
         index: 55,
     };
     Some(MarkWord::from_word(number)?.with_place(last).word())
@@ -72,7 +89,10 @@ fn mark_words(rt: HostRuntime) -> Result<(), Fail> {
         assert!(rt; mark.code() == code && (code > 5 || Mark::from_code(code) == mark));
         assert!(rt; with_mark(number, mark) == Some(changed), "{number} {code}");
     }
-    assert!(rt; at_the_last_place(0x4001) == Some(0x7f71));
+    for &(number, word) in FIRST {
+        assert!(rt; from_first(number) == word, "{number}");
+    }
+    assert!(rt; at_the_last_place(0x10001) == Some(0x1ff71));
     Ok(())
 }
 
@@ -224,9 +244,15 @@ fn occupancy_words(rt: HostRuntime) -> Result<(), Fail> {
 
 #[test]
 fn numbers_of_places(rt: HostRuntime) {
-    for (context, core, index) in [(0, 0, 0), (55, 0, 55), (56, 1, 0), (895, 15, 55)] {
+    for (context, core, index, slots) in [
+        (0, 0, 0, 56),
+        (55, 0, 55, 56),
+        (56, 1, 0, 56),
+        (3583, 63, 55, 56),
+        (4, 1, 1, 3),
+    ] {
         let place = Place { core, index };
-        assert!(rt; Place::of_context(context) == place && place.number() == context);
+        assert!(rt; Place::of_context(context, slots) == place && place.number(slots) == context);
     }
 }
 

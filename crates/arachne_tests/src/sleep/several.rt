@@ -1,18 +1,17 @@
 //! Several locks: each call once, and whose histories come out at which place.
 ghost use Rattle.std.specs.Prelude.{◌≡◌, ◌<◌, All, IfOk, IfSome, length};
-ghost use Rattle.arachne_sleep.specs.SleepLock.{IsWhole};
 ghost use Rattle.arachne_sleep.specs.SleepLocks.{AreSeatsOf};
+ghost use Rattle.arachne_sleep.specs.Views.{IsWhole};
 
 use super::{
     A, Answer, Call, Rows, asked_rows, freed_rows, told_ask, told_check, told_free, whole_history,
 };
 use arachne_sleep::{AskFault, Asked, LockEvent, LockSeats, SleepLocks, Tried, Who};
 use std::alloc::{AllocError, Global};
-use std::sync::Wait;
 use std::test::Fail;
 
 // Under `rt try --test --fail-alloc N` the Nth allocation is refused. A call that answers so is made once more.
-fn make(alloc: Global, count: u8) -> Result<(SleepLocks, LockSeats), AllocError>
+pub(super) fn make(alloc: Global, count: u8) -> Result<(SleepLocks, LockSeats), AllocError>
     ensures count { IfOk result (λ made. length made.0 ≡ count) }
     ensures own { IfOk result (λ made. AreSeatsOf made.0 made.1) }
     ensures whole { IfOk result (λ made. All IsWhole made.1) }
@@ -24,8 +23,7 @@ fn make(alloc: Global, count: u8) -> Result<(SleepLocks, LockSeats), AllocError>
 }
 
 /// Asks, and once more where memory was refused. None where another kernel thread was at the lock.
-fn asked<R: Wait>(
-    rt: &R,
+fn asked(
     locks: &SleepLocks,
     seats: &mut LockSeats,
     lock: u8,
@@ -33,22 +31,21 @@ fn asked<R: Wait>(
 ) -> Option<Result<Asked, AskFault>>
     requires own { AreSeatsOf locks.now seats.old }
     requires lock { lock < length locks.now }
-    ensures { seats.new ≡ seats.old }
+    ensures { AreSeatsOf locks.now seats.new }
 {
-    match locks.ask(rt, seats, lock, who) {
+    match locks.ask(seats, lock, who) {
         Tried::Answered(Err(AskFault::Memory)) => {}
         Tried::Answered(answer) => return Some(answer),
         Tried::Contended => return None,
     }
-    match locks.ask(rt, seats, lock, who) {
+    match locks.ask(seats, lock, who) {
         Tried::Answered(answer) => Some(answer),
         Tried::Contended => None,
     }
 }
 
 /// What a call on a lock answers.
-fn called<R: Wait>(
-    rt: &R,
+fn called(
     locks: &SleepLocks,
     seats: &mut LockSeats,
     lock: u8,
@@ -57,15 +54,15 @@ fn called<R: Wait>(
 ) -> Option<Answer>
     requires own { AreSeatsOf locks.now seats.old }
     requires lock { lock < length locks.now }
-    ensures { seats.new ≡ seats.old }
+    ensures { AreSeatsOf locks.now seats.new }
 {
     match call {
-        Call::Ask => Some(told_ask(lock, who, asked(rt, locks, seats, lock, who)?)),
-        Call::Check => match locks.check(rt, seats, lock, who) {
+        Call::Ask => Some(told_ask(lock, who, asked(locks, seats, lock, who)?)),
+        Call::Check => match locks.check(seats, lock, who) {
             Tried::Answered(pass) => Some(told_check(lock, who, pass)),
             Tried::Contended => None,
         },
-        Call::Free => match locks.free(rt, seats, lock, who) {
+        Call::Free => match locks.free(seats, lock, who) {
             Tried::Answered(freed) => Some(told_free(freed)),
             Tried::Contended => None,
         },
@@ -73,19 +70,14 @@ fn called<R: Wait>(
 }
 
 /// The number of the first call on lock 2 that answers something else, from 0.
-fn first_wrong<R: Wait>(
-    rt: &R,
-    locks: &SleepLocks,
-    seats: &mut LockSeats,
-    rows: Rows,
-) -> Option<usize>
+fn first_wrong(locks: &SleepLocks, seats: &mut LockSeats, rows: Rows) -> Option<usize>
     requires own { AreSeatsOf locks.now seats.old }
     requires lock { 2 < length locks.now }
     ensures { AreSeatsOf locks.now seats.new }
 {
     for k in 0..rows.len() {
         let (call, who, answer) = rows[k];
-        if called(rt, locks, seats, 2, call, who) != Some(answer) {
+        if called(locks, seats, 2, call, who) != Some(answer) {
             return Some(k);
         }
     }
@@ -93,14 +85,14 @@ fn first_wrong<R: Wait>(
 }
 
 /// Whether the calls of three threads in turn answer as the rows say, and go by lock 2 alone.
-fn is_in_turn<R: Wait>(rt: &R, locks: &SleepLocks, seats: &mut LockSeats) -> bool
+fn is_in_turn(locks: &SleepLocks, seats: &mut LockSeats) -> bool
     requires own { AreSeatsOf locks.now seats.old }
     requires lock { 2 < length locks.now }
     ensures { AreSeatsOf locks.now seats.new }
 {
-    first_wrong(rt, locks, seats, asked_rows()).is_none()
-        && called(rt, locks, seats, 1, Call::Check, A) == Some(("no pass", 0, None))
-        && first_wrong(rt, locks, seats, freed_rows()).is_none()
+    first_wrong(locks, seats, asked_rows()).is_none()
+        && called(locks, seats, 1, Call::Check, A) == Some(("no pass", 0, None))
+        && first_wrong(locks, seats, freed_rows()).is_none()
 }
 
 /// Whether lock 2 alone of three has a history.
@@ -115,30 +107,47 @@ fn is_of_the_last(histories: &[Vec<LockEvent>]) -> bool {
 fn each_call_on_three_locks(rt: HostRuntime) -> Result<(), Fail> {
     let (locks, mut seats) = make(rt.alloc(), 3)?;
     assert!(rt; locks.count() == 3 && locks.are_whole(&seats));
-    assert!(rt; is_in_turn(&rt, &locks, &mut seats));
+    assert!(rt; is_in_turn(&locks, &mut seats));
     let seats = parted_and_joined(rt.alloc(), &locks, seats).ok_or("no memory")?;
     let histories = closed(rt.alloc(), locks, seats).ok_or("not closed")?;
     assert!(rt; is_of_the_last(histories.as_slice()));
     Ok(())
 }
 
-/// Splits the seats and joins them again, once more where memory was refused.
+/// Splits the seats, once more where memory was refused.
+pub(super) fn parted(
+    alloc: Global,
+    locks: &SleepLocks,
+    seats: LockSeats,
+) -> Option<(LockSeats, LockSeats)>
+    requires { AreSeatsOf locks.now seats }
+    ensures own { IfSome result (λ parts. AreSeatsOf locks.now parts.0) }
+    ensures theirs { IfSome result (λ parts. AreSeatsOf locks.now parts.1) }
+{
+    match locks.split(alloc, seats) {
+        Ok(parts) => Some(parts),
+        Err(seats) => locks.split(alloc, seats).ok(),
+    }
+}
+
+/// Splits the seats and joins them again.
 fn parted_and_joined(alloc: Global, locks: &SleepLocks, seats: LockSeats) -> Option<LockSeats>
     requires { AreSeatsOf locks.now seats }
     ensures { IfSome result (λ joined. AreSeatsOf locks.now joined) }
 {
-    let (own, others) = match locks.split(alloc, seats) {
-        Ok(parts) => parts,
-        Err(seats) => locks.split(alloc, seats).ok()?,
-    };
-    if locks.are_whole(&own) || locks.are_whole(&others) {
+    let (own, theirs) = parted(alloc, locks, seats)?;
+    if locks.are_whole(&own) || locks.are_whole(&theirs) {
         return None;
     }
-    Some(locks.join_seats(others, own))
+    Some(locks.join_seats(theirs, own))
 }
 
 /// Closes the locks, once more where memory was refused.
-fn closed(alloc: Global, locks: SleepLocks, seats: LockSeats) -> Option<Vec<Vec<LockEvent>>>
+pub(super) fn closed(
+    alloc: Global,
+    locks: SleepLocks,
+    seats: LockSeats,
+) -> Option<Vec<Vec<LockEvent>>>
     requires { AreSeatsOf locks seats }
 {
     if !locks.are_whole(&seats) {

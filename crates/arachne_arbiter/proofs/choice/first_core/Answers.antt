@@ -1,5 +1,6 @@
 use Rattle.std.proofs.Common.{◌≡◌, ◌<◌, ◌≤◌, true, false, length, get_or, take, ap, ◌∙◌, arith, rules}
 use Rattle.std.proofs.lemmas.List.{get_or_default}
+use Rattle.arachne_core.specs.declared.layout.TheConstants.{CORES}
 use Rattle.arachne_core.specs.Occupancy.{vacant}
 use Rattle.arachne_arbiter.specs.Choice.{is_candidate_at}
 use Rattle.arachne_arbiter.proofs.Loads.{AreBelow, AreBelow-found, loads_of-push, loads_of-skip, loads_of-below}
@@ -25,7 +26,7 @@ loop-core-preserved c =
       ];
       listed = elim c.if-is_candidate.branch [
         | then-is_candidate w ↦
-            let few : length occupancies ≤ 16 = c.requires in
+            let few : length occupancies ≤ CORES = c.requires in
             let room : c.loop-core.candidates < length c.loop-core.loads = omega arith in
             let candidate : is_candidate_at occupancy ≡ true = cc in
             rw (w.candidates-is, w.loads-is)

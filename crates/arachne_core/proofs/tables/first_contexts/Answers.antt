@@ -13,5 +13,5 @@ loop-number-preserved c =
     let n : ℕ = c.loop-number.number in
     let made : Place → Context = λ p. record { place = p; generation = g; state = Free } in
     c.in_ok-push.ensures.items ∙ ap (λ (xs : List Context). xs ++ made c.of_context.result ∷ []) c.loop-number.invariant
-    ∙ ap (λ (p : Place). map (first_context g) (range_with_len 0 n) ++ made p ∷ []) c.of_context.ensures
-    ∙ sym (map-range_with_len_more (first_context g) 0 n n (omega arith))
+    ∙ ap (λ (p : Place). map (first_context c.args.slots g) (range_with_len 0 n) ++ made p ∷ []) c.of_context.ensures
+    ∙ sym (map-range_with_len_more (first_context c.args.slots g) 0 n n (omega arith))

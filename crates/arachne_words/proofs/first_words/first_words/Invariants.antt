@@ -5,5 +5,5 @@ use Rattle.arachne_words.proofs.first_words.first_words.Given as goal
 abbrev pub invariant-loop-index : goal.invariant-loop-index
 invariant-loop-index l = record {
   counted : vec_len l.words ≡ l.index;
-  each : (i : ℕ) → i < l.index → slice_index l.words.items i ≡ first_word l.contexts l.fn.generation i;
+  each : (i : ℕ) → i < l.index → slice_index l.words.items i ≡ first_word l.fn.slots l.contexts l.fn.generation i;
 }

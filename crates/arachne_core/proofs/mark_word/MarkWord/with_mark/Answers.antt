@@ -1,5 +1,6 @@
 use Rattle.std.proofs.Common.{ℕ, ◌+◌, ◌*◌, ◌/◌, ◌^◌, ap, ◌∙◌, arith}
 use Rattle.std.proofs.lemmas.Nat.Bits.{and_high_mask}
+use Rattle.arachne_core.specs.declared.layout.TheConstants.{CORE_BITS}
 use Rattle.arachne_core.specs.Marked.{Marked, marked_of}
 use Rattle.arachne_core.proofs.MarkWords.{marking}
 use Rattle.arachne_core.proofs.mark_word.MarkWord.with_mark.Goals as goal
@@ -7,5 +8,5 @@ use Rattle.arachne_core.proofs.mark_word.MarkWord.with_mark.Goals as goal
 pub returns : goal.returns
 returns c =
     let w = c.self.inside.word in
-    ap (λ (n : ℕ). marked_of 4 (n + c.code.result)) (and_high_mask 64 3 (omega arith) w (omega arith))
-    ∙ ap (λ (n : ℕ). marked_of 4 (w / 2 ^ 3 * 2 ^ 3 + n)) c.code.ensures ∙ marking 4 w c.args.mark ∙ ap (λ (m : Marked). record m { mark = c.args.mark }) c.self.view_is
+    ap (λ (n : ℕ). marked_of CORE_BITS (n + c.code.result)) (and_high_mask 64 3 (omega arith) w (omega arith))
+    ∙ ap (λ (n : ℕ). marked_of CORE_BITS (w / 2 ^ 3 * 2 ^ 3 + n)) c.code.ensures ∙ marking CORE_BITS w c.args.mark ∙ ap (λ (m : Marked). record m { mark = c.args.mark }) c.self.view_is

@@ -2,4 +2,4 @@ use Rattle.arachne_sleep.specs.SleepLocks.{AreSeatsOf}
 use Rattle.arachne_tests.proofs.sleep.several.first_wrong.Given as goal
 
 abbrev pub invariant-loop-k : goal.invariant-loop-k
-invariant-loop-k g l = AreSeatsOf l.locks l.seats
+invariant-loop-k l = AreSeatsOf l.locks l.seats

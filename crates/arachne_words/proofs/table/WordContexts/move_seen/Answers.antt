@@ -65,7 +65,7 @@ returns-clause-answer g c =
     seen-answer c.args.self.now c.args.moving c.args.seen c.args.to c.args.seat.now.known c.move_to.new.seat.known c.move_to.result word c.in-Some.index won.0 won.1 c.try_claim.new.seat.known
     (record {
       is_open = ap (λ (o : Occupancy). o.closed) read ∙ sym c.is_closed.ensures ∙ c.if-is_closed.false;
-      lowest = subst (λ (o : Occupancy). IsLowestFree c.args.self.now.shape.slots o c.in-Some.index) (sym read) c.in-Some.ensures.some;
+      lowest = subst (λ (o : Occupancy). IsLowestFree c.args.self.now.shape.places_per_core o c.in-Some.index) (sym read) c.in-Some.ensures.some;
       inside = won.2;
       fresh = fresh;
       steps = ap (λ v. v.known) whole;

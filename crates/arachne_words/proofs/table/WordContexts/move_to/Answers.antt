@@ -136,7 +136,7 @@ returns-in-Err-clause-answer g c y gen y_in given =
 
 pub with_place-requires : goal.with_place-requires
 with_place-requires g c = record {
-  index = omega (arith, c.requires.places.1.1, ap (λ v. v.shape.slots) c.self.view_is, c.self.invariant.slots_fit);
+  index = omega (arith, c.requires.places.1.1, ap (λ v. v.shape.places_per_core) c.self.view_is, c.self.invariant.places_fit);
   core = omega (arith, c.requires.places.1.0, ap (λ v. v.shape.cores) c.self.view_is, c.self.invariant.cores_fit);
 }
 

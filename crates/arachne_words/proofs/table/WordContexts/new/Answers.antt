@@ -5,7 +5,7 @@ use Rattle.std.proofs.Common.{get_or}
 use Rattle.atomic_table.specs.Table.{opening}
 use Rattle.arachne_weights.specs.Tokens.{held}
 use Rattle.arachne_weights.specs.Weight.{whole}
-use Rattle.arachne_core.specs.declared.layout.TheConstants.{SLOTS, LAST_GENERATION}
+use Rattle.arachne_core.specs.declared.layout.TheConstants.{LAST_GENERATION}
 use Rattle.arachne_rule.specs.declared.view.Shape.{Shape}
 use Rattle.arachne_rule.specs.Layout.{IsShape}
 use Rattle.arachne_rule.specs.Table.{Holds}
@@ -16,17 +16,17 @@ use Rattle.arachne_words.proofs.table.WordContexts.new.Goals as goal
 
 pub vacant-made-requires : goal.vacant-made-requires
 vacant-made-requires g c =
-    let shape : Shape = record { cores = c.args.cores; slots = SLOTS; first = c.args.first_generation; last = LAST_GENERATION } in
+    let shape : Shape = record { cores = c.args.cores; places_per_core = c.args.slots; first = c.args.first_generation; last = LAST_GENERATION } in
     let made = c.in_ok-words.ensures in
     let is : IsShape CORE_BITS shape = record {
       cores = omega (arith, c.requires.cores);
-      some = omega arith;
-      slots = omega arith;
+      some = omega (arith, c.requires.some_slots);
+      slots = omega (arith, c.requires.slots);
       last = omega arith;
       first = omega (arith, c.requires.generation);
     } in
-    let words = are-first c.args.cores c.args.first_generation LAST_GENERATION c.as_slice.result.now (c.as_slice.ensures.len ∙ made.length)
+    let words = are-first c.args.cores c.args.slots c.args.first_generation LAST_GENERATION c.as_slice.result.now c.requires.slots (c.as_slice.ensures.len ∙ made.length)
     (λ i h. ap (λ xs. get_or xs i 0) c.as_slice.ensures.value ∙ made.words i h) in
-    let count : c.args.cores * SLOTS ≡ c.from.result * c.from-2.result = λ i. sym c.from.ensures i * sym c.from-2.ensures i in
+    let count : c.args.cores * c.args.slots ≡ c.from.result * c.from-2.result = λ i. sym c.from.ensures i * sym c.from-2.ensures i in
     subst (λ (n : ℕ). Holds g.T.Tagged.tag_of CORE_BITS shape (opening c.as_slice.result.now (replicate n None) (held whole blank))) count
     (opens g.T.Tagged.tag_of CORE_BITS shape c.as_slice.result.now is words)

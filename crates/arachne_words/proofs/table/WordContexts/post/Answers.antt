@@ -47,7 +47,7 @@ new-ready-requires g c =
     let x : ℕ = has.context in
     let a = claimed_by claim has.context has.generation in
     let home = at-home c.args.self.now claim has.context has.generation has.inside c.seat.inside.at.known has.carried in
-    (omega (arith, has.placed.1, ap (λ v. v.shape.slots) c.self.view_is, c.self.invariant.slots_fit), omega (arith, has.placed.0, ap (λ v. v.shape.cores) c.self.view_is, c.self.invariant.cores_fit), omega (arith, c.generation-generation.ensures.within))
+    (omega (arith, has.placed.1, ap (λ v. v.shape.places_per_core) c.self.view_is, c.self.invariant.places_fit), omega (arith, has.placed.0, ap (λ v. v.shape.cores) c.self.view_is, c.self.invariant.cores_fit), omega (arith, c.generation-generation.ensures.within))
 
 pub store_posted-requires-clause-postable : goal.store_posted-requires-clause-postable
 store_posted-requires-clause-postable g c =

@@ -16,8 +16,8 @@ claim_of p b = record { place = p; alone = b }
 
 pub claim_sum-less-requires : goal.claim_sum-less-requires
 claim_sum-less-requires g c =
-    let index_in = subst (λ (v : Contexts). c.args.place.index < v.shape.slots) (sym c.self.view_is) c.requires.claim.placed.1 in
-    omega (arith, index_in, c.self.invariant.slots_fit)
+    let index_in = subst (λ (v : Contexts). c.args.place.index < v.shape.places_per_core) (sym c.self.view_is) c.requires.claim.placed.1 in
+    omega (arith, index_in, c.self.invariant.places_fit)
 
 pub fetch_sub-requires : goal.fetch_sub-requires
 fetch_sub-requires g c =

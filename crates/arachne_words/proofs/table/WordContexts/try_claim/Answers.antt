@@ -15,11 +15,11 @@ use Rattle.arachne_words.proofs.table.WordContexts.try_claim.Goals as goal
 pub compare_exchange-found-requires : goal.compare_exchange-found-requires
 compare_exchange-found-requires g c =
     let core_in = subst (λ (v : Contexts). c.args.place.core < v.shape.cores) (sym c.self.view_is) c.requires.core in
-    let index_in = subst (λ (v : Contexts). c.args.place.index < v.shape.slots) (sym c.self.view_is) c.requires.index.inside in
+    let index_in = subst (λ (v : Contexts). c.args.place.index < v.shape.places_per_core) (sym c.self.view_is) c.requires.index.inside in
     let there = c.core_word-word.ensures ∙ ap (λ (v : Contexts). occ_index v.table.slots c.args.place.core) (sym c.self.view_is) in
     let read = c.word-old.ensures.read.1 in
     let sum = with-bit c.word-old.result c.word-new.result c.args.place.index c.args.seen c.with_bit.result c.word-old.ensures.packed read c.with_bit.ensures c.word-new.ensures.packed
-    (omega (arith, index_in, c.self.invariant.slots_fit)) c.requires.index.free in (
+    (omega (arith, index_in, c.self.invariant.places_fit)) c.requires.index.free in (
       ap (λ v. v.table) c.seat.view_is ∙ c.requires.own ∙ sym (ap (λ v. v.table) c.self.view_is),
       core-in _ _ _ c.self.invariant _ _ core_in there,
       claim-allowed g.T.Tagged.tag_of CORE_BITS c.self.inside.table.shared.key c.self.inside.table.shared.table_id.slots c.seat.inside.seat.id c.seat.inside.seat.me c.args.place _ _ _
@@ -33,14 +33,14 @@ pub invariant_of-seat : goal.invariant_of-seat
 invariant_of-seat g c =
     let there = c.core_word-word.ensures ∙ ap (λ (v : Contexts). occ_index v.table.slots c.args.place.core) (sym c.self.view_is) in
     let sum = with-bit c.word-old.result c.word-new.result c.args.place.index c.args.seen c.with_bit.result c.word-old.ensures.packed c.word-old.ensures.read.1 c.with_bit.ensures c.word-new.ensures.packed
-    (let index_in = subst (λ (v : Contexts). c.args.place.index < v.shape.slots) (sym c.self.view_is) c.requires.index.inside in omega (arith, index_in, c.self.invariant.slots_fit)) c.requires.index.free in
+    (let index_in = subst (λ (v : Contexts). c.args.place.index < v.shape.places_per_core) (sym c.self.view_is) c.requires.index.inside in omega (arith, index_in, c.self.invariant.places_fit)) c.requires.index.free in
     live-told _ _ _ _ ((c.compare_exchange-found.ensures.2 c.args.place there sum).1 c.if-found-old.true)
 
 pub returns-then-found-old-clause-lost : goal.returns-then-found-old-clause-lost
 returns-then-found-old-clause-lost g c =
     let there = c.core_word-word.ensures ∙ ap (λ (v : Contexts). occ_index v.table.slots c.args.place.core) (sym c.self.view_is) in
     let sum = with-bit c.word-old.result c.word-new.result c.args.place.index c.args.seen c.with_bit.result c.word-old.ensures.packed c.word-old.ensures.read.1 c.with_bit.ensures c.word-new.ensures.packed
-    (let index_in = subst (λ (v : Contexts). c.args.place.index < v.shape.slots) (sym c.self.view_is) c.requires.index.inside in omega (arith, index_in, c.self.invariant.slots_fit)) c.requires.index.free in
+    (let index_in = subst (λ (v : Contexts). c.args.place.index < v.shape.places_per_core) (sym c.self.view_is) c.requires.index.inside in omega (arith, index_in, c.self.invariant.places_fit)) c.requires.index.free in
     let told = (c.compare_exchange-found.ensures.2 c.args.place there sum).1 c.if-found-old.true in (
       (λ e. c.if-found-old.true (e ∙ sym c.word-old.ensures.packed)),
       view-told c.seat.inside.seat.table_id c.compare_exchange-found.new.seat.table_id c.seat.inside.seat.me c.compare_exchange-found.new.seat.me c.args.seat.now
@@ -52,14 +52,14 @@ pub invariant_of-seat-2 : goal.invariant_of-seat-2
 invariant_of-seat-2 g c =
     let there = c.core_word-word.ensures ∙ ap (λ (v : Contexts). occ_index v.table.slots c.args.place.core) (sym c.self.view_is) in
     let sum = with-bit c.word-old.result c.word-new.result c.args.place.index c.args.seen c.with_bit.result c.word-old.ensures.packed c.word-old.ensures.read.1 c.with_bit.ensures c.word-new.ensures.packed
-    (let index_in = subst (λ (v : Contexts). c.args.place.index < v.shape.slots) (sym c.self.view_is) c.requires.index.inside in omega (arith, index_in, c.self.invariant.slots_fit)) c.requires.index.free in
+    (let index_in = subst (λ (v : Contexts). c.args.place.index < v.shape.places_per_core) (sym c.self.view_is) c.requires.index.inside in omega (arith, index_in, c.self.invariant.places_fit)) c.requires.index.free in
     live-told _ _ _ _ ((c.compare_exchange-found.ensures.2 c.args.place there sum).0 c.if-found-old.false).4
 
 pub returns-clause-won : goal.returns-clause-won
 returns-clause-won g c =
     let there = c.core_word-word.ensures ∙ ap (λ (v : Contexts). occ_index v.table.slots c.args.place.core) (sym c.self.view_is) in
     let sum = with-bit c.word-old.result c.word-new.result c.args.place.index c.args.seen c.with_bit.result c.word-old.ensures.packed c.word-old.ensures.read.1 c.with_bit.ensures c.word-new.ensures.packed
-    (let index_in = subst (λ (v : Contexts). c.args.place.index < v.shape.slots) (sym c.self.view_is) c.requires.index.inside in omega (arith, index_in, c.self.invariant.slots_fit)) c.requires.index.free in
+    (let index_in = subst (λ (v : Contexts). c.args.place.index < v.shape.places_per_core) (sym c.self.view_is) c.requires.index.inside in omega (arith, index_in, c.self.invariant.places_fit)) c.requires.index.free in
     let told = (c.compare_exchange-found.ensures.2 c.args.place there sum).0 c.if-found-old.false in
     let old = c.if-found-old.false ∙ c.word-old.ensures.packed in
     let new = sum ∙ ap (λ (n : ℕ). n + index_sum c.args.place.index) c.word-old.ensures.packed in

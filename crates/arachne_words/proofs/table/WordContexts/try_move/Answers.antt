@@ -15,7 +15,7 @@ use Rattle.arachne_words.proofs.table.WordContexts.try_move.Goals as goal
 
 pub with_place-requires : goal.with_place-requires
 with_place-requires g c = record {
-  index = omega (arith, c.requires.place.1, ap (λ v. v.shape.slots) c.self.view_is, c.self.invariant.slots_fit);
+  index = omega (arith, c.requires.place.1, ap (λ v. v.shape.places_per_core) c.self.view_is, c.self.invariant.places_fit);
   core = omega (arith, c.requires.place.0, ap (λ v. v.shape.cores) c.self.view_is, c.self.invariant.cores_fit);
 }
 

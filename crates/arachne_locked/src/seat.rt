@@ -1,0 +1,44 @@
+//! Who steps at a locked table.
+ghost use Rattle.std.specs.Prelude.{◌≡◌};
+ghost use Rattle.arachne_locked.specs.Seats.{one_more, one_fewer};
+
+use arachne_weights::Weight;
+use std::marker::Model;
+
+/// Who steps at a locked table. The state behind the lock knows it by its carrier.
+///
+/// Contracts see its carrier, its weight, and how many claims and threads it has out. The count stays at 2^32 - 1.
+#[derive(Debug, Drop)]
+pub struct LockedSeat {
+    pub(crate) carrier: u32,
+    pub(crate) weight: Weight,
+    pub(crate) out: u32,
+}
+
+impl Model for LockedSeat {
+    ghost use Rattle.arachne_locked.specs.Seats.{SeatView};
+
+    ghost Value = { SeatView };
+
+    ghost view = { λ s. record { carrier = s.carrier; weight = s.weight; out = s.out } };
+}
+
+impl LockedSeat {
+    /// The seat has a claim or a thread more.
+    pub(crate) fn gain(&mut self)
+        ensures { self.new ≡ record self.old { out = one_more self.old.out } }
+    {
+        if self.out < u32::MAX {
+            self.out += 1;
+        }
+    }
+
+    /// The seat has spent a claim or a thread.
+    pub(crate) fn spend(&mut self)
+        ensures { self.new ≡ record self.old { out = one_fewer self.old.out } }
+    {
+        if self.out < u32::MAX {
+            self.out = self.out.saturating_sub(1);
+        }
+    }
+}

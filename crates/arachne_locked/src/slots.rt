@@ -1,0 +1,41 @@
+//! How many places each core of a table has.
+ghost use Rattle.std.specs.Prelude.{◌≡◌, ◌≤◌};
+
+use arachne_core::SLOTS;
+use std::marker::Model;
+
+/// How many places each core of a table has, as whoever has the table knows it outside the lock. A contract sees it as a
+/// number.
+#[derive(Clone, Copy, Debug)]
+pub struct Slots {
+    count: u8,
+}
+
+impl Model for Slots {
+    ghost use Rattle.std.specs.Prelude.{ℕ, ◌≤◌};
+    ghost use Rattle.arachne_core.specs.declared.layout.TheConstants.{SLOTS};
+
+    ghost Value = { ℕ };
+
+    ghost view = { λ s. s.count };
+
+    ghost invariant = { λ s. s.count ≤ SLOTS };
+
+    ghost inverse = { λ n. record { count = n } };
+}
+
+impl Slots {
+    pub fn new(count: u8) -> Self
+        requires { count ≤ SLOTS }
+        ensures { result ≡ count }
+    {
+        Slots { count }
+    }
+
+    pub fn count(self) -> u8
+        ensures value { result ≡ self }
+        ensures few { result ≤ SLOTS }
+    {
+        self.count
+    }
+}

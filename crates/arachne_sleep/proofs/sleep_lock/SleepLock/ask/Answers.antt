@@ -1,0 +1,35 @@
+use Rattle.std.proofs.Common.{ap, ◌∙◌, refl}
+use Rattle.arachne_sleep.specs.Calls.{pass_asked}
+use Rattle.arachne_sleep.proofs.Visiting.{ask-goes-on, returnable, idle-again, called, seat-kept}
+use Rattle.arachne_sleep.proofs.sleep_lock.SleepLock.ask.Goals as goal
+
+pub give_back-requires-clause-guarded : goal.give_back-requires-clause-guarded
+give_back-requires-clause-guarded c =
+    let me = c.seat.inside.seat.me in
+    let a = c.ask_guarded-answer.ensures.asked in
+    let goes = ask-goes-on a.0.state a.1.state c.args.who c.ask_guarded-answer.result a.3 a.5 in
+    (a.1, a.0.state.history, returnable me.0.weight me.0.known.log c.take.new.seat.me c.ask_guarded-answer.new.seat.me a.0 a.1 (pass_asked c.ask_guarded-answer.result) c.if-not-take.ensures.told a.2 goes a.4)
+
+pub invariant_of-seat-2 : goal.invariant_of-seat-2
+invariant_of-seat-2 c =
+    let me = c.seat.inside.seat.me in
+    let a = c.ask_guarded-answer.ensures.asked in
+    let goes = ask-goes-on a.0.state a.1.state c.args.who c.ask_guarded-answer.result a.3 a.5 in
+    idle-again me.0.weight me.0.known.log c.take.new.seat.me c.ask_guarded-answer.new.seat.me a.0 a.1 (pass_asked c.ask_guarded-answer.result) c.if-not-take.ensures.told a.2 goes a.4
+    c.give_back.new.seat.me c.give_back.ensures.told c.seat.inside.weight (ap (λ m. m.0.weight) c.seat.invariant)
+
+pub returns-clause-answer : goal.returns-clause-answer
+returns-clause-answer c =
+    let me = c.seat.inside.seat.me in
+    let a = c.ask_guarded-answer.ensures.asked in
+    let goes = ask-goes-on a.0.state a.1.state c.args.who c.ask_guarded-answer.result a.3 a.5 in (
+      a.0.state,
+      a.1.state,
+      called me.0.weight me.0.known.log c.take.new.seat.me c.ask_guarded-answer.new.seat.me a.0 a.1 (pass_asked c.ask_guarded-answer.result) c.if-not-take.ensures.told a.2 goes a.4
+          c.give_back.new.seat.me c.give_back.ensures.told c.args.self.now.number c.seat.inside.weight c.seat.inside.seat.table_id c.give_back.new.seat.table_id c.args.seat.now c.seat.view_is
+          (c.give_back.ensures.own ∙ c.ask_guarded-answer.ensures.own ∙ c.take.ensures.own) c.requires.number,
+      a.3,
+    )
+
+pub returns-clause-seat : goal.returns-clause-seat
+returns-clause-seat c = seat-kept c.args.self.now c.args.seat.now _ _ (returns-clause-answer c).2.told refl c.requires

@@ -1,0 +1,41 @@
+-- Histories that go on, and events with their places.
+use Rattle.std.specs.Prelude.{◌≡◌, ℕ, ◌+◌, List, [], ◌∷◌, ◌++◌, length, drop, slice_get, count_by, ◌==◌, nat_lt, if◌then◌else◌}
+use Rattle.std.specs.declared.option.Option.TheVariants.{Some}
+use Rattle.arachne_sleep.specs.declared.event.LockEvent.{LockEvent}
+use Rattle.arachne_sleep.specs.declared.event.LockEvent.TheVariants.{Grant}
+use Rattle.arachne_sleep.specs.declared.answer.Pass.{Pass}
+use Rattle.arachne_sleep.specs.declared.view.PlacedEvent.{PlacedEvent}
+
+-- the history begins with this one
+abbrev pub BeginsWith : List LockEvent → List LockEvent → Type 0
+BeginsWith history seen = (rest : List LockEvent) × (history ≡ seen ++ rest)
+
+-- these events, from this place on
+abbrev pub placed : ℕ → List LockEvent → List PlacedEvent
+placed at [] = []
+placed at (event ∷ events) = record { at = at; event = event } ∷ placed (at + 1) events
+
+-- the events by which one history is longer than another that it begins with
+abbrev pub since : List LockEvent → List LockEvent → List PlacedEvent
+since before after = placed (length before) (drop (length before) after)
+
+-- the event stands in the history at its place
+abbrev pub StandsIn : List LockEvent → PlacedEvent → Type 0
+StandsIn history m = slice_get history m.at ≡ Some m.event
+
+-- how many of these events are at the place
+abbrev pub times_at : ℕ → List PlacedEvent → ℕ
+times_at k made = count_by (λ (m : PlacedEvent). m.at == k) made
+
+-- 1 below n, and else 0
+abbrev pub once_below : ℕ → ℕ → ℕ
+once_below k n = if nat_lt k n then 1 else 0
+
+-- these are the events of the history and no others, each at its place, and each once
+pub record IsMadeOf (history : List LockEvent) (made : List PlacedEvent) : Type 0 where
+  pub stands : (i : ℕ) (m : PlacedEvent) → slice_get made i ≡ Some m → StandsIn history m
+  pub once : (k : ℕ) → times_at k made ≡ once_below k (length history)
+
+-- the pass is of the lock with this number, and names a grant of its thread at its place
+abbrev pub IsGrantedIn : ℕ → List LockEvent → Pass → Type 0
+IsGrantedIn number history pass = (pass.lock ≡ number) × (slice_get history pass.at ≡ Some (Grant pass.who))

@@ -1,0 +1,70 @@
+-- What each kind of step tells the seat that makes it.
+use Rattle.std.specs.Prelude.{◌≡◌, ◌≢◌, ℕ, All, [], ◌∷◌, List, Option, IfSome}
+use Rattle.atomic_table.specs.Table.{Me}
+use Rattle.arachne_sleep.specs.declared.event.LockEvent.{LockEvent}
+use Rattle.arachne_sleep.specs.declared.answer.Pass.{Pass}
+use Rattle.arachne_sleep.specs.History.{IsSound}
+use Rattle.arachne_sleep.specs.Lock.{Lock}
+use Rattle.arachne_weights.specs.declared.token.Token.{Token}
+use Rattle.arachne_weights.specs.Tokens.{held}
+use Rattle.arachne_sleep.specs.Views.{Guarded}
+use Rattle.arachne_sleep.specs.declared.view.Known.{Known}
+use Rattle.arachne_sleep.specs.declared.view.SeatLog.{SeatLog}
+use Rattle.arachne_sleep.specs.Histories.{BeginsWith, IsGrantedIn}
+use Rattle.arachne_sleep.specs.Logs.{contended_log, taken_log, given_back_log}
+use Rattle.arachne_sleep.specs.Rule.{idle_known, taken_known}
+
+-- a seat's view, and the slots that it has
+abbrev pub Mine : Type 0
+Mine = Me Guarded (Token Known)
+
+-- a seat between calls
+abbrev pub idle : ℕ → SeatLog → Mine
+idle weight log = (held weight (idle_known log), [])
+
+-- a seat that has the guard, and the slot with this in it
+abbrev pub with_guard : ℕ → SeatLog → Guarded → Mine
+with_guard weight log guarded = (held weight (taken_known log), (0, guarded) ∷ [])
+
+-- the lock's state as it came to a seat with this log
+pub record Extends (log : SeatLog) (guarded : Guarded) : Type 0 where
+  pub numbered : guarded.state.number ≡ log.number
+  pub sound : IsSound guarded.state.history
+  pub begins : All (BeginsWith guarded.state.history) log.seen
+
+-- Where the guard was at home the state came to the seat, with a history that begins with each one seen. Else the guard
+-- was seen taken.
+abbrev pub Takes : Mine → ℕ → Mine → Type 0
+Takes before found after =
+    (found ≡ 0 → (guarded : Guarded) × (after ≡ with_guard before.0.weight (taken_log before.0.known.log guarded.state.history) guarded) × Extends before.0.known.log guarded)
+    × (found ≢ 0 → after ≡ idle before.0.weight (contended_log before.0.known.log))
+
+-- the state goes home as it is in the seat's slot
+abbrev pub GivesBack : Mine → Mine → Type 0
+GivesBack before after = (guarded : Guarded) → before.1 ≡ (0, guarded) ∷ [] → after ≡ idle before.0.weight (given_back_log before.0.known.log guarded.state.history guarded.last_pass)
+
+-- the guard was at home, and the seat has it with the state
+abbrev pub HasTaken : ℕ → SeatLog → Mine → Type 0
+HasTaken weight log me = (guarded : Guarded) × (me ≡ with_guard weight (taken_log log guarded.state.history) guarded) × Extends log guarded
+
+-- the slot that is out with the seat was changed, and nothing else
+pub record Visits (before after : Mine) (old new : Guarded) : Type 0 where
+  pub was : before.1 ≡ (0, old) ∷ []
+  pub view : after.0 ≡ before.0
+  pub is : after.1 ≡ (0, new) ∷ []
+
+-- the state goes on from another, and the pass that was got of it is of a grant that stands there
+pub record GoesOn (old new : Lock) (pass : Option Pass) : Type 0 where
+  pub numbered : new.number ≡ old.number
+  pub begins : BeginsWith new.history old.history
+  pub sound : IsSound new.history
+  pub granted : IfSome pass (IsGrantedIn old.number new.history)
+
+-- the state may go home
+pub record IsReturnable (me : Mine) (guarded : Guarded) (before : List LockEvent) : Type 0 where
+  pub mine : me ≡ with_guard me.0.weight me.0.known.log guarded
+  pub seen : me.0.known.log.seen ≡ before ∷ []
+  pub numbered : guarded.state.number ≡ me.0.known.log.number
+  pub begins : BeginsWith guarded.state.history before
+  pub sound : IsSound guarded.state.history
+  pub granted : IfSome guarded.last_pass (IsGrantedIn me.0.known.log.number guarded.state.history)

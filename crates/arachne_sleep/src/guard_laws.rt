@@ -1,0 +1,62 @@
+//! The laws of the steps on a guard word, one for each kind: functions with an empty body, whose contract is the law.
+//!
+//! A law says that its step keeps the rule of the lock's table, whatever the table is when the step is made, and what
+//! the step tells its seat.
+ghost use Rattle.std.specs.Prelude.{◌≡◌, ℕ, ◌==◌, List, [], ◌∷◌, slice_get, Some};
+ghost use mathlib.Core.Option.{some};
+ghost use lib.ListN.{get_elem?};
+ghost use prog.Atomic.{either};
+ghost use Rattle.atomic_table.specs.Table.{opening, Allows, Splits, Joins};
+ghost use Rattle.arachne_weights.specs.Tokens.{held};
+ghost use Rattle.arachne_sleep.specs.declared.event.LockEvent.{LockEvent};
+ghost use Rattle.arachne_sleep.specs.declared.view.Known.{Known};
+ghost use Rattle.arachne_sleep.specs.declared.view.Record.{Record};
+ghost use Rattle.arachne_sleep.specs.declared.view.SeatLog.{SeatLog};
+ghost use Rattle.arachne_sleep.specs.Views.{Guarded};
+ghost use Rattle.arachne_sleep.specs.Words.{guard_word, first_words};
+ghost use Rattle.arachne_sleep.specs.Trace.{Entry, Tells, records_of, IsStepOf};
+ghost use Rattle.arachne_sleep.specs.Rule.{Board, IsKept, idle_known, first_view, first_seat, second_seat, joined_seat, spent_seat};
+ghost use Rattle.arachne_sleep.specs.Steps.{Mine, idle, Takes, GivesBack, IsReturnable};
+
+/// The table of a new lock keeps the rule.
+pub fn the_rule_holds_at_first()
+    ensures { (number : ℕ) (guarded : Guarded) → guarded.state ≡ record { number = number; history = [] }
+        → IsKept number (opening first_words (guarded ∷ []) (first_view number)) }
+{}
+
+/// An exchange of the guard word from 0 to 1. Where it is won the state comes to the seat, with a history that begins
+/// with each one that the seat had seen; where it is lost the guard was seen taken.
+pub fn a_try_keeps_the_rule()
+    ensures { (number slots id weight : ℕ) (log : SeatLog)
+        → Allows (IsKept number) slots id (idle weight log) guard_word (λ n. either (n == 0) 1 n) (Takes (idle weight log)) }
+{}
+
+/// A store of 0 to the guard word: the state goes home, with a history that goes on from the one that came.
+pub fn giving_back_keeps_the_rule()
+    ensures { (number slots id : ℕ) (me : Mine) (guarded : Guarded) (before : List LockEvent) → slots ≡ 1 → IsReturnable me guarded before
+        → Allows (IsKept number) slots id me guard_word (λ _. 0) (λ _ after. GivesBack me after) }
+{}
+
+/// A seat is split: the new one has seen what the other has, and has done nothing.
+pub fn a_split_keeps_the_rule()
+    ensures { (number id weight : ℕ) (log : SeatLog)
+        → Splits (IsKept number) id (held weight (idle_known log)) (first_seat (held weight (idle_known log))) (second_seat (held weight (idle_known log))) }
+{}
+
+/// A seat takes in another with all that it has done and seen.
+pub fn a_join_keeps_the_rule()
+    ensures { (number id weight : ℕ) (log : SeatLog) (other added : ℕ) (theirs : SeatLog)
+        → Joins (IsKept number) id (held weight (idle_known log)) other (held added (idle_known theirs))
+        (joined_seat (held weight (idle_known log)) (held added (idle_known theirs))) spent_seat }
+{}
+
+/// What a seat in use has noted are exactly its own steps. Each of them stands in the one trace of all steps, where it
+/// found what stood in the guard word then.
+pub fn a_record_is_a_step()
+    ensures all { (number : ℕ) (board : Board) → (rule : IsKept number board) → (place weight : ℕ) (known : Known)
+        → get_elem? board.views place ≡ some (held weight known) → known.log.records ≡ records_of place rule.trace }
+    ensures each { (number : ℕ) (board : Board) → (rule : IsKept number board) → (place weight : ℕ) (known : Known)
+        → get_elem? board.views place ≡ some (held weight known)
+        → (at : ℕ) (step : Record) → slice_get known.log.records at ≡ Some step → IsStepOf rule.trace place step }
+    ensures replays { (number : ℕ) (board : Board) → (rule : IsKept number board) → Tells rule.trace board.words board.views }
+{}

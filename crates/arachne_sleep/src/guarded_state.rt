@@ -1,0 +1,95 @@
+//! What lies in a lock's slot.
+ghost use Rattle.std.specs.Prelude.{◌≡◌, [], None};
+ghost use Rattle.arachne_sleep.specs.History.{IsSound};
+ghost use Rattle.arachne_sleep.specs.Calls.{IsAsked, IsFreed, IsChecked, pass_asked};
+
+use crate::answer::{AskFault, Asked, Freed, NotHolder, Pass};
+use crate::event::LockEvent;
+use crate::lock_state::LockState;
+use crate::who::Who;
+use crossbeam_utils::CachePadded;
+use std::alloc::Global;
+use std::marker::Model;
+use std::snapshot::Snapshot;
+
+/// A lock's state, on cache lines of its own, and the pass that the last call got of it.
+///
+/// The pass is for proofs alone and has no bytes: the step that gives the guard back finds it here.
+#[derive(Drop)]
+pub struct GuardedState {
+    state: CachePadded<LockState>,
+    last_pass: Snapshot<Option<Pass>>,
+}
+
+impl Model for GuardedState {
+    ghost use Rattle.crossbeam_utils.specs.Padded.{padded_value};
+    ghost use Rattle.arachne_sleep.specs.Views.{Guarded};
+
+    ghost Value = { Guarded };
+
+    ghost view = { λ g. record { state = padded_value g.state; last_pass = g.last_pass.value } };
+}
+
+fn pass_of(answer: Result<Asked, AskFault>) -> Option<Pass>
+    ensures { result ≡ pass_asked answer }
+{
+    match answer {
+        Ok(Asked::Granted(pass)) => Some(pass),
+        Ok(Asked::Queued { at: _ }) => None,
+        Err(_) => None,
+    }
+}
+
+impl GuardedState {
+    /// That of a lock that nobody has asked for yet.
+    pub(crate) fn new(alloc: Global, number: u8) -> Self
+        ensures state { result.state ≡ record { number = number; history = [] } }
+    {
+        GuardedState {
+            state: CachePadded::new(LockState::new(alloc, number)),
+            last_pass: Snapshot::of(&None),
+        }
+    }
+
+    pub(crate) fn ask(&mut self, who: Who) -> Result<Asked, AskFault>
+        ensures asked { IsAsked self.old.state self.new.state who result }
+        ensures pass { self.new.last_pass ≡ pass_asked result }
+        ensures sound { IsSound self.new.state.history }
+    {
+        let answer = self.state.ask(who);
+        self.last_pass = Snapshot::of(&pass_of(answer));
+        answer
+    }
+
+    pub(crate) fn free(&mut self, who: Who) -> Result<Freed, NotHolder>
+        ensures freed { IsFreed self.old.state self.new.state who result }
+        ensures pass { self.new.last_pass ≡ None }
+        ensures sound { IsSound self.new.state.history }
+    {
+        let answer = self.state.free(who);
+        self.last_pass = Snapshot::of(&None);
+        answer
+    }
+
+    pub(crate) fn check(&mut self, who: Who) -> Option<Pass>
+        ensures checked { IsChecked self.old.state self.new.state who result }
+        ensures pass { self.new.last_pass ≡ result }
+        ensures sound { IsSound self.new.state.history }
+    {
+        let _ = self.state.history();
+        let answer = self.state.check(who);
+        self.last_pass = Snapshot::of(&answer);
+        answer
+    }
+
+    pub(crate) fn into_history(self) -> Vec<LockEvent>
+        ensures events { result.items ≡ self.state.history }
+        ensures sound { IsSound self.state.history }
+    {
+        let GuardedState {
+            state,
+            last_pass: _,
+        } = self;
+        state.into_inner().into_history()
+    }
+}

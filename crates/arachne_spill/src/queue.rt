@@ -1,0 +1,141 @@
+//! The queue, and the calls on it.
+ghost use Rattle.std.specs.Prelude.{◌≡◌, ◌↔◌, ◌++◌, [], ◌∷◌, IfOk, IfErr, OnOk, OnErr, IfSome, IfNone, IsTrue};
+ghost use Rattle.arachne_weights.specs.Weight.{whole, first_part, second_part, joined};
+ghost use Rattle.arachne_spill.specs.Views.{IsPassOf, IsWhole, IsAheadBy, WasSeen, AllCameOut, capacity};
+
+use crate::pass::{SpillPass, View};
+use crate::steps::{Balanced, Deal, Pop, Push};
+use arachne_contexts::Tagged;
+use arachne_weights::Weight;
+use crossbeam_queue::RuledArrayQueue;
+use std::alloc::{AllocError, Global};
+use std::marker::Model;
+use std::sync::Wait;
+
+/// How many items a queue has room for.
+pub const CAPACITY: usize = 256;
+
+/// A queue of at most 256 items, first in first out.
+#[derive(Drop)]
+pub struct SpillQueue<T: Tagged + Drop> {
+    ring: RuledArrayQueue<T, View, Balanced, Global>,
+}
+
+impl<T: Tagged + Drop> Model for SpillQueue<T> {
+    ghost use Rattle.std.specs.Prelude.{◌≡◌};
+    ghost use Rattle.arachne_spill.specs.Views.{QueueView, capacity};
+
+    ghost Value = { QueueView };
+
+    ghost view = { λ q. record { table = q.ring.table.shared.table_id } };
+
+    ghost invariant = { λ q. q.ring.cap ≡ capacity };
+}
+
+impl<T: Tagged + Drop> SpillQueue<T> {
+    /// An empty queue, and the whole pass.
+    pub fn new(alloc: Global) -> Result<(SpillQueue<T>, SpillPass<T>), AllocError>
+        ensures { IfOk result (λ made. made.1 ≡ record { table = made.0.table; weight = whole; pushed = []; popped = [] }) }
+    {
+        let (ring, pass) = RuledArrayQueue::ruled(alloc, CAPACITY)?;
+        let pass = SpillPass {
+            pass,
+            weight: Weight::whole(),
+        };
+        Ok((SpillQueue { ring }, pass))
+    }
+
+    /// Puts an item at the back. It comes back only where the queue was full at one moment of the call.
+    pub fn push<R: Wait>(&self, rt: &R, pass: &mut SpillPass<T>, item: T) -> Result<(), T>
+        requires own { IsPassOf self.now pass.old }
+        ensures pushed { OnOk result (pass.new ≡ record pass.old { pushed = pass.old.pushed ++ T.tag_of item ∷ [] }) }
+        ensures same { OnErr result (pass.new ≡ pass.old) }
+        ensures handed_back { IfErr result (λ back. back ≡ item) }
+        ensures full { OnErr result (WasSeen T.tag_of pass.old capacity) }
+        ensures whole { OnErr result (IsWhole pass.old → IsAheadBy pass.old capacity) }
+    {
+        self.ring.push_as::<Push, R>(rt, &mut pass.pass, item)
+    }
+
+    /// Takes the item at the front. There is none only where the queue was empty at one moment of the call.
+    pub fn pop<R: Wait>(&self, rt: &R, pass: &mut SpillPass<T>) -> Option<T>
+        requires own { IsPassOf self.now pass.old }
+        ensures popped { IfSome result (λ item. pass.new ≡ record pass.old { popped = pass.old.popped ++ T.tag_of item ∷ [] }) }
+        ensures same { IfNone result (pass.new ≡ pass.old) }
+        ensures empty { IfNone result (WasSeen T.tag_of pass.old 0) }
+        ensures all_out { IfNone result (IsWhole pass.old → AllCameOut pass.old) }
+    {
+        self.ring.pop_as::<Pop, R>(rt, &mut pass.pass)
+    }
+
+    /// Whether the queue was full at one moment of the call. It waits for nobody, and changes nothing.
+    pub fn is_full(&self, pass: &mut SpillPass<T>) -> bool
+        requires own { IsPassOf self.now pass.old }
+        ensures same { pass.new ≡ pass.old }
+        ensures full { IsTrue result → WasSeen T.tag_of pass.old capacity }
+        ensures whole { IsTrue result → IsWhole pass.old → IsAheadBy pass.old capacity }
+    {
+        self.ring.is_full_as::<Push>(&mut pass.pass)
+    }
+
+    /// Whether the queue was empty at one moment of the call. It waits for nobody, and changes nothing.
+    pub fn is_empty(&self, pass: &mut SpillPass<T>) -> bool
+        requires own { IsPassOf self.now pass.old }
+        ensures same { pass.new ≡ pass.old }
+        ensures empty { IsTrue result → WasSeen T.tag_of pass.old 0 }
+        ensures all_out { IsTrue result → IsWhole pass.old → AllCameOut pass.old }
+    {
+        self.ring.is_empty_as::<Pop>(&mut pass.pass)
+    }
+
+    /// Halves the weight, rounded up for the first pass, which keeps what is known. At weight 1 or 0 neither gets any.
+    pub fn split<R: Wait>(&self, _rt: &R, pass: SpillPass<T>) -> (SpillPass<T>, SpillPass<T>)
+        requires own { IsPassOf self.now pass }
+        ensures first { result.0 ≡ record pass { weight = first_part pass.weight } }
+        ensures second { result.1 ≡ record { table = pass.table; weight = second_part pass.weight; pushed = []; popped = [] } }
+    {
+        let SpillPass { mut pass, weight } = pass;
+        let (first, second) = weight.split();
+        let other = self.ring.another::<Deal>(&mut pass);
+        (
+            SpillPass {
+                pass,
+                weight: first,
+            },
+            SpillPass {
+                pass: other,
+                weight: second,
+            },
+        )
+    }
+
+    /// Adds up the weights, to at most the whole, and what both know.
+    pub fn join_passes<R: Wait>(
+        &self,
+        _rt: &R,
+        pass: SpillPass<T>,
+        other: SpillPass<T>,
+    ) -> SpillPass<T>
+        requires own { IsPassOf self.now pass }
+        requires other { IsPassOf self.now other }
+        ensures { result ≡ record pass { weight = joined pass.weight other.weight; pushed = pass.pushed ++ other.pushed; popped = pass.popped ++ other.popped } }
+    {
+        let SpillPass { mut pass, weight } = pass;
+        let SpillPass {
+            pass: spent,
+            weight: added,
+        } = other;
+        self.ring.absorb::<Deal>(&mut pass, spent);
+        SpillPass {
+            pass,
+            weight: weight.join(added),
+        }
+    }
+
+    /// Whether all other passes were joined into this one.
+    pub fn is_whole(&self, pass: &SpillPass<T>) -> bool
+        ensures { IsTrue result ↔ IsWhole pass.now }
+    {
+        pass.weight.is_whole()
+    }
+}

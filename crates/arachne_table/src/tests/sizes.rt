@@ -1,0 +1,118 @@
+//! Tables of many sizes, filled to the last place and closed, and a core whose contexts have all had their last thread.
+ghost use Rattle.std.specs.Prelude.{◌≡◌, ◌<◌, ◌≤◌, IfOk, IfSome};
+
+use super::Job;
+use super::rows::close;
+use super::steps::{Size, Step, answered};
+use crate::{Claimed, Contexts, Taken};
+use arachne_core::{CORES, LAST_GENERATION, SLOTS};
+use std::alloc::Global;
+use std::sync::Wait;
+use std::test::Fail;
+
+const CORE_COUNTS: &[u8] = &[1, 2, 3, 5, 8, 15, 16, 17, 63, 64];
+
+/// How many places a core has, and its word when each of them is occupied.
+const SLOT_COUNTS: &[(u8, u64)] = &[
+    (1, 0x0100000000000001),
+    (2, 0x0200000000000003),
+    (3, 0x0300000000000007),
+    (55, 0x377fffffffffffff),
+    (56, 0x38ffffffffffffff),
+];
+
+/// Posts a thread at each place of a core, and is refused one more for its word.
+fn fill_core<C: Contexts<Job>, R: Wait>(
+    rt: &R,
+    table: &C,
+    seat: &mut C::Seat,
+    size: Size,
+    core: u8,
+    full: u64,
+) -> Result<(), Fail>
+    requires seat { C.sits table.now seat.old × C.idle table.now seat.old }
+    requires size { (size.cores ≡ C.core_count table.now) × (size.slots ≡ C.slot_count table.now) }
+    requires core { core < size.cores }
+    ensures { IfOk result (λ _. C.sits table.now seat.new × C.idle table.now seat.new) }
+{
+    answered(rt, table, seat, size, Step::Fill(core)).ok_or("a place is missing")?;
+    match table.claim(rt, seat, core)? {
+        Claimed::Full(word) if word == full => Ok(()),
+        _ => Err("not full".into()),
+    }
+}
+
+/// Fills each core of a table, and closes it. How many threads were left.
+fn fill_table<C: Contexts<Job> + Drop, R: Wait>(
+    rt: &R,
+    alloc: Global,
+    size: Size,
+    full: u64,
+) -> Result<usize, Fail> {
+    let Size { cores, slots } = size;
+    if cores == 0 || cores > CORES || slots == 0 || slots > SLOTS {
+        return Err("no such table".into());
+    }
+    let (table, mut seat) = C::new(alloc, cores, slots, 0)?;
+    for core in 0..cores {
+        fill_core(rt, &table, &mut seat, size, core, full)?;
+    }
+    let left = close(rt, alloc, table, seat).ok_or("not closed")?;
+    Ok(left.len())
+}
+
+/// Fills a table of each size.
+pub(super) fn fill_tables<C: Contexts<Job> + Drop, R: Wait>(
+    rt: &R,
+    alloc: Global,
+) -> Result<(), Fail> {
+    for &cores in CORE_COUNTS {
+        for &(slots, full) in SLOT_COUNTS {
+            let left = fill_table::<C, R>(rt, alloc, Size { cores, slots }, full)?;
+            if left != usize::from(cores) * usize::from(slots) {
+                return Err("not every place had a thread".into());
+            }
+        }
+    }
+    Ok(())
+}
+
+/// Posts a thread on core 0, and ends it at this index.
+fn pass<C: Contexts<Job>, R: Wait>(
+    rt: &R,
+    table: &C,
+    seat: &mut C::Seat,
+    size: Size,
+    index: u8,
+) -> Option<()>
+    requires seat { C.sits table.now seat.old × C.idle table.now seat.old }
+    requires size { (size.cores ≡ C.core_count table.now) × (size.slots ≡ C.slot_count table.now) }
+    requires place { (0 < size.cores) × (index < size.slots) }
+    ensures { IfSome result (λ _. C.sits table.now seat.new × C.idle table.now seat.new) }
+{
+    answered(rt, table, seat, size, Step::Post(0, u64::from(index)))?;
+    let Taken::Run(held) = table.take(rt, seat, 0, index) else {
+        return None;
+    };
+    table.finish(rt, seat, held).ok()?;
+    Some(())
+}
+
+/// On one core whose contexts begin at the last generation, a thread passes through each. Its word then, its word once the core is
+/// closed, and whether it is drained.
+pub(super) fn spend_core<C: Contexts<Job> + Drop, R: Wait>(
+    rt: &R,
+    alloc: Global,
+) -> Result<(u64, u64, bool), Fail> {
+    let (table, mut seat) = C::new(alloc, 1, SLOTS, LAST_GENERATION)?;
+    let size = Size {
+        cores: 1,
+        slots: SLOTS,
+    };
+    for index in 0..SLOTS {
+        pass(rt, &table, &mut seat, size, index).ok_or("not the lowest free place")?;
+    }
+    let open = table.close_core(rt, &mut seat, 0);
+    let closed = table.look(rt, &mut seat, 0);
+    Ok((open, closed, table.is_drained(rt, &mut seat, 0)))
+}

@@ -1,0 +1,179 @@
+//! A queue that is filled, refuses and is emptied, and tickets that pass between two kernel threads.
+ghost use Rattle.std.specs.Prelude.{IfOk};
+ghost use Rattle.arachne_spill.specs.Views.{IsPassOf, IsWhole};
+
+use arachne_contexts::Tagged;
+use arachne_spill::{CAPACITY, SpillPass, SpillQueue};
+use std::alloc::{AllocError, Global};
+use std::sync::Wait;
+use std::test::Fail;
+use std::thread;
+use std::thread::Threads;
+
+const TICKETS: u64 = 10_000;
+
+#[derive(Drop)]
+struct Ticket {
+    tag: u64,
+}
+
+impl Tagged for Ticket {
+    ghost tag_of = { λ ticket. ticket.tag };
+
+    fn tag(&self) -> u64 {
+        self.tag
+    }
+}
+
+type Queue = SpillQueue<Ticket>;
+
+type Pass = SpillPass<Ticket>;
+
+// Under `rt try --test --fail-alloc N` the Nth allocation is refused. A call that answers so is made once more.
+fn make(alloc: Global) -> Result<(Queue, Pass), AllocError>
+    ensures { IfOk result (λ made. IsPassOf made.0 made.1) }
+{
+    match SpillQueue::new(alloc) {
+        Ok(made) => Ok(made),
+        Err(_) => SpillQueue::new(alloc),
+    }
+}
+
+/// Pushes tickets with the tags from 0 on, until one comes back: its tag.
+fn fill<R: Wait>(rt: &R, queue: &Queue, pass: &mut Pass) -> Option<u64>
+    requires { IsPassOf queue.now pass.old }
+    ensures { IsPassOf queue.now pass.new }
+{
+    for tag in 0..1000 {
+        if let Err(ticket) = queue.push(rt, pass, Ticket { tag }) {
+            return Some(ticket.tag);
+        }
+    }
+    None
+}
+
+/// Pops until there is none: how many came, if they came with the tags from 0 on.
+fn drain<R: Wait>(rt: &R, queue: &Queue, pass: &mut Pass) -> Option<u64>
+    requires { IsPassOf queue.now pass.old }
+    ensures { IsPassOf queue.now pass.new }
+{
+    for tag in 0..1000 {
+        match queue.pop(rt, pass) {
+            Some(ticket) if ticket.tag == tag => {}
+            Some(_) => return None,
+            None => return Some(tag),
+        }
+    }
+    None
+}
+
+#[test]
+fn the_257th_ticket_comes_back(rt: HostRuntime) -> Result<(), Fail> {
+    let (queue, mut pass) = make(rt.alloc())?;
+    assert!(rt; queue.is_empty(&mut pass) && !queue.is_full(&mut pass));
+    let refused = fill(&rt, &queue, &mut pass);
+    assert!(rt; refused == Some(256) && CAPACITY == 256);
+    assert!(rt; queue.is_full(&mut pass) && !queue.is_empty(&mut pass));
+    let popped = drain(&rt, &queue, &mut pass);
+    assert!(rt; popped == Some(256) && queue.is_whole(&pass));
+    assert!(rt; queue.is_empty(&mut pass) && !queue.is_full(&mut pass));
+    Ok(())
+}
+
+/// Pushes a ticket, and again while the queue is full.
+fn push_at_last<R: Wait>(rt: &R, queue: &Queue, pass: &mut Pass, ticket: Ticket)
+    requires { IsPassOf queue.now pass.old }
+    ensures { IsPassOf queue.now pass.new }
+{
+    let mut waiting = ticket;
+    for _ in rt.forever() {
+        match queue.push(rt, pass, waiting) {
+            Ok(()) => return,
+            Err(ticket) => waiting = ticket,
+        }
+        thread::yield_now();
+    }
+}
+
+/// The next ticket's tag.
+fn pop_at_last<R: Wait>(rt: &R, queue: &Queue, pass: &mut Pass) -> u64
+    requires { IsPassOf queue.now pass.old }
+    ensures { IsPassOf queue.now pass.new }
+{
+    for _ in rt.forever() {
+        if let Some(ticket) = queue.pop(rt, pass) {
+            return ticket.tag;
+        }
+        thread::yield_now();
+    }
+    unreachable!()
+}
+
+fn send<R: Wait>(rt: &R, queue: &Queue, mut pass: Pass) -> Pass
+    requires { IsPassOf queue.now pass }
+    ensures { IsPassOf queue.now result }
+{
+    for tag in 0..TICKETS {
+        push_at_last(rt, queue, &mut pass, Ticket { tag });
+    }
+    pass
+}
+
+/// How many tickets came in order.
+fn receive<R: Wait>(rt: &R, queue: &Queue, mut pass: Pass) -> (Pass, u64)
+    requires { IsPassOf queue.now pass }
+    ensures { IsPassOf queue.now result.0 }
+{
+    let mut in_order = 0u64;
+    for tag in 0..TICKETS {
+        if pop_at_last(rt, queue, &mut pass) == tag {
+            in_order = in_order.wrapping_add(1);
+        }
+    }
+    (pass, in_order)
+}
+
+fn send_and_receive<R: Threads + Wait + Sync>(rt: &R, queue: &Queue, pass: Pass) -> (Pass, u64)
+    requires { IsPassOf queue.now pass }
+    ensures { IsPassOf queue.now result.0 }
+{
+    let (mine, theirs) = queue.split(rt, pass);
+    let (mine, (theirs, in_order)) = thread::join(
+        rt,
+        move || send(rt, queue, mine),
+        move || receive(rt, queue, theirs),
+    );
+    (queue.join_passes(rt, theirs, mine), in_order)
+}
+
+#[test]
+fn two_threads_pass_10_000_tickets(rt: HostRuntime) -> Result<(), Fail> {
+    let (queue, pass) = make(rt.alloc())?;
+    let (mut pass, in_order) = send_and_receive(&rt, &queue, pass);
+    assert!(rt; in_order == 10_000 && queue.is_whole(&pass));
+    assert!(rt; queue.pop(&rt, &mut pass).is_none());
+    Ok(())
+}
+
+/// Whether neither of two passes is whole, and what one pushes the other pops.
+fn is_apart<R: Wait>(rt: &R, queue: &Queue, pass: Pass) -> (Pass, bool)
+    requires { IsPassOf queue.now pass }
+    ensures { IsPassOf queue.now result.0 }
+{
+    let (mut mine, mut theirs) = queue.split(rt, pass);
+    let taken = queue.push(rt, &mut mine, Ticket { tag: 7 }).is_ok();
+    let tag = queue.pop(rt, &mut theirs).map(|ticket| ticket.tag());
+    let apart = !queue.is_whole(&mine) && !queue.is_whole(&theirs);
+    (
+        queue.join_passes(rt, mine, theirs),
+        apart && taken && tag == Some(7),
+    )
+}
+
+#[test]
+fn each_call_on_two_passes(rt: HostRuntime) -> Result<(), Fail> {
+    let (queue, pass) = make(rt.alloc())?;
+    let (pass, is_apart) = is_apart(&rt, &queue, pass);
+    assert!(rt; is_apart && queue.is_whole(&pass));
+    Ok(())
+}
