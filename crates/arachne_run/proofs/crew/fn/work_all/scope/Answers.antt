@@ -1,8 +1,5 @@
 use Rattle.std.proofs.Common.{rules, ◌≡◌, All, subst}
 use Rattle.std.proofs.lemmas.List.Elements.{All-push, All-tail}
-use denote.Param.Send.{sendable}
-use Rattle.std.proofs.Crossing as std
-use Rattle.arachne_run.proofs.Crossing.{machine_sync, tokens_send}
 use Rattle.arachne_run.proofs.crew.fn.work_all.scope.Goals as goal
 
 pub loop-core-preserved : goal.loop-core-preserved
@@ -19,9 +16,3 @@ loop-other-preserved g c =
     let was = c.loop-other.invariant in
     let step = c.in-Some-other.ensures.steps in
     (c.joined-all.ensures, All-tail (λ h. h.promise.machine.value ≡ c.captures.machine.now) _ _ (subst (All (λ h. h.promise.machine.value ≡ c.captures.machine.now)) step.0 was.1))
-
-pub spawn_with-started-requires-send-F : goal.spawn_with-started-requires-send-F
-spawn_with-started-requires-send-F g c κs within = ?
-
-pub spawn_with-started-requires-send-T : goal.spawn_with-started-requires-send-T
-spawn_with-started-requires-send-T g c κs within = search (sendable, std.crosses, tokens_send, g.C.Seats, g.C.Seat.laws, g.C.Seats-dict, g.met) depth 30
