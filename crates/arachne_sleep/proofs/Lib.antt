@@ -9,4 +9,3 @@ pub mod Growing
 pub mod Traces
 pub mod Keeps
 pub mod Visiting
-pub mod Crossing

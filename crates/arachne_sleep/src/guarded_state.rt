@@ -10,15 +10,14 @@ use crate::who::Who;
 use crossbeam_utils::CachePadded;
 use std::alloc::Global;
 use std::marker::Model;
-use std::snapshot::Snapshot;
 
 /// A lock's state, on cache lines of its own, and the pass that the last call got of it.
 ///
-/// The pass is for proofs alone and has no bytes: the step that gives the guard back finds it here.
+/// The pass is for proofs alone: the step that gives the guard back finds it here.
 #[derive(Drop)]
 pub struct GuardedState {
     state: CachePadded<LockState>,
-    last_pass: Snapshot<Option<Pass>>,
+    last_pass: Option<Pass>,
 }
 
 impl Model for GuardedState {
@@ -27,7 +26,7 @@ impl Model for GuardedState {
 
     ghost Value = { Guarded };
 
-    ghost view = { λ g. record { state = padded_value g.state; last_pass = g.last_pass.value } };
+    ghost view = { λ g. record { state = padded_value g.state; last_pass = g.last_pass } };
 }
 
 fn pass_of(answer: Result<Asked, AskFault>) -> Option<Pass>
@@ -47,7 +46,7 @@ impl GuardedState {
     {
         GuardedState {
             state: CachePadded::new(LockState::new(alloc, number)),
-            last_pass: Snapshot::of(&None),
+            last_pass: None,
         }
     }
 
@@ -57,7 +56,7 @@ impl GuardedState {
         ensures sound { IsSound self.new.state.history }
     {
         let answer = self.state.ask(who);
-        self.last_pass = Snapshot::of(&pass_of(answer));
+        self.last_pass = pass_of(answer);
         answer
     }
 
@@ -67,7 +66,7 @@ impl GuardedState {
         ensures sound { IsSound self.new.state.history }
     {
         let answer = self.state.free(who);
-        self.last_pass = Snapshot::of(&None);
+        self.last_pass = None;
         answer
     }
 
@@ -78,7 +77,7 @@ impl GuardedState {
     {
         let _ = self.state.history();
         let answer = self.state.check(who);
-        self.last_pass = Snapshot::of(&answer);
+        self.last_pass = answer;
         answer
     }
 
