@@ -15,3 +15,5 @@ mod policy;
 mod pure_core;
 #[cfg(test)]
 mod sleep;
+#[cfg(test)]
+mod spill;
