@@ -82,9 +82,9 @@ fn threads_may_be_more_than_places(rt: HostRuntime) -> Result<(), Fail> {
 /// What the chain comes to: its value, its threads and how many of them ran in place, or why it didn't run.
 type Chained = Result<(u64, u64, u64), RunFault>;
 
-/// The chain on machines whose cores have so many places, 1 to 56 each. On one core of three places three threads have one, and the
-/// others run in place. Of several faults of a setup that of its cores is answered first, then those of its quantum, its places and its
-/// choosers.
+/// The chain on machines whose cores have so many places, 1 to 56 each. On one core of three places three threads have
+/// one, and the others run in place. Of several faults of a setup that of its cores is answered first, then those of
+/// its quantum, its places and its choosers.
 const FEW_PLACES: &[(Machine, u64, Chained)] = &[
     ((1, 100, 1), 1, Ok((61, 61, 60))),
     ((1, 100, 1), 3, Ok((61, 61, 58))),

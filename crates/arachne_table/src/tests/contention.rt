@@ -13,8 +13,8 @@ use std::thread::Threads;
 
 const ROUNDS: u64 = 10_000;
 
-/// What a thread has done: its seat, twice the tag of each thread that it has posted, twice the tag and 1 of each that it has ended, and
-/// how many it has posted and moved.
+/// What a thread has done: its seat, twice the tag of each thread that it has posted, twice the tag and 1 of each that
+/// it has ended, and how many it has posted and moved.
 #[derive(Drop)]
 struct Work<S> {
     seat: S,
@@ -23,8 +23,8 @@ struct Work<S> {
     moved: u64,
 }
 
-/// How many threads were posted and have ended or are left, once each, or none if there is one that wasn't; how many each of two kernel
-/// threads has posted, and how many were moved.
+/// How many threads were posted and have ended or are left, once each, or none if there is one that wasn't; how many
+/// each of two kernel threads has posted, and how many were moved.
 #[derive(Clone, Copy)]
 struct Outcome {
     settled: Option<usize>,
@@ -121,8 +121,9 @@ fn end_all<C: Contexts<Job>, R: Wait>(
     Some(ended)
 }
 
-/// What a kernel thread does in each round, on a table of so many cores: it posts one thread on the last core. If it moves,
-/// it then closes core 1, moves what is there to core 0, and opens it. It ends what is ready on the cores from one on.
+/// What a kernel thread does in each round, on a table of so many cores: it posts one thread on the last core. If it
+/// moves, it then closes core 1, moves what is there to core 0, and opens it. It ends what is ready on the cores from
+/// one on.
 #[derive(Clone, Copy)]
 struct Part {
     cores: u8,
@@ -213,8 +214,8 @@ fn work_side_by_side<R: Threads + Wait + Sync>(
     Some((first?, second?))
 }
 
-/// Adds the ends of the threads that are left to what was noted of both kernel threads. How many tags there are, if each was posted, and
-/// was ended or is left, once.
+/// Adds the ends of the threads that are left to what was noted of both kernel threads. How many tags there are, if
+/// each was posted, and was ended or is left, once.
 fn settled(
     mut log: Vec<u64>,
     other: Vec<u64>,
