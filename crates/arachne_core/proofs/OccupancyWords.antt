@@ -10,6 +10,7 @@ use Rattle.std.proofs.lemmas.Nat.{mod-pow-add, or_disjoint, and-not, and_comm, a
 use Rattle.std.proofs.lemmas.List.{set-get_or, set-set, length-set, get_or-set_same}
 use Rattle.std.proofs.lemmas.Nat.{pow_pos, pow_below, one_shl}
 use Rattle.std.proofs.Math.Nat.{pow-suc, mul_comm}
+use Rattle.arachne_core.specs.declared.layout.TheConstants.{MASK_BITS}
 use Rattle.arachne_core.specs.Occupancy.{Occupancy, bit, mask_of, count_of, occupancy_word, flags, occupancy_of, count_field, IsOccupancyWord, vacant, HasOneMore}
 
 pub bit-le : (b : Bool) → bit b ≤ 1
@@ -115,73 +116,73 @@ mask_of-none (b ∷ bs) h = omega (arith, ap bit (h 0 (omega arith)), mask_of-no
 
 -- ---- the fields of a word
 
-pub field_mask : (m n : ℕ) (x y : Bool) → m < 2 ^ 56 → n < 2 ^ 6 → (m + 2 ^ 56 * n + 2 ^ 62 * bit x + 2 ^ 63 * bit y) % 2 ^ 56 ≡ m
+pub field_mask : (m n : ℕ) (x y : Bool) → m < 2 ^ MASK_BITS → n < 2 ^ 6 → (m + 2 ^ MASK_BITS * n + 2 ^ 62 * bit x + 2 ^ 63 * bit y) % 2 ^ MASK_BITS ≡ m
 field_mask m n x y a b = omega (arith, bit-le x, bit-le y)
 
-pub field_count : (m n : ℕ) (x y : Bool) → m < 2 ^ 56 → n < 2 ^ 6 → (m + 2 ^ 56 * n + 2 ^ 62 * bit x + 2 ^ 63 * bit y) / 2 ^ 56 % 2 ^ 6 ≡ n
+pub field_count : (m n : ℕ) (x y : Bool) → m < 2 ^ MASK_BITS → n < 2 ^ 6 → (m + 2 ^ MASK_BITS * n + 2 ^ 62 * bit x + 2 ^ 63 * bit y) / 2 ^ MASK_BITS % 2 ^ 6 ≡ n
 field_count m n x y a b = omega (arith, bit-le x, bit-le y)
 
-pub field_closed : (m n : ℕ) (x y : Bool) → m < 2 ^ 56 → n < 2 ^ 6 → (m + 2 ^ 56 * n + 2 ^ 62 * bit x + 2 ^ 63 * bit y) / 2 ^ 62 % 2 ≡ bit x
+pub field_closed : (m n : ℕ) (x y : Bool) → m < 2 ^ MASK_BITS → n < 2 ^ 6 → (m + 2 ^ MASK_BITS * n + 2 ^ 62 * bit x + 2 ^ 63 * bit y) / 2 ^ 62 % 2 ≡ bit x
 field_closed m n x y a b = omega (arith, bit-le x, bit-le y)
 
-pub field_exclusive : (m n : ℕ) (x y : Bool) → m < 2 ^ 56 → n < 2 ^ 6 → (m + 2 ^ 56 * n + 2 ^ 62 * bit x + 2 ^ 63 * bit y) / 2 ^ 63 % 2 ≡ bit y
+pub field_exclusive : (m n : ℕ) (x y : Bool) → m < 2 ^ MASK_BITS → n < 2 ^ 6 → (m + 2 ^ MASK_BITS * n + 2 ^ 62 * bit x + 2 ^ 63 * bit y) / 2 ^ 63 % 2 ≡ bit y
 field_exclusive m n x y a b = omega (arith, bit-le x, bit-le y)
 
--- a core whose mask has 56 bits
-pub mask_in : (c : Occupancy) → length c.occupied ≡ 56 → mask_of c.occupied < 2 ^ 56
+-- a core whose mask has a bit for each index
+pub mask_in : (c : Occupancy) → length c.occupied ≡ MASK_BITS → mask_of c.occupied < 2 ^ MASK_BITS
 mask_in c h = subst (λ n. mask_of c.occupied < 2 ^ n) h (mask_of-lt c.occupied)
 
-pub count_in : (c : Occupancy) → length c.occupied ≡ 56 → count_of c.occupied < 2 ^ 6
+pub count_in : (c : Occupancy) → length c.occupied ≡ MASK_BITS → count_of c.occupied < 2 ^ 6
 count_in c h = omega (arith, count_of-le c.occupied, h)
 
-pub occupancy_word-lt : (c : Occupancy) → length c.occupied ≡ 56 → occupancy_word c < 2 ^ 64
+pub occupancy_word-lt : (c : Occupancy) → length c.occupied ≡ MASK_BITS → occupancy_word c < 2 ^ 64
 occupancy_word-lt c h = omega (arith, mask_in c h, count_in c h, bit-le c.closed, bit-le c.exclusive)
 
-pub occupancy_of-occupancy_word : (c : Occupancy) → length c.occupied ≡ 56 → occupancy_of (occupancy_word c) ≡ c
+pub occupancy_of-occupancy_word : (c : Occupancy) → length c.occupied ≡ MASK_BITS → occupancy_of (occupancy_word c) ≡ c
 occupancy_of-occupancy_word c h =
     let m = mask_in c h in
     let n = count_in c h in
     let rest : ℕ = count_of c.occupied + 2 ^ 6 * bit c.closed + 2 ^ 7 * bit c.exclusive in
-    let whole : occupancy_word c ≡ mask_of c.occupied + 2 ^ 56 * rest = omega arith in
-    let low : flags 56 (occupancy_word c) ≡ c.occupied =
-    ap (flags 56) whole ∙ subst (λ (k : ℕ). flags k (mask_of c.occupied + 2 ^ k * rest) ≡ c.occupied) h (flags-mask_of c.occupied rest) in
+    let whole : occupancy_word c ≡ mask_of c.occupied + 2 ^ MASK_BITS * rest = omega arith in
+    let low : flags MASK_BITS (occupancy_word c) ≡ c.occupied =
+    ap (flags MASK_BITS) whole ∙ subst (λ (k : ℕ). flags k (mask_of c.occupied + 2 ^ k * rest) ≡ c.occupied) h (flags-mask_of c.occupied rest) in
     let closed : eqb (bit_at (occupancy_word c) 62) 1 ≡ c.closed = ap (λ k. eqb k 1) (field_closed _ _ c.closed c.exclusive m n) ∙ eqb-bit c.closed in
     let exclusive : eqb (bit_at (occupancy_word c) 63) 1 ≡ c.exclusive = ap (λ k. eqb k 1) (field_exclusive _ _ c.closed c.exclusive m n) ∙ eqb-bit c.exclusive in
     λ i. record { occupied = low i; closed = closed i; exclusive = exclusive i }
 
 -- the number is the word of this core
-pub packs : (w : ℕ) (c : Occupancy) → length c.occupied ≡ 56 → w ≡ occupancy_word c → IsOccupancyWord w × (occupancy_of w ≡ c)
+pub packs : (w : ℕ) (c : Occupancy) → length c.occupied ≡ MASK_BITS → w ≡ occupancy_word c → IsOccupancyWord w × (occupancy_of w ≡ c)
 packs w c h e =
     let read : occupancy_of w ≡ c = ap occupancy_of e ∙ occupancy_of-occupancy_word c h in
     (ap occupancy_word read ∙ sym e, read)
 
 -- the fields of a word that was read
-pub read_mask : (w : ℕ) → IsOccupancyWord w → w % 2 ^ 56 ≡ mask_of (occupancy_of w).occupied
-read_mask w h = sym (mask_of-flags 56 w)
+pub read_mask : (w : ℕ) → IsOccupancyWord w → w % 2 ^ MASK_BITS ≡ mask_of (occupancy_of w).occupied
+read_mask w h = sym (mask_of-flags MASK_BITS w)
 
-pub read_count : (w : ℕ) → IsOccupancyWord w → w / 2 ^ 56 % 2 ^ 6 ≡ count_of (occupancy_of w).occupied
+pub read_count : (w : ℕ) → IsOccupancyWord w → w / 2 ^ MASK_BITS % 2 ^ 6 ≡ count_of (occupancy_of w).occupied
 read_count w h =
     let c : Occupancy = occupancy_of w in
-    let l : length c.occupied ≡ 56 = length-flags 56 w in
-    ap (λ v. v / 2 ^ 56 % 2 ^ 6) (sym h) ∙ field_count _ _ c.closed c.exclusive (mask_in c l) (count_in c l)
+    let l : length c.occupied ≡ MASK_BITS = length-flags MASK_BITS w in
+    ap (λ v. v / 2 ^ MASK_BITS % 2 ^ 6) (sym h) ∙ field_count _ _ c.closed c.exclusive (mask_in c l) (count_in c l)
 
 -- a word whose count is that of its mask
-pub counted : (w : ℕ) → w < 2 ^ 64 → count_ones (w % 2 ^ 56) ≡ w / 2 ^ 56 % 2 ^ 6 → IsOccupancyWord w
+pub counted : (w : ℕ) → w < 2 ^ 64 → count_ones (w % 2 ^ MASK_BITS) ≡ w / 2 ^ MASK_BITS % 2 ^ 6 → IsOccupancyWord w
 counted w l e =
-    let n : count_of (flags 56 w) ≡ w / 2 ^ 56 % 2 ^ 6 = sym (ones-mask_of (flags 56 w)) ∙ ap count_ones (mask_of-flags 56 w) ∙ e in
-    omega (arith, n, mask_of-flags 56 w, bit-eqb (w / 2 ^ 62 % 2) (omega arith), bit-eqb (w / 2 ^ 63 % 2) (omega arith))
+    let n : count_of (flags MASK_BITS w) ≡ w / 2 ^ MASK_BITS % 2 ^ 6 = sym (ones-mask_of (flags MASK_BITS w)) ∙ ap count_ones (mask_of-flags MASK_BITS w) ∙ e in
+    omega (arith, n, mask_of-flags MASK_BITS w, bit-eqb (w / 2 ^ 62 % 2) (omega arith), bit-eqb (w / 2 ^ 63 % 2) (omega arith))
 
-pub counts : (w : ℕ) → IsOccupancyWord w → count_ones (w % 2 ^ 56) ≡ w / 2 ^ 56 % 2 ^ 6
-counts w h = ap count_ones (sym (mask_of-flags 56 w)) ∙ ones-mask_of (flags 56 w) ∙ sym (read_count w h)
+pub counts : (w : ℕ) → IsOccupancyWord w → count_ones (w % 2 ^ MASK_BITS) ≡ w / 2 ^ MASK_BITS % 2 ^ 6
+counts w h = ap count_ones (sym (mask_of-flags MASK_BITS w)) ∙ ones-mask_of (flags MASK_BITS w) ∙ sym (read_count w h)
 
 -- ---- one index more, one less, one flag set or cleared
 
 pub one_more : (c : Occupancy) (i : ℕ) → i < length c.occupied → get_or c.occupied i false ≡ false
-    → occupancy_word (record c { occupied = set c.occupied i true }) ≡ occupancy_word c + (2 ^ i + 2 ^ 56)
+    → occupancy_word (record c { occupied = set c.occupied i true }) ≡ occupancy_word c + (2 ^ i + 2 ^ MASK_BITS)
 one_more c i h e = omega (arith, mask_of-set c.occupied i h e, count_of-set c.occupied i h e)
 
 pub one_less : (c : Occupancy) (i : ℕ) → get_or c.occupied i false ≡ true
-    → occupancy_word (record c { occupied = set c.occupied i false }) + (2 ^ i + 2 ^ 56) ≡ occupancy_word c
+    → occupancy_word (record c { occupied = set c.occupied i false }) + (2 ^ i + 2 ^ MASK_BITS) ≡ occupancy_word c
 one_less c i e = omega (arith, mask_of-clear c.occupied i e, count_of-clear c.occupied i e)
 
 pub same_flag : (bs : List Bool) (i : ℕ) (b : Bool) → get_or bs i false ≡ b → set bs i b ≡ bs
@@ -219,37 +220,37 @@ and_not_bit w k h l = omega (arith, and-not 64 (2 ^ k) w (pow_below k 64 h) l, a
 -- ---- what each call makes of a word
 
 pub occupancy_word-of : (w : ℕ) → IsOccupancyWord w → w < 2 ^ 64
-occupancy_word-of w h = omega (arith, occupancy_word-lt (occupancy_of w) (length-flags 56 w), h)
+occupancy_word-of w h = omega (arith, occupancy_word-lt (occupancy_of w) (length-flags MASK_BITS w), h)
 
-has_all : (w : ℕ) (c : Occupancy) → occupancy_of w ≡ c → length c.occupied ≡ 56
-has_all w c e = ap (λ (o : Occupancy). length o.occupied) (sym e) ∙ length-flags 56 w
+has_all : (w : ℕ) (c : Occupancy) → occupancy_of w ≡ c → length c.occupied ≡ MASK_BITS
+has_all w c e = ap (λ (o : Occupancy). length o.occupied) (sym e) ∙ length-flags MASK_BITS w
 
 -- index i is occupied now; k is i, as the shift has it
-pub adding : (w i k : ℕ) (c : Occupancy) → IsOccupancyWord w → occupancy_of w ≡ c → k ≡ i → i < 56 → get_or c.occupied i false ≡ false
-    → (w + (1 * 2 ^ k % 2 ^ 64 + 2 ^ 56) < 2 ^ 64) × IsOccupancyWord (w + (1 * 2 ^ k % 2 ^ 64 + 2 ^ 56))
-    × (occupancy_of (w + (1 * 2 ^ k % 2 ^ 64 + 2 ^ 56)) ≡ record c { occupied = set c.occupied i true })
+pub adding : (w i k : ℕ) (c : Occupancy) → IsOccupancyWord w → occupancy_of w ≡ c → k ≡ i → i < MASK_BITS → get_or c.occupied i false ≡ false
+    → (w + (1 * 2 ^ k % 2 ^ 64 + 2 ^ MASK_BITS) < 2 ^ 64) × IsOccupancyWord (w + (1 * 2 ^ k % 2 ^ 64 + 2 ^ MASK_BITS))
+    × (occupancy_of (w + (1 * 2 ^ k % 2 ^ 64 + 2 ^ MASK_BITS)) ≡ record c { occupied = set c.occupied i true })
 adding w i k c h e s i_in free =
-    let all : length c.occupied ≡ 56 = has_all w c e in
+    let all : length c.occupied ≡ MASK_BITS = has_all w c e in
     let d : Occupancy = record c { occupied = set c.occupied i true } in
-    let d_all : length d.occupied ≡ 56 = length-set c.occupied i true ∙ all in
+    let d_all : length d.occupied ≡ MASK_BITS = length-set c.occupied i true ∙ all in
     let shift : 1 * 2 ^ k % 2 ^ 64 ≡ 2 ^ i = one_shl k 64 (omega arith) ∙ ap (λ (j : ℕ). 2 ^ j) s in
     let is_word : occupancy_word c ≡ w = ap occupancy_word (sym e) ∙ h in
-    let now : w + (1 * 2 ^ k % 2 ^ 64 + 2 ^ 56) ≡ occupancy_word d = omega (arith, shift, is_word, one_more c i (omega arith) free) in
+    let now : w + (1 * 2 ^ k % 2 ^ 64 + 2 ^ MASK_BITS) ≡ occupancy_word d = omega (arith, shift, is_word, one_more c i (omega arith) free) in
     let p = packs _ d d_all now in
     (omega (arith, occupancy_word-lt d d_all, now), p.0, p.1)
 
 -- index i is free now
-pub removing : (w i k : ℕ) (c : Occupancy) → IsOccupancyWord w → occupancy_of w ≡ c → k ≡ i → i < 56 → get_or c.occupied i false ≡ true
-    → (1 * 2 ^ k % 2 ^ 64 + 2 ^ 56 ≤ w) × IsOccupancyWord (w - (1 * 2 ^ k % 2 ^ 64 + 2 ^ 56))
-    × (occupancy_of (w - (1 * 2 ^ k % 2 ^ 64 + 2 ^ 56)) ≡ record c { occupied = set c.occupied i false })
+pub removing : (w i k : ℕ) (c : Occupancy) → IsOccupancyWord w → occupancy_of w ≡ c → k ≡ i → i < MASK_BITS → get_or c.occupied i false ≡ true
+    → (1 * 2 ^ k % 2 ^ 64 + 2 ^ MASK_BITS ≤ w) × IsOccupancyWord (w - (1 * 2 ^ k % 2 ^ 64 + 2 ^ MASK_BITS))
+    × (occupancy_of (w - (1 * 2 ^ k % 2 ^ 64 + 2 ^ MASK_BITS)) ≡ record c { occupied = set c.occupied i false })
 removing w i k c h e s i_in taken =
-    let all : length c.occupied ≡ 56 = has_all w c e in
+    let all : length c.occupied ≡ MASK_BITS = has_all w c e in
     let d : Occupancy = record c { occupied = set c.occupied i false } in
-    let d_all : length d.occupied ≡ 56 = length-set c.occupied i false ∙ all in
+    let d_all : length d.occupied ≡ MASK_BITS = length-set c.occupied i false ∙ all in
     let shift : 1 * 2 ^ k % 2 ^ 64 ≡ 2 ^ i = one_shl k 64 (omega arith) ∙ ap (λ (j : ℕ). 2 ^ j) s in
     let is_word : occupancy_word c ≡ w = ap occupancy_word (sym e) ∙ h in
-    let before : occupancy_word d + (2 ^ i + 2 ^ 56) ≡ occupancy_word c = one_less c i taken in
-    let now : w - (1 * 2 ^ k % 2 ^ 64 + 2 ^ 56) ≡ occupancy_word d = omega (arith, shift, is_word, before) in
+    let before : occupancy_word d + (2 ^ i + 2 ^ MASK_BITS) ≡ occupancy_word c = one_less c i taken in
+    let now : w - (1 * 2 ^ k % 2 ^ 64 + 2 ^ MASK_BITS) ≡ occupancy_word d = omega (arith, shift, is_word, before) in
     let p = packs _ d d_all now in
     (omega (arith, shift, is_word, before), p.0, p.1)
 
@@ -286,18 +287,18 @@ clear_exclusive w c h e =
     packs _ d (has_all w c e) (omega (arith, and_not_bit w 63 (omega arith) (occupancy_word-of w h), is_word, flag_bit c.exclusive w 63 (ap (λ (o : Occupancy). o.exclusive) e), bit-le c.exclusive))
 
 -- the place of the lowest bit that isn't set
-pub lowest : (w t : ℕ) → t ≡ trailing_ones w64 (bit_and w (2 ^ 56 - 1))
-    → (get_or (flags 56 w) t false ≡ false) × ((i : ℕ) → i < t → get_or (flags 56 w) i false ≡ true)
+pub lowest : (w t : ℕ) → t ≡ trailing_ones w64 (bit_and w (2 ^ MASK_BITS - 1))
+    → (get_or (flags MASK_BITS w) t false ≡ false) × ((i : ℕ) → i < t → get_or (flags MASK_BITS w) i false ≡ true)
 lowest w t e =
-    let mask : bit_and w (2 ^ 56 - 1) ≡ mask_of (flags 56 w) = and_mask w 56 ∙ sym (mask_of-flags 56 w) in
-    let few : mask_of (flags 56 w) < 2 ^ 56 = subst (λ (n : ℕ). mask_of (flags 56 w) < 2 ^ n) (length-flags 56 w) (mask_of-lt (flags 56 w)) in
-    let p = bit_at-trailing_ones w64 (mask_of (flags 56 w)) (omega (arith, few)) in
-    let f : t ≡ trailing_ones w64 (mask_of (flags 56 w)) = e ∙ ap (trailing_ones w64) mask in (
-      get_or-mask_of (flags 56 w) t ∙ ap (λ (j : ℕ). eqb (bit_at (mask_of (flags 56 w)) j) 1) f ∙ ap (λ (n : ℕ). eqb n 1) p.1,
-      λ i h. get_or-mask_of (flags 56 w) i ∙ ap (λ (n : ℕ). eqb n 1) (p.2 i (omega (arith, h, f))),
+    let mask : bit_and w (2 ^ MASK_BITS - 1) ≡ mask_of (flags MASK_BITS w) = and_mask w MASK_BITS ∙ sym (mask_of-flags MASK_BITS w) in
+    let few : mask_of (flags MASK_BITS w) < 2 ^ MASK_BITS = subst (λ (n : ℕ). mask_of (flags MASK_BITS w) < 2 ^ n) (length-flags MASK_BITS w) (mask_of-lt (flags MASK_BITS w)) in
+    let p = bit_at-trailing_ones w64 (mask_of (flags MASK_BITS w)) (omega (arith, few)) in
+    let f : t ≡ trailing_ones w64 (mask_of (flags MASK_BITS w)) = e ∙ ap (trailing_ones w64) mask in (
+      get_or-mask_of (flags MASK_BITS w) t ∙ ap (λ (j : ℕ). eqb (bit_at (mask_of (flags MASK_BITS w)) j) 1) f ∙ ap (λ (n : ℕ). eqb n 1) p.1,
+      λ i h. get_or-mask_of (flags MASK_BITS w) i ∙ ap (λ (n : ℕ). eqb n 1) (p.2 i (omega (arith, h, f))),
     )
 
-pub vacant-length : length vacant.occupied ≡ 56
+pub vacant-length : length vacant.occupied ≡ MASK_BITS
 unfolding vacant
 vacant-length = refl
 
@@ -307,22 +308,22 @@ packs_vacant = packs 0 vacant refl refl
 
 pub vacant-flag : (i : ℕ) → get_or vacant.occupied i false ≡ false
 unfolding vacant
-vacant-flag i = mask_of-zero (replicate 56 false) refl i
+vacant-flag i = mask_of-zero (replicate MASK_BITS false) refl i
 
 pub vacant-open : (vacant.closed ≡ false) × (vacant.exclusive ≡ false)
 unfolding vacant
 vacant-open = (refl, refl)
 
 -- the word that new makes
-pub packing : (m n x y : ℕ) (a b : Bool) → m < 2 ^ 56 → n ≡ count_ones m → x ≡ bit a → y ≡ bit b
-    → (m + n * 2 ^ 56 + x * 2 ^ 62 + y * 2 ^ 63 < 2 ^ 64) × IsOccupancyWord (m + n * 2 ^ 56 + x * 2 ^ 62 + y * 2 ^ 63)
-    × (occupancy_of (m + n * 2 ^ 56 + x * 2 ^ 62 + y * 2 ^ 63) ≡ record { occupied = flags 56 m; closed = a; exclusive = b })
+pub packing : (m n x y : ℕ) (a b : Bool) → m < 2 ^ MASK_BITS → n ≡ count_ones m → x ≡ bit a → y ≡ bit b
+    → (m + n * 2 ^ MASK_BITS + x * 2 ^ 62 + y * 2 ^ 63 < 2 ^ 64) × IsOccupancyWord (m + n * 2 ^ MASK_BITS + x * 2 ^ 62 + y * 2 ^ 63)
+    × (occupancy_of (m + n * 2 ^ MASK_BITS + x * 2 ^ 62 + y * 2 ^ 63) ≡ record { occupied = flags MASK_BITS m; closed = a; exclusive = b })
 packing m n x y a b m_in e f g =
-    let d : Occupancy = record { occupied = flags 56 m; closed = a; exclusive = b } in
-    let all : length d.occupied ≡ 56 = length-flags 56 m in
-    let mask : mask_of (flags 56 m) ≡ m = mask_of-flags 56 m ∙ omega arith in
-    let count : count_of (flags 56 m) ≡ n = sym (ones-mask_of (flags 56 m)) ∙ ap count_ones mask ∙ sym e in
-    let now : m + n * 2 ^ 56 + x * 2 ^ 62 + y * 2 ^ 63 ≡ occupancy_word d = omega (arith, mask, count, f, g) in
+    let d : Occupancy = record { occupied = flags MASK_BITS m; closed = a; exclusive = b } in
+    let all : length d.occupied ≡ MASK_BITS = length-flags MASK_BITS m in
+    let mask : mask_of (flags MASK_BITS m) ≡ m = mask_of-flags MASK_BITS m ∙ omega arith in
+    let count : count_of (flags MASK_BITS m) ≡ n = sym (ones-mask_of (flags MASK_BITS m)) ∙ ap count_ones mask ∙ sym e in
+    let now : m + n * 2 ^ MASK_BITS + x * 2 ^ 62 + y * 2 ^ 63 ≡ occupancy_word d = omega (arith, mask, count, f, g) in
     let p = packs _ d all now in
     (omega (arith, occupancy_word-lt d all, now), p.0, p.1)
 
@@ -335,35 +336,35 @@ from_bool-bit false = refl
 same_shift : (i : ℕ) → i < 64 → 1 * 2 ^ i % 2 ^ 64 ≡ 2 ^ i
 same_shift i h = one_shl i 64 h
 
-pub has_one_more : (w i : ℕ) → IsOccupancyWord w → i < 56 → get_or (occupancy_of w).occupied i false ≡ false → HasOneMore w i (w + (2 ^ i + 2 ^ 56))
+pub has_one_more : (w i : ℕ) → IsOccupancyWord w → i < MASK_BITS → get_or (occupancy_of w).occupied i false ≡ false → HasOneMore w i (w + (2 ^ i + 2 ^ MASK_BITS))
 has_one_more w i h i_in free =
     let c : Occupancy = occupancy_of w in
     let shift : 1 * 2 ^ i % 2 ^ 64 ≡ 2 ^ i = one_shl i 64 (omega arith) in
     let a = adding w i i c h refl refl i_in free in
-    let word : IsOccupancyWord (w + (2 ^ i + 2 ^ 56)) = subst (λ (n : ℕ). IsOccupancyWord (w + (n + 2 ^ 56))) shift a.1 in
-    let read : occupancy_of (w + (2 ^ i + 2 ^ 56)) ≡ record c { occupied = set c.occupied i true } =
-    subst (λ (n : ℕ). occupancy_of (w + (n + 2 ^ 56)) ≡ record c { occupied = set c.occupied i true }) shift a.2 in
+    let word : IsOccupancyWord (w + (2 ^ i + 2 ^ MASK_BITS)) = subst (λ (n : ℕ). IsOccupancyWord (w + (n + 2 ^ MASK_BITS))) shift a.1 in
+    let read : occupancy_of (w + (2 ^ i + 2 ^ MASK_BITS)) ≡ record c { occupied = set c.occupied i true } =
+    subst (λ (n : ℕ). occupancy_of (w + (n + 2 ^ MASK_BITS)) ≡ record c { occupied = set c.occupied i true }) shift a.2 in
     record {
       old_word = h;
       new_word = word;
       was_free = free;
       occupied = ap (λ (o : Occupancy). o.occupied) read;
-      count = read_count _ word ∙ ap (λ (o : Occupancy). count_of o.occupied) read ∙ count_of-set c.occupied i (omega (arith, length-flags 56 w)) free
+      count = read_count _ word ∙ ap (λ (o : Occupancy). count_of o.occupied) read ∙ count_of-set c.occupied i (omega (arith, length-flags MASK_BITS w)) free
           ∙ ap (λ (n : ℕ). n + 1) (sym (read_count w h));
       closed = ap (λ (o : Occupancy). o.closed) read;
       exclusive = ap (λ (o : Occupancy). o.exclusive) read;
     }
 
-pub has_one_less : (w i : ℕ) → IsOccupancyWord w → i < 56 → get_or (occupancy_of w).occupied i false ≡ true → HasOneMore (w - (2 ^ i + 2 ^ 56)) i w
+pub has_one_less : (w i : ℕ) → IsOccupancyWord w → i < MASK_BITS → get_or (occupancy_of w).occupied i false ≡ true → HasOneMore (w - (2 ^ i + 2 ^ MASK_BITS)) i w
 has_one_less w i h i_in taken =
     let c : Occupancy = occupancy_of w in
     let d : Occupancy = record c { occupied = set c.occupied i false } in
     let shift : 1 * 2 ^ i % 2 ^ 64 ≡ 2 ^ i = one_shl i 64 (omega arith) in
     let a = removing w i i c h refl refl i_in taken in
-    let word : IsOccupancyWord (w - (2 ^ i + 2 ^ 56)) = subst (λ (n : ℕ). IsOccupancyWord (w - (n + 2 ^ 56))) shift a.1 in
-    let read : occupancy_of (w - (2 ^ i + 2 ^ 56)) ≡ d =
-    subst (λ (n : ℕ). occupancy_of (w - (n + 2 ^ 56)) ≡ d) shift a.2 in
-    let free : get_or d.occupied i false ≡ false = get_or-set_same c.occupied i false false (omega (arith, length-flags 56 w)) in
+    let word : IsOccupancyWord (w - (2 ^ i + 2 ^ MASK_BITS)) = subst (λ (n : ℕ). IsOccupancyWord (w - (n + 2 ^ MASK_BITS))) shift a.1 in
+    let read : occupancy_of (w - (2 ^ i + 2 ^ MASK_BITS)) ≡ d =
+    subst (λ (n : ℕ). occupancy_of (w - (n + 2 ^ MASK_BITS)) ≡ d) shift a.2 in
+    let free : get_or d.occupied i false ≡ false = get_or-set_same c.occupied i false false (omega (arith, length-flags MASK_BITS w)) in
     record {
       old_word = word;
       new_word = h;
@@ -385,17 +386,17 @@ pub not_exclusive : (w : ℕ) → IsOccupancyWord w → (occupancy_of w).exclusi
     → IsOccupancyWord (w - 2 ^ 63) × (occupancy_of (w - 2 ^ 63) ≡ record (occupancy_of w) { exclusive = false })
 not_exclusive w h e =
     let d : Occupancy = record (occupancy_of w) { exclusive = false } in
-    packs (w - 2 ^ 63) d (length-flags 56 w) (omega (arith, h, ap bit e))
+    packs (w - 2 ^ 63) d (length-flags MASK_BITS w) (omega (arith, h, ap bit e))
 
 pub now_exclusive : (w : ℕ) → IsOccupancyWord w → (occupancy_of w).exclusive ≡ false
     → IsOccupancyWord (w + 2 ^ 63) × (occupancy_of (w + 2 ^ 63) ≡ record (occupancy_of w) { exclusive = true })
 now_exclusive w h e =
     let d : Occupancy = record (occupancy_of w) { exclusive = true } in
-    packs (w + 2 ^ 63) d (length-flags 56 w) (omega (arith, h, ap bit e))
+    packs (w + 2 ^ 63) d (length-flags MASK_BITS w) (omega (arith, h, ap bit e))
 
 -- the count of a word is that of its mask
 pub word_has_its_count : (w : ℕ) → IsOccupancyWord w ↔ ((w < 2 ^ 64) × (count_field w ≡ count_of (occupancy_of w).occupied))
 word_has_its_count w = (
   λ h. (occupancy_word-of w h, read_count w h),
-  λ h. omega (arith, h.1, mask_of-flags 56 w, bit-eqb (w / 2 ^ 62 % 2) (omega arith), bit-eqb (w / 2 ^ 63 % 2) (omega arith), h.0),
+  λ h. omega (arith, h.1, mask_of-flags MASK_BITS w, bit-eqb (w / 2 ^ 62 % 2) (omega arith), bit-eqb (w / 2 ^ 63 % 2) (omega arith), h.0),
 )

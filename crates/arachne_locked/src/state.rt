@@ -62,6 +62,7 @@ impl<T: Tagged + Drop> TableState<T> {
         requires slots { slots ≤ SLOTS }
         requires generation { first_generation ≤ LAST_GENERATION }
         ensures cores { IfOk result (λ state. (world_of state.table).cores ≡ cores) }
+        ensures slots { IfOk result (λ state. (world_of state.table).slots ≡ slots) }
         ensures opening { IfOk result (λ state. IsOpening (world_of state.table) first_generation) }
     {
         let mut homes = Homes::new(alloc, cores, slots, first_generation)?;

@@ -4,6 +4,7 @@ use Rattle.std.proofs.lemmas.List.{get_or-set_same}
 use Rattle.std.proofs.lemmas.Bool.{true≢false, cases_eq}
 use mathlib.Core.Option as opt
 use lib.ListN.{get_elem?}
+use Rattle.arachne_core.specs.declared.layout.TheConstants.{MASK_BITS}
 use Rattle.arachne_core.specs.declared.place.Place.{Place}
 use Rattle.arachne_core.specs.declared.state.State.{State}
 use Rattle.arachne_core.specs.declared.state.State.TheVariants.{Free, Claimed}
@@ -34,7 +35,7 @@ module _ {T : Type 0} (tag_in : T → ℕ) (bits : ℕ) (w : World) (d : ℕ →
   pub claim_alone : (c : ℕ) → c < w.cores → 0 < w.slots → b.occ c ≡ 0
       → (x : ℕ) × (w.at x ≡ record { core = c; index = 0 }) × Allowed w (event.Alone h x)
       × Shows tag_in bits (after w (event.Alone h x)) d (record b {
-        occ = with_at b.occ c (0 + 2 ^ 63 + (2 ^ 0 + 2 ^ 56));
+        occ = with_at b.occ c (0 + 2 ^ 63 + (2 ^ 0 + 2 ^ MASK_BITS));
         views = set b.views h (held weight (with_context k (alone_context x c (w.generation x))));
       })
   claim_alone c0 c0_in some_slot zero_word =
@@ -65,12 +66,12 @@ module _ {T : Type 0} (tag_in : T → ℕ) (bits : ℕ) (w : World) (d : ℕ →
       let here : marked v x ≡ plain = λ i. record { mark = mark_of (now i); alone = is_live_state (now i) && al c; place = w.at x; generation = w.generation x } in
       let g : Carried = alone_context x c0 (w.generation x) in
       let k' : Known = with_context k g in
-      let a : Board T = record b { occ = with_at b.occ c0 (0 + 2 ^ 63 + (2 ^ 0 + 2 ^ 56)); views = set b.views h (held weight k') } in
+      let a : Board T = record b { occ = with_at b.occ c0 (0 + 2 ^ 63 + (2 ^ 0 + 2 ^ MASK_BITS)); views = set b.views h (held weight k') } in
       let same : g ≡ carried_of v d x false 0 = λ i. record { context = x; place = sym at i; shown = (sym at ∙ sym rest.2) i; generation = w.generation x; held = false; tag = 0; alone = sym (with_at-same w.alone c true) i; named = sym rest.1 i; away = sym rest.0 i } in
       let flag = now_exclusive 0 packs_vacant.0 (ap (λ (o : Occupancy). o.exclusive) packs_vacant.1 ∙ vacant-open.1) in
-      let m : HasOneMore (0 + 2 ^ 63) 0 (0 + 2 ^ 63 + (2 ^ 0 + 2 ^ 56)) = has_one_more (0 + 2 ^ 63) 0 flag.0 (omega arith)
+      let m : HasOneMore (0 + 2 ^ 63) 0 (0 + 2 ^ 63 + (2 ^ 0 + 2 ^ MASK_BITS)) = has_one_more (0 + 2 ^ 63) 0 flag.0 (omega arith)
       (ap (λ (o : Occupancy). get_or o.occupied 0 false) (flag.1) ∙ ap (λ (o : Occupancy). get_or o.occupied 0 false) packs_vacant.1 ∙ vacant-flag 0) in
-      let new : ℕ = 0 + 2 ^ 63 + (2 ^ 0 + 2 ^ 56) in
+      let new : ℕ = 0 + 2 ^ 63 + (2 ^ 0 + 2 ^ MASK_BITS) in
       let was : (j : ℕ) → get_or (occupancy_of (0 + 2 ^ 63)).occupied j false ≡ w.occupied (record { core = c; index = j }) = λ j.
       ap (λ (o : Occupancy). get_or o.occupied j false) flag.1 ∙ ap (λ (o : Occupancy). get_or o.occupied j false) packs_vacant.1 ∙ vacant-flag j
       ∙ sym (ap (λ (i : ℕ). w.occupied (record { core = i; index = j })) core ∙ none j) in
@@ -79,7 +80,7 @@ module _ {T : Type 0} (tag_in : T → ℕ) (bits : ℕ) (w : World) (d : ℕ →
         shows = record {
           occupied = λ j. ap (λ (bs : List Bool). get_or bs j false) m.occupied ∙ elim (cases_eq j 0) [
             | inl e ↦ ap (λ (n : ℕ). get_or (set (occupancy_of (0 + 2 ^ 63)).occupied 0 true) n false) e
-                ∙ get_or-set_same (occupancy_of (0 + 2 ^ 63)).occupied 0 true false (omega (arith, length-flags 56 (0 + 2 ^ 63)))
+                ∙ get_or-set_same (occupancy_of (0 + 2 ^ 63)).occupied 0 true false (omega (arith, length-flags MASK_BITS (0 + 2 ^ 63)))
                 ∙ sym (with_place-same w.occupied (w.at x) true)
                 ∙ ap (λ (n : ℕ). with_place w.occupied (w.at x) true (record { core = c; index = n })) (index ∙ sym e)
             | inr n ↦ get_or-set_other (occupancy_of (0 + 2 ^ 63)).occupied 0 j true false n ∙ was j

@@ -6,6 +6,7 @@ use mathlib.Core.Option as opt
 use lib.ListN.{get_elem?}
 use Rattle.atomic_table.specs.Table.{Act, keeps, stepped, homes_after}
 use Rattle.atomic_table.proofs.Lists.{set_here, set_else}
+use Rattle.arachne_core.specs.declared.layout.TheConstants.{SLOTS}
 use Rattle.arachne_core.specs.declared.place.Place.{Place}
 use Rattle.arachne_core.specs.World.{World, IsContext, IsPlace, with_at}
 use Rattle.arachne_core.proofs.Changes.{with_at-same, with_at-other, cases_place}
@@ -65,7 +66,7 @@ module _ {T : Type 0} where
 
   -- an occupancy word and a view change
   pub core-steps : (shape : Shape) (s : Table T) (c m id : ℕ) (l : List (ℕ × Option T)) (u : Token Known)
-      → length s.words ≡ words_in shape → c < shape.cores → shape.places_per_core ≤ 56
+      → length s.words ≡ words_in shape → c < shape.cores → shape.places_per_core ≤ SLOTS
       → Same shape (record (board_of (contexts_in shape) s) { occ = with_at (λ (k : ℕ). get_or s.words (occ_index (contexts_in shape) k) 0) c m; views = set s.views id u })
       (board_of (contexts_in shape) (stepped s (occ_index (contexts_in shape) c) m id l u keeps))
   core-steps shape s c m id l u long c_in few =
@@ -103,7 +104,7 @@ module _ {T : Type 0} where
 
   -- a place word, slots and a view change
   pub name-steps : (shape : Shape) (s : Table T) (q : Place) (m id : ℕ) (l : List (ℕ × Option T)) (u : Token Known) (act : Act (Option T)) (home : ℕ → opt.Option (opt.Option (Option T)))
-      → length s.words ≡ words_in shape → IsIn shape q → shape.places_per_core ≤ 56
+      → length s.words ≡ words_in shape → IsIn shape q → shape.places_per_core ≤ SLOTS
       → ((y : ℕ) → y < contexts_in shape → get_elem? (homes_after s.homes l act) y ≡ home y)
       → Same shape (record (board_of (contexts_in shape) s) { name = with_name (λ (p : Place). get_or s.words (name_index (contexts_in shape) p) 0) q m; home = home; views = set s.views id u })
       (board_of (contexts_in shape) (stepped s (name_index (contexts_in shape) q) m id l u act))

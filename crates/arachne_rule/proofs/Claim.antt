@@ -3,6 +3,7 @@ use Rattle.std.proofs.Common.{◌≡◌, ℕ, ◌+◌, ◌^◌, true, false, ◌
 use Rattle.std.proofs.lemmas.Bool.{true≢false}
 use mathlib.Core.Option as opt
 use lib.ListN.{get_elem?}
+use Rattle.arachne_core.specs.declared.layout.TheConstants.{MASK_BITS}
 use Rattle.arachne_core.specs.declared.place.Place.{Place}
 use Rattle.arachne_core.specs.declared.state.State.{State}
 use Rattle.arachne_core.specs.declared.state.State.TheVariants.{Free, Claimed, Ready, Blocked, Held, Spent}
@@ -35,7 +36,7 @@ module _ {T : Type 0} (tag_in : T → ℕ) (bits : ℕ) (w : World) (d : ℕ →
     (h weight : ℕ) (k : Known) (mine : get_elem? b.views h ≡ opt.some (held weight k)) where
   abbrev pub after_claim : ℕ → Place → Board T
   after_claim x p = record b {
-    occ = with_at b.occ p.core (b.occ p.core + (2 ^ p.index + 2 ^ 56));
+    occ = with_at b.occ p.core (b.occ p.core + (2 ^ p.index + 2 ^ MASK_BITS));
     views = set b.views h (held weight (with_context k (claimed_context x p (w.generation x))));
   }
 
@@ -84,7 +85,7 @@ module _ {T : Type 0} (tag_in : T → ℕ) (bits : ℕ) (w : World) (d : ℕ →
             })
             (keeps_owned_once w (event.Claim h x) s.owned may)
             (subst (λ (n : ℕ). ShowsWord v c n)
-            (ap (λ (q : Place). b.occ q.core + (2 ^ q.index + 2 ^ 56)) at ∙ sym (ap (with_at b.occ p.core (b.occ p.core + (2 ^ p.index + 2 ^ 56))) core ∙ with_at-same b.occ p.core _))
+            (ap (λ (q : Place). b.occ q.core + (2 ^ q.index + 2 ^ MASK_BITS)) at ∙ sym (ap (with_at b.occ p.core (b.occ p.core + (2 ^ p.index + 2 ^ MASK_BITS))) core ∙ with_at-same b.occ p.core _))
             (one-more-shows w x (b.occ c) (w.at x).index (Claimed h) w.alone (s.cores c (s.owned.placed x x_in).0) refl (omega (arith, (s.owned.placed x x_in).1, s.fits.1)) refl
             (ap (λ (q : Place). get_or (occupancy_of (b.occ q.core)).occupied q.index false) at ∙ vacant)))
             (record {

@@ -7,6 +7,7 @@ use mathlib.Core.Option.{none}
 use prog.Atomic.{either}
 use Rattle.atomic_table.specs.Table.{Act, keeps, step, stepped, Allows, Valid, carried_after}
 use Rattle.atomic_table.proofs.Lists.{exchanged}
+use Rattle.arachne_core.specs.declared.layout.TheConstants.{MASK_BITS}
 use Rattle.arachne_core.specs.declared.place.Place.{Place}
 use Rattle.arachne_core.specs.declared.event.Event.TheVariants as event
 use Rattle.arachne_core.specs.Occupancy.{Occupancy, occupancy_of, occupancy_word, IsOccupancyWord}
@@ -53,10 +54,10 @@ same-place : (p q : Place) → p.core ≡ q.core → p.index ≡ q.index → p �
 same-place p q e f = λ i. record { core = e i; index = f i }
 
 -- the word that `with_bit` makes is the sum
-pub with-bit : (old new i : ℕ) (o q : Occupancy) → old ≡ occupancy_word o → occupancy_of old ≡ o → q ≡ record o { occupied = set o.occupied i true } → new ≡ occupancy_word q → i < 56
+pub with-bit : (old new i : ℕ) (o q : Occupancy) → old ≡ occupancy_word o → occupancy_of old ≡ o → q ≡ record o { occupied = set o.occupied i true } → new ≡ occupancy_word q → i < MASK_BITS
     → get_or o.occupied i false ≡ false → new ≡ old + index_sum i
 with-bit old new i o q packed read set_is new_is i_in free =
-    new_is ∙ ap occupancy_word set_is ∙ one_more o i (omega (arith, length-flags 56 old, ap (λ (r : Occupancy). length r.occupied) read)) free ∙ ap (λ (n : ℕ). n + index_sum i) (sym packed)
+    new_is ∙ ap occupancy_word set_is ∙ one_more o i (omega (arith, length-flags MASK_BITS old, ap (λ (r : Occupancy). length r.occupied) read)) free ∙ ap (λ (n : ℕ). n + index_sum i) (sym packed)
 
 module _ {T : Type 0} (tag_in : T → ℕ) (bits : ℕ) (shape : Shape) where
   claims : (id weight : ℕ) (k : Known) (l : List (ℕ × Option T)) (p : Place) (old new : ℕ) → new ≡ old + index_sum p.index → p.core < shape.cores → p.index < shape.places_per_core

@@ -3,6 +3,7 @@ use Rattle.std.proofs.Common.{None, ◌≡◌, ℕ, ◌*◌, ◌^◌, ◌<◌, �
 use mathlib.Core.Option.{some, none}
 use mathlib.Core.Option as opt
 use Rattle.atomic_table.specs.Table.{Act, State, keeps, takes, step, Allows}
+use Rattle.arachne_core.specs.declared.layout.TheConstants.{MASK_BITS, SLOTS}
 use Rattle.arachne_core.specs.declared.place.Place.{Place}
 use Rattle.arachne_core.specs.declared.event.Event.TheVariants as event
 use Rattle.arachne_core.specs.Marked.{Marked, mark_word, marked_of, IsMarkWord}
@@ -76,10 +77,10 @@ module _ {T : Type 0} (tag_in : T → ℕ) (bits : ℕ) (shape : Shape) where
       let w : World = hs.world in
       let c = hs.shows.contexts x (subst (λ (m : ℕ). x < m) (λ j. sym hs.fits.cores j * sym hs.fits.slots j) x_in) in
       let m : Marked = record (marked w x) { place = (hs.phase x).shown } in
-      let index_in : m.place.index < 56 = omega (arith, c.within.1, hs.shows.fits.1) in
+      let index_in : m.place.index < MASK_BITS = omega (arith, c.within.1, hs.shows.fits.1) in
       let reads : marked_of bits (mark_word bits m) ≡ m = marked_of-mark_word bits m (omega (arith, index_in)) (omega (arith, c.within.0, hs.shows.fits.0)) in (
         ap (λ (q : ℕ). mark_word bits (marked_of bits q)) c.mark ∙ ap (mark_word bits) reads ∙ sym c.mark,
-        subst (λ (q : ℕ). (marked_of bits q).place.index < 56) (sym c.mark) (subst (λ (q : Marked). q.place.index < 56) (sym reads) index_in),
+        subst (λ (q : ℕ). (marked_of bits q).place.index < MASK_BITS) (sym c.mark) (subst (λ (q : Marked). q.place.index < MASK_BITS) (sym reads) index_in),
         small,
       )
 
@@ -117,7 +118,7 @@ module _ {T : Type 0} (tag_in : T → ℕ) (bits : ℕ) (shape : Shape) where
       let n : ℕ = contexts_in shape in
       let i : ℕ = name_index n p in
       let p_is : IsPlace w p = (omega (arith, p_in.0, hs.fits.cores), omega (arith, p_in.1, hs.fits.slots)) in
-      let few : shape.places_per_core ≤ 56 = subst (λ (m : ℕ). m ≤ 56) hs.fits.slots hs.shows.fits.1 in (
+      let few : shape.places_per_core ≤ SLOTS = subst (λ (m : ℕ). m ≤ SLOTS) hs.fits.slots hs.shows.fits.1 in (
         held weight (noted kind.Learn i (get_or s.words i 0) (get_or s.words i 0) k),
         keeps,
         tt,

@@ -4,6 +4,7 @@ use Rattle.std.proofs.lemmas.List.{get_or-set_same}
 use Rattle.std.proofs.lemmas.Bool.{cases_eq}
 use mathlib.Core.Option.{some}
 use lib.ListN.{get_elem?}
+use Rattle.arachne_core.specs.declared.layout.TheConstants.{MASK_BITS}
 use Rattle.arachne_core.specs.declared.place.Place.{Place}
 use Rattle.arachne_core.specs.declared.state.State.{State}
 use Rattle.arachne_core.specs.declared.state.State.TheVariants.{Free}
@@ -83,19 +84,19 @@ module _ {T : Type 0} (tag_in : T → ℕ) (bits : ℕ) where
       (λ t. s.ended t ∙ ended-same b.views h weight before after o.mine o.ended t ∙ ap (ended_in t) (sym o.views))
 
 -- the word with one index more shows the World in which that place is occupied
-pub one-more-shows : (w : World) (x word i : ℕ) (st : State) (al : ℕ → Bool) → ShowsWord w (core_of w x) word → (w.at x).index ≡ i → i < 56
+pub one-more-shows : (w : World) (x word i : ℕ) (st : State) (al : ℕ → Bool) → ShowsWord w (core_of w x) word → (w.at x).index ≡ i → i < MASK_BITS
     → al (core_of w x) ≡ w.alone (core_of w x)
     → get_or (occupancy_of word).occupied i false ≡ false
-    → ShowsWord (occupying_world w x st true al) (core_of w x) (word + (2 ^ i + 2 ^ 56))
+    → ShowsWord (occupying_world w x st true al) (core_of w x) (word + (2 ^ i + 2 ^ MASK_BITS))
 one-more-shows w x word i st al v at_i i_in same free =
-    let m : HasOneMore word i (word + (2 ^ i + 2 ^ 56)) = has_one_more word i v.packed i_in free in
+    let m : HasOneMore word i (word + (2 ^ i + 2 ^ MASK_BITS)) = has_one_more word i v.packed i_in free in
     let c : ℕ = core_of w x in
     record {
       packed = m.new_word;
       shows = record {
         occupied = λ j. ap (λ (bs : List Bool). get_or bs j false) m.occupied ∙ elim (cases_eq j i) [
           | inl f ↦ ap (λ (n : ℕ). get_or (set (occupancy_of word).occupied i true) n false) f
-              ∙ get_or-set_same (occupancy_of word).occupied i true false (omega (arith, length-flags 56 word))
+              ∙ get_or-set_same (occupancy_of word).occupied i true false (omega (arith, length-flags MASK_BITS word))
               ∙ sym (with_place-same w.occupied (w.at x) true)
               ∙ ap (λ (n : ℕ). with_place w.occupied (w.at x) true (record { core = c; index = n })) (at_i ∙ sym f)
           | inr n ↦ get_or-set_other (occupancy_of word).occupied i j true false n ∙ v.shows.occupied j

@@ -3,6 +3,7 @@ use Rattle.std.proofs.Common.{◌%◌, ◌≡◌, ℕ, ◌+◌, ◌-◌, ◌<◌
 use Rattle.std.proofs.lemmas.Bool.{cases_eq, false_from_ne_true}
 use mathlib.Core.Option as opt
 use lib.ListN.{get_elem?}
+use Rattle.arachne_core.specs.declared.layout.TheConstants.{MASK_BITS}
 use Rattle.arachne_core.specs.declared.place.Place.{Place}
 use Rattle.arachne_core.specs.declared.state.State.{State}
 use Rattle.arachne_core.specs.declared.state.State.TheVariants.{Free, Claimed}
@@ -42,10 +43,10 @@ alone-apart w o x y x_in y_in nx ny same al =
 pub one-less-shows : (w : World) (x word i : ℕ) (st : State) (al : ℕ → Bool) → IsOccupancyWord word
     → ((j : ℕ) → get_or (occupancy_of word).occupied j false ≡ w.occupied (record { core = core_of w x; index = j }))
     → (occupancy_of word).closed ≡ w.closed (core_of w x) → (occupancy_of word).exclusive ≡ al (core_of w x)
-    → (w.at x).index ≡ i → i < 56 → get_or (occupancy_of word).occupied i false ≡ true
-    → ShowsWord (occupying_world w x st false al) (core_of w x) (word - (2 ^ i + 2 ^ 56))
+    → (w.at x).index ≡ i → i < MASK_BITS → get_or (occupancy_of word).occupied i false ≡ true
+    → ShowsWord (occupying_world w x st false al) (core_of w x) (word - (2 ^ i + 2 ^ MASK_BITS))
 one-less-shows w x word i st al packed occupied closed exclusive at_i i_in full =
-    let less : ℕ = word - (2 ^ i + 2 ^ 56) in
+    let less : ℕ = word - (2 ^ i + 2 ^ MASK_BITS) in
     let m : HasOneMore less i word = has_one_less word i packed i_in full in
     let c : ℕ = core_of w x in
     record {
@@ -65,12 +66,12 @@ one-less-shows w x word i st al packed occupied closed exclusive at_i i_in full 
 
 -- what a release takes away from the word of its core
 abbrev pub less_by : Carried → ℕ → ℕ
-less_by g word = (if g.alone then word - 2 ^ 63 else word) - (2 ^ g.place.index + 2 ^ 56)
+less_by g word = (if g.alone then word - 2 ^ 63 else word) - (2 ^ g.place.index + 2 ^ MASK_BITS)
 
 module _ {T : Type 0} (tag_in : T → ℕ) (bits : ℕ) (w : World) (d : ℕ → Phase) (b : Board T) (s : Shows tag_in bits w d b)
     (h weight : ℕ) (k : Known) (mine : get_elem? b.views h ≡ opt.some (held weight k)) where
   less-here : (q : Bool) (x : ℕ) (st : State) → IsContext w x → w.alone (core_of w x) ≡ q → (w.state x ≡ Free → ⊥)
-      → ShowsWord (occupying_world w x st false (with_at w.alone (core_of w x) false)) (core_of w x) ((if q then b.occ (core_of w x) - 2 ^ 63 else b.occ (core_of w x)) - (2 ^ (w.at x).index + 2 ^ 56))
+      → ShowsWord (occupying_world w x st false (with_at w.alone (core_of w x) false)) (core_of w x) ((if q then b.occ (core_of w x) - 2 ^ 63 else b.occ (core_of w x)) - (2 ^ (w.at x).index + 2 ^ MASK_BITS))
   less-here true x st x_in al n =
       let c : ℕ = core_of w x in
       let old = s.cores c (s.owned.placed x x_in).0 in
@@ -113,9 +114,9 @@ module _ {T : Type 0} (tag_in : T → ℕ) (bits : ℕ) (w : World) (d : ℕ →
       let at_home : (d x).away ≡ false = sym (ap (λ (r : Carried). r.away) is.1) ∙ home in
       let shown : (d x).shown ≡ w.at x = subst (λ (t : State). Coherent t (w.at x) (d x)) claimed old.coherent has_name in
       let now : v.state x ≡ Free = with_at-same w.state x Free in
-      let here_word : a.occ c ≡ (if w.alone c then b.occ c - 2 ^ 63 else b.occ c) - (2 ^ (w.at x).index + 2 ^ 56) =
+      let here_word : a.occ c ≡ (if w.alone c then b.occ c - 2 ^ 63 else b.occ c) - (2 ^ (w.at x).index + 2 ^ MASK_BITS) =
       ap a.occ core ∙ with_at-same b.occ g.place.core (less_by g (b.occ g.place.core))
-      ∙ (λ i. (if alone i then b.occ (place i).core - 2 ^ 63 else b.occ (place i).core) - (2 ^ (place i).index + 2 ^ 56)) in (
+      ∙ (λ i. (if alone i then b.occ (place i).core - 2 ^ 63 else b.occ (place i).core) - (2 ^ (place i).index + 2 ^ MASK_BITS)) in (
         may,
         occupying tag_in bits w x Free false (with_at w.alone c false) d d b a h weight k k' s x_in
             (record {
@@ -171,10 +172,10 @@ module _ {T : Type 0} (tag_in : T → ℕ) (bits : ℕ) (w : World) (d : ℕ →
       )
 
 -- what a release takes away is in the word
-pub holds-index : (w i : ℕ) → IsOccupancyWord w → get_or (occupancy_of w).occupied i false ≡ true → 2 ^ i + 2 ^ 56 ≤ w
+pub holds-index : (w i : ℕ) → IsOccupancyWord w → get_or (occupancy_of w).occupied i false ≡ true → 2 ^ i + 2 ^ MASK_BITS ≤ w
 holds-index w i packed full = omega (arith, one_less (occupancy_of w) i full, packed)
 
-pub holds-flag : (w i : ℕ) → IsOccupancyWord w → get_or (occupancy_of w).occupied i false ≡ true → (occupancy_of w).exclusive ≡ true → 2 ^ 63 + (2 ^ i + 2 ^ 56) ≤ w
+pub holds-flag : (w i : ℕ) → IsOccupancyWord w → get_or (occupancy_of w).occupied i false ≡ true → (occupancy_of w).exclusive ≡ true → 2 ^ 63 + (2 ^ i + 2 ^ MASK_BITS) ≤ w
 holds-flag w i packed full flag =
     let c : Occupancy = occupancy_of w in
     omega (arith, mask_of-clear c.occupied i full, count_of-clear c.occupied i full, packed, ap bit flag)

@@ -6,6 +6,7 @@ use mathlib.Core.Option.{some}
 use lib.ListN.{get_elem?}
 use Rattle.atomic_table.specs.Table.{Act, keeps, stepped, homes_after}
 use Rattle.atomic_table.proofs.Lists.{set_here}
+use Rattle.arachne_core.specs.declared.layout.TheConstants.{SLOTS}
 use Rattle.arachne_core.specs.declared.place.Place.{Place}
 use Rattle.arachne_core.specs.declared.event.Event.{Event}
 use Rattle.arachne_core.specs.declared.event.Event.TheVariants as event
@@ -90,7 +91,7 @@ module _ {T : Type 0} (tag_in : T → ℕ) (bits : ℕ) (shape : Shape) (s : Tab
       (same_board tag_in bits shape (after w e) d (record b { occ = with_at b.occ c new; views = set s.views id (held weight k'') }) (board_of n (stepped s (occ_index n c) new id l (held weight k'') keeps))
       (z.0 ∙ hs.fits.cores) (z.1 ∙ hs.fits.slots)
       (writes (after w e) d (record b { occ = with_at b.occ c new }) k' k'' refl refl refl shows)
-      (core-steps shape s c new id l (held weight k'') hs.fits.words c_in (subst (λ (m : ℕ). m ≤ 56) hs.fits.slots hs.shows.fits.1)))
+      (core-steps shape s c new id l (held weight k'') hs.fits.words c_in (subst (λ (m : ℕ). m ≤ SLOTS) hs.fits.slots hs.shows.fits.1)))
 
   -- a mark word and slots change
   pub mark-made : (kind : Kind) (x new : ℕ) (l : List (ℕ × Option T)) (act : Act (Option T)) (e : Event) (d : ℕ → Phase) (k' : Known) (home : ℕ → opt.Option (opt.Option (Option T)))
@@ -122,7 +123,7 @@ module _ {T : Type 0} (tag_in : T → ℕ) (bits : ℕ) (shape : Shape) (s : Tab
       (same_board tag_in bits shape (after w e) d (record b { name = with_name b.name p new; home = home; views = set s.views id (held weight k'') }) (board_of n (stepped s (name_index n p) new id l (held weight k'') act))
       (z.0 ∙ hs.fits.cores) (z.1 ∙ hs.fits.slots)
       (writes (after w e) d (record b { name = with_name b.name p new; home = home }) k' k'' refl refl refl shows)
-      (name-steps shape s p new id l (held weight k'') act home hs.fits.words p_in (subst (λ (m : ℕ). m ≤ 56) hs.fits.slots hs.shows.fits.1) homes))
+      (name-steps shape s p new id l (held weight k'') act home hs.fits.words p_in (subst (λ (m : ℕ). m ≤ SLOTS) hs.fits.slots hs.shows.fits.1) homes))
 
 -- where a proposition is told of a seat as it stands, and the number of slots and the word are the table's own
 pub for-seat : {T : Type 0} (P : ℕ → ℕ → Mine T → Type 0) (slots i m j : ℕ) (me : Mine T) → slots ≡ m → i ≡ j → IsLive me → P m j (held me.0.weight me.0.known, me.1) → P slots i me

@@ -1,6 +1,7 @@
 //! Tables, by public calls: each form gives each row.
 ghost use Rattle.std.specs.Prelude.{ℕ};
 
+mod carriers;
 mod contention;
 mod rows;
 mod sizes;

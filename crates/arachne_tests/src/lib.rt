@@ -1,4 +1,5 @@
-//! Tests of the crates below the commands, by public calls alone, a module for each crate. What they test is proved without them.
+//! Tests of the crates below the commands, by public calls alone, a module for each crate. What they test is proved
+//! without them.
 #![tactic(auto)]
 
 #[cfg(test)]
@@ -15,3 +16,5 @@ mod policy;
 mod pure_core;
 #[cfg(test)]
 mod sleep;
+#[cfg(test)]
+mod spill;

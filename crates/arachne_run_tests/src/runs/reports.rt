@@ -1,7 +1,7 @@
 //! More threads than places.
 use super::facts::{Fact, Telling, number};
 use super::rows::{MACHINES, Row, rows_hold};
-use super::{FORMS, Form, Source, answer, checked, setup_of, text_of};
+use super::{FORMS, Form, Machine, Source, answer, checked, setup_of, text_of};
 use crate::choosers::{SPREAD, ZEROS};
 use crate::gates::{Watch, Watching};
 use arachne_run::RunFault;
@@ -79,30 +79,38 @@ fn threads_may_be_more_than_places(rt: HostRuntime) -> Result<(), Fail> {
     rows_hold(&rt, rt.alloc(), ROWS)
 }
 
-/// What the chain comes to on one core of so many places: its value, its threads and how many of them ran in place, or why it didn't run.
+/// What the chain comes to: its value, its threads and how many of them ran in place, or why it didn't run.
 type Chained = Result<(u64, u64, u64), RunFault>;
 
-/// On one core of three places three threads have one, and the others run in place. A core has 1 to 56.
-const FEW_PLACES: &[(u64, Chained)] = &[
-    (1, Ok((61, 61, 60))),
-    (3, Ok((61, 61, 58))),
-    (55, Ok((61, 61, 6))),
-    (56, Ok((61, 61, 5))),
-    (0, Err(RunFault::Slots)),
-    (57, Err(RunFault::Slots)),
-    (u64::MAX, Err(RunFault::Slots)),
+/// The chain on machines whose cores have so many places, 1 to 56 each. On one core of three places three threads have
+/// one, and the others run in place. Of several faults of a setup that of its cores is answered first, then those of
+/// its quantum, its places and its choosers.
+const FEW_PLACES: &[(Machine, u64, Chained)] = &[
+    ((1, 100, 1), 1, Ok((61, 61, 60))),
+    ((1, 100, 1), 3, Ok((61, 61, 58))),
+    ((1, 100, 1), 55, Ok((61, 61, 6))),
+    ((1, 100, 1), 56, Ok((61, 61, 5))),
+    ((1, 100, 1), 0, Err(RunFault::Slots)),
+    ((1, 100, 1), 57, Err(RunFault::Slots)),
+    ((1, 100, 1), u64::MAX, Err(RunFault::Slots)),
+    ((0, 0, 1), 0, Err(RunFault::Cores)),
+    ((1, 0, 2), 0, Err(RunFault::Quantum)),
+    ((1, 100, 2), 0, Err(RunFault::Slots)),
+    ((4, 100, 3), 57, Err(RunFault::Slots)),
+    ((1, 100, 2), 56, Err(RunFault::Choosers)),
 ];
 
-/// Runs the chain on one core of so many places.
+/// Runs the chain on a machine whose cores have so many places.
 fn chained<R: Threads + Wait + Sync>(
     rt: &R,
     alloc: Global,
     form: Form,
+    machine: Machine,
     slots: u64,
 ) -> Result<Chained, Fail> {
     let text = text_of(alloc, &CHAIN)?;
     let program = checked(alloc, text.as_bytes())?;
-    let (mut setup, choosers) = setup_of(alloc, (1, 100, 1), ZEROS, &[])?;
+    let (mut setup, choosers) = setup_of(alloc, machine, ZEROS, &[])?;
     setup.slots = slots;
     let watch = Watch::new(Watching::Nothing);
     match answer(rt, alloc, &program, form, setup, choosers, &watch) {
@@ -118,9 +126,9 @@ fn chained<R: Threads + Wait + Sync>(
 #[test]
 fn cores_have_as_many_places_as_asked(rt: HostRuntime) -> Result<(), Fail> {
     for &form in FORMS {
-        for &(slots, expected) in FEW_PLACES {
-            let found = chained(&rt, rt.alloc(), form, slots)?;
-            assert_eq!(rt; found, expected, "{slots} places");
+        for &(machine, slots, expected) in FEW_PLACES {
+            let found = chained(&rt, rt.alloc(), form, machine, slots)?;
+            assert_eq!(rt; found, expected, "{machine:?}: {slots} places");
         }
     }
     Ok(())

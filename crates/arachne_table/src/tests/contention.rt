@@ -13,8 +13,8 @@ use std::thread::Threads;
 
 const ROUNDS: u64 = 10_000;
 
-/// What a thread has done: its seat, twice the tag of each thread that it has posted, twice the tag and 1 of each that it has ended, and
-/// how many it has posted and moved.
+/// What a thread has done: its seat, twice the tag of each thread that it has posted, twice the tag and 1 of each that
+/// it has ended, and how many it has posted and moved.
 #[derive(Drop)]
 struct Work<S> {
     seat: S,
@@ -23,12 +23,24 @@ struct Work<S> {
     moved: u64,
 }
 
-/// Whether all is settled, how many threads each of two kernel threads has posted, and how many were moved.
+/// How many threads were posted and have ended or are left, once each, or none if there is one that wasn't; how many
+/// each of two kernel threads has posted, and how many were moved.
 #[derive(Clone, Copy)]
 struct Outcome {
-    settled: bool,
+    settled: Option<usize>,
     posted: (u64, u64),
     moved: u64,
+}
+
+impl Outcome {
+    /// Both kernel threads have posted threads, and each that they have counted is settled.
+    fn is_settled(&self) -> bool {
+        let (first, second) = self.posted;
+        let Some(settled) = self.settled else {
+            return false;
+        };
+        first > 0 && second > 0 && settled as u64 == first.wrapping_add(second)
+    }
 }
 
 type Words = WordContexts<Job>;
@@ -109,8 +121,9 @@ fn end_all<C: Contexts<Job>, R: Wait>(
     Some(ended)
 }
 
-/// What a kernel thread does in each round, on a table of so many cores: it posts one thread on the last core. If it moves,
-/// it then closes core 1, moves what is there to core 0, and opens it. It ends what is ready on the cores from one on.
+/// What a kernel thread does in each round, on a table of so many cores: it posts one thread on the last core. If it
+/// moves, it then closes core 1, moves what is there to core 0, and opens it. It ends what is ready on the cores from
+/// one on.
 #[derive(Clone, Copy)]
 struct Part {
     cores: u8,
@@ -201,19 +214,22 @@ fn work_side_by_side<R: Threads + Wait + Sync>(
     Some((first?, second?))
 }
 
-/// Adds the ends of the threads that are left to what was noted of both kernel threads. Whether each tag that was posted was ended or is
-/// left, once.
-fn is_settled(
+/// Adds the ends of the threads that are left to what was noted of both kernel threads. How many tags there are, if
+/// each was posted, and was ended or is left, once.
+fn settled(
     mut log: Vec<u64>,
     other: Vec<u64>,
     left: Vec<(ThreadId, Job)>,
-) -> Result<bool, Fail> {
+) -> Result<Option<usize>, Fail> {
     log.extend(other)?;
     for (_, job) in left {
         log.push(ended(&job))?;
     }
     log.sort()?;
-    Ok(log.chunks(2).all(|pair| is_pair(pair)))
+    if log.chunks(2).all(|pair| is_pair(pair)) {
+        return Ok(Some(log.len() / 2));
+    }
+    Ok(None)
 }
 
 /// A thread was posted and ended.
@@ -270,7 +286,7 @@ fn contend<R: Threads + Wait + Sync>(
     let moved = first.moved.wrapping_add(second.moved);
     let left = left(alloc, table, first.seat, second.seat).ok_or("not closed")?;
     Ok(Outcome {
-        settled: is_settled(first.log, second.log, left)?,
+        settled: settled(first.log, second.log, left)?,
         posted,
         moved,
     })
@@ -279,15 +295,13 @@ fn contend<R: Threads + Wait + Sync>(
 #[test]
 fn two_threads_on_one_core_of_words(rt: HostRuntime) -> Result<(), Fail> {
     let outcome = contend(&rt, rt.alloc(), 1, false)?;
-    assert!(rt; outcome.settled && outcome.posted.0 > 0 && outcome.posted.1 > 0);
+    assert!(rt; outcome.is_settled());
     Ok(())
 }
 
 #[test]
 fn two_threads_one_of_which_moves_words(rt: HostRuntime) -> Result<(), Fail> {
     let outcome = contend(&rt, rt.alloc(), 2, true)?;
-    assert!(rt;
-        outcome.settled && outcome.posted.0 > 0 && outcome.posted.1 > 0 && outcome.moved > 0
-    );
+    assert!(rt; outcome.is_settled() && outcome.moved > 0);
     Ok(())
 }

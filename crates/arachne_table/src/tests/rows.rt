@@ -24,8 +24,8 @@ enum Spend {
     Ready,
 }
 
-/// What the step answers that gets a claim or a thread, the steps while that is out, how it is spent, and what that answers.
-/// Where none is got, that is all.
+/// What the step answers that gets a claim or a thread, the steps while that is out, how it is spent, and what that
+/// answers. Where none is got, that is all.
 struct Use {
     got: Answer,
     steps: Rows,
@@ -33,15 +33,16 @@ struct Use {
     spent: Answer,
 }
 
-/// A part of a run: steps with nothing out, a place that is claimed on a core, or the whole core, or the thread at a core's index.
+/// A part of a run: steps with nothing out, a place that is claimed on a core, or the whole core, or the thread at a
+/// core's index.
 enum Part {
     Steps(Rows),
     Claim(u8, bool, Use),
     Thread(u8, u8, Use),
 }
 
-/// The cores of a run's table, the generation that its contexts begin with, its parts, and where that is looked at what is left at the end:
-/// each thread's context, its generation and its tag.
+/// The cores of a run's table, the generation that its contexts begin with, its parts, and where that is looked at what
+/// is left at the end: each thread's context, its generation and its tag.
 struct Run {
     cores: u8,
     slots: u8,

@@ -98,8 +98,8 @@ fn pass<C: Contexts<Job>, R: Wait>(
     Some(())
 }
 
-/// On one core whose contexts begin at the last generation, a thread passes through each. Its word then, its word once the core is
-/// closed, and whether it is drained.
+/// On one core whose contexts begin at the last generation, a thread passes through each. Its word then, its word once
+/// the core is closed, and whether it is drained.
 pub(super) fn spend_core<C: Contexts<Job> + Drop, R: Wait>(
     rt: &R,
     alloc: Global,

@@ -1,5 +1,6 @@
 use Rattle.std.proofs.Common.{ℕ, ◌/◌, ◌^◌, false, eqb, get_or, sym, ap, ◌∙◌}
 use Rattle.std.specs.Int.RustNames.{bit_and}
+use Rattle.arachne_core.specs.declared.layout.TheConstants.{MASK_BITS}
 use Rattle.arachne_core.specs.Occupancy.{Occupancy}
 use Rattle.std.proofs.lemmas.Nat.Bits.{shr_and_one}
 use Rattle.arachne_core.proofs.OccupancyWords.{get_or-flags}
@@ -9,4 +10,4 @@ pub returns : goal.returns
 returns c =
     let w = c.self.inside.word in
     ap (λ (k : ℕ). eqb (bit_and (w / 2 ^ k) 1) 1) c.from.ensures ∙ ap (λ (n : ℕ). eqb n 1) (shr_and_one w c.args.index)
-    ∙ sym (get_or-flags 56 w c.args.index c.requires) ∙ ap (λ (o : Occupancy). get_or o.occupied c.args.index false) c.self.view_is
+    ∙ sym (get_or-flags MASK_BITS w c.args.index c.requires) ∙ ap (λ (o : Occupancy). get_or o.occupied c.args.index false) c.self.view_is

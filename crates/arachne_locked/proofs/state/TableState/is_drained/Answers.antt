@@ -1,5 +1,6 @@
 use Rattle.std.proofs.Common.{ℕ, ◌<◌, ◌^◌, inl, inr, sym, subst, ◌∙◌}
 use Rattle.std.proofs.lemmas.Bool.{cases_lt, eq-eqb, eqb-true}
+use Rattle.arachne_core.specs.declared.layout.TheConstants.{MASK_BITS}
 use Rattle.arachne_core.specs.ContextTable.{world_of}
 use Rattle.arachne_locked.proofs.Words.{none_masked, all_free}
 use Rattle.arachne_locked.proofs.state.TableState.is_drained.Goals as goal
@@ -12,7 +13,7 @@ returns-then-is_closed g c =
         sym c.in-Some.ensures.some.1.closed ∙ sym c.is_closed.ensures ∙ c.if-is_closed.true,
         (λ i h. sym (c.in-Some.ensures.some.1.occupied i) ∙ none_masked o.occupied (sym c.mask.ensures.bits ∙ eqb-true c.mask.result 0 t) i),
       ),
-      λ d. eq-eqb c.mask.result 0 (c.mask.ensures.bits ∙ all_free 56 o.occupied (subst (λ (m : ℕ). m < 2 ^ 56) c.mask.ensures.bits c.mask.ensures.within) (λ i _. elim (cases_lt i (world_of c.args.self.now.table).slots) [
+      λ d. eq-eqb c.mask.result 0 (c.mask.ensures.bits ∙ all_free MASK_BITS o.occupied (subst (λ (m : ℕ). m < 2 ^ MASK_BITS) c.mask.ensures.bits c.mask.ensures.within) (λ i _. elim (cases_lt i (world_of c.args.self.now.table).slots) [
         | inl h ↦ c.in-Some.ensures.some.1.occupied i ∙ d.2 i h
         | inr h ↦ c.in-Some.ensures.beyond i h
       ])),
