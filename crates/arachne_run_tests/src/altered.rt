@@ -1,6 +1,8 @@
 //! A form of table behind a lock that can answer one call by itself.
 ghost use Rattle.std.specs.Prelude.{◌≡◌, IfOk, IfErr};
 ghost use Rattle.arachne_contexts.specs.Answers.{RestsAs};
+ghost use Rattle.arachne_contexts.specs.Out.{Thread as a_thread, Spends};
+ghost use Rattle.arachne_locked.specs.Seats.{HasCounted, CountsOut};
 
 use arachne_contexts::{Claimed, Contexts, Held, Moved, Rested, Seats, Tagged, Taken, Woken};
 use arachne_core::{Place, Rest, ThreadId};
@@ -38,7 +40,7 @@ impl<T: Tagged + Drop> Seats for Altered<T> {
 
     ghost sits = { λ table seat. Unit {0} };
 
-    ghost idle = { λ table seat. Unit {0} };
+    ghost idle = { λ table seat. HasCounted seat 0 };
 
     ghost weight = { λ seat. seat.weight };
 
@@ -84,7 +86,7 @@ impl<T: Tagged + Drop> Contexts<T> for Altered<T> {
 
     type Hold = LockedHold;
 
-    ghost has = { λ table seat outs. Unit {0} };
+    ghost has = { λ table seat outs. CountsOut seat outs };
 
     fn look<R: Wait>(&self, rt: &R, seat: &mut LockedSeat, core: u8) -> u64 {
         self.inner.look(rt, seat, core)
@@ -157,6 +159,7 @@ impl<T: Tagged + Drop> Contexts<T> for Altered<T> {
     ) -> Result<Rested, Held<T, LockedHold>>
         ensures seat { Unit {0} }
         ensures weight { seat.new.weight ≡ seat.old.weight }
+        ensures out { Spends CountsOut (a_thread held.hold (T.tag_of held.value)) seat.old seat.new result }
         ensures answer { IfOk result (RestsAs rest) }
         ensures handed_back { IfErr result (λ back. back ≡ held) }
     {
@@ -171,6 +174,7 @@ impl<T: Tagged + Drop> Contexts<T> for Altered<T> {
     ) -> Result<T, Held<T, LockedHold>>
         ensures seat { Unit {0} }
         ensures weight { seat.new.weight ≡ seat.old.weight }
+        ensures out { Spends CountsOut (a_thread held.hold (T.tag_of held.value)) seat.old seat.new result }
         ensures value { IfOk result (λ value. value ≡ held.value) }
         ensures handed_back { IfErr result (λ back. back ≡ held) }
     {
@@ -213,9 +217,9 @@ impl<T: Tagged + Drop> Contexts<T> for Altered<T> {
         }
     }
 
-    ghost nothing_out = { λ table seat idle. tt };
+    ghost nothing_out = { λ table seat idle. idle };
 
-    ghost is_idle = { λ table seat none. tt };
+    ghost is_idle = { λ table seat none. none };
 
-    ghost swapped = { λ table seat first second outs has. tt };
+    ghost swapped = { λ table seat first second outs has. has };
 }

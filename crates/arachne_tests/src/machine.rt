@@ -510,7 +510,8 @@ fn begin<'p>(thread: &mut Thread<'p>, child: Thread<'p>) -> Result<Option<Thread
     }
 }
 
-const TWO_FORKS: &str = "(fork n (num 2) (fork n (num 3) (num 4) (add (var 0) (var 1))) (add (var 0) (var 1)))";
+const TWO_FORKS: &str =
+    "(fork n (num 2) (fork n (num 3) (num 4) (add (var 0) (var 1))) (add (var 0) (var 1)))";
 
 /// A thread refuses the first of two children while it awaits the second, which it then takes in its place. The first ends by itself, as one for which
 /// a place was found while it waited.

@@ -2,7 +2,7 @@ use Rattle.std.proofs.Common.{refl}
 use denote.Param.Send.{sendable}
 use Rattle.std.proofs.Crossing as std
 use Rattle.arachne_locked.proofs.locked.LockedContexts.TheSendSync as locked
-use Rattle.arachne_locked.proofs.locked.LockedSeat.TheSendSync as seat
+use Rattle.arachne_locked.proofs.seat.LockedSeat.TheSendSync as seat
 use Rattle.arachne_locked.proofs.tokens.LockedClaim.TheSendSync as claim
 use Rattle.arachne_locked.proofs.tokens.LockedHold.TheSendSync as hold
 use Rattle.arachne_machine.proofs.Crossing.{thread_send}
