@@ -91,6 +91,48 @@ fn cores_come_and_go(rt: HostRuntime) -> Result<(), Fail> {
     Ok(())
 }
 
+/// A thread that is to be alone, while only core 0, where the root is, and the cores from 41 on are open.
+const FAR: Row = Row {
+    shows: "a thread alone gets the first open core that is empty, however many cores there are",
+    source: ALONE,
+    forms: FORMS,
+    machines: &[(64, 100, 64)],
+    draws: ZEROS,
+    orders: &[],
+    watching: Watching::Cores,
+    facts: &[
+        (Fact::Value, 1),
+        (Fact::InPlace, 0),
+        (Fact::Cores, 1 << 41 | 1),
+        (Fact::Applied, 40),
+    ],
+    telling: Telling::Nothing,
+    told: "",
+};
+
+/// Releases of the cores from 1 on, so many, each due at once.
+fn releases(alloc: Global, count: u64) -> Result<Vec<CoreOrder>, AllocError> {
+    let mut orders = Vec::new(alloc);
+    for before in 0..count {
+        orders.push(CoreOrder {
+            after: 0,
+            kind: OrderKind::Release,
+            core: before + 1,
+        })?;
+    }
+    Ok(orders)
+}
+
+#[test]
+fn a_thread_alone_gets_a_core_among_the_last(rt: HostRuntime) -> Result<(), Fail> {
+    let alloc = rt.alloc();
+    let orders = releases(alloc, 40)?;
+    for &form in FORMS {
+        row_holds(&rt, alloc, &FAR, form, (64, 100, 64), orders.as_slice())?;
+    }
+    Ok(())
+}
+
 const ROWS: &[Row] = &[
     // The root forks while core 0 is full and the others are closed, so that children wait in its place. Once those are open
     // it forks one that is to be alone, which gets a core at once, and then another.

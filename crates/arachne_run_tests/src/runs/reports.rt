@@ -83,13 +83,14 @@ fn threads_may_be_more_than_places(rt: HostRuntime) -> Result<(), Fail> {
 type Chained = Result<(u64, u64, u64), RunFault>;
 
 /// The chain on machines whose cores have so many places, 1 to 56 each. On one core of three places three threads have
-/// one, and the others run in place. Of several faults of a setup that of its cores is answered first, then those of
-/// its quantum, its places and its choosers.
+/// one, and the others run in place; on 64 cores of two places all have one. Of several faults of a setup that of its
+/// cores is answered first, then those of its quantum, its places and its choosers.
 const FEW_PLACES: &[(Machine, u64, Chained)] = &[
     ((1, 100, 1), 1, Ok((61, 61, 60))),
     ((1, 100, 1), 3, Ok((61, 61, 58))),
     ((1, 100, 1), 55, Ok((61, 61, 6))),
     ((1, 100, 1), 56, Ok((61, 61, 5))),
+    ((64, 100, 64), 2, Ok((61, 61, 0))),
     ((1, 100, 1), 0, Err(RunFault::Slots)),
     ((1, 100, 1), 57, Err(RunFault::Slots)),
     ((1, 100, 1), u64::MAX, Err(RunFault::Slots)),
