@@ -13,7 +13,7 @@ use crate::wanted::{OutcomeReceiver, OutcomeSender, Wanted};
 use arachne_contexts::Tagged;
 use arachne_core::ThreadId;
 use arachne_lang::Program;
-use arachne_machine::{NotJoined, NotPlaced, Outcome, Pause, Pending, Thread};
+use arachne_machine::{NotJoined, NotPlaced, Outcome, Pause, Pending, Placing, Thread};
 use std::alloc::{AllocError, Global};
 use std::marker::Model;
 use std::snapshot::Snapshot;
@@ -76,10 +76,11 @@ impl<'p> RunJob for Job<'p> {
         self.thread.running_tag()
     }
 
-    fn slice(
+    fn slice<P: Placing>(
         &mut self,
         left: &mut u32,
         spares: &mut Spares<'p>,
+        places: &mut P,
     ) -> Result<Slice<Thread<'p>>, WorkerFault> {
         match self.thread.pending() {
             None => {}
@@ -91,7 +92,7 @@ impl<'p> RunJob for Job<'p> {
             Some(Pending::Asks(lock)) => return Ok(Slice::Awaits(lock)),
             _ => return Err(WorkerFault::Foreign),
         }
-        self.advance(left, spares)
+        self.advance(left, spares, places)
     }
 
     fn fork_off(
@@ -179,10 +180,11 @@ impl<'p> Job<'p> {
     }
 
     /// Goes on for at most as many steps as are left.
-    fn advance(
+    fn advance<P: Placing>(
         &mut self,
         left: &mut u32,
         spares: &mut Spares<'p>,
+        places: &mut P,
     ) -> Result<Slice<Thread<'p>>, WorkerFault>
         requires some { 1 ≤ left.old }
         requires going { IsGoing self.old.thread }
@@ -191,7 +193,7 @@ impl<'p> Job<'p> {
         ensures left { IfOk result (λ slice. IsLeft (λ j child. IsForking j.thread child) (λ j. pause_of j.thread) slice self.new) }
         ensures steps { IfOk result (λ slice. UsesSteps slice left.old left.new) }
     {
-        match self.thread.advance_within(left, &mut spares.threads)? {
+        match self.thread.advance_within(left, &mut spares.threads, places)? {
             Pause::Budget => Ok(Slice::Goes),
             Pause::Forks(class, child) => Ok(Slice::Forks(class, child)),
             Pause::Joins => {

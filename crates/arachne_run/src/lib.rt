@@ -11,6 +11,7 @@ mod job;
 mod locking;
 mod machine;
 mod offers;
+mod openings;
 mod placing;
 mod readiness;
 mod report;

@@ -13,6 +13,7 @@ use crate::wanted::OutcomeReceiver;
 use arachne_contexts::Tagged;
 use arachne_core::ThreadId;
 use arachne_lang::{Class, Program};
+use arachne_machine::Placing;
 use std::alloc::{AllocError, Global};
 
 /// Where a slice stops.
@@ -63,11 +64,13 @@ pub trait RunJob: Tagged + Drop {
     fn running_tag(&self) -> u64
         ensures { result ≡ running_tag_of self.now };
 
-    /// Goes on for at most as many steps as are left, of which fewer are left then. A thread that waits makes none.
-    fn slice(
+    /// Goes on for at most as many steps as are left, of which fewer are left then. A thread that waits makes none. A child
+    /// for which there is no place runs in this job's.
+    fn slice<P: Placing>(
         &mut self,
         left: &mut u32,
         spares: &mut Self::Spares,
+        places: &mut P,
     ) -> Result<Slice<Self::Child>, WorkerFault>
         requires { 1 ≤ left.old }
         ensures tag { Self.tag_of self.new ≡ Self.tag_of self.old }

@@ -13,6 +13,7 @@ use crate::machine::Machine;
 use crate::readiness::bit_of;
 use crate::reserve::Reserve;
 use crate::slice::{RunJob, Slice};
+use crate::openings::Openings;
 use crate::tags::Tags;
 use crate::tokens::Tokens;
 use crate::waking::Cause;
@@ -412,7 +413,14 @@ impl<'a, H: Wait, T: RunJob, C: Contexts<T>, R: Rng, G: Gate> Worker<'a, H, T, C
         ensures rest { IfOk result (λ rest. MatchOption rest (T.pause_of held.new.value ≡ Some pause.Ended) (λ rest. MayRest rest (T.pause_of held.new.value))) }
     {
         while *left > 0 {
-            match held.value.slice(left, &mut kit.spares)? {
+            let mut openings: Openings<'_, '_, H, T, C, R> = Openings {
+                cores: self.cores(),
+                shared: &self.machine.shared,
+                seat: &mut kit.tokens.seat,
+                chooser: &mut kit.chooser,
+                tags: &mut kit.tags,
+            };
+            match held.value.slice(left, &mut kit.spares, &mut openings)? {
                 Slice::Goes => {}
                 Slice::Forks(class, child) => self.fork(kit, held, class, child)?,
                 Slice::Blocks => {
