@@ -498,7 +498,7 @@ some_parent [] q e = cc
 some_parent (p ∷ ps) q e = cc
 
 -- there are no more lines below a thread than there are
-below_few : (ps : List Parent) (lines : List ThreadLine) (s place from p : ℕ) (below : List ThreadLine) → below ≡ below_at ps lines place → length below ≤ length lines
+pub below_few : (ps : List Parent) (lines : List ThreadLine) (s place from p : ℕ) (below : List ThreadLine) → below ≡ below_at ps lines place → length below ≤ length lines
 below_few [] lines s place from p below e = omega (arith, ap length e)
 below_few (q ∷ ps) lines s place from p below e = omega (arith, ap length e, ap length (take-append-drop (place + 1) lines), length-append (take (place + 1) lines) (drop (place + 1) lines))
 

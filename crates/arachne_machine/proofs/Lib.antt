@@ -6,7 +6,9 @@ pub mod Ranges
 pub mod Halves
 pub mod Frames
 pub mod Faultlessness
+pub mod Purity
 pub mod Outlooks
+pub mod Strides
 pub mod Renewing
 pub mod Openings
 pub mod Handings
@@ -15,6 +17,7 @@ pub mod Joining
 pub mod Soundness
 pub mod Here
 pub mod Levels
+pub mod Going
 pub mod Advancing
 pub mod Waiting
 pub mod Nesting

@@ -12,10 +12,10 @@ use std::mem::{replace, swap};
 
 /// How children begin in their parent's place, and how they are joined.
 impl<'p> State<'p> {
-    ghost use Rattle.std.specs.Prelude.{◌≡◌, ◌+◌, ◌≤◌, ◌∷◌, ◌++◌, ◌↔◌, [], length, vec_len, vec_capacity, Some, IsTrue, IfOk, OnOk, OnErr};
+    ghost use Rattle.std.specs.Prelude.{◌≡◌, ◌+◌, ◌≤◌, ◌<◌, ◌∷◌, ◌++◌, ◌↔◌, [], length, vec_len, vec_capacity, Some, IsTrue, IfOk, OnOk, OnErr};
     ghost use Rattle.arachne_machine.specs.declared.frame.Frame.TheVariants as frames;
     ghost use Rattle.arachne_machine.specs.declared.frame.Control.TheVariants as control;
-    ghost use Rattle.arachne_machine.specs.Steps.{Changes, HasLine, IsSame, pending_of, suspended, top};
+    ghost use Rattle.arachne_machine.specs.Steps.{Changes, HasLine, IsSame, OnValue, pending_of, suspended, top};
     ghost use Rattle.arachne_machine.specs.Suspended.{awaited};
     ghost use Rattle.arachne_machine.specs.declared.pause.Pending.TheVariants as pause;
     ghost use Rattle.arachne_machine.specs.Runs.{BeginsHere, Descends, HasParent, ResumesParent};
@@ -46,6 +46,7 @@ impl<'p> State<'p> {
         requires { HasLine self.old }
         ensures ok { OnOk result (BeginsHere self.old self.new number awaits.entry self.old.control) }
         ensures err { OnErr result (IsSame self.old self.new) }
+        ensures frames { OnErr result (self.new.frames ≡ self.old.frames) }
     {
         self.parents.try_reserve(1)?;
         let name = self.running_name().child(self.alloc, number)?;
@@ -106,6 +107,9 @@ impl<'p> State<'p> {
         requires parent { HasParent self.old }
         requires room { vec_len self.old.environment + 2 ≤ vec_capacity self.old.environment }
         ensures ok { IfOk result (λ progress. ResumesParent self.old value left.old progress left.new self.new) }
+        ensures fewer { left.new ≤ left.old }
+        ensures room { IfOk result (λ progress. OnValue progress (vec_len self.new.environment + 2 ≤ vec_capacity self.new.environment)) }
+        ensures nearer { IfOk result (λ progress. OnValue progress (vec_len self.new.frames + vec_len self.new.parents < vec_len self.old.frames + vec_len self.old.parents)) }
         ensures err { OnErr result (Changes self.old self.new self.old.environment.items self.old.frames.items (control.Give value)) }
     {
         if self.frames.try_reserve(1).is_err() {
@@ -124,7 +128,7 @@ impl<'p> State<'p> {
                 right,
                 reduction,
                 ..
-            } => Ok(self.result(reduction.operation().apply(value, right), left)),
+            } => Ok(self.hand_result(reduction.operation().apply(value, right), left)),
             _ => unreachable!(),
         }
     }

@@ -1,0 +1,744 @@
+-- What the steps of one thread do to a state.
+use Rattle.std.proofs.Common.{◌≡◌, ◌≤◌, ◌<◌, ℕ, ◌+◌, ◌-◌, ◌^◌, List, [], ◌∷◌, ◌++◌, length, length-append, Option, None, Some, inl, inr, refl, ap, sym, subst, ◌∙◌, arith, take, drop}
+use Rattle.std.specs.Prelude.{◌==◌, true, false, zero, suc, reverse, Result, Ok, Err, OnErr}
+use Rattle.std.specs.Borrow.{Bor}
+use Rattle.std.specs.Global.{Box}
+use Rattle.std.proofs.lemmas.Bool.{cases_lt}
+use Rattle.std.proofs.lemmas.List.{append-nil, drop-append-le, reverse-append, reverse-reverse, take-append-drop, take-append-le}
+use Rattle.std.proofs.Math.Seq.{drop-length}
+use Rattle.arachne_lang.specs.declared.program.Class.{Class}
+use Rattle.arachne_lang.specs.declared.program.Expr.{Expr}
+use Rattle.arachne_lang.specs.declared.program.Reduction.{Reduction}
+use Rattle.arachne_lang.specs.Program.{source_of, tree_of}
+use Rattle.arachne_lang.specs.Value.{apply, operation_of}
+use Rattle.arachne_lang.specs.Effects.{Child, tabulated}
+use Rattle.arachne_machine.specs.declared.frame.Stretch.{Stretch}
+use Rattle.arachne_machine.specs.declared.frame.Frame.{Frame}
+use Rattle.arachne_machine.specs.declared.frame.Frame.TheVariants.{JoinHere, MergeHere}
+use Rattle.arachne_machine.specs.declared.frame.Control.{Control}
+use Rattle.arachne_machine.specs.declared.frame.Control.TheVariants.{Begin, Give, Cover, Awaits, AwaitsHalf, Ended}
+use Rattle.arachne_machine.specs.declared.pause.Pending.{Pending}
+use Rattle.arachne_machine.specs.declared.pause.Pending.TheVariants as pause
+use Rattle.arachne_machine.specs.declared.state.State.{State}
+use Rattle.arachne_machine.specs.declared.state.Progress.{Progress}
+use Rattle.arachne_machine.specs.declared.state.Progress.TheVariants as part
+use Rattle.arachne_machine.specs.Account.{Account, untouched}
+use Rattle.arachne_machine.specs.declared.level.Parent.{Parent}
+use Rattle.arachne_machine.specs.declared.state.Own.{Own}
+use Rattle.arachne_machine.specs.Work.{work_of, task_work}
+use Rattle.arachne_machine.specs.Ending.{ending, stretch_task, unjoined_of, fork_awaited, forks_of}
+use Rattle.arachne_machine.specs.Strands.{Owned, Strand, Fits, owned_at, below_at}
+use Rattle.arachne_machine.specs.Sound.{AreSound, IsSound, IsSoundState, RunFor}
+use Rattle.arachne_machine.specs.Steps.{AfterSteps, OnValue, waiting, IsNotEnd, IsLeftOver, IsNew, PlacesChild, Becomes, Changes, CountsFork, GivesChild, Goes, HasLine, IsLineOf, IsNumbered, IsPopped, IsSame, IsSpawned, Pushes, LeavesOthers, Makes, PushesFork, Reaches, SpawnsChild, TurnsFold, TurnsSweep, Turns, giving, beginning, pending_of, task_begun, top, untagged, waiting_in, HasNotBegun, IsBeginning}
+use Rattle.arachne_machine.specs.Runs.{BeginsHere, Comes, JoinsHere, ResumesParent, FoldsOn, IsOneStep, IsPoppedIn, Runs, RunsOn, RunsToFork, RunsToPause, RunsWithin, HasParent, SweepsOn, beginning_in, current_in, giving_in, seen_in}
+use Rattle.arachne_machine.proofs.Frames.{length-forks_of}
+use Rattle.arachne_machine.proofs.Levels.{alone_waiting, awaiting_in, below_few, changes_leave, outer_start, runs_begins, runs_join_begins, runs_join_half, runs_on, runs_places, runs_top, top_becomes}
+use Rattle.arachne_machine.proofs.Here.{awaits_half, awaits_join, half_free, half_task, join_free, join_task}
+use Rattle.arachne_machine.proofs.Handings.{ends, is_not_zero, is_zero}
+use Rattle.arachne_machine.proofs.Outlooks.{as_it_is}
+use Rattle.arachne_machine.proofs.Soundness.{goes_nowhere, locks_unchanged, sound_child}
+use Rattle.arachne_machine.proofs.Renewing.{begins_new, begins_task, begins_faultless}
+
+-- a change that takes no frame away
+as_pushed : (old new : State) (env : List ℕ) (k : Control) → Changes old new env old.frames.items k → Changes old new env (old.frames.items ++ []) k
+as_pushed old new env k c = record {
+  program = c.program;
+  own = c.own;
+  lines = c.lines;
+  sums = c.sums;
+  parents = c.parents;
+  level = c.level;
+  environment_is = c.environment_is;
+  frames_are = c.frames_are ∙ sym (append-nil old.frames.items);
+  control_is = c.control_is;
+}
+
+-- what changes in the innermost where no frame does
+pub top_same : (old new : State) (env : List ℕ) (k : Control) → Changes old new env old.frames.items k → old.level.start ≤ length old.frames.items → Becomes (top old) (top new) env (top old).frames k
+top_same old new env k c le =
+    let b = top_becomes old new env [] k (as_pushed old new env k c) le in
+    record {
+      program = b.program;
+      own = b.own;
+      below = b.below;
+      forks = b.forks;
+      environment_is = b.environment_is;
+      frames_are = b.frames_are ∙ append-nil (top old).frames;
+      control_is = b.control_is;
+    }
+
+pub leaves_same : (old new : State) (env : List ℕ) (k : Control) → Changes old new env old.frames.items k → old.level.start ≤ length old.frames.items → LeavesOthers old new
+leaves_same old new env k c le = changes_leave old new env [] k (as_pushed old new env k c) le
+
+pub start_same : (old new : State) (env : List ℕ) (k : Control) → Changes old new env old.frames.items k → old.level.start ≤ length old.frames.items → new.level.start ≤ length new.frames.items
+start_same old new env k c le = omega (arith, le, ap (λ x. x.start) c.level, ap length c.frames_are)
+
+-- what comes next of the innermost is no other's
+pub leaves_seen : (old new : State) (p : Progress) → LeavesOthers old (seen_in p new) → LeavesOthers old new
+leaves_seen old new (part.Value value) l = record { program = l.program; own = l.own; lines = l.lines; sums = l.sums; parents = l.parents; start = l.start; place = l.place; frames = l.frames; more = l.more }
+leaves_seen old new (part.Begin expr) l = record { program = l.program; own = l.own; lines = l.lines; sums = l.sums; parents = l.parents; start = l.start; place = l.place; frames = l.frames; more = l.more }
+leaves_seen old new part.Goes l = l
+leaves_seen old new part.Stops l = l
+leaves_seen old new (part.Forks class child) l = l
+
+pub seen_leaves : (old new : State) (p : Progress) → LeavesOthers old new → LeavesOthers old (seen_in p new)
+seen_leaves old new (part.Value value) l = record { program = l.program; own = l.own; lines = l.lines; sums = l.sums; parents = l.parents; start = l.start; place = l.place; frames = l.frames; more = l.more }
+seen_leaves old new (part.Begin expr) l = record { program = l.program; own = l.own; lines = l.lines; sums = l.sums; parents = l.parents; start = l.start; place = l.place; frames = l.frames; more = l.more }
+seen_leaves old new part.Goes l = l
+seen_leaves old new part.Stops l = l
+seen_leaves old new (part.Forks class child) l = l
+
+-- one after another
+pub leaves_on : (a b c : State) → LeavesOthers a b → LeavesOthers b c → LeavesOthers a c
+leaves_on a b c l m = record {
+  program = m.program ∙ l.program;
+  own = m.own ∙ l.own;
+  lines = m.lines ∙ l.lines;
+  sums = m.sums ∙ l.sums;
+  parents = m.parents ∙ l.parents;
+  start = m.start ∙ l.start;
+  place = m.place ∙ l.place;
+  frames = subst (λ n. take n c.frames.items ≡ take n b.frames.items) l.start m.frames ∙ l.frames;
+  more = omega (arith, m.more, l.start);
+}
+
+-- The newest frame was taken from the innermost.
+pub leaves_popped : (before popped new : State) (f : Frame) → IsPoppedIn f before popped → popped.level.start ≤ length popped.frames.items → LeavesOthers popped new → LeavesOthers before new
+leaves_popped before popped new f pop le l =
+    let off = changes_leave popped before popped.environment.items (f ∷ []) popped.control pop le in
+    record {
+      program = l.program ∙ sym off.program;
+      own = l.own ∙ sym off.own;
+      lines = l.lines ∙ sym off.lines;
+      sums = l.sums ∙ sym off.sums;
+      parents = l.parents ∙ sym off.parents;
+      start = l.start ∙ sym off.start;
+      place = l.place ∙ sym off.place;
+      frames = subst (λ n. take n new.frames.items ≡ take n before.frames.items) (sym off.start) (l.frames ∙ sym off.frames);
+      more = omega (arith, l.more, off.start);
+    }
+
+pub top_popped : (before popped : State) (f : Frame) → IsPoppedIn f before popped → popped.level.start ≤ length popped.frames.items → IsPopped f (top before) (top popped)
+top_popped before popped f pop le = top_becomes popped before popped.environment.items (f ∷ []) popped.control pop le
+
+-- a fold or a sweep of the innermost goes on
+pub folds_top : (old new : State) (next end : ℕ) (body : Bor Expr) (so_far : ℕ) → FoldsOn old new next end body so_far → old.level.start ≤ length old.frames.items →
+    TurnsFold (top old) (top new) next end body so_far
+folds_top old new next end body so_far f le = record {
+  turn = λ lt. top_becomes old new _ _ _ (f.turn lt) le;
+  done = λ ge. top_same old new _ _ (f.done ge) le;
+}
+
+pub sweeps_top : (old new : State) (reduction : Reduction) (next end : ℕ) (body : Bor Expr) (so_far : ℕ) → SweepsOn old new reduction next end body so_far → old.level.start ≤ length old.frames.items →
+    TurnsSweep (top old) (top new) reduction next end body so_far
+sweeps_top old new reduction next end body so_far f le = record {
+  turn = λ lt. top_becomes old new _ _ _ (f.turn lt) le;
+  done = λ ge. top_same old new _ _ (f.done ge) le;
+}
+
+pub folds_leave : (old new : State) (next end : ℕ) (body : Bor Expr) (so_far : ℕ) → FoldsOn old new next end body so_far → old.level.start ≤ length old.frames.items → LeavesOthers old new
+folds_leave old new next end body so_far f le = elim (cases_lt next end) [
+  | inl lt ↦ changes_leave old new _ _ _ (f.turn lt) le
+  | inr ge ↦ leaves_same old new _ _ (f.done ge) le
+]
+
+pub sweeps_leave : (old new : State) (reduction : Reduction) (next end : ℕ) (body : Bor Expr) (so_far : ℕ) → SweepsOn old new reduction next end body so_far → old.level.start ≤ length old.frames.items →
+    LeavesOthers old new
+sweeps_leave old new reduction next end body so_far f le = elim (cases_lt next end) [
+  | inl lt ↦ changes_leave old new _ _ _ (f.turn lt) le
+  | inr ge ↦ leaves_same old new _ _ (f.done ge) le
+]
+
+-- Where the frames of the innermost begin, and where its line is.
+pub start_in : (t : State) → IsSoundState t → t.level.start ≤ length t.frames.items
+start_in t s = outer_start (reverse t.parents.items) t.level.start t.level.place (length t.frames.items) (length t.lines) s.fits
+
+line_of : (ps : List Parent) (start place frames lines : ℕ) → Fits ps start place frames lines → IsLineOf ps place lines
+line_of [] start place frames lines h = tt
+line_of (p ∷ ps) start place frames lines h = h.1
+
+pub line_in : (t : State) → IsSoundState t → HasLine t
+line_in t s = line_of (reverse t.parents.items) t.level.start t.level.place (length t.frames.items) (length t.lines) s.fits
+
+-- Steps of the innermost are the state's.
+pub runs_made : (had left beside : ℕ) (old new : State) → IsSoundState old → LeavesOthers old new → Makes had left beside (top old) (top new) → RunsOn had left beside old new
+runs_made had left beside old new s l m = record {
+  made = m.made;
+  fewer = m.fewer;
+  counted = m.counted;
+  runs = runs_top m.made old new s l m.goes.0 m.goes.2;
+  running = m.goes.1;
+}
+
+pub as_is : (t : State) → IsSame t t
+as_is t = record { program = refl; own = refl; lines = refl; sums = refl; parents = refl; level = refl; environment_is = refl; frames_are = refl; control_is = refl }
+
+pub runs_nothing : (had : ℕ) (a b : State) → IsSoundState a → IsSame a b → pending_of a.control ≡ None → RunsOn had had 0 a b
+runs_nothing had a b s same running =
+    let le = start_in a s in
+    let t = top_same a b _ _ same le in
+    record {
+      made = 0;
+      fewer = omega arith;
+      counted = omega arith;
+      runs = runs_top 0 a b s (leaves_same a b _ _ same le) (goes_nowhere (top a) (top b) t) (locks_unchanged (top a) (top b) t);
+      running = ap pending_of same.control_is ∙ running;
+    }
+
+-- further steps after those that were made
+pub runs_more : (had some left beside : ℕ) (a b c : State) → RunsOn had some 0 a b → RunsOn some left beside b c → RunsOn had left beside a c
+runs_more had some left beside a b c p q = record {
+  made = p.made + q.made;
+  fewer = omega (arith, p.fewer, q.fewer);
+  counted = omega (arith, p.counted, q.counted);
+  runs = runs_on p.made q.made a b c p.runs q.runs;
+  running = q.running;
+}
+
+pub comes_more : (had some left : ℕ) (a b : State) (p : Progress) (c : State) → RunsOn had some 0 a b → Comes some left b p c → Comes had left a p c
+comes_more had some left a b (part.Value value) c m r = runs_more had some left 0 a b (giving_in c value) m r
+comes_more had some left a b (part.Begin expr) c m r = runs_more had some left 1 a b (beginning_in c expr) m r
+comes_more had some left a b part.Goes c m r = (runs_more had some left 1 a b c m r.0, r.1)
+comes_more had some left a b part.Stops c m r =
+    (r.0, record { last = r.1.last; runs = runs_more had some left 0 a b r.1.last m r.1.runs; leaves = r.1.leaves; stops = r.1.stops; ended = r.1.ended })
+comes_more had some left a b (part.Forks class child) c m r = record {
+  last = r.last;
+  runs = runs_more had some left 0 a b r.last m r.runs;
+  leaves = r.leaves;
+  gives = r.gives;
+  sound = r.sound;
+  alone = r.alone;
+  sums = r.sums;
+}
+
+-- A step, with those that were made with it, is one of those that were left.
+pub runs_next : (had some left : ℕ) (a b c : State) → RunsOn had (some + 1) 0 a b → RunsOn some left 1 b c → RunsOn had left 0 a c
+runs_next had some left a b c m n = record {
+  made = m.made + n.made;
+  fewer = omega (arith, m.fewer, n.fewer);
+  counted = omega (arith, m.counted, n.counted);
+  runs = runs_on m.made n.made a b c m.runs n.runs;
+  running = n.running;
+}
+
+-- The innermost pauses.
+pub comes_stop : (had : ℕ) (a c : State) (next : Pending) → IsSoundState a → pending_of a.control ≡ None → LeavesOthers a c → (next ≡ pause.Ended → c.parents.items ≡ []) →
+    AfterSteps 1 (top a) (Some next) (top c) → Comes had had a part.Stops c
+comes_stop had a c next s running l ended stops = (next, record {
+  last = a;
+  runs = runs_nothing had a a s (as_is a) running;
+  leaves = l;
+  stops = stops;
+  ended = ended;
+})
+
+pub not_ended : (c : State) (next : Pending) → IsNotEnd next → next ≡ pause.Ended → c.parents.items ≡ []
+not_ended c next h e = absurd (subst IsNotEnd e h)
+
+-- What comes of a step of the innermost by itself comes of the state.
+pub comes_of : (had left : ℕ) (a : State) (p : Progress) (c : State) → IsSoundState a → pending_of a.control ≡ None → LeavesOthers a c → Reaches had left (top a) p (top c) → Comes had left a p c
+comes_of had left a (part.Value value) c s running l r = runs_made had left 0 a (giving_in c value) s (seen_leaves a c (part.Value value) l) r
+comes_of had left a (part.Begin expr) c s running l r = runs_made had left 1 a (beginning_in c expr) s (seen_leaves a c (part.Begin expr) l) r
+comes_of had left a part.Goes c s running l r = (runs_made had left 1 a c s l r.0, r.1)
+comes_of had left a part.Stops c s running l r =
+    subst (λ n. Comes had n a part.Stops c) (sym r.0) (comes_stop had a c r.1.0 s running l (not_ended c r.1.0 r.1.1) r.1.2)
+comes_of had left a (part.Forks class child) c s running l r = absurd r
+
+-- A frame was handed a value, which is the innermost's.
+pub comes_popped : (had left : ℕ) (before popped new : State) (f : Frame) (v : ℕ) (p : Progress) → IsSoundState before → IsPoppedIn f before (giving_in popped v) →
+    popped.level.start ≤ length popped.frames.items → LeavesOthers popped new →
+    ((t : Strand) → IsPopped f t (giving (top popped) v) → Reaches had left t p (top new)) → Comes had left before p new
+comes_popped had left before popped new f v p s pop le l made =
+    let m = giving_in popped v in
+    let from : LeavesOthers m new = record { program = l.program; own = l.own; lines = l.lines; sums = l.sums; parents = l.parents; start = l.start; place = l.place; frames = l.frames; more = l.more } in
+    comes_of had left before p new s (ap pending_of pop.control_is) (leaves_popped before m new f pop le from) (made (top before) (top_popped before m f pop le))
+
+-- A fork of the innermost.
+pub counts_top : (old new : State) (f : Frame) (k : Control) → CountsFork old new f k → old.level.start ≤ length old.frames.items → PushesFork (top old) (top new) f k
+counts_top old new f k c le = record {
+  program = c.program;
+  own = ap (λ x. owned_at x (reverse new.parents.items) new.lines new.level.place) c.own
+      ∙ ap (λ x. owned_at old.own (reverse x) new.lines new.level.place) c.parents
+      ∙ ap (λ x. owned_at old.own (reverse old.parents.items) x new.level.place) c.lines
+      ∙ ap (λ x. owned_at old.own (reverse old.parents.items) old.lines x.place) c.level;
+  below = ap (λ x. below_at (reverse x) new.lines new.level.place) c.parents
+      ∙ ap (λ x. below_at (reverse old.parents.items) x new.level.place) c.lines
+      ∙ ap (λ x. below_at (reverse old.parents.items) old.lines x.place) c.level;
+  forks = ap (λ x. x.forks) c.level;
+  environment = c.environment;
+  frames = ap (λ x. drop x.start new.frames.items) c.level ∙ ap (drop old.level.start) c.frames ∙ drop-append-le old.level.start old.frames.items (f ∷ []) le;
+  control_is = c.control_is;
+}
+
+pub counts_leave : (old new : State) (f : Frame) (k : Control) → CountsFork old new f k → old.level.start ≤ length old.frames.items → LeavesOthers old new
+counts_leave old new f k c le = record {
+  program = c.program;
+  own = c.own;
+  lines = c.lines;
+  sums = c.sums;
+  parents = c.parents;
+  start = ap (λ x. x.start) c.level;
+  place = ap (λ x. x.place) c.level;
+  frames = ap (take old.level.start) c.frames ∙ take-append-le old.level.start old.frames.items (f ∷ []) le;
+  more = omega (arith, le, ap length c.frames, length-append old.frames.items (f ∷ []));
+}
+
+-- its child will run here
+pub runs_place : (had : ℕ) (old new : State) (f : Frame) (k : Control) (made : Child) → IsSoundState old → CountsFork old new f k →
+    (PushesFork (top old) (top new) f k → PlacesChild 1 (top old) (top new) made) → RunsOn had had 1 old new
+runs_place had old new f k made s c placed =
+    let le = start_in old s in
+    let p = placed (counts_top old new f k c le) in
+    record {
+      made = 1;
+      fewer = omega arith;
+      counted = omega arith;
+      runs = runs_places old new made s (counts_leave old new f k c le) p;
+      running = p.pending;
+    }
+
+-- or it has a state of its own, and has not begun
+own_of : Own → Owned
+own_of own = record { name = own.name; label = own.label; holds = own.holds.items }
+
+child_top : (old child : State) (begins : Control) → IsSpawned old begins child → HasNotBegun old.program (own_of child.own) begins old.environment.items (top child)
+unfolding own_of
+child_top old child begins c =
+    let r = c.renewed in
+    record {
+      program_is = r.program_is;
+      own_is = ap (λ ps. owned_at child.own (reverse ps) child.lines child.level.place) r.parents;
+      below = ap (λ ps. below_at (reverse ps) child.lines child.level.place) r.parents ∙ r.lines;
+      forks = ap (λ x. x.forks) r.level;
+      environment_is = r.environment_is;
+      frames = ap (λ x. drop x.start child.frames.items) r.level ∙ r.frames;
+      control_is = r.control_is;
+    }
+
+pub spawned_top : (old new child : State) (begins : Control) (f : Frame) (k : Control) → IsBeginning begins → CountsFork old new f k → IsSpawned old begins child → old.level.start ≤ length old.frames.items →
+    SpawnsChild (top old) (top new) (top child) begins f k
+unfolding own_of
+spawned_top old new child begins f k beginning c spawned le =
+    let t = child_top old child begins spawned in
+    let fresh = begins_new old.program (own_of child.own) begins old.environment.items (top child) beginning spawned.holds t in
+    record {
+      pushed = counts_top old new f k c le;
+      fresh = subst (λ n. IsNew old.program.now n untagged (task_begun begins old.environment.items) (top child)) spawned.named
+          (subst (λ l. IsNew old.program.now child.own.name l (task_begun begins old.environment.items) (top child)) spawned.label fresh);
+      begun = begins_task old.program (own_of child.own) begins old.environment.items (top child) t;
+      faultless = begins_faultless old.program (own_of child.own) begins old.environment.items (top child) t;
+    }
+
+child_sound : (old child : State) (begins : Control) → IsSpawned old begins child → IsSound (top child) untouched → IsSoundState child
+child_sound old child begins c sound =
+    let r = c.renewed in
+    let none = alone_waiting child r.parents in
+    record {
+      sums_of = λ ledger. 0;
+      sums = c.sums ∙ ap (λ p. tabulated p.now.ledgers (λ ledger. 0)) (sym r.program_is);
+      sound = subst (λ ts. AreSound (top child ∷ ts) (λ ledger. 0)) (sym none) (untouched, (λ ledger. 0), sound, (λ ledger. refl), λ ledger. refl);
+      run_for = subst (RunFor (top child)) (sym none) tt;
+      fits = subst (λ ps. Fits (reverse ps) child.level.start child.level.place (length child.frames.items) (length child.lines)) (sym r.parents) (ap (λ x. x.start) r.level);
+      few = omega (arith, ap length r.lines);
+    }
+
+pub comes_fork : (had : ℕ) (old new : State) (child : Box State) (class : Class) (begins : Control) (f : Frame) (k : Control) → IsSoundState old → pending_of old.control ≡ None → IsBeginning begins →
+    CountsFork old new f k → IsSpawned old begins child.value →
+    (SpawnsChild (top old) (top new) (top child.value) begins f k →
+    GivesChild 1 (top old) (top new) (top child.value) (record { class = class; task = task_begun child.value.control child.value.environment.items })) →
+    Comes had had old (part.Forks class child) new
+comes_fork had old new child class begins f k s running beginning c spawned gives =
+    let le = start_in old s in
+    let g = gives (spawned_top old new child.value begins f k beginning c spawned le) in
+    record {
+      last = old;
+      runs = runs_nothing had old old s (as_is old) running;
+      leaves = counts_leave old new f k c le;
+      gives = g;
+      sound = child_sound old child.value begins spawned (sound_child 1 (top old) (top new) (top child.value) _ s.sound.0 s.sound.2 g);
+      alone = spawned.renewed.parents;
+      sums = spawned.sums;
+    }
+
+-- The number of a fork fits.
+pub number_fits : (t : State) → IsSoundState t → fork_awaited t.control ≡ [] → length t.frames.items < 2 ^ 63 → t.level.forks + 1 < 2 ^ 64
+number_fits t s none small =
+    let numbered = s.sound.2.numbered in
+    let below = below_few (reverse t.parents.items) t.lines t.level.start t.level.place 0 0 (top t).below refl in
+    let forks = length-forks_of (top t).frames in
+    let unjoined : length (unjoined_of (top t)) ≡ length (forks_of (top t).frames) = ap (λ l. length (l ++ forks_of (top t).frames)) none in
+    let frames = ap length (take-append-drop t.level.start t.frames.items) in
+    omega (arith, numbered.0, below, forks, unjoined, frames, length-append (take t.level.start t.frames.items) (drop t.level.start t.frames.items), s.few, small)
+
+-- The child that a frame joins begins here.
+begins_giving : (old new : State) (v number : ℕ) (awaits begins : Control) → BeginsHere old new number awaits begins → BeginsHere (giving_in old v) new number awaits begins
+begins_giving old new v number awaits begins b = record {
+  program = b.program;
+  own = b.own;
+  sums = b.sums;
+  environment = b.environment;
+  frames = b.frames;
+  parents = b.parents;
+  level = b.level;
+  line = b.line;
+  lines = b.lines;
+  named = b.named;
+  holds = b.holds;
+  ran = b.ran;
+  few = b.few;
+  control_is = b.control_is;
+}
+
+goes_first : (k : Control) → IsBeginning k → pending_of k ≡ None
+goes_first (Begin expr) h = refl
+goes_first (Cover stretch) h = refl
+goes_first _ h = absurd h
+
+-- what comes next alone is given
+pub begins_as : (old new : State) (number : ℕ) (awaits begins other : Control) → BeginsHere old new number awaits begins → BeginsHere old (record new { control = other }) number awaits other
+begins_as old new number awaits begins other b = record {
+  program = b.program;
+  own = b.own;
+  sums = b.sums;
+  environment = b.environment;
+  frames = b.frames;
+  parents = b.parents;
+  level = b.level;
+  line = b.line;
+  lines = b.lines;
+  named = b.named;
+  holds = b.holds;
+  ran = b.ran;
+  few = b.few;
+  control_is = refl;
+}
+
+awaiting_becomes : (t : State) (v : ℕ) (k : Control) → Becomes (giving (top t) v) (awaiting_in t k) (giving (top t) v).environment (giving (top t) v).frames k
+awaiting_becomes t v k = record { program = refl; own = refl; below = refl; forks = refl; environment_is = refl; frames_are = refl; control_is = refl }
+
+pub comes_join_here : (had v number : ℕ) (before old new : State) (child next : Bor Expr) → IsSoundState before → IsPoppedIn (JoinHere number child next) before (giving_in old v) →
+    old.level.start ≤ length old.frames.items → BeginsHere old new number (Awaits number v next) old.control → Comes had had before (part.Begin child) new
+comes_join_here had v number before old new child next s popped le b =
+    let f = JoinHere number child next in
+    let off = top_popped before (giving_in old v) f popped le in
+    let mid = giving (top old) v in
+    record {
+      made = 1;
+      fewer = omega arith;
+      counted = omega arith;
+      runs = runs_begins before (giving_in old v) (beginning_in new child) f number (work_of (source_of old.program.now).arrays (tree_of child.now) old.environment.items)
+          (Awaits number v next) (Begin child) s le popped (begins_giving old (beginning_in new child) v number _ _ (begins_as old new number _ _ (Begin child) b)) tt
+          (awaits_join (top before) mid (awaiting_in old (Awaits number v next)) v number child next off refl (awaiting_becomes old v (Awaits number v next))) refl
+          (join_task (top before) mid v number child next off refl s.sound.2.keeps)
+          (join_free (top before) mid v number child next off refl);
+      running = refl;
+    }
+
+pub comes_half_here : (had v number : ℕ) (before old new : State) (left : Stretch) → IsSoundState before → IsPoppedIn (MergeHere number left) before (giving_in old v) →
+    old.level.start ≤ length old.frames.items → BeginsHere old new number (AwaitsHalf number v left.reduction) old.control → Comes had had before part.Goes (record new { control = Cover left })
+comes_half_here had v number before old new left s popped le b =
+    let f = MergeHere number left in
+    let off = top_popped before (giving_in old v) f popped le in
+    let mid = giving (top old) v in
+    let k = AwaitsHalf number v left.reduction in
+    let on : State = record new { control = Cover left } in
+    (record {
+      made = 1;
+      fewer = omega arith;
+      counted = omega arith;
+      runs = runs_begins before (giving_in old v) on f number (task_work (source_of old.program.now).arrays (stretch_task left old.environment.items))
+          k (Cover left) s le popped (begins_giving old on v number _ _ (begins_as old new number _ _ (Cover left) b)) tt
+          (awaits_half (top before) mid (awaiting_in old k) v number left off refl (awaiting_becomes old v k)) refl
+          (half_task (top before) mid v number left off refl s.sound.2.keeps)
+          (half_free (top before) mid v number left off refl);
+      running = refl;
+    }, tt)
+
+-- A child that ran here has ended.
+abbrev joins_as : (old new : State) (v : ℕ) (variables : List ℕ) (gs : List Frame) (k other : Control) → JoinsHere old new variables gs k →
+    JoinsHere (giving_in old v) (record new { control = other }) variables gs other
+joins_as old new v variables gs k other j = record {
+  program = j.program;
+  own = j.own;
+  sums = j.sums;
+  lines = j.lines;
+  parent = j.parent;
+  parents = j.parents;
+  level = j.level;
+  environment = j.environment;
+  frames_are = j.frames_are;
+  control_is = refl;
+}
+
+joined_on : (had left beside : ℕ) (old new : State) → Runs 1 old new → left ≤ had → left + 1 ≡ had + beside → pending_of new.control ≡ None → RunsOn had left beside old new
+joined_on had left beside old new r less counted running = record { made = 1; fewer = less; counted = counted; runs = r; running = running }
+
+pub comes_join : (old new : State) (v had left : ℕ) (p : Progress) → IsSoundState (giving_in old v) → length old.frames.items ≡ old.level.start → ResumesParent old v had p left new →
+    Comes had left (giving_in old v) p new
+comes_join old new v had left (part.Begin next) s long h =
+    joined_on had left 1 (giving_in old v) (beginning_in new next)
+    (runs_join_begins (giving_in old v) (beginning_in new next) v h.0 h.1 next s refl long (joins_as old new v _ _ _ (Begin next) h.2) h.3)
+    (omega (arith, h.4)) (omega (arith, h.4)) refl
+comes_join old new v had left (part.Value result) s long h =
+    let w = apply (operation_of h.2) v h.1 in
+    subst (λ x. RunsOn had left 0 (giving_in old v) (giving_in new x)) (sym h.5)
+    (joined_on had left 0 (giving_in old v) (giving_in new w)
+    (runs_join_half (giving_in old v) (giving_in new w) v h.0 h.1 h.2 s refl long (joins_as old new v _ _ _ (Give w) h.3) h.4)
+    (omega (arith, h.6)) (omega (arith, h.6)) refl)
+comes_join old new v had left part.Goes s long h =
+    let w = apply (operation_of h.2) v h.1 in
+    let given : giving_in new w ≡ new = ap (λ k. record new { control = k }) (sym h.3.control_is) in
+    (subst (λ x. RunsOn had left 1 (giving_in old v) x) given
+    (joined_on had left 1 (giving_in old v) (giving_in new w)
+    (runs_join_half (giving_in old v) (giving_in new w) v h.0 h.1 h.2 s refl long (joins_as old new v _ _ _ (Give w) h.3) h.4)
+    (omega (arith, h.5)) (omega (arith, h.5)) refl),
+    subst IsLeftOver (sym h.3.control_is) tt)
+comes_join old new v had left part.Stops s long h = absurd h
+comes_join old new v had left (part.Forks class child) s long h = absurd h
+
+-- The outermost has ended.
+pub comes_end : (had v : ℕ) (old new : State) → IsSoundState (giving_in old v) → old.parents.items ≡ [] → length old.frames.items ≤ old.level.start → Turns old new (Ended v) →
+    Comes had had (giving_in old v) part.Stops new
+comes_end had v old new s none over turns =
+    let from = giving_in old v in
+    let le = start_in from s in
+    let changed : Turns from new (Ended v) = record {
+      program = turns.program;
+      own = turns.own;
+      lines = turns.lines;
+      sums = turns.sums;
+      parents = turns.parents;
+      level = turns.level;
+      environment_is = turns.environment_is;
+      frames_are = turns.frames_are;
+      control_is = turns.control_is;
+    } in
+    let all : old.level.start ≡ length old.frames.items = omega (arith, le, over) in
+    let empty : (top from).frames ≡ [] = ap (λ n. drop n old.frames.items) all ∙ drop-length old.frames.items in
+    comes_stop had from new pause.Ended s refl (leaves_same from new _ _ changed le) (λ e. turns.parents ∙ none)
+    (ends (top from) (top from) (top new) v (as_it_is (top from)) refl empty (top_same from new _ _ changed le))
+
+-- What comes next before a step does not matter to it.
+pub leaves_begun : (t : State) (e : Bor Expr) → IsSoundState (beginning_in t e) → LeavesOthers (beginning_in t e) t
+leaves_begun t e s = record { program = refl; own = refl; lines = refl; sums = refl; parents = refl; start = refl; place = refl; frames = refl; more = start_in (beginning_in t e) s }
+
+pub enters_begun : (t new : State) (e : Bor Expr) (env : List ℕ) (fs : List Frame) (k : Control) → Changes t new env fs k → Changes (beginning_in t e) new env fs k
+enters_begun t new e env fs k c = record {
+  program = c.program;
+  own = c.own;
+  lines = c.lines;
+  sums = c.sums;
+  parents = c.parents;
+  level = c.level;
+  environment_is = c.environment_is;
+  frames_are = c.frames_are;
+  control_is = c.control_is;
+}
+
+begins_part : (t new : State) (e part : Bor Expr) (env : List ℕ) (fs : List Frame) (k : Control) → Changes t new env fs k → Changes (beginning_in t e) (beginning_in new part) env fs (Begin part)
+begins_part t new e part env fs k c = record {
+  program = c.program;
+  own = c.own;
+  lines = c.lines;
+  sums = c.sums;
+  parents = c.parents;
+  level = c.level;
+  environment_is = c.environment_is;
+  frames_are = c.frames_are;
+  control_is = refl;
+}
+
+pub forks_begun : (t new : State) (e : Bor Expr) (f : Frame) (k : Control) → CountsFork t new f k → CountsFork (beginning_in t e) new f k
+forks_begun t new e f k c = record {
+  program = c.program;
+  own = c.own;
+  lines = c.lines;
+  sums = c.sums;
+  parents = c.parents;
+  level = c.level;
+  environment = c.environment;
+  frames = c.frames;
+  control_is = c.control_is;
+}
+
+pub forks_part : (t new : State) (e part : Bor Expr) (f : Frame) (k : Control) → CountsFork t new f k → CountsFork (beginning_in t e) (beginning_in new part) f (Begin part)
+forks_part t new e part f k c = record {
+  program = c.program;
+  own = c.own;
+  lines = c.lines;
+  sums = c.sums;
+  parents = c.parents;
+  level = c.level;
+  environment = c.environment;
+  frames = c.frames;
+  control_is = refl;
+}
+
+pub spawns_begun : (t child : State) (e : Bor Expr) (begins : Control) → IsSpawned t begins child → IsSpawned (beginning_in t e) begins child
+spawns_begun t child e begins c = record { renewed = c.renewed; named = c.named; label = c.label; holds = c.holds; sums = c.sums }
+
+-- A part of an expression is begun, with a frame for what comes after it.
+pub comes_enter : (had : ℕ) (t s new : State) (e part p q : Bor Expr) (f : Frame) → IsSoundState (beginning_in t e) → s ≡ new → p ≡ q → q ≡ part → Pushes t new f →
+    (Becomes (beginning (top t) e) (beginning (top new) part) (top t).environment ((top t).frames ++ f ∷ []) (Begin part) → AfterSteps 1 (beginning (top t) e) None (beginning (top new) part)) →
+    RunsOn had had 1 (beginning_in t e) (beginning_in s p)
+comes_enter had t s new e part p q f sound is also begun pushes step =
+    let le = start_in (beginning_in t e) sound in
+    let c = begins_part t new e part _ _ _ pushes in
+    let goes = step (top_becomes (beginning_in t e) (beginning_in new part) _ _ _ c le) in
+    subst (λ x. RunsOn had had 1 (beginning_in t e) (beginning_in x p)) (sym is) (subst (λ y. RunsOn had had 1 (beginning_in t e) (beginning_in new y)) (sym (also ∙ begun))
+    (runs_made had had 1 (beginning_in t e) (beginning_in new part) sound (changes_leave (beginning_in t e) (beginning_in new part) _ _ _ c le)
+    (record { made = 1; fewer = omega arith; counted = omega arith; goes = goes })))
+
+-- Memory was refused, after these steps.
+pub refused_same : (most : ℕ) (a b : State) → IsSoundState a → IsSame a b → pending_of a.control ≡ None → RunsWithin most a b
+refused_same most a b s same running =
+    let r = runs_nothing 0 a b s same running in
+    record { made = r.made; at_most = omega (arith, r.counted); runs = r.runs; running = r.running }
+
+pub refused_after : (had left : ℕ) (a b c : State) → RunsOn had left 0 a b → RunsWithin left b c → RunsWithin had a c
+refused_after had left a b c m r = record {
+  made = m.made + r.made;
+  at_most = omega (arith, m.counted, r.at_most);
+  runs = runs_on m.made r.made a b c m.runs r.runs;
+  running = r.running;
+}
+
+pub on_value : (p : Progress) (A : Type 0) → A → OnValue p A
+on_value (part.Value value) A a = a
+on_value (part.Begin expr) A a = tt
+on_value part.Goes A a = tt
+on_value part.Stops A a = tt
+on_value (part.Forks class child) A a = tt
+
+-- The innermost that waits awaits a child that runs here.
+parent_of : (t : State) (ps : List Parent) → reverse t.parents.items ≡ ps → IsSoundState t → (t.parents.items ≡ [] → ⊥) → HasParent t
+parent_of t [] e s some = absurd (some (sym (reverse-reverse t.parents.items) ∙ ap reverse e))
+parent_of t (q ∷ qs) e s some =
+    let run = subst (λ ps. RunFor (top t) (waiting t.program t.own ps t.lines t.frames.items t.level.start t.level.place (ending (top t)).env)) e s.run_for in
+    record {
+      others = reverse qs;
+      parent = q;
+      parents = sym (reverse-reverse t.parents.items) ∙ ap reverse e ∙ reverse-append (q ∷ []) qs;
+      number = run.0.number;
+      awaits = run.0.awaits;
+    }
+
+pub has_parent : (t : State) (v : ℕ) → IsSoundState (giving_in t v) → (t.parents.items ≡ [] → ⊥) → HasParent t
+has_parent t v s some =
+    let h = parent_of (giving_in t v) (reverse t.parents.items) refl s some in
+    record { others = h.others; parent = h.parent; parents = h.parents; number = h.number; awaits = h.awaits }
+
+pub on_err : {X E : Type 0} (r : Result X E) (A : Type 0) → A → OnErr r A
+on_err (Ok x) A a = tt
+on_err (Err e) A a = a
+
+pub nearer_value : (p : Progress) (v : ℕ) (A : Type 0) → p ≡ part.Value v → OnValue p A → A
+nearer_value p v A e h = subst (λ x. OnValue x A) e h
+
+pub without_value : (p : Progress) → ((v : ℕ) → p ≡ part.Value v → ⊥) → OnValue p ⊥
+without_value (part.Value value) h = h value refl
+without_value (part.Begin expr) h = tt
+without_value part.Goes h = tt
+without_value part.Stops h = tt
+without_value (part.Forks class child) h = tt
+
+true_false : false ≡ true → ⊥
+true_false e = cc
+
+pub is_none : (n : ℕ) → (n == 0) ≡ true → n ≡ 0
+is_none n e = elim (cases_lt 0 n) [
+  | inl lt ↦ absurd (true_false (sym (is_not_zero n (λ z. omega (arith, lt, z))) ∙ e))
+  | inr le ↦ omega (arith, le)
+]
+
+pub is_some : (n : ℕ) → (n == 0) ≡ false → n ≡ 0 → ⊥
+is_some n e z = true_false (sym e ∙ is_zero n z)
+
+pub err_then : {X E A B : Type 0} (r : Result X E) → OnErr r A → (A → B) → OnErr r B
+err_then (Ok x) h f = tt
+err_then (Err e) h f = f h
+
+-- what is next is the same where nothing has changed
+pub current_same : (begins : Option (Bor Expr)) (a b : State) → IsSame a b → IsSame (current_in begins a) (current_in begins b)
+current_same None a b same = same
+current_same (Some expr) a b same = record {
+  program = same.program;
+  own = same.own;
+  lines = same.lines;
+  sums = same.sums;
+  parents = same.parents;
+  level = same.level;
+  environment_is = same.environment_is;
+  frames_are = same.frames_are;
+  control_is = refl;
+}
+
+left_running : (k : Control) → IsLeftOver k → pending_of k ≡ None
+left_running (Give value) h = refl
+left_running (Cover stretch) h = refl
+left_running _ h = absurd h
+
+pub current_running : (begins : Option (Bor Expr)) (t : State) → (begins ≡ None → IsLeftOver t.control) → pending_of (current_in begins t).control ≡ None
+current_running None t h = left_running t.control (h refl)
+current_running (Some expr) t h = refl
+
+pub refused_next : (had rest : ℕ) (a b c : State) → RunsOn had rest 0 a b → RunsWithin (rest - 1) b c → 0 < rest → RunsWithin (had - 1) a c
+refused_next had rest a b c m r some = record {
+  made = m.made + r.made;
+  at_most = omega (arith, m.counted, r.at_most, some);
+  runs = runs_on m.made r.made a b c m.runs r.runs;
+  running = r.running;
+}
+
+pub pauses_next : (had some left : ℕ) (a b : State) (next : Pending) (c : State) → RunsOn had (some + 1) 0 a b → RunsToPause some left b next c →
+    (beside : ℕ) × (had ≡ beside + 1) × RunsToPause beside left a next c
+pauses_next had some left a b next c m r = (
+  some + m.made,
+  omega (arith, m.counted),
+  record {
+    last = r.last;
+    runs = record {
+      made = m.made + r.runs.made;
+      fewer = omega (arith, r.runs.fewer);
+      counted = omega (arith, r.runs.counted);
+      runs = runs_on m.made r.runs.made a b r.last m.runs r.runs.runs;
+      running = r.runs.running;
+    };
+    leaves = r.leaves;
+    stops = r.stops;
+    ended = r.ended;
+  },
+)
+
+pub forks_next : (had some left : ℕ) (a b : State) (class : Class) (child c : State) → RunsOn had (some + 1) 0 a b → RunsToFork some left b class child c →
+    (beside : ℕ) × (had ≡ beside + 1) × RunsToFork beside left a class child c
+forks_next had some left a b class child c m r = (
+  some + m.made,
+  omega (arith, m.counted),
+  record {
+    last = r.last;
+    runs = record {
+      made = m.made + r.runs.made;
+      fewer = omega (arith, r.runs.fewer);
+      counted = omega (arith, r.runs.counted);
+      runs = runs_on m.made r.runs.made a b r.last m.runs r.runs.runs;
+      running = r.runs.running;
+    };
+    leaves = r.leaves;
+    gives = r.gives;
+    sound = r.sound;
+    alone = r.alone;
+    sums = r.sums;
+  },
+)
+
+pub stopped_pending : (n : ℕ) (a : Strand) (next : Pending) (b : Strand) → AfterSteps n a (Some next) b → pending_of b.control ≡ Some next
+stopped_pending n a pause.Forks b h = absurd h
+stopped_pending n a pause.Joins b h = h.1
+stopped_pending n a (pause.Asks lock) b h = h.1
+stopped_pending n a (pause.Frees lock) b h = h.1
+stopped_pending n a (pause.Tallies ledger amount) b h = h.1
+stopped_pending n a pause.Ended b h = h.1
+
+pub leaves_from : (t new : State) (e : Bor Expr) → LeavesOthers t new → LeavesOthers (beginning_in t e) new
+leaves_from t new e l = record { program = l.program; own = l.own; lines = l.lines; sums = l.sums; parents = l.parents; start = l.start; place = l.place; frames = l.frames; more = l.more }
