@@ -29,7 +29,7 @@ use Rattle.arachne_machine.specs.Work.{work_of, task_work}
 use Rattle.arachne_machine.specs.Ending.{ending, stretch_task, unjoined_of, fork_awaited, forks_of}
 use Rattle.arachne_machine.specs.Strands.{Owned, Strand, Fits, owned_at, below_at}
 use Rattle.arachne_machine.specs.Sound.{AreSound, IsSound, IsSoundState, RunFor}
-use Rattle.arachne_machine.specs.Steps.{AfterSteps, OnValue, waiting, IsNotEnd, IsLeftOver, IsNew, PlacesChild, Becomes, Changes, CountsFork, GivesChild, Goes, HasLine, IsLineOf, IsNumbered, IsPopped, IsSame, IsSpawned, Pushes, LeavesOthers, Makes, PushesFork, Reaches, SpawnsChild, TurnsFold, TurnsSweep, Turns, giving, beginning, pending_of, task_begun, top, untagged, waiting_in, HasNotBegun, IsBeginning}
+use Rattle.arachne_machine.specs.Steps.{AfterSteps, HasRoom, OnStops, OnValue, waiting, IsNotEnd, IsLeftOver, IsNew, PlacesChild, Becomes, Changes, CountsFork, GivesChild, Goes, HasLine, IsLineOf, IsNumbered, IsPopped, IsSame, IsSpawned, Pushes, LeavesOthers, Makes, PushesFork, Reaches, SpawnsChild, TurnsFold, TurnsSweep, Turns, giving, beginning, pending_of, task_begun, top, untagged, waiting_in, HasNotBegun, IsBeginning}
 use Rattle.arachne_machine.specs.Runs.{BeginsHere, Comes, JoinsHere, ResumesParent, FoldsOn, IsOneStep, IsPoppedIn, Runs, RunsOn, RunsToFork, RunsToPause, RunsWithin, HasParent, SweepsOn, beginning_in, current_in, giving_in, seen_in}
 use Rattle.arachne_machine.proofs.Frames.{length-forks_of}
 use Rattle.arachne_machine.proofs.Levels.{alone_waiting, awaiting_in, below_few, changes_leave, outer_start, runs_begins, runs_join_begins, runs_join_half, runs_on, runs_places, runs_top, top_becomes}
@@ -200,7 +200,7 @@ comes_more had some left a b (part.Value value) c m r = runs_more had some left 
 comes_more had some left a b (part.Begin expr) c m r = runs_more had some left 1 a b (beginning_in c expr) m r
 comes_more had some left a b part.Goes c m r = (runs_more had some left 1 a b c m r.0, r.1)
 comes_more had some left a b part.Stops c m r =
-    (r.0, record { last = r.1.last; runs = runs_more had some left 0 a b r.1.last m r.1.runs; leaves = r.1.leaves; stops = r.1.stops; ended = r.1.ended })
+    (r.0, record { last = r.1.last; runs = runs_more had some left 0 a b r.1.last m r.1.runs; leaves = r.1.leaves; stops = r.1.stops; ended = r.1.ended; room = r.1.room })
 comes_more had some left a b (part.Forks class child) c m r = record {
   last = r.last;
   runs = runs_more had some left 0 a b r.last m r.runs;
@@ -223,35 +223,36 @@ runs_next had some left a b c m n = record {
 
 -- The innermost pauses.
 pub comes_stop : (had : ℕ) (a c : State) (next : Pending) → IsSoundState a → pending_of a.control ≡ None → LeavesOthers a c → (next ≡ pause.Ended → c.parents.items ≡ []) →
-    AfterSteps 1 (top a) (Some next) (top c) → Comes had had a part.Stops c
-comes_stop had a c next s running l ended stops = (next, record {
+    (next ≡ pause.Joins → HasRoom c) → AfterSteps 1 (top a) (Some next) (top c) → Comes had had a part.Stops c
+comes_stop had a c next s running l ended room stops = (next, record {
   last = a;
   runs = runs_nothing had a a s (as_is a) running;
   leaves = l;
   stops = stops;
   ended = ended;
+  room = room;
 })
 
 pub not_ended : (c : State) (next : Pending) → IsNotEnd next → next ≡ pause.Ended → c.parents.items ≡ []
 not_ended c next h e = absurd (subst IsNotEnd e h)
 
 -- What comes of a step of the innermost by itself comes of the state.
-pub comes_of : (had left : ℕ) (a : State) (p : Progress) (c : State) → IsSoundState a → pending_of a.control ≡ None → LeavesOthers a c → Reaches had left (top a) p (top c) → Comes had left a p c
-comes_of had left a (part.Value value) c s running l r = runs_made had left 0 a (giving_in c value) s (seen_leaves a c (part.Value value) l) r
-comes_of had left a (part.Begin expr) c s running l r = runs_made had left 1 a (beginning_in c expr) s (seen_leaves a c (part.Begin expr) l) r
-comes_of had left a part.Goes c s running l r = (runs_made had left 1 a c s l r.0, r.1)
-comes_of had left a part.Stops c s running l r =
-    subst (λ n. Comes had n a part.Stops c) (sym r.0) (comes_stop had a c r.1.0 s running l (not_ended c r.1.0 r.1.1) r.1.2)
-comes_of had left a (part.Forks class child) c s running l r = absurd r
+pub comes_of : (had left : ℕ) (a : State) (p : Progress) (c : State) → IsSoundState a → pending_of a.control ≡ None → LeavesOthers a c → OnStops p (HasRoom c) → Reaches had left (top a) p (top c) → Comes had left a p c
+comes_of had left a (part.Value value) c s running l room r = runs_made had left 0 a (giving_in c value) s (seen_leaves a c (part.Value value) l) r
+comes_of had left a (part.Begin expr) c s running l room r = runs_made had left 1 a (beginning_in c expr) s (seen_leaves a c (part.Begin expr) l) r
+comes_of had left a part.Goes c s running l room r = (runs_made had left 1 a c s l r.0, r.1)
+comes_of had left a part.Stops c s running l room r =
+    subst (λ n. Comes had n a part.Stops c) (sym r.0) (comes_stop had a c r.1.0 s running l (not_ended c r.1.0 r.1.1) (λ e. room) r.1.2)
+comes_of had left a (part.Forks class child) c s running l room r = absurd r
 
 -- A frame was handed a value, which is the innermost's.
 pub comes_popped : (had left : ℕ) (before popped new : State) (f : Frame) (v : ℕ) (p : Progress) → IsSoundState before → IsPoppedIn f before (giving_in popped v) →
-    popped.level.start ≤ length popped.frames.items → LeavesOthers popped new →
+    popped.level.start ≤ length popped.frames.items → LeavesOthers popped new → OnStops p (HasRoom new) →
     ((t : Strand) → IsPopped f t (giving (top popped) v) → Reaches had left t p (top new)) → Comes had left before p new
-comes_popped had left before popped new f v p s pop le l made =
+comes_popped had left before popped new f v p s pop le l room made =
     let m = giving_in popped v in
     let from : LeavesOthers m new = record { program = l.program; own = l.own; lines = l.lines; sums = l.sums; parents = l.parents; start = l.start; place = l.place; frames = l.frames; more = l.more } in
-    comes_of had left before p new s (ap pending_of pop.control_is) (leaves_popped before m new f pop le from) (made (top before) (top_popped before m f pop le))
+    comes_of had left before p new s (ap pending_of pop.control_is) (leaves_popped before m new f pop le from) room (made (top before) (top_popped before m f pop le))
 
 -- A fork of the innermost.
 pub counts_top : (old new : State) (f : Frame) (k : Control) → CountsFork old new f k → old.level.start ≤ length old.frames.items → PushesFork (top old) (top new) f k
@@ -496,6 +497,9 @@ comes_join old new v had left part.Goes s long h =
 comes_join old new v had left part.Stops s long h = absurd h
 comes_join old new v had left (part.Forks class child) s long h = absurd h
 
+not_joins : pause.Ended ≡ pause.Joins → ⊥
+not_joins e = cc
+
 -- The outermost has ended.
 pub comes_end : (had v : ℕ) (old new : State) → IsSoundState (giving_in old v) → old.parents.items ≡ [] → length old.frames.items ≤ old.level.start → Turns old new (Ended v) →
     Comes had had (giving_in old v) part.Stops new
@@ -515,7 +519,7 @@ comes_end had v old new s none over turns =
     } in
     let all : old.level.start ≡ length old.frames.items = omega (arith, le, over) in
     let empty : (top from).frames ≡ [] = ap (λ n. drop n old.frames.items) all ∙ drop-length old.frames.items in
-    comes_stop had from new pause.Ended s refl (leaves_same from new _ _ changed le) (λ e. turns.parents ∙ none)
+    comes_stop had from new pause.Ended s refl (leaves_same from new _ _ changed le) (λ e. turns.parents ∙ none) (λ e. absurd (not_joins e))
     (ends (top from) (top from) (top new) v (as_it_is (top from)) refl empty (top_same from new _ _ changed le))
 
 -- What comes next before a step does not matter to it.
@@ -707,6 +711,7 @@ pauses_next had some left a b next c m r = (
     leaves = r.leaves;
     stops = r.stops;
     ended = r.ended;
+    room = r.room;
   },
 )
 
@@ -742,3 +747,23 @@ stopped_pending n a pause.Ended b h = h.1
 
 pub leaves_from : (t new : State) (e : Bor Expr) → LeavesOthers t new → LeavesOthers (beginning_in t e) new
 leaves_from t new e l = record { program = l.program; own = l.own; lines = l.lines; sums = l.sums; parents = l.parents; start = l.start; place = l.place; frames = l.frames; more = l.more }
+
+pub begins_no_stop : (p : Progress) (e : Bor Expr) (A : Type 0) → p ≡ part.Begin e → OnStops p A
+begins_no_stop p e A is = subst (λ x. OnStops x A) (sym is) tt
+
+pub one_step_no_stop : (had left : ℕ) (p : Progress) (t : State) (A : Type 0) → IsOneStep had left p t → OnStops p A
+one_step_no_stop had left (part.Value value) t A h = tt
+one_step_no_stop had left (part.Begin expr) t A h = tt
+one_step_no_stop had left part.Goes t A h = tt
+one_step_no_stop had left part.Stops t A h = absurd h
+one_step_no_stop had left (part.Forks class child) t A h = tt
+
+pub no_stop : (p : Progress) (A : Type 0) → OnStops p ⊥ → OnStops p A
+no_stop part.Stops A h = absurd h
+no_stop (part.Value value) A h = tt
+no_stop (part.Begin expr) A h = tt
+no_stop part.Goes A h = tt
+no_stop (part.Forks class child) A h = tt
+
+pub ask_is_no_join : (lock : ℕ) → pause.Asks lock ≡ pause.Joins → ⊥
+ask_is_no_join lock e = cc

@@ -1,6 +1,6 @@
 -- Steps that are made together, of those that are left.
 use Rattle.std.proofs.Common.{◌≡◌, ◌≤◌, ℕ, ◌+◌, ◌-◌, ◌++◌, Option, None, Some, refl, ap, sym, subst, ◌∙◌, arith}
-use Rattle.std.specs.Prelude.{IfOk, OnOk, Result, Ok, Err}
+use Rattle.std.specs.Prelude.{IfOk, Result, Ok, Err}
 use Rattle.std.specs.Borrow.{Bor}
 use Rattle.arachne_lang.specs.declared.program.Expr.{Expr}
 use Rattle.arachne_machine.specs.declared.pause.Pending.{Pending}
@@ -60,6 +60,6 @@ ok_then (Err e) P Q h f = tt
 pub some_none : (e : Bor Expr) → Some e ≡ None → ⊥
 some_none e h = cc
 
-pub ok_both : {X E L : Type 0} (r : Result X E) (P Q : X → Type 0) → OnOk r L → IfOk r P → (L → (x : X) → P x → Q x) → IfOk r Q
-ok_both (Ok x) P Q l h f = f l x h
-ok_both (Err e) P Q l h f = tt
+pub ok_both : {X E : Type 0} (r : Result X E) (L P Q : X → Type 0) → IfOk r L → IfOk r P → ((x : X) → L x → P x → Q x) → IfOk r Q
+ok_both (Ok x) L P Q l h f = f x l h
+ok_both (Err e) L P Q l h f = tt

@@ -23,7 +23,7 @@ use Rattle.arachne_machine.specs.Ending.{fork_awaited, here_of, locks_of, work_l
 use Rattle.arachne_machine.specs.Strands.{Strand}
 use Rattle.arachne_machine.specs.declared.pause.Pending.{Pending}
 use Rattle.arachne_machine.specs.declared.pause.Pending.TheVariants as pause
-use Rattle.arachne_machine.specs.Steps.{AfterSteps, Changes, GivesChild, Goes, IsLeftOver, IsSame, LeavesOthers, Turns, pending_of, task_begun, top, waiting_in}
+use Rattle.arachne_machine.specs.Steps.{AfterSteps, HasRoom, Changes, GivesChild, Goes, IsLeftOver, IsSame, LeavesOthers, Turns, pending_of, task_begun, top, waiting_in}
 use Rattle.arachne_machine.specs.Sound.{IsSoundState}
 
 -- the steps that these have left
@@ -226,6 +226,8 @@ pub record RunsToPause (had left : ℕ) (old : State) (next : Pending) (new : St
   pub leaves : LeavesOthers last new
   pub stops : AfterSteps 1 (top last) (Some next) (top new)
   pub ended : next ≡ pause.Ended → new.parents.items ≡ []
+  -- a frame was taken away for a join
+  pub room : next ≡ pause.Joins → HasRoom new
 
 -- The same, and then the innermost forks this child in one step more.
 pub record RunsToFork (had left : ℕ) (old : State) (class : Class) (child new : State) : Type 0 where

@@ -1,5 +1,5 @@
 -- What the steps of a thread do.
-use Rattle.std.specs.Prelude.{◌≡◌, ◌≤◌, ◌<◌, ℕ, ◌+◌, ◌^◌, false, List, [], ◌∷◌, ◌++◌, length, reverse, take, Option, None, Some}
+use Rattle.std.specs.Prelude.{◌≡◌, ◌≤◌, ◌<◌, ℕ, ◌+◌, ◌^◌, false, List, [], ◌∷◌, ◌++◌, length, reverse, take, vec_len, vec_capacity, Option, None, Some}
 use Rattle.arachne_lang.specs.declared.program.Program.{Program}
 use Rattle.arachne_lang.specs.declared.program.Reduction.{Reduction}
 use Rattle.arachne_lang.specs.declared.program.Expr.{Expr}
@@ -350,6 +350,14 @@ Reaches had left old (part.Begin expr) new = Makes had left 1 old (beginning new
 Reaches had left old part.Goes new = Makes had left 1 old new × IsLeftOver new.control
 Reaches had left old part.Stops new = (left ≡ had) × ((next : Pending) × IsNotEnd next × AfterSteps 1 old (Some next) new)
 Reaches had left old (part.Forks class child) new = ⊥
+
+abbrev pub OnStops : Progress → Type 0 → Type 0
+OnStops part.Stops A = A
+OnStops _ A = Unit {0}
+
+-- there is room for a frame
+abbrev pub HasRoom : State → Type 0
+HasRoom t = vec_len t.frames + 1 ≤ vec_capacity t.frames
 
 abbrev pub OnValue : Progress → Type 0 → Type 0
 OnValue (part.Value value) A = A

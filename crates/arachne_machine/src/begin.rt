@@ -18,7 +18,7 @@ impl<'p> State<'p> {
     ghost use Rattle.arachne_machine.specs.declared.frame.Control.TheVariants as control;
     ghost use Rattle.arachne_machine.specs.Pure.{IsLeaf};
     ghost use Rattle.arachne_machine.specs.Sound.{IsSoundState};
-    ghost use Rattle.arachne_machine.specs.Steps.{beginning, Changes, IsSame, LeavesOthers, OnValue, Pushes, Reaches, top};
+    ghost use Rattle.arachne_machine.specs.Steps.{beginning, Changes, IsSame, LeavesOthers, OnStops, Pushes, Reaches, top};
     ghost use Rattle.arachne_machine.specs.Runs.{beginning_in, Comes};
 
     /// Begins this expression. Where its value is known at once nothing else has changed.
@@ -82,7 +82,7 @@ impl<'p> State<'p> {
         requires start { self.old.level.start ≤ length self.old.frames.items }
         ensures ok { (expr : Bor Expression) → tree_of expr.now ≡ Binary operation (tree_of first.now) (tree_of second.now) →
             IfOk result (λ progress. Reaches left.old left.new (beginning (top self.old) expr) progress (top self.new)) }
-        ensures leaves { OnOk result (LeavesOthers self.old self.new) }
+        ensures leaves { IfOk result (λ progress. LeavesOthers self.old self.new × OnStops progress ⊥) }
         ensures fewer { left.new ≤ left.old }
         ensures err { OnErr result (IsSame self.old self.new) }
     {

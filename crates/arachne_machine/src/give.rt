@@ -16,7 +16,7 @@ impl<'p> State<'p> {
     ghost use Rattle.arachne_machine.specs.Ending.{without_newest};
     ghost use Rattle.arachne_machine.specs.Strands.{Strand};
     ghost use Rattle.arachne_machine.specs.Sound.{IsSoundState};
-    ghost use Rattle.arachne_machine.specs.Steps.{Changes, HasLine, IsPauseOrRange, IsOfRange, IsPopped, IsSame, IsWithin, LeavesOthers, OnValue, Pushes, Reaches, Turns, giving, top};
+    ghost use Rattle.arachne_machine.specs.Steps.{Changes, HasLine, HasRoom, OnStops, IsPauseOrRange, IsOfRange, IsPopped, IsSame, IsWithin, LeavesOthers, OnValue, Pushes, Reaches, Turns, giving, top};
     ghost use Rattle.arachne_machine.specs.Runs.{Comes, FoldsOn, HandsResult, IsOneStep, IsPoppedIn, RunsWithin, SweepsOn, giving_in, seen_in};
     ghost use Rattle.arachne_machine.specs.declared.state.Progress.TheVariants as ways;
 
@@ -170,6 +170,7 @@ impl<'p> State<'p> {
         requires frames { vec_len self.old.frames + 1 ≤ vec_capacity self.old.frames }
         ensures made { (before : Strand) → IsPopped frame.entry before (giving (top self.old) value) → Reaches left.old left.new before result (top self.new) }
         ensures leaves { LeavesOthers self.old self.new }
+        ensures stops { OnStops result (HasRoom self.new) }
         ensures fewer { left.new ≤ left.old }
         ensures room { OnValue result (vec_len self.new.environment + 2 ≤ vec_capacity self.new.environment) }
         ensures frames { OnValue result (vec_len self.new.frames ≤ vec_len self.old.frames) }
@@ -215,6 +216,7 @@ impl<'p> State<'p> {
         requires frames { vec_len self.old.frames + 1 ≤ vec_capacity self.old.frames }
         ensures made { (before : Strand) → IsPopped frame.entry before (giving (top self.old) value) → Reaches left.old left.new before result (top self.new) }
         ensures leaves { LeavesOthers self.old self.new }
+        ensures stops { OnStops result (HasRoom self.new) }
         ensures fewer { left.new ≤ left.old }
         ensures room { OnValue result (vec_len self.new.environment + 2 ≤ vec_capacity self.new.environment) }
         ensures frames { OnValue result (vec_len self.new.frames ≤ vec_len self.old.frames) }
@@ -261,6 +263,7 @@ impl<'p> State<'p> {
         requires frames { vec_len self.old.frames + 1 ≤ vec_capacity self.old.frames }
         ensures made { (before : Strand) → IsPopped frame.entry before (giving (top self.old) value) → Reaches left.old left.new before result (top self.new) }
         ensures leaves { LeavesOthers self.old self.new }
+        ensures stops { OnStops result (HasRoom self.new) }
         ensures fewer { left.new ≤ left.old }
         ensures room { OnValue result (vec_len self.new.environment + 2 ≤ vec_capacity self.new.environment) }
         ensures frames { OnValue result (vec_len self.new.frames ≤ vec_len self.old.frames) }

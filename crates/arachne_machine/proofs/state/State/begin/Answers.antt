@@ -14,7 +14,7 @@ use Rattle.arachne_machine.proofs.Handings.{once}
 use Rattle.arachne_machine.proofs.Splitting.{goes_to_fork, places_fork}
 use Rattle.arachne_machine.proofs.Strides.{ok_both, reaches_value}
 use Rattle.arachne_machine.proofs.Levels.{changes_leave, top_becomes}
-use Rattle.arachne_machine.proofs.Going.{comes_enter, comes_fork, comes_of, comes_stop, enters_begun, forks_begun, forks_part, leaves_begun, leaves_from, line_in, not_ended, number_fits, runs_place, spawns_begun, start_in}
+use Rattle.arachne_machine.proofs.Going.{ask_is_no_join, comes_enter, comes_fork, comes_of, comes_stop, enters_begun, forks_begun, forks_part, leaves_begun, leaves_from, line_in, no_stop, not_ended, number_fits, runs_place, spawns_begun, start_in}
 use Rattle.arachne_machine.proofs.state.State.begin.Goals.{in-Item+in_ok-part-in-Item, in-If+in_ok-part-in-If, in-Let+in_ok-part-in-Let, in-Tally+in_ok-part-in-Tally, in-Fold+in_ok-part-in-Fold, in-Sweep+in_ok-part-in-Sweep}
 use Rattle.arachne_machine.proofs.state.State.begin.Goals as goal
 
@@ -36,7 +36,7 @@ returns-in-Num-clause-ok g c =
     let e = c.args.expr in
     let n = c.in-Num.number in
     let s = c.requires.sound in
-    comes_of _ _ (beginning_in t e) (way.Value n) t s refl (leaves_begun t e s)
+    comes_of _ _ (beginning_in t e) (way.Value n) t s refl (leaves_begun t e s) tt
     (reaches_value _ n (beginning (top t) e) (top t)
     (goes_to_value 0 (beginning (top t) e) (giving (top t) n) e (Number n) n refl (ap tree_of c.in-Num.is) (as_beginning (top t) (giving (top t) n) e _ _ _ (given (top t) _ _ refl))
     (open_number (source_of t.program.now) (top t).own.name t.environment.items n)))
@@ -47,7 +47,7 @@ returns-in-Var-clause-ok g c =
     let e = c.args.expr in
     let v = c.variable.result in
     let s = c.requires.sound in
-    comes_of _ _ (beginning_in t e) (way.Value v) t s refl (leaves_begun t e s)
+    comes_of _ _ (beginning_in t e) (way.Value v) t s refl (leaves_begun t e s) tt
     (reaches_value _ v (beginning (top t) e) (top t)
     (goes_to_value 0 (beginning (top t) e) (giving (top t) v) e (Variable c.in-Var.variable) (slice_index t.environment.items c.in-Var.variable) refl (ap tree_of c.in-Var.is)
     (as_beginning (top t) (giving (top t) v) e _ _ _ (given (top t) _ _ (ap Give c.variable.ensures))) (open_variable (source_of t.program.now) (top t).own.name t.environment.items c.in-Var.variable)))
@@ -58,7 +58,7 @@ returns-in-Len-clause-ok g c =
     let e = c.args.expr in
     let v = c.length.result in
     let s = c.requires.sound in
-    comes_of _ _ (beginning_in t e) (way.Value v) t s refl (leaves_begun t e s)
+    comes_of _ _ (beginning_in t e) (way.Value v) t s refl (leaves_begun t e s) tt
     (reaches_value _ v (beginning (top t) e) (top t)
     (goes_to_value 0 (beginning (top t) e) (giving (top t) v) e (Length c.in-Len.array) _ refl (ap tree_of c.in-Len.is)
     (as_beginning (top t) (giving (top t) v) e _ _ _ (given (top t) _ _ (ap Give c.length.ensures))) (open_length (source_of t.program.now) (top t).own.name t.environment.items c.in-Len.array)))
@@ -76,7 +76,7 @@ returns-in-Hold-clause-ok g c =
     let step = begins_by 1 (beginning (top t) e) (top new) e (Hold lock (tree_of body.now)) (Asks lock body) (Release lock ∷ []) refl
     (rw c.deref-in-Hold.ensures (ap tree_of c.in-Hold.is)) (top_becomes (beginning_in t e) new _ _ _ asked le) (λ fs. refl) refl
     (open_hold (source_of t.program.now) (top t).own.name t.environment.items lock body) in
-    comes_stop _ (beginning_in t e) new (pause.Asks lock) s refl (changes_leave (beginning_in t e) new _ _ _ asked le) (not_ended new (pause.Asks lock) tt)
+    comes_stop _ (beginning_in t e) new (pause.Asks lock) s refl (changes_leave (beginning_in t e) new _ _ _ asked le) (not_ended new (pause.Asks lock) tt) (λ e. absurd (ask_is_no_join lock e))
     (once (beginning (top t) e) _ step.goes, step.pending, step.locks ∙ ap (λ l. lock ∷ l) (sym step.old_locks))
 
 pub returns-in-Fork-clause-ok : goal.returns-in-Fork-clause-ok
@@ -108,8 +108,8 @@ returns-in-Binary-clause-ok g c =
     let e = c.args.expr in
     let s = c.requires.sound in
     let new = c.operate.new.self in
-    ok_both c.operate.result _ _ c.operate.ensures.leaves (c.operate.ensures.ok e (rw (c.deref-in-Binary.ensures, c.deref-in-Binary-2.ensures) (ap tree_of c.in-Binary.is)))
-    (λ leaves p r. comes_of _ _ (beginning_in t e) p new s refl (leaves_from t new e leaves) r)
+    ok_both c.operate.result _ _ _ c.operate.ensures.leaves (c.operate.ensures.ok e (rw (c.deref-in-Binary.ensures, c.deref-in-Binary-2.ensures) (ap tree_of c.in-Binary.is)))
+    (λ p leaves r. comes_of _ _ (beginning_in t e) p new s refl (leaves_from t new e leaves.0) (no_stop p _ leaves.1) r)
 
 pub returns-clause-ok : goal.returns-clause-ok
 returns-clause-ok g c =

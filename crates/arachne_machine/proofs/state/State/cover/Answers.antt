@@ -7,7 +7,7 @@ use Rattle.arachne_machine.specs.Runs.{seen_in}
 use Rattle.arachne_machine.proofs.Handings.{covers}
 use Rattle.arachne_machine.proofs.Splitting.{goes_to_half, places_half}
 use Rattle.arachne_machine.proofs.Strides.{reaches_once}
-use Rattle.arachne_machine.proofs.Going.{comes_fork, comes_of, leaves_on, leaves_same, leaves_seen, line_in, number_fits, runs_place, start_in, start_same, sweeps_leave, sweeps_top, top_same}
+use Rattle.arachne_machine.proofs.Going.{comes_fork, comes_of, leaves_on, leaves_same, leaves_seen, line_in, number_fits, one_step_no_stop, runs_place, start_in, start_same, sweeps_leave, sweeps_top, top_same}
 use Rattle.arachne_machine.proofs.state.State.cover.Goals as goal
 
 pub halve_here-requires : goal.halve_here-requires
@@ -59,5 +59,6 @@ returns-clause-ok g c =
     let on = start_same t mid _ _ same le in
     comes_of _ _ t p new c.requires.sound (ap pending_of c.requires.covers)
     (leaves_seen t new p (leaves_on t mid after (leaves_same t mid _ _ same le) (sweeps_leave mid after _ _ _ _ _ c.turn_sweep.ensures.turns on)))
+    (one_step_no_stop _ _ p new _ c.turn_sweep.ensures.step)
     (reaches_once _ _ (top t) p new c.turn_sweep.ensures.step
     (covers (top t) (top mid) (top after) s c.unit-unit.result (top_same t mid _ _ same le) c.requires.covers short c.unit-unit.ensures (sweeps_top mid after _ _ _ _ _ c.turn_sweep.ensures.turns on)))

@@ -7,7 +7,7 @@ use Rattle.arachne_machine.proofs.Outlooks.{as_giving, begins_with, given_from}
 use Rattle.arachne_machine.proofs.Handings.{hand_fold_to, hand_fold_first, hand_fold_start, fold_giving, hand_sweep_to, hand_sweep_start}
 use Rattle.arachne_machine.proofs.Strides.{reaches_once, reaches_part}
 use Rattle.arachne_machine.proofs.Levels.{changes_leave, top_becomes}
-use Rattle.arachne_machine.proofs.Going.{folds_leave, folds_top, leaves_seen}
+use Rattle.arachne_machine.proofs.Going.{begins_no_stop, one_step_no_stop, folds_leave, folds_top, leaves_seen}
 use Rattle.arachne_machine.proofs.state.State.hand_to_range.Goals as goal
 
 pub returns-in-FoldTo-clause-made : goal.returns-in-FoldTo-clause-made
@@ -74,3 +74,15 @@ returns-in-FoldStart-clause-leaves c =
 
 pub returns-in-SweepTo-clause-leaves : goal.returns-in-SweepTo-clause-leaves
 returns-in-SweepTo-clause-leaves c = changes_leave c.args.self.now c.go_on-in-SweepTo.new.self _ _ _ c.go_on-in-SweepTo.ensures.same c.requires.start
+
+pub returns-in-FoldTo-clause-stops : goal.returns-in-FoldTo-clause-stops
+returns-in-FoldTo-clause-stops c = begins_no_stop c.go_on.result _ _ c.go_on.ensures.begins
+
+pub returns-in-FoldFirst-clause-stops : goal.returns-in-FoldFirst-clause-stops
+returns-in-FoldFirst-clause-stops c = begins_no_stop c.go_on-in-FoldFirst.result _ _ c.go_on-in-FoldFirst.ensures.begins
+
+pub returns-in-FoldStart-clause-stops : goal.returns-in-FoldStart-clause-stops
+returns-in-FoldStart-clause-stops c = one_step_no_stop _ _ c.turn_fold.result _ _ c.turn_fold.ensures.step
+
+pub returns-in-SweepTo-clause-stops : goal.returns-in-SweepTo-clause-stops
+returns-in-SweepTo-clause-stops c = begins_no_stop c.go_on-in-SweepTo.result _ _ c.go_on-in-SweepTo.ensures.begins

@@ -8,7 +8,7 @@ use Rattle.arachne_machine.proofs.Handings.{hand_index, hand_right, hand_apply, 
 use Rattle.arachne_machine.proofs.Strides.{part_begun, reaches_once, reaches_part, reaches_value}
 use Rattle.arachne_machine.proofs.state.State.hand_within.Goals.{then-value-eq0, else-value-eq0}
 use Rattle.arachne_machine.proofs.Levels.{changes_leave, top_becomes}
-use Rattle.arachne_machine.proofs.Going.{as_is, folds_leave, folds_top, leaves_on, leaves_same, leaves_seen, start_same, sweeps_leave, sweeps_top, top_same}
+use Rattle.arachne_machine.proofs.Going.{as_is, begins_no_stop, one_step_no_stop, folds_leave, folds_top, leaves_on, leaves_same, leaves_seen, start_same, sweeps_leave, sweeps_top, top_same}
 use Rattle.arachne_machine.proofs.state.State.hand_within.Goals as goal
 
 pub returns-in-Index-clause-made : goal.returns-in-Index-clause-made
@@ -123,3 +123,15 @@ returns-in-SweepTurn-clause-leaves c =
 
 pub returns-after-value-eq0-clause-leaves : goal.returns-after-value-eq0-clause-leaves
 returns-after-value-eq0-clause-leaves c = leaves_same c.args.self.now c.args.self.now _ _ (as_is c.args.self.now) c.requires.start
+
+pub returns-in-Right-clause-stops : goal.returns-in-Right-clause-stops
+returns-in-Right-clause-stops c = begins_no_stop c.go_on.result _ _ c.go_on.ensures.begins
+
+pub returns-in-Extend-clause-stops : goal.returns-in-Extend-clause-stops
+returns-in-Extend-clause-stops c = begins_no_stop c.extend.result _ _ c.extend.ensures.begins
+
+pub returns-in-FoldTurn-clause-stops : goal.returns-in-FoldTurn-clause-stops
+returns-in-FoldTurn-clause-stops c = one_step_no_stop _ _ c.turn_fold.result _ _ c.turn_fold.ensures.step
+
+pub returns-in-SweepTurn-clause-stops : goal.returns-in-SweepTurn-clause-stops
+returns-in-SweepTurn-clause-stops c = one_step_no_stop _ _ c.turn_sweep.result _ _ c.turn_sweep.ensures.step

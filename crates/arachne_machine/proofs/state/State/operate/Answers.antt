@@ -52,10 +52,10 @@ returns-2-clause-ok c = λ expr is.
     (open_binary (source_of t.program.now) (top t).own.name t.environment.items operation first second))
 
 pub returns-in-Some-leaf-clause-leaves : goal.returns-in-Some-leaf-clause-leaves
-returns-in-Some-leaf-clause-leaves c = leaves_same c.args.self.now c.args.self.now _ _ (as_is c.args.self.now) c.requires.start
+returns-in-Some-leaf-clause-leaves c = (leaves_same c.args.self.now c.args.self.now _ _ (as_is c.args.self.now) c.requires.start, tt)
 
 pub returns-clause-leaves : goal.returns-clause-leaves
-returns-clause-leaves c = changes_leave c.args.self.now c.enter.new.self _ _ _ c.in_ok-part.ensures.ok c.requires.start
+returns-clause-leaves c = (changes_leave c.args.self.now c.enter.new.self _ _ _ c.in_ok-part.ensures.ok c.requires.start, tt)
 
 pub returns-2-clause-leaves : goal.returns-2-clause-leaves
-returns-2-clause-leaves c = changes_leave c.args.self.now c.enter-2.new.self _ _ _ c.in_ok-part-2.ensures.ok c.requires.start
+returns-2-clause-leaves c = (changes_leave c.args.self.now c.enter-2.new.self _ _ _ c.in_ok-part-2.ensures.ok c.requires.start, tt)
