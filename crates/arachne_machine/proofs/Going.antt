@@ -26,13 +26,13 @@ use Rattle.arachne_machine.specs.Account.{Account, untouched}
 use Rattle.arachne_machine.specs.declared.level.Parent.{Parent}
 use Rattle.arachne_machine.specs.declared.state.Own.{Own}
 use Rattle.arachne_machine.specs.Work.{work_of, task_work}
-use Rattle.arachne_machine.specs.Ending.{ending, stretch_task, unjoined_of, fork_awaited, forks_of}
+use Rattle.arachne_machine.specs.Ending.{ending, stretch_task, unjoined_of, fork_awaited, fork_here, forks_here, forks_of}
 use Rattle.arachne_machine.specs.Strands.{Owned, Strand, Fits, owned_at, below_at}
 use Rattle.arachne_machine.specs.Sound.{AreSound, IsSound, IsSoundState, RunFor}
 use Rattle.arachne_machine.specs.Steps.{AfterSteps, HasRoom, OnStops, OnValue, waiting, IsNotEnd, IsLeftOver, IsNew, PlacesChild, Becomes, Changes, CountsFork, GivesChild, Goes, HasLine, IsLineOf, IsNumbered, IsPopped, IsSame, IsSpawned, Pushes, LeavesOthers, Makes, PushesFork, Reaches, SpawnsChild, TurnsFold, TurnsSweep, Turns, giving, beginning, pending_of, task_begun, top, untagged, waiting_in, HasNotBegun, IsBeginning}
-use Rattle.arachne_machine.specs.Runs.{BeginsHere, Comes, JoinsHere, ResumesParent, FoldsOn, IsOneStep, IsPoppedIn, Runs, RunsOn, RunsToFork, RunsToPause, RunsWithin, HasParent, SweepsOn, beginning_in, current_in, giving_in, seen_in}
-use Rattle.arachne_machine.proofs.Frames.{length-forks_of}
-use Rattle.arachne_machine.proofs.Levels.{alone_waiting, awaiting_in, below_few, changes_leave, outer_start, runs_begins, runs_join_begins, runs_join_half, runs_on, runs_places, runs_top, top_becomes}
+use Rattle.arachne_machine.specs.Runs.{IsByItself, last_of, outermost_in, BeginsHere, Comes, JoinsHere, ResumesParent, FoldsOn, IsOneStep, IsPoppedIn, Runs, RunsOn, RunsToFork, RunsToPause, RunsWithin, HasParent, SweepsOn, beginning_in, current_in, giving_in, seen_in}
+use Rattle.arachne_machine.proofs.Frames.{forks_here-append, length-forks_of}
+use Rattle.arachne_machine.proofs.Levels.{alone_waiting, awaiting_in, below_few, changes_leave, outer_start, runs_begins, runs_join_begins, runs_join_half, runs_on, runs_places, runs_top, some_parent, top_becomes}
 use Rattle.arachne_machine.proofs.Here.{awaits_half, awaits_join, half_free, half_task, join_free, join_task}
 use Rattle.arachne_machine.proofs.Handings.{ends, is_not_zero, is_zero}
 use Rattle.arachne_machine.proofs.Outlooks.{as_it_is}
@@ -160,20 +160,28 @@ line_of (p ∷ ps) start place frames lines h = h.1
 pub line_in : (t : State) → IsSoundState t → HasLine t
 line_in t s = line_of (reverse t.parents.items) t.level.start t.level.place (length t.frames.items) (length t.lines) s.fits
 
+-- the outermost has made the same forks
+forks_same : (old new : State) → LeavesOthers old new → (top new).forks ≡ (top old).forks → IsByItself old → (outermost_in new).forks ≡ (outermost_in old).forks
+forks_same old new l forks alone =
+    let old_last = ap (λ ts. (last_of (top old) ts).forks) (alone_waiting old alone.parents) in
+    let new_last = ap (λ ts. (last_of (top new) ts).forks) (alone_waiting new (l.parents ∙ alone.parents)) in
+    new_last ∙ forks ∙ sym old_last
+
 -- Steps of the innermost are the state's.
-pub runs_made : (had left beside : ℕ) (old new : State) → IsSoundState old → LeavesOthers old new → Makes had left beside (top old) (top new) → RunsOn had left beside old new
+pub runs_made : {Q : Type 0} → (had left beside : ℕ) (old new : State) → IsSoundState old → LeavesOthers old new → Makes had left beside (top old) (top new) → RunsOn Q had left beside old new
 runs_made had left beside old new s l m = record {
   made = m.made;
   fewer = m.fewer;
   counted = m.counted;
   runs = runs_top m.made old new s l m.goes.0 m.goes.2;
   running = m.goes.1;
+  places_none = λ q alone. forks_same old new l m.goes.0.forks alone;
 }
 
 pub as_is : (t : State) → IsSame t t
 as_is t = record { program = refl; own = refl; lines = refl; sums = refl; parents = refl; level = refl; environment_is = refl; frames_are = refl; control_is = refl }
 
-pub runs_nothing : (had : ℕ) (a b : State) → IsSoundState a → IsSame a b → pending_of a.control ≡ None → RunsOn had had 0 a b
+pub runs_nothing : {Q : Type 0} → (had : ℕ) (a b : State) → IsSoundState a → IsSame a b → pending_of a.control ≡ None → RunsOn Q had had 0 a b
 runs_nothing had a b s same running =
     let le = start_in a s in
     let t = top_same a b _ _ same le in
@@ -183,19 +191,21 @@ runs_nothing had a b s same running =
       counted = omega arith;
       runs = runs_top 0 a b s (leaves_same a b _ _ same le) (goes_nowhere (top a) (top b) t) (locks_unchanged (top a) (top b) t);
       running = ap pending_of same.control_is ∙ running;
+      places_none = λ q alone. forks_same a b (leaves_same a b _ _ same le) t.forks alone;
     }
 
 -- further steps after those that were made
-pub runs_more : (had some left beside : ℕ) (a b c : State) → RunsOn had some 0 a b → RunsOn some left beside b c → RunsOn had left beside a c
+pub runs_more : {Q : Type 0} → (had some left beside : ℕ) (a b c : State) → RunsOn Q had some 0 a b → RunsOn Q some left beside b c → RunsOn Q had left beside a c
 runs_more had some left beside a b c p q = record {
   made = p.made + q.made;
   fewer = omega (arith, p.fewer, q.fewer);
   counted = omega (arith, p.counted, q.counted);
   runs = runs_on p.made q.made a b c p.runs q.runs;
   running = q.running;
+  places_none = λ x alone. q.places_none x (p.runs.by_itself alone (p.places_none x alone)).alone ∙ p.places_none x alone;
 }
 
-pub comes_more : (had some left : ℕ) (a b : State) (p : Progress) (c : State) → RunsOn had some 0 a b → Comes some left b p c → Comes had left a p c
+pub comes_more : {Q : Type 0} → (had some left : ℕ) (a b : State) (p : Progress) (c : State) → RunsOn Q had some 0 a b → Comes Q some left b p c → Comes Q had left a p c
 comes_more had some left a b (part.Value value) c m r = runs_more had some left 0 a b (giving_in c value) m r
 comes_more had some left a b (part.Begin expr) c m r = runs_more had some left 1 a b (beginning_in c expr) m r
 comes_more had some left a b part.Goes c m r = (runs_more had some left 1 a b c m r.0, r.1)
@@ -212,18 +222,19 @@ comes_more had some left a b (part.Forks class child) c m r = record {
 }
 
 -- A step, with those that were made with it, is one of those that were left.
-pub runs_next : (had some left : ℕ) (a b c : State) → RunsOn had (some + 1) 0 a b → RunsOn some left 1 b c → RunsOn had left 0 a c
+pub runs_next : {Q : Type 0} → (had some left : ℕ) (a b c : State) → RunsOn Q had (some + 1) 0 a b → RunsOn Q some left 1 b c → RunsOn Q had left 0 a c
 runs_next had some left a b c m n = record {
   made = m.made + n.made;
   fewer = omega (arith, m.fewer, n.fewer);
   counted = omega (arith, m.counted, n.counted);
   runs = runs_on m.made n.made a b c m.runs n.runs;
   running = n.running;
+  places_none = λ x alone. n.places_none x (m.runs.by_itself alone (m.places_none x alone)).alone ∙ m.places_none x alone;
 }
 
 -- The innermost pauses.
-pub comes_stop : (had : ℕ) (a c : State) (next : Pending) → IsSoundState a → pending_of a.control ≡ None → LeavesOthers a c → (next ≡ pause.Ended → c.parents.items ≡ []) →
-    (next ≡ pause.Joins → HasRoom c) → AfterSteps 1 (top a) (Some next) (top c) → Comes had had a part.Stops c
+pub comes_stop : {Q : Type 0} → (had : ℕ) (a c : State) (next : Pending) → IsSoundState a → pending_of a.control ≡ None → LeavesOthers a c → (next ≡ pause.Ended → c.parents.items ≡ []) →
+    (next ≡ pause.Joins → HasRoom c) → AfterSteps 1 (top a) (Some next) (top c) → Comes Q had had a part.Stops c
 comes_stop had a c next s running l ended room stops = (next, record {
   last = a;
   runs = runs_nothing had a a s (as_is a) running;
@@ -237,22 +248,22 @@ pub not_ended : (c : State) (next : Pending) → IsNotEnd next → next ≡ paus
 not_ended c next h e = absurd (subst IsNotEnd e h)
 
 -- What comes of a step of the innermost by itself comes of the state.
-pub comes_of : (had left : ℕ) (a : State) (p : Progress) (c : State) → IsSoundState a → pending_of a.control ≡ None → LeavesOthers a c → OnStops p (HasRoom c) → Reaches had left (top a) p (top c) → Comes had left a p c
-comes_of had left a (part.Value value) c s running l room r = runs_made had left 0 a (giving_in c value) s (seen_leaves a c (part.Value value) l) r
-comes_of had left a (part.Begin expr) c s running l room r = runs_made had left 1 a (beginning_in c expr) s (seen_leaves a c (part.Begin expr) l) r
-comes_of had left a part.Goes c s running l room r = (runs_made had left 1 a c s l r.0, r.1)
-comes_of had left a part.Stops c s running l room r =
-    subst (λ n. Comes had n a part.Stops c) (sym r.0) (comes_stop had a c r.1.0 s running l (not_ended c r.1.0 r.1.1) (λ e. room) r.1.2)
-comes_of had left a (part.Forks class child) c s running l room r = absurd r
+pub comes_of : (Q : Type 0) → (had left : ℕ) (a : State) (p : Progress) (c : State) → IsSoundState a → pending_of a.control ≡ None → LeavesOthers a c → OnStops p (HasRoom c) → Reaches had left (top a) p (top c) → Comes Q had left a p c
+comes_of Q had left a (part.Value value) c s running l room r = runs_made had left 0 a (giving_in c value) s (seen_leaves a c (part.Value value) l) r
+comes_of Q had left a (part.Begin expr) c s running l room r = runs_made had left 1 a (beginning_in c expr) s (seen_leaves a c (part.Begin expr) l) r
+comes_of Q had left a part.Goes c s running l room r = (runs_made had left 1 a c s l r.0, r.1)
+comes_of Q had left a part.Stops c s running l room r =
+    subst (λ n. Comes Q had n a part.Stops c) (sym r.0) (comes_stop had a c r.1.0 s running l (not_ended c r.1.0 r.1.1) (λ e. room) r.1.2)
+comes_of Q had left a (part.Forks class child) c s running l room r = absurd r
 
 -- A frame was handed a value, which is the innermost's.
-pub comes_popped : (had left : ℕ) (before popped new : State) (f : Frame) (v : ℕ) (p : Progress) → IsSoundState before → IsPoppedIn f before (giving_in popped v) →
+pub comes_popped : (Q : Type 0) → (had left : ℕ) (before popped new : State) (f : Frame) (v : ℕ) (p : Progress) → IsSoundState before → IsPoppedIn f before (giving_in popped v) →
     popped.level.start ≤ length popped.frames.items → LeavesOthers popped new → OnStops p (HasRoom new) →
-    ((t : Strand) → IsPopped f t (giving (top popped) v) → Reaches had left t p (top new)) → Comes had left before p new
-comes_popped had left before popped new f v p s pop le l room made =
+    ((t : Strand) → IsPopped f t (giving (top popped) v) → Reaches had left t p (top new)) → Comes Q had left before p new
+comes_popped Q had left before popped new f v p s pop le l room made =
     let m = giving_in popped v in
     let from : LeavesOthers m new = record { program = l.program; own = l.own; lines = l.lines; sums = l.sums; parents = l.parents; start = l.start; place = l.place; frames = l.frames; more = l.more } in
-    comes_of had left before p new s (ap pending_of pop.control_is) (leaves_popped before m new f pop le from) room (made (top before) (top_popped before m f pop le))
+    comes_of Q had left before p new s (ap pending_of pop.control_is) (leaves_popped before m new f pop le from) room (made (top before) (top_popped before m f pop le))
 
 -- A fork of the innermost.
 pub counts_top : (old new : State) (f : Frame) (k : Control) → CountsFork old new f k → old.level.start ≤ length old.frames.items → PushesFork (top old) (top new) f k
@@ -285,9 +296,9 @@ counts_leave old new f k c le = record {
 }
 
 -- its child will run here
-pub runs_place : (had : ℕ) (old new : State) (f : Frame) (k : Control) (made : Child) → IsSoundState old → CountsFork old new f k →
-    (PushesFork (top old) (top new) f k → PlacesChild 1 (top old) (top new) made) → RunsOn had had 1 old new
-runs_place had old new f k made s c placed =
+pub runs_place : {Q : Type 0} → (had : ℕ) (old new : State) (f : Frame) (k : Control) (made : Child) → (Q → ⊥) → IsSoundState old → CountsFork old new f k →
+    (PushesFork (top old) (top new) f k → PlacesChild 1 (top old) (top new) made) → RunsOn Q had had 1 old new
+runs_place had old new f k made none s c placed =
     let le = start_in old s in
     let p = placed (counts_top old new f k c le) in
     record {
@@ -296,6 +307,7 @@ runs_place had old new f k made s c placed =
       counted = omega arith;
       runs = runs_places old new made s (counts_leave old new f k c le) p;
       running = p.pending;
+      places_none = λ q alone. absurd (none q);
     }
 
 -- or it has a state of its own, and has not begun
@@ -343,11 +355,11 @@ child_sound old child begins c sound =
       few = omega (arith, ap length r.lines);
     }
 
-pub comes_fork : (had : ℕ) (old new : State) (child : Box State) (class : Class) (begins : Control) (f : Frame) (k : Control) → IsSoundState old → pending_of old.control ≡ None → IsBeginning begins →
+pub comes_fork : {Q : Type 0} → (had : ℕ) (old new : State) (child : Box State) (class : Class) (begins : Control) (f : Frame) (k : Control) → IsSoundState old → pending_of old.control ≡ None → IsBeginning begins →
     CountsFork old new f k → IsSpawned old begins child.value →
     (SpawnsChild (top old) (top new) (top child.value) begins f k →
     GivesChild 1 (top old) (top new) (top child.value) (record { class = class; task = task_begun child.value.control child.value.environment.items })) →
-    Comes had had old (part.Forks class child) new
+    Comes Q had had old (part.Forks class child) new
 comes_fork had old new child class begins f k s running beginning c spawned gives =
     let le = start_in old s in
     let g = gives (spawned_top old new child.value begins f k beginning c spawned le) in
@@ -417,8 +429,18 @@ begins_as old new number awaits begins other b = record {
 awaiting_becomes : (t : State) (v : ℕ) (k : Control) → Becomes (giving (top t) v) (awaiting_in t k) (giving (top t) v).environment (giving (top t) v).frames k
 awaiting_becomes t v k = record { program = refl; own = refl; below = refl; forks = refl; environment_is = refl; frames_are = refl; control_is = refl }
 
-pub comes_join_here : (had v number : ℕ) (before old new : State) (child next : Bor Expr) → IsSoundState before → IsPoppedIn (JoinHere number child next) before (giving_in old v) →
-    old.level.start ≤ length old.frames.items → BeginsHere old new number (Awaits number v next) old.control → Comes had had before (part.Begin child) new
+-- A thread that a child waits in is not by itself.
+cons_none : (n : ℕ) (ns : List ℕ) → ◌≡◌ {A = List ℕ} (n ∷ ns) [] → ⊥
+cons_none n ns e = cc
+
+not_by_itself : (before mid : State) (f : Frame) (number : ℕ) → IsPoppedIn f before mid → mid.level.start ≤ length mid.frames.items → fork_here f ≡ number ∷ [] → IsByItself before → ⊥
+not_by_itself before mid f number popped le here alone =
+    let off = top_popped before mid f popped le in
+    cons_none number (forks_here (top mid).frames)
+    (ap (λ l. l ++ forks_here (top mid).frames) (sym here) ∙ sym (forks_here-append (top mid).frames (f ∷ [])) ∙ ap forks_here (sym off.frames_are) ∙ alone.here)
+
+pub comes_join_here : {Q : Type 0} → (had v number : ℕ) (before old new : State) (child next : Bor Expr) → IsSoundState before → IsPoppedIn (JoinHere number child next) before (giving_in old v) →
+    old.level.start ≤ length old.frames.items → BeginsHere old new number (Awaits number v next) old.control → Comes Q had had before (part.Begin child) new
 comes_join_here had v number before old new child next s popped le b =
     let f = JoinHere number child next in
     let off = top_popped before (giving_in old v) f popped le in
@@ -433,10 +455,11 @@ comes_join_here had v number before old new child next s popped le b =
           (join_task (top before) mid v number child next off refl s.sound.2.keeps)
           (join_free (top before) mid v number child next off refl);
       running = refl;
+      places_none = λ q alone. absurd (not_by_itself before (giving_in old v) f number popped le refl alone);
     }
 
-pub comes_half_here : (had v number : ℕ) (before old new : State) (left : Stretch) → IsSoundState before → IsPoppedIn (MergeHere number left) before (giving_in old v) →
-    old.level.start ≤ length old.frames.items → BeginsHere old new number (AwaitsHalf number v left.reduction) old.control → Comes had had before part.Goes (record new { control = Cover left })
+pub comes_half_here : {Q : Type 0} → (had v number : ℕ) (before old new : State) (left : Stretch) → IsSoundState before → IsPoppedIn (MergeHere number left) before (giving_in old v) →
+    old.level.start ≤ length old.frames.items → BeginsHere old new number (AwaitsHalf number v left.reduction) old.control → Comes Q had had before part.Goes (record new { control = Cover left })
 comes_half_here had v number before old new left s popped le b =
     let f = MergeHere number left in
     let off = top_popped before (giving_in old v) f popped le in
@@ -453,6 +476,7 @@ comes_half_here had v number before old new left s popped le b =
           (half_task (top before) mid v number left off refl s.sound.2.keeps)
           (half_free (top before) mid v number left off refl);
       running = refl;
+      places_none = λ q alone. absurd (not_by_itself before (giving_in old v) f number popped le refl alone);
     }, tt)
 
 -- A child that ran here has ended.
@@ -471,38 +495,42 @@ joins_as old new v variables gs k other j = record {
   control_is = refl;
 }
 
-joined_on : (had left beside : ℕ) (old new : State) → Runs 1 old new → left ≤ had → left + 1 ≡ had + beside → pending_of new.control ≡ None → RunsOn had left beside old new
-joined_on had left beside old new r less counted running = record { made = 1; fewer = less; counted = counted; runs = r; running = running }
+was_nested : (old new : State) (v : ℕ) (variables : List ℕ) (gs : List Frame) (k : Control) → JoinsHere old new variables gs k → IsByItself (giving_in old v) → ⊥
+was_nested old new v variables gs k j alone = some_parent new.parents.items j.parent (sym j.parents ∙ alone.parents)
 
-pub comes_join : (old new : State) (v had left : ℕ) (p : Progress) → IsSoundState (giving_in old v) → length old.frames.items ≡ old.level.start → ResumesParent old v had p left new →
-    Comes had left (giving_in old v) p new
-comes_join old new v had left (part.Begin next) s long h =
-    joined_on had left 1 (giving_in old v) (beginning_in new next)
+joined_on : {Q : Type 0} → (had left beside : ℕ) (old new : State) → (IsByItself old → ⊥) → Runs 1 old new → left ≤ had → left + 1 ≡ had + beside → pending_of new.control ≡ None → RunsOn Q had left beside old new
+joined_on had left beside old new nested r less counted running =
+    record { made = 1; fewer = less; counted = counted; runs = r; running = running; places_none = λ q alone. absurd (nested alone) }
+
+pub comes_join : (Q : Type 0) → (old new : State) (v had left : ℕ) (p : Progress) → IsSoundState (giving_in old v) → length old.frames.items ≡ old.level.start → ResumesParent old v had p left new →
+    Comes Q had left (giving_in old v) p new
+comes_join Q old new v had left (part.Begin next) s long h =
+    joined_on had left 1 (giving_in old v) (beginning_in new next) (was_nested old new v _ _ _ h.2)
     (runs_join_begins (giving_in old v) (beginning_in new next) v h.0 h.1 next s refl long (joins_as old new v _ _ _ (Begin next) h.2) h.3)
     (omega (arith, h.4)) (omega (arith, h.4)) refl
-comes_join old new v had left (part.Value result) s long h =
+comes_join Q old new v had left (part.Value result) s long h =
     let w = apply (operation_of h.2) v h.1 in
-    subst (λ x. RunsOn had left 0 (giving_in old v) (giving_in new x)) (sym h.5)
-    (joined_on had left 0 (giving_in old v) (giving_in new w)
+    subst (λ x. RunsOn Q had left 0 (giving_in old v) (giving_in new x)) (sym h.5)
+    (joined_on had left 0 (giving_in old v) (giving_in new w) (was_nested old new v _ _ _ h.3)
     (runs_join_half (giving_in old v) (giving_in new w) v h.0 h.1 h.2 s refl long (joins_as old new v _ _ _ (Give w) h.3) h.4)
     (omega (arith, h.6)) (omega (arith, h.6)) refl)
-comes_join old new v had left part.Goes s long h =
+comes_join Q old new v had left part.Goes s long h =
     let w = apply (operation_of h.2) v h.1 in
     let given : giving_in new w ≡ new = ap (λ k. record new { control = k }) (sym h.3.control_is) in
-    (subst (λ x. RunsOn had left 1 (giving_in old v) x) given
-    (joined_on had left 1 (giving_in old v) (giving_in new w)
+    (subst (λ x. RunsOn Q had left 1 (giving_in old v) x) given
+    (joined_on had left 1 (giving_in old v) (giving_in new w) (was_nested old new v _ _ _ h.3)
     (runs_join_half (giving_in old v) (giving_in new w) v h.0 h.1 h.2 s refl long (joins_as old new v _ _ _ (Give w) h.3) h.4)
     (omega (arith, h.5)) (omega (arith, h.5)) refl),
     subst IsLeftOver (sym h.3.control_is) tt)
-comes_join old new v had left part.Stops s long h = absurd h
-comes_join old new v had left (part.Forks class child) s long h = absurd h
+comes_join Q old new v had left part.Stops s long h = absurd h
+comes_join Q old new v had left (part.Forks class child) s long h = absurd h
 
 not_joins : pause.Ended ≡ pause.Joins → ⊥
 not_joins e = cc
 
 -- The outermost has ended.
-pub comes_end : (had v : ℕ) (old new : State) → IsSoundState (giving_in old v) → old.parents.items ≡ [] → length old.frames.items ≤ old.level.start → Turns old new (Ended v) →
-    Comes had had (giving_in old v) part.Stops new
+pub comes_end : {Q : Type 0} → (had v : ℕ) (old new : State) → IsSoundState (giving_in old v) → old.parents.items ≡ [] → length old.frames.items ≤ old.level.start → Turns old new (Ended v) →
+    Comes Q had had (giving_in old v) part.Stops new
 comes_end had v old new s none over turns =
     let from = giving_in old v in
     let le = start_in from s in
@@ -582,29 +610,30 @@ pub spawns_begun : (t child : State) (e : Bor Expr) (begins : Control) → IsSpa
 spawns_begun t child e begins c = record { renewed = c.renewed; named = c.named; label = c.label; holds = c.holds; sums = c.sums }
 
 -- A part of an expression is begun, with a frame for what comes after it.
-pub comes_enter : (had : ℕ) (t s new : State) (e part p q : Bor Expr) (f : Frame) → IsSoundState (beginning_in t e) → s ≡ new → p ≡ q → q ≡ part → Pushes t new f →
+pub comes_enter : (Q : Type 0) → (had : ℕ) (t s new : State) (e part p q : Bor Expr) (f : Frame) → IsSoundState (beginning_in t e) → s ≡ new → p ≡ q → q ≡ part → Pushes t new f →
     (Becomes (beginning (top t) e) (beginning (top new) part) (top t).environment ((top t).frames ++ f ∷ []) (Begin part) → AfterSteps 1 (beginning (top t) e) None (beginning (top new) part)) →
-    RunsOn had had 1 (beginning_in t e) (beginning_in s p)
-comes_enter had t s new e part p q f sound is also begun pushes step =
+    RunsOn Q had had 1 (beginning_in t e) (beginning_in s p)
+comes_enter Q had t s new e part p q f sound is also begun pushes step =
     let le = start_in (beginning_in t e) sound in
     let c = begins_part t new e part _ _ _ pushes in
     let goes = step (top_becomes (beginning_in t e) (beginning_in new part) _ _ _ c le) in
-    subst (λ x. RunsOn had had 1 (beginning_in t e) (beginning_in x p)) (sym is) (subst (λ y. RunsOn had had 1 (beginning_in t e) (beginning_in new y)) (sym (also ∙ begun))
+    subst (λ x. RunsOn Q had had 1 (beginning_in t e) (beginning_in x p)) (sym is) (subst (λ y. RunsOn Q had had 1 (beginning_in t e) (beginning_in new y)) (sym (also ∙ begun))
     (runs_made had had 1 (beginning_in t e) (beginning_in new part) sound (changes_leave (beginning_in t e) (beginning_in new part) _ _ _ c le)
     (record { made = 1; fewer = omega arith; counted = omega arith; goes = goes })))
 
 -- Memory was refused, after these steps.
-pub refused_same : (most : ℕ) (a b : State) → IsSoundState a → IsSame a b → pending_of a.control ≡ None → RunsWithin most a b
+pub refused_same : {Q : Type 0} → (most : ℕ) (a b : State) → IsSoundState a → IsSame a b → pending_of a.control ≡ None → RunsWithin Q most a b
 refused_same most a b s same running =
     let r = runs_nothing 0 a b s same running in
-    record { made = r.made; at_most = omega (arith, r.counted); runs = r.runs; running = r.running }
+    record { made = r.made; at_most = omega (arith, r.counted); runs = r.runs; running = r.running; places_none = r.places_none }
 
-pub refused_after : (had left : ℕ) (a b c : State) → RunsOn had left 0 a b → RunsWithin left b c → RunsWithin had a c
+pub refused_after : {Q : Type 0} → (had left : ℕ) (a b c : State) → RunsOn Q had left 0 a b → RunsWithin Q left b c → RunsWithin Q had a c
 refused_after had left a b c m r = record {
   made = m.made + r.made;
   at_most = omega (arith, m.counted, r.at_most);
   runs = runs_on m.made r.made a b c m.runs r.runs;
   running = r.running;
+  places_none = λ x alone. r.places_none x (m.runs.by_itself alone (m.places_none x alone)).alone ∙ m.places_none x alone;
 }
 
 pub on_value : (p : Progress) (A : Type 0) → A → OnValue p A
@@ -686,16 +715,17 @@ pub current_running : (begins : Option (Bor Expr)) (t : State) → (begins ≡ N
 current_running None t h = left_running t.control (h refl)
 current_running (Some expr) t h = refl
 
-pub refused_next : (had rest : ℕ) (a b c : State) → RunsOn had rest 0 a b → RunsWithin (rest - 1) b c → 0 < rest → RunsWithin (had - 1) a c
+pub refused_next : {Q : Type 0} → (had rest : ℕ) (a b c : State) → RunsOn Q had rest 0 a b → RunsWithin Q (rest - 1) b c → 0 < rest → RunsWithin Q (had - 1) a c
 refused_next had rest a b c m r some = record {
   made = m.made + r.made;
   at_most = omega (arith, m.counted, r.at_most, some);
   runs = runs_on m.made r.made a b c m.runs r.runs;
   running = r.running;
+  places_none = λ x alone. r.places_none x (m.runs.by_itself alone (m.places_none x alone)).alone ∙ m.places_none x alone;
 }
 
-pub pauses_next : (had some left : ℕ) (a b : State) (next : Pending) (c : State) → RunsOn had (some + 1) 0 a b → RunsToPause some left b next c →
-    (beside : ℕ) × (had ≡ beside + 1) × RunsToPause beside left a next c
+pub pauses_next : {Q : Type 0} → (had some left : ℕ) (a b : State) (next : Pending) (c : State) → RunsOn Q had (some + 1) 0 a b → RunsToPause Q some left b next c →
+    (beside : ℕ) × (had ≡ beside + 1) × RunsToPause Q beside left a next c
 pauses_next had some left a b next c m r = (
   some + m.made,
   omega (arith, m.counted),
@@ -707,6 +737,7 @@ pauses_next had some left a b next c m r = (
       counted = omega (arith, r.runs.counted);
       runs = runs_on m.made r.runs.made a b r.last m.runs r.runs.runs;
       running = r.runs.running;
+      places_none = λ x alone. r.runs.places_none x (m.runs.by_itself alone (m.places_none x alone)).alone ∙ m.places_none x alone;
     };
     leaves = r.leaves;
     stops = r.stops;
@@ -715,8 +746,8 @@ pauses_next had some left a b next c m r = (
   },
 )
 
-pub forks_next : (had some left : ℕ) (a b : State) (class : Class) (child c : State) → RunsOn had (some + 1) 0 a b → RunsToFork some left b class child c →
-    (beside : ℕ) × (had ≡ beside + 1) × RunsToFork beside left a class child c
+pub forks_next : {Q : Type 0} → (had some left : ℕ) (a b : State) (class : Class) (child c : State) → RunsOn Q had (some + 1) 0 a b → RunsToFork Q some left b class child c →
+    (beside : ℕ) × (had ≡ beside + 1) × RunsToFork Q beside left a class child c
 forks_next had some left a b class child c m r = (
   some + m.made,
   omega (arith, m.counted),
@@ -728,6 +759,7 @@ forks_next had some left a b class child c m r = (
       counted = omega (arith, r.runs.counted);
       runs = runs_on m.made r.runs.made a b r.last m.runs r.runs.runs;
       running = r.runs.running;
+      places_none = λ x alone. r.runs.places_none x (m.runs.by_itself alone (m.places_none x alone)).alone ∙ m.places_none x alone;
     };
     leaves = r.leaves;
     gives = r.gives;

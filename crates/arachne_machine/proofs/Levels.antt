@@ -493,7 +493,7 @@ outer_start (q ∷ ps) start place s p h = h.0
 one_child : (m n : ℕ) → ◌≡◌ {A = List ℕ} (m ∷ []) (n ∷ []) → m ≡ n
 one_child m n e = cc
 
-some_parent : (ps : List Parent) (q : Parent) → ps ++ q ∷ [] ≡ [] → ⊥
+pub some_parent : (ps : List Parent) (q : Parent) → ps ++ q ∷ [] ≡ [] → ⊥
 some_parent [] q e = cc
 some_parent (p ∷ ps) q e = cc
 

@@ -22,5 +22,6 @@ pub mod Advancing
 pub mod Waiting
 pub mod Nesting
 pub mod Answering
+pub mod Counting
 pub mod Crossing
 pub mod WorkedPrograms

@@ -357,7 +357,7 @@ join_sums old new outcome account of_name same_source j =
       λ ledger. ap (λ f. f ledger) (with_join-sums source.locks old.own.name j.number effects account),
     )
 
-after-sums : (name : List ℕ) (e : Effects) (a : Account) → (after name e a).sums ≡ (λ l. a.sums l + e.sums l)
+pub after-sums : (name : List ℕ) (e : Effects) (a : Account) → (after name e a).sums ≡ (λ l. a.sums l + e.sums l)
 unfolding after
 after-sums name e a = refl
 

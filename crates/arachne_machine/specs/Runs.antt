@@ -212,17 +212,19 @@ pub record SweepsOn (old new : State) (reduction : Reduction) (next end : ℕ) (
   pub done : end ≤ next → Turns old new (Give so_far)
 
 -- The steps that were made by the threads of a state are those that are not left any more, and so many beside them; none pauses.
-pub record RunsOn (had left beside : ℕ) (old new : State) : Type 0 where
+-- Where Q is so, no child was placed.
+pub record RunsOn (Q : Type 0) (had left beside : ℕ) (old new : State) : Type 0 where
   pub made : ℕ
   pub fewer : left ≤ had
   pub counted : left + made ≡ had + beside
   pub runs : Runs made old new
   pub running : pending_of new.control ≡ None
+  pub places_none : Q → IsByItself old → (outermost_in new).forks ≡ (outermost_in old).forks
 
 -- The same, and then the innermost pauses so in one step more.
-pub record RunsToPause (had left : ℕ) (old : State) (next : Pending) (new : State) : Type 0 where
+pub record RunsToPause (Q : Type 0) (had left : ℕ) (old : State) (next : Pending) (new : State) : Type 0 where
   pub last : State
-  pub runs : RunsOn had left 0 old last
+  pub runs : RunsOn Q had left 0 old last
   pub leaves : LeavesOthers last new
   pub stops : AfterSteps 1 (top last) (Some next) (top new)
   pub ended : next ≡ pause.Ended → new.parents.items ≡ []
@@ -230,9 +232,9 @@ pub record RunsToPause (had left : ℕ) (old : State) (next : Pending) (new : St
   pub room : next ≡ pause.Joins → HasRoom new
 
 -- The same, and then the innermost forks this child in one step more.
-pub record RunsToFork (had left : ℕ) (old : State) (class : Class) (child new : State) : Type 0 where
+pub record RunsToFork (Q : Type 0) (had left : ℕ) (old : State) (class : Class) (child new : State) : Type 0 where
   pub last : State
-  pub runs : RunsOn had left 0 old last
+  pub runs : RunsOn Q had left 0 old last
   pub leaves : LeavesOthers last new
   pub gives : GivesChild 1 (top last) (top new) (top child) (record { class = class; task = task_begun child.control child.environment.items })
   pub sound : IsSoundState child
@@ -240,22 +242,23 @@ pub record RunsToFork (had left : ℕ) (old : State) (class : Class) (child new 
   pub sums : child.sums.items ≡ tabulated last.program.now.ledgers (λ ledger. 0)
 
 -- What comes of a step, with those that were left beside it before and after: a value that is to be handed on in the step, or what is next once it is made.
-abbrev pub Comes : ℕ → ℕ → State → Progress → State → Type 0
-Comes had left old (progress.Value value) new = RunsOn had left 0 old (giving_in new value)
-Comes had left old (progress.Begin expr) new = RunsOn had left 1 old (beginning_in new expr)
-Comes had left old progress.Goes new = RunsOn had left 1 old new × IsLeftOver new.control
-Comes had left old progress.Stops new = (next : Pending) × RunsToPause had left old next new
-Comes had left old (progress.Forks class child) new = RunsToFork had left old class child.value new
+abbrev pub Comes : Type 0 → ℕ → ℕ → State → Progress → State → Type 0
+Comes Q had left old (progress.Value value) new = RunsOn Q had left 0 old (giving_in new value)
+Comes Q had left old (progress.Begin expr) new = RunsOn Q had left 1 old (beginning_in new expr)
+Comes Q had left old progress.Goes new = RunsOn Q had left 1 old new × IsLeftOver new.control
+Comes Q had left old progress.Stops new = (next : Pending) × RunsToPause Q had left old next new
+Comes Q had left old (progress.Forks class child) new = RunsToFork Q had left old class child.value new
 
 -- What comes of an advance, by the child that it gives and the pause that is not answered: all steps are made, or one at least.
-abbrev pub Advances : ℕ → ℕ → State → Option (Class × Box State) → Option Pending → State → Type 0
-Advances had left old None None new = RunsOn had left 0 old new × (left ≡ 0)
-Advances had left old None (Some next) new = (beside : ℕ) × (had ≡ beside + 1) × RunsToPause beside left old next new
-Advances had left old (Some forked) pending new = (beside : ℕ) × (had ≡ beside + 1) × RunsToFork beside left old forked.0 forked.1.value new
+abbrev pub Advances : Type 0 → ℕ → ℕ → State → Option (Class × Box State) → Option Pending → State → Type 0
+Advances Q had left old None None new = RunsOn Q had left 0 old new × (left ≡ 0)
+Advances Q had left old None (Some next) new = (beside : ℕ) × (had ≡ beside + 1) × RunsToPause Q beside left old next new
+Advances Q had left old (Some forked) pending new = (beside : ℕ) × (had ≡ beside + 1) × RunsToFork Q beside left old forked.0 forked.1.value new
 
 -- At most so many steps were made, and none pauses.
-pub record RunsWithin (most : ℕ) (old new : State) : Type 0 where
+pub record RunsWithin (Q : Type 0) (most : ℕ) (old new : State) : Type 0 where
   pub made : ℕ
   pub at_most : made ≤ most
   pub runs : Runs made old new
   pub running : pending_of new.control ≡ None
+  pub places_none : Q → IsByItself old → (outermost_in new).forks ≡ (outermost_in old).forks

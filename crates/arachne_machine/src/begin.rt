@@ -8,7 +8,7 @@ use std::alloc::AllocError;
 
 /// How an expression is begun.
 impl<'p> State<'p> {
-    ghost use Rattle.std.specs.Prelude.{◌≡◌, ◌≤◌, ◌∷◌, ◌++◌, [], length, slice_index, IfOk, IfSome, OnOk, OnErr};
+    ghost use Rattle.std.specs.Prelude.{true, ◌≡◌, ◌≤◌, ◌∷◌, ◌++◌, [], length, slice_index, IfOk, IfSome, OnOk, OnErr};
     ghost use Rattle.std.specs.Borrow.{Bor};
     ghost use Rattle.arachne_lang.specs.declared.program.Expr.{Expr as Expression};
     ghost use Rattle.arachne_lang.specs.Tree.{Binary};
@@ -31,7 +31,7 @@ impl<'p> State<'p> {
         places: &mut P,
     ) -> Result<Progress<'p>, AllocError>
         requires sound { IsSoundState (beginning_in self.old expr) }
-        ensures ok { IfOk result (λ progress. Comes left.old left.new (beginning_in self.old expr.entry) progress self.new) }
+        ensures ok { IfOk result (λ progress. Comes (P.gives_all ≡ true) left.old left.new (beginning_in self.old expr.entry) progress self.new) }
         ensures fewer { left.new ≤ left.old }
         ensures err { OnErr result (IsSame self.old self.new) }
     {

@@ -7,7 +7,7 @@ use std::alloc::AllocError;
 
 /// How a value is handed on.
 impl<'p> State<'p> {
-    ghost use Rattle.std.specs.Prelude.{◌≡◌, ◌+◌, ◌<◌, ◌≤◌, ◌++◌, ◌∷◌, [], length, slice_index, vec_len, vec_capacity, IfOk, IsErr, OnOk, OnErr};
+    ghost use Rattle.std.specs.Prelude.{true, ◌≡◌, ◌+◌, ◌<◌, ◌≤◌, ◌++◌, ◌∷◌, [], length, slice_index, vec_len, vec_capacity, IfOk, IsErr, OnOk, OnErr};
     ghost use Rattle.arachne_lang.specs.Program.{source_of};
     ghost use Rattle.arachne_lang.specs.Value.{array_at, with_newest};
     ghost use Rattle.arachne_machine.specs.declared.state.State.{State as Whole};
@@ -30,10 +30,10 @@ impl<'p> State<'p> {
         places: &mut P,
     ) -> Result<Progress<'p>, AllocError>
         requires sound { IsSoundState (giving_in self.old value) }
-        ensures ok { IfOk result (λ progress. Comes left.old left.new (giving_in self.old value) progress self.new) }
+        ensures ok { IfOk result (λ progress. Comes (P.gives_all ≡ true) left.old left.new (giving_in self.old value) progress self.new) }
         ensures handed { IfOk result (λ progress. OnValue progress ⊥) }
         ensures fewer { left.new ≤ left.old }
-        ensures err { OnErr result (RunsWithin left.old (giving_in self.old value) self.new) }
+        ensures err { OnErr result (RunsWithin (P.gives_all ≡ true) left.old (giving_in self.old value) self.new) }
     {
         if self.environment.try_reserve(2).is_err() {
             return self.refused(value);
@@ -56,7 +56,7 @@ impl<'p> State<'p> {
     ) -> Result<Progress<'p>, AllocError>
         requires sound { IsSoundState (giving_in self.old value) }
         requires environment { vec_len self.old.environment + 2 ≤ vec_capacity self.old.environment }
-        ensures ok { IfOk result (λ progress. Comes left.old left.new (giving_in self.old value) progress self.new) }
+        ensures ok { IfOk result (λ progress. Comes (P.gives_all ≡ true) left.old left.new (giving_in self.old value) progress self.new) }
         ensures fewer { left.new ≤ left.old }
         ensures room { IfOk result (λ progress. OnValue progress (vec_len self.new.environment + 2 ≤ vec_capacity self.new.environment)) }
         ensures nearer { IfOk result (λ progress. OnValue progress (vec_len self.new.frames + vec_len self.new.parents < vec_len self.old.frames + vec_len self.old.parents)) }
@@ -109,7 +109,7 @@ impl<'p> State<'p> {
         requires line { HasLine self.old }
         requires environment { vec_len self.old.environment + 2 ≤ vec_capacity self.old.environment }
         requires frames { vec_len self.old.frames + 1 ≤ vec_capacity self.old.frames }
-        ensures made { (before : Whole) → IsPoppedIn frame.entry before (giving_in self.old value) → IsSoundState before → IfOk result (λ progress. Comes left.old left.new before progress self.new) }
+        ensures made { (before : Whole) → IsPoppedIn frame.entry before (giving_in self.old value) → IsSoundState before → IfOk result (λ progress. Comes (P.gives_all ≡ true) left.old left.new before progress self.new) }
         ensures fewer { left.new ≤ left.old }
         ensures room { IfOk result (λ progress. OnValue progress (vec_len self.new.environment + 2 ≤ vec_capacity self.new.environment)) }
         ensures frames { IfOk result (λ progress. OnValue progress (vec_len self.new.frames ≤ vec_len self.old.frames)) }

@@ -73,7 +73,7 @@ pub enum Progress<'p> {
 }
 
 impl<'p> State<'p> {
-    ghost use Rattle.std.specs.Prelude.{◌≡◌, ◌≤◌, ◌-◌, ◌∷◌, ◌<◌, [], length, IfOk, OnOk, OnErr, None, Some};
+    ghost use Rattle.std.specs.Prelude.{true, ◌≡◌, ◌≤◌, ◌-◌, ◌∷◌, ◌<◌, [], length, IfOk, OnOk, OnErr, None, Some};
     ghost use Rattle.arachne_lang.specs.Effects.{tabulated};
     ghost use Rattle.arachne_machine.specs.Sound.{IsSoundState};
     ghost use Rattle.arachne_machine.specs.Strands.{owned_of, own_line};
@@ -165,8 +165,8 @@ impl<'p> State<'p> {
     ) -> Result<Option<(Class, Box<State<'p>>)>, AllocError>
         requires running { pending_of self.old.control ≡ None }
         requires sound { IsSoundState self.old }
-        ensures ok { IfOk result (λ forked. Advances left.old left.new self.old forked (pending_of self.new.control) self.new) }
-        ensures err { OnErr result (RunsWithin (left.old - 1) self.old self.new) }
+        ensures ok { IfOk result (λ forked. Advances (P.gives_all ≡ true) left.old left.new self.old forked (pending_of self.new.control) self.new) }
+        ensures err { OnErr result (RunsWithin (P.gives_all ≡ true) (left.old - 1) self.old self.new) }
     {
         let mut rest = *left;
         let mut begins = self.beginning();
@@ -226,10 +226,10 @@ impl<'p> State<'p> {
     ) -> Result<Progress<'p>, AllocError>
         requires left_over { begins ≡ None → IsLeftOver self.old.control }
         requires sound { IsSoundState (current_in begins self.old) }
-        ensures ok { IfOk result (λ progress. Comes left.old left.new (current_in begins.entry self.old) progress self.new) }
+        ensures ok { IfOk result (λ progress. Comes (P.gives_all ≡ true) left.old left.new (current_in begins.entry self.old) progress self.new) }
         ensures handed { IfOk result (λ progress. OnValue progress ⊥) }
         ensures fewer { left.new ≤ left.old }
-        ensures err { OnErr result (RunsWithin left.old (current_in begins.entry self.old) self.new) }
+        ensures err { OnErr result (RunsWithin (P.gives_all ≡ true) left.old (current_in begins.entry self.old) self.new) }
     {
         match self.begin_next(begins, left, spares, places) {
             Ok(Progress::Value(value)) => self.give(value, left, places),
@@ -252,7 +252,7 @@ impl<'p> State<'p> {
     ) -> Result<Progress<'p>, AllocError>
         requires left_over { begins ≡ None → IsLeftOver self.old.control }
         requires sound { IsSoundState (current_in begins self.old) }
-        ensures ok { IfOk result (λ progress. Comes left.old left.new (current_in begins.entry self.old) progress self.new) }
+        ensures ok { IfOk result (λ progress. Comes (P.gives_all ≡ true) left.old left.new (current_in begins.entry self.old) progress self.new) }
         ensures fewer { left.new ≤ left.old }
         ensures err { OnErr result (IsSame self.old self.new) }
     {
@@ -272,7 +272,7 @@ impl<'p> State<'p> {
     ) -> Result<Progress<'p>, AllocError>
         requires left_over { IsLeftOver self.old.control }
         requires sound { IsSoundState self.old }
-        ensures ok { IfOk result (λ progress. Comes left.old left.new self.old progress self.new) }
+        ensures ok { IfOk result (λ progress. Comes (P.gives_all ≡ true) left.old left.new self.old progress self.new) }
         ensures fewer { left.new ≤ left.old }
         ensures err { OnErr result (IsSame self.old self.new) }
     {

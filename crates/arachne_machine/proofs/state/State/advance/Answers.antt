@@ -1,4 +1,4 @@
-use Rattle.std.proofs.Common.{◌≡◌, ◌+◌, ◌-◌, None, subst, sym, arith}
+use Rattle.std.proofs.Common.{true, ◌≡◌, ◌+◌, ◌-◌, None, subst, sym, arith}
 use Rattle.arachne_machine.specs.declared.state.Progress.TheVariants as way
 use Rattle.arachne_machine.specs.Steps.{pending_of, top}
 use Rattle.arachne_machine.specs.Runs.{Advances, Comes, RunsOn, beginning_in, current_in}
@@ -10,7 +10,7 @@ pub loop-rest-init : goal.loop-rest-init
 loop-rest-init g c =
     let t = c.args.self.now in
     record {
-      makes = subst (λ s. RunsOn c.args.left.now c.args.left.now 0 t s) (sym c.beginning-begins.ensures.current) (runs_nothing c.args.left.now t t c.requires.sound (as_is t) c.requires.running);
+      makes = subst (λ s. RunsOn (g.P.Placing.gives_all ≡ true) c.args.left.now c.args.left.now 0 t s) (sym c.beginning-begins.ensures.current) (runs_nothing c.args.left.now t t c.requires.sound (as_is t) c.requires.running);
       left_over = λ none. c.beginning-begins.ensures.left_over none c.requires.running;
     }
 
@@ -29,8 +29,8 @@ loop-rest-preserved-in-Begin g c =
     let new = c.make.new.self in
     let one : loop.rest ≡ loop.rest - 1 + 1 = omega (arith, c.loop-rest-test.true) in
     record {
-      makes = runs_next had (loop.rest - 1) c.make.new.left a b (beginning_in new c.in-Begin.expr) (subst (λ n. RunsOn had n 0 a b) one loop.invariant.makes)
-          (subst (λ p. Comes (loop.rest - 1) c.make.new.left b p new) c.in-Begin.is c.in_ok-progress.ensures.ok);
+      makes = runs_next had (loop.rest - 1) c.make.new.left a b (beginning_in new c.in-Begin.expr) (subst (λ n. RunsOn (g.P.Placing.gives_all ≡ true) had n 0 a b) one loop.invariant.makes)
+          (subst (λ p. Comes (g.P.Placing.gives_all ≡ true) (loop.rest - 1) c.make.new.left b p new) c.in-Begin.is c.in_ok-progress.ensures.ok);
       left_over = λ none. absurd (some_none c.in-Begin.expr none);
     }
 
@@ -42,9 +42,9 @@ loop-rest-preserved g c =
     let b = current_in loop.begins loop.self in
     let new = c.make.new.self in
     let one : loop.rest ≡ loop.rest - 1 + 1 = omega (arith, c.loop-rest-test.true) in
-    let r : Comes (loop.rest - 1) c.make.new.left b way.Goes new = subst (λ p. Comes (loop.rest - 1) c.make.new.left b p new) c.in-Goes.is c.in_ok-progress.ensures.ok in
+    let r : Comes (g.P.Placing.gives_all ≡ true) (loop.rest - 1) c.make.new.left b way.Goes new = subst (λ p. Comes (g.P.Placing.gives_all ≡ true) (loop.rest - 1) c.make.new.left b p new) c.in-Goes.is c.in_ok-progress.ensures.ok in
     record {
-      makes = runs_next had (loop.rest - 1) c.make.new.left a b new (subst (λ n. RunsOn had n 0 a b) one loop.invariant.makes) r.0;
+      makes = runs_next had (loop.rest - 1) c.make.new.left a b new (subst (λ n. RunsOn (g.P.Placing.gives_all ≡ true) had n 0 a b) one loop.invariant.makes) r.0;
       left_over = λ none. r.1;
     }
 
@@ -57,9 +57,9 @@ returns-in-Stops-clause-ok g c =
     let new = c.make.new.self in
     let left = c.make.new.left in
     let one : loop.rest ≡ loop.rest - 1 + 1 = omega (arith, c.loop-rest-test.true) in
-    let r : Comes (loop.rest - 1) left b way.Stops new = subst (λ p. Comes (loop.rest - 1) left b p new) c.in-Stops.is c.in_ok-progress.ensures.ok in
-    subst (λ o. Advances had left a None o new) (sym (stopped_pending 1 (top r.1.last) r.0 (top new) r.1.stops))
-    (pauses_next had (loop.rest - 1) left a b r.0 new (subst (λ n. RunsOn had n 0 a b) one loop.invariant.makes) r.1)
+    let r : Comes (g.P.Placing.gives_all ≡ true) (loop.rest - 1) left b way.Stops new = subst (λ p. Comes (g.P.Placing.gives_all ≡ true) (loop.rest - 1) left b p new) c.in-Stops.is c.in_ok-progress.ensures.ok in
+    subst (λ o. Advances (g.P.Placing.gives_all ≡ true) had left a None o new) (sym (stopped_pending 1 (top r.1.last) r.0 (top new) r.1.stops))
+    (pauses_next had (loop.rest - 1) left a b r.0 new (subst (λ n. RunsOn (g.P.Placing.gives_all ≡ true) had n 0 a b) one loop.invariant.makes) r.1)
 
 pub returns-in-Forks-clause-ok : goal.returns-in-Forks-clause-ok
 returns-in-Forks-clause-ok g c =
@@ -70,5 +70,5 @@ returns-in-Forks-clause-ok g c =
     let new = c.make.new.self in
     let left = c.make.new.left in
     let one : loop.rest ≡ loop.rest - 1 + 1 = omega (arith, c.loop-rest-test.true) in
-    let r : Comes (loop.rest - 1) left b (way.Forks c.in-Forks.class c.in-Forks.child) new = subst (λ p. Comes (loop.rest - 1) left b p new) c.in-Forks.is c.in_ok-progress.ensures.ok in
-    forks_next had (loop.rest - 1) left a b c.in-Forks.class c.in-Forks.child.value new (subst (λ n. RunsOn had n 0 a b) one loop.invariant.makes) r
+    let r : Comes (g.P.Placing.gives_all ≡ true) (loop.rest - 1) left b (way.Forks c.in-Forks.class c.in-Forks.child) new = subst (λ p. Comes (g.P.Placing.gives_all ≡ true) (loop.rest - 1) left b p new) c.in-Forks.is c.in_ok-progress.ensures.ok in
+    forks_next had (loop.rest - 1) left a b c.in-Forks.class c.in-Forks.child.value new (subst (λ n. RunsOn (g.P.Placing.gives_all ≡ true) had n 0 a b) one loop.invariant.makes) r

@@ -1,4 +1,4 @@
-use Rattle.std.proofs.Common.{◌≤◌, ◌<◌, ◌∷◌, ◌++◌, [], length, refl, arith, sym, ap, ◌∙◌}
+use Rattle.std.proofs.Common.{rules, ◌≤◌, ◌<◌, ◌∷◌, ◌++◌, [], length, refl, arith, sym, ap, ◌∙◌}
 use Rattle.std.specs.Prelude.{slice_index}
 use Rattle.arachne_lang.specs.Tree.{Number, Variable, Length, Item, Choose, Bind, Tally, Hold, Fold, Sweep}
 use Rattle.arachne_lang.specs.Program.{source_of, tree_of}
@@ -36,7 +36,7 @@ returns-in-Num-clause-ok g c =
     let e = c.args.expr in
     let n = c.in-Num.number in
     let s = c.requires.sound in
-    comes_of _ _ (beginning_in t e) (way.Value n) t s refl (leaves_begun t e s) tt
+    comes_of _ _ _ (beginning_in t e) (way.Value n) t s refl (leaves_begun t e s) tt
     (reaches_value _ n (beginning (top t) e) (top t)
     (goes_to_value 0 (beginning (top t) e) (giving (top t) n) e (Number n) n refl (ap tree_of c.in-Num.is) (as_beginning (top t) (giving (top t) n) e _ _ _ (given (top t) _ _ refl))
     (open_number (source_of t.program.now) (top t).own.name t.environment.items n)))
@@ -47,7 +47,7 @@ returns-in-Var-clause-ok g c =
     let e = c.args.expr in
     let v = c.variable.result in
     let s = c.requires.sound in
-    comes_of _ _ (beginning_in t e) (way.Value v) t s refl (leaves_begun t e s) tt
+    comes_of _ _ _ (beginning_in t e) (way.Value v) t s refl (leaves_begun t e s) tt
     (reaches_value _ v (beginning (top t) e) (top t)
     (goes_to_value 0 (beginning (top t) e) (giving (top t) v) e (Variable c.in-Var.variable) (slice_index t.environment.items c.in-Var.variable) refl (ap tree_of c.in-Var.is)
     (as_beginning (top t) (giving (top t) v) e _ _ _ (given (top t) _ _ (ap Give c.variable.ensures))) (open_variable (source_of t.program.now) (top t).own.name t.environment.items c.in-Var.variable)))
@@ -58,7 +58,7 @@ returns-in-Len-clause-ok g c =
     let e = c.args.expr in
     let v = c.length.result in
     let s = c.requires.sound in
-    comes_of _ _ (beginning_in t e) (way.Value v) t s refl (leaves_begun t e s) tt
+    comes_of _ _ _ (beginning_in t e) (way.Value v) t s refl (leaves_begun t e s) tt
     (reaches_value _ v (beginning (top t) e) (top t)
     (goes_to_value 0 (beginning (top t) e) (giving (top t) v) e (Length c.in-Len.array) _ refl (ap tree_of c.in-Len.is)
     (as_beginning (top t) (giving (top t) v) e _ _ _ (given (top t) _ _ (ap Give c.length.ensures))) (open_length (source_of t.program.now) (top t).own.name t.environment.items c.in-Len.array)))
@@ -98,7 +98,7 @@ returns-then-not-is_any-clause-ok g c =
     let child = c.deref-then-not-is_any.result in
     let during = c.deref-then-not-is_any-4.result in
     let next = c.deref-then-not-is_any-3.result in
-    runs_place _ (beginning_in t e) (beginning_in new during) _ _ _ c.requires.sound (forks_part t new e during _ _ c.in_ok-fork_here-in-Fork.ensures.counts)
+    runs_place _ (beginning_in t e) (beginning_in new during) _ _ _ (λ all. search (rules, c.is_any.ensures all)) c.requires.sound (forks_part t new e during _ _ c.in_ok-fork_here-in-Fork.ensures.counts)
     (λ pushed. places_fork (beginning (top t) e) (beginning (top new) during) e child during next c.in-Fork.class refl
     (rw (c.deref-then-not-is_any.ensures, c.deref-then-not-is_any-4.ensures, c.deref-then-not-is_any-3.ensures) (ap tree_of c.in-Fork.is)) pushed)
 
@@ -109,7 +109,7 @@ returns-in-Binary-clause-ok g c =
     let s = c.requires.sound in
     let new = c.operate.new.self in
     ok_both c.operate.result _ _ _ c.operate.ensures.leaves (c.operate.ensures.ok e (rw (c.deref-in-Binary.ensures, c.deref-in-Binary-2.ensures) (ap tree_of c.in-Binary.is)))
-    (λ p leaves r. comes_of _ _ (beginning_in t e) p new s refl (leaves_from t new e leaves.0) (no_stop p _ leaves.1) r)
+    (λ p leaves r. comes_of _ _ _ (beginning_in t e) p new s refl (leaves_from t new e leaves.0) (no_stop p _ leaves.1) r)
 
 pub returns-clause-ok : goal.returns-clause-ok
 returns-clause-ok g c =
@@ -124,37 +124,37 @@ returns-clause-ok g c =
       | in-Item+in_ok-part-in-Item w ↦
           let part = w.deref.result in
           let new = w.enter.new.self in
-          comes_enter _ t c.match-expr.self new e part c.match-expr.part w.in_ok-part-in-Item.part _ s w.self-is w.part-is w.in_ok-part-in-Item.ensures.part w.in_ok-part-in-Item.ensures.ok
+          comes_enter _ _ t c.match-expr.self new e part c.match-expr.part w.in_ok-part-in-Item.part _ s w.self-is w.part-is w.in_ok-part-in-Item.ensures.part w.in_ok-part-in-Item.ensures.ok
           (λ on. goes_to_part 1 b (beginning (top new) part) e part (Item w.in-Item.array (tree_of part.now)) (Index w.in-Item.array) refl
           (rw (w.deref.ensures) (ap tree_of w.in-Item.is)) on refl refl (open_item source name env w.in-Item.array part))
       | in-If+in_ok-part-in-If w ↦
           let part = w.deref-in-If-3.result in
           let new = w.enter-in-If.new.self in
-          comes_enter _ t c.match-expr.self new e part c.match-expr.part w.in_ok-part-in-If.part _ s w.self-is w.part-is w.in_ok-part-in-If.ensures.part w.in_ok-part-in-If.ensures.ok
+          comes_enter _ _ t c.match-expr.self new e part c.match-expr.part w.in_ok-part-in-If.part _ s w.self-is w.part-is w.in_ok-part-in-If.ensures.part w.in_ok-part-in-If.ensures.ok
           (λ on. goes_to_part 1 b (beginning (top new) part) e part (Choose (tree_of part.now) (tree_of w.deref-in-If.result.now) (tree_of w.deref-in-If-2.result.now)) (Branch w.deref-in-If.result w.deref-in-If-2.result) refl
           (rw (w.deref-in-If.ensures, w.deref-in-If-2.ensures, w.deref-in-If-3.ensures) (ap tree_of w.in-If.is)) on refl refl (open_choice source name env part w.deref-in-If.result w.deref-in-If-2.result))
       | in-Let+in_ok-part-in-Let w ↦
           let part = w.deref-in-Let-2.result in
           let new = w.enter-in-Let.new.self in
-          comes_enter _ t c.match-expr.self new e part c.match-expr.part w.in_ok-part-in-Let.part _ s w.self-is w.part-is w.in_ok-part-in-Let.ensures.part w.in_ok-part-in-Let.ensures.ok
+          comes_enter _ _ t c.match-expr.self new e part c.match-expr.part w.in_ok-part-in-Let.part _ s w.self-is w.part-is w.in_ok-part-in-Let.ensures.part w.in_ok-part-in-Let.ensures.ok
           (λ on. goes_to_part 1 b (beginning (top new) part) e part (Bind (tree_of part.now) (tree_of w.deref-in-Let.result.now)) (Extend w.deref-in-Let.result) refl
           (rw (w.deref-in-Let.ensures, w.deref-in-Let-2.ensures) (ap tree_of w.in-Let.is)) on refl refl (open_binding source name env part w.deref-in-Let.result))
       | in-Tally+in_ok-part-in-Tally w ↦
           let part = w.deref-in-Tally-2.result in
           let new = w.enter-in-Tally.new.self in
-          comes_enter _ t c.match-expr.self new e part c.match-expr.part w.in_ok-part-in-Tally.part _ s w.self-is w.part-is w.in_ok-part-in-Tally.ensures.part w.in_ok-part-in-Tally.ensures.ok
+          comes_enter _ _ t c.match-expr.self new e part c.match-expr.part w.in_ok-part-in-Tally.part _ s w.self-is w.part-is w.in_ok-part-in-Tally.ensures.part w.in_ok-part-in-Tally.ensures.ok
           (λ on. goes_to_part 1 b (beginning (top new) part) e part (Tally w.in-Tally.ledger (tree_of part.now) (tree_of w.deref-in-Tally.result.now)) (Amount w.in-Tally.ledger w.deref-in-Tally.result) refl
           (rw (w.deref-in-Tally.ensures, w.deref-in-Tally-2.ensures) (ap tree_of w.in-Tally.is)) on refl refl (open_tally source name env w.in-Tally.ledger part w.deref-in-Tally.result))
       | in-Fold+in_ok-part-in-Fold w ↦
           let part = w.deref-in-Fold-4.result in
           let new = w.enter-in-Fold.new.self in
-          comes_enter _ t c.match-expr.self new e part c.match-expr.part w.in_ok-part-in-Fold.part _ s w.self-is w.part-is w.in_ok-part-in-Fold.ensures.part w.in_ok-part-in-Fold.ensures.ok
+          comes_enter _ _ t c.match-expr.self new e part c.match-expr.part w.in_ok-part-in-Fold.part _ s w.self-is w.part-is w.in_ok-part-in-Fold.ensures.part w.in_ok-part-in-Fold.ensures.ok
           (λ on. goes_to_part 1 b (beginning (top new) part) e part (Fold (tree_of part.now) (tree_of w.deref-in-Fold.result.now) (tree_of w.deref-in-Fold-2.result.now) (tree_of w.deref-in-Fold-3.result.now)) (FoldTo w.deref-in-Fold.result w.deref-in-Fold-2.result w.deref-in-Fold-3.result) refl
           (rw (w.deref-in-Fold.ensures, w.deref-in-Fold-2.ensures, w.deref-in-Fold-3.ensures, w.deref-in-Fold-4.ensures) (ap tree_of w.in-Fold.is)) on refl refl (open_fold source name env part w.deref-in-Fold.result w.deref-in-Fold-2.result w.deref-in-Fold-3.result))
       | in-Sweep+in_ok-part-in-Sweep w ↦
           let part = w.deref-in-Sweep-3.result in
           let new = w.enter-in-Sweep.new.self in
-          comes_enter _ t c.match-expr.self new e part c.match-expr.part w.in_ok-part-in-Sweep.part _ s w.self-is w.part-is w.in_ok-part-in-Sweep.ensures.part w.in_ok-part-in-Sweep.ensures.ok
+          comes_enter _ _ t c.match-expr.self new e part c.match-expr.part w.in_ok-part-in-Sweep.part _ s w.self-is w.part-is w.in_ok-part-in-Sweep.ensures.part w.in_ok-part-in-Sweep.ensures.ok
           (λ on. goes_to_part 1 b (beginning (top new) part) e part (Sweep w.in-Sweep.reduction w.in-Sweep.grain (tree_of part.now) (tree_of w.deref-in-Sweep.result.now) (tree_of w.deref-in-Sweep-2.result.now)) (SweepTo w.in-Sweep.reduction w.in-Sweep.grain w.deref-in-Sweep.result w.deref-in-Sweep-2.result) refl
           (rw (w.deref-in-Sweep.ensures, w.deref-in-Sweep-2.ensures, w.deref-in-Sweep-3.ensures) (ap tree_of w.in-Sweep.is)) on refl refl (open_sweep source name env w.in-Sweep.reduction w.in-Sweep.grain part w.deref-in-Sweep.result w.deref-in-Sweep-2.result))
     ]

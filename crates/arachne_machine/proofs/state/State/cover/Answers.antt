@@ -1,4 +1,4 @@
-use Rattle.std.proofs.Common.{◌≤◌, ◌<◌, ◌+◌, ◌-◌, ◌/◌, ap, subst, sym, arith}
+use Rattle.std.proofs.Common.{rules, ◌≤◌, ◌<◌, ◌+◌, ◌-◌, ◌/◌, ap, subst, sym, arith}
 use Rattle.std.specs.Prelude.{max}
 use Rattle.arachne_lang.specs.declared.program.Class.TheVariants.{Normal}
 use Rattle.arachne_machine.specs.Ending.{fork_awaited}
@@ -30,7 +30,7 @@ returns-then-not-is_any-clause-ok g c =
     let new = c.halve_here.new.self in
     let counts = c.in_ok-halve_here.ensures.counts in
     let long : max 1 s.grain < s.end - s.first = omega (arith, c.if-count-max.true, c.max.ensures, c.saturating_sub-count.ensures) in
-    (runs_place _ t new _ _ _ c.requires.sound counts
+    (runs_place _ t new _ _ _ (λ all. search (rules, c.is_any.ensures all)) c.requires.sound counts
     (λ pushed. places_half (top t) (top new) s (s.first + c.saturating_sub-count.result / 2) c.requires.covers long (ap (λ n. s.first + n / 2) c.saturating_sub-count.ensures) pushed),
     subst IsLeftOver (sym counts.control_is) tt)
 
@@ -57,7 +57,7 @@ returns-clause-ok g c =
     let after = seen_in p new in
     let le = start_in t c.requires.sound in
     let on = start_same t mid _ _ same le in
-    comes_of _ _ t p new c.requires.sound (ap pending_of c.requires.covers)
+    comes_of _ _ _ t p new c.requires.sound (ap pending_of c.requires.covers)
     (leaves_seen t new p (leaves_on t mid after (leaves_same t mid _ _ same le) (sweeps_leave mid after _ _ _ _ _ c.turn_sweep.ensures.turns on)))
     (one_step_no_stop _ _ p new _ c.turn_sweep.ensures.step)
     (reaches_once _ _ (top t) p new c.turn_sweep.ensures.step

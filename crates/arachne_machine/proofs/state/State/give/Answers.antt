@@ -58,7 +58,7 @@ loop-next-preserved g c =
     let at = giving_in c.loop-next.self c.loop-next.value in
     let new = c.hand_newest.new.self in
     record {
-      makes = runs_more _ _ _ 0 from at _ c.loop-next.invariant.makes (subst (λ p. Comes c.loop-next.left c.hand_newest.new.left at p new) c.in-Value.is c.in_ok-progress.ensures.ok);
+      makes = runs_more _ _ _ 0 from at _ c.loop-next.invariant.makes (subst (λ p. Comes _ c.loop-next.left c.hand_newest.new.left at p new) c.in-Value.is c.in_ok-progress.ensures.ok);
       room = nearer_value c.in_ok-progress.progress c.in-Value.next _ c.in-Value.is c.in_ok-progress.ensures.room;
     }
 

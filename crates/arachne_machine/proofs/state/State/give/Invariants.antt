@@ -1,10 +1,10 @@
-use Rattle.std.proofs.Common.{◌≤◌, ◌+◌, vec_len, vec_capacity}
+use Rattle.std.proofs.Common.{◌≡◌, true, ◌≤◌, ◌+◌, vec_len, vec_capacity}
 use Rattle.arachne_machine.specs.Runs.{RunsOn, giving_in}
 use Rattle.arachne_machine.proofs.state.State.give.Given as goal
 
 abbrev pub invariant-loop-next : goal.invariant-loop-next
 invariant-loop-next g l = record {
-  makes : RunsOn l.fn.left l.left 0 (giving_in l.fn.self l.fn.value) (giving_in l.self l.value);
+  makes : RunsOn (g.P.Placing.gives_all ≡ true) l.fn.left l.left 0 (giving_in l.fn.self l.fn.value) (giving_in l.self l.value);
   room : vec_len l.self.environment + 2 ≤ vec_capacity l.self.environment;
 }
 

@@ -34,7 +34,7 @@ returns-in_default g c =
     let t = c.args.self.now in
     let new = c.hand_within.new.self in
     record {
-      made = λ before popped sound. comes_popped _ _ before t new c.args.frame c.args.value c.hand_within.result sound popped c.requires.start c.hand_within.ensures.leaves c.hand_within.ensures.stops c.hand_within.ensures.made;
+      made = λ before popped sound. comes_popped _ _ _ before t new c.args.frame c.args.value c.hand_within.result sound popped c.requires.start c.hand_within.ensures.leaves c.hand_within.ensures.stops c.hand_within.ensures.made;
       fewer = c.hand_within.ensures.fewer;
       room = c.hand_within.ensures.room;
       frames = c.hand_within.ensures.frames;

@@ -23,4 +23,4 @@ returns-clause-ok g c =
     let t = c.args.self.now in
     let le = start_in (giving_in t c.args.value) c.requires.sound in
     let long : length t.frames.items ≡ t.level.start = omega (arith, le, c.if-len-self.false, c.len.ensures, t.frames.ok.0) in
-    ok_then c.join_here.result _ _ c.join_here.ensures.ok (λ p r. comes_join t c.join_here.new.self c.args.value _ _ p c.requires.sound long r)
+    ok_then c.join_here.result _ _ c.join_here.ensures.ok (λ p r. comes_join _ t c.join_here.new.self c.args.value _ _ p c.requires.sound long r)

@@ -12,7 +12,7 @@ returns-in-Ok-Value-clause-ok g c =
     let a = current_in c.args.begins c.args.self.now in
     let mid = c.begin_next.new.self in
     let v = c.in-Ok-Value.value in
-    let known : RunsOn had some 0 a (giving_in mid v) = subst (λ p. Comes had some a p mid) c.in-Ok-Value.field-0-is c.in-Ok-Value.ensures.ok in
+    let known : RunsOn _ had some 0 a (giving_in mid v) = subst (λ p. Comes _ had some a p mid) c.in-Ok-Value.field-0-is c.in-Ok-Value.ensures.ok in
     ok_then c.give.result _ _ c.give.ensures.ok (λ p r. comes_more had some _ a (giving_in mid v) p _ known r)
 
 pub returns-in-Ok-Value-clause-err : goal.returns-in-Ok-Value-clause-err
@@ -22,7 +22,7 @@ returns-in-Ok-Value-clause-err g c =
     let a = current_in c.args.begins c.args.self.now in
     let mid = c.begin_next.new.self in
     let v = c.in-Ok-Value.value in
-    let known : RunsOn had some 0 a (giving_in mid v) = subst (λ p. Comes had some a p mid) c.in-Ok-Value.field-0-is c.in-Ok-Value.ensures.ok in
+    let known : RunsOn _ had some 0 a (giving_in mid v) = subst (λ p. Comes _ had some a p mid) c.in-Ok-Value.field-0-is c.in-Ok-Value.ensures.ok in
     err_then c.give.result c.give.ensures.err (λ r. refused_after had some a (giving_in mid v) c.give.new.self known r)
 
 pub returns-in-Err-clause-err : goal.returns-in-Err-clause-err
