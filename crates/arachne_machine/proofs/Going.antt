@@ -1,6 +1,6 @@
 -- What the steps of one thread do to a state.
 use Rattle.std.proofs.Common.{◌≡◌, ◌≤◌, ◌<◌, ℕ, ◌+◌, ◌-◌, ◌^◌, List, [], ◌∷◌, ◌++◌, length, length-append, Option, None, Some, inl, inr, refl, ap, sym, subst, ◌∙◌, arith, take, drop}
-use Rattle.std.specs.Prelude.{◌==◌, true, false, zero, suc, reverse, Result, Ok, Err, OnErr}
+use Rattle.std.specs.Prelude.{◌==◌, true, false, zero, suc, map, reverse, Result, Ok, Err, OnErr, OnOk}
 use Rattle.std.specs.Borrow.{Bor}
 use Rattle.std.specs.Global.{Box}
 use Rattle.std.proofs.lemmas.Bool.{cases_lt}
@@ -29,14 +29,16 @@ use Rattle.arachne_machine.specs.Work.{work_of, task_work}
 use Rattle.arachne_machine.specs.Ending.{ending, stretch_task, unjoined_of, fork_awaited, fork_here, forks_here, forks_of}
 use Rattle.arachne_machine.specs.Strands.{Owned, Strand, Fits, owned_at, below_at}
 use Rattle.arachne_machine.specs.Sound.{AreSound, IsSound, IsSoundState, RunFor}
-use Rattle.arachne_machine.specs.Steps.{AfterSteps, HasRoom, OnStops, OnValue, waiting, IsNotEnd, IsLeftOver, IsNew, PlacesChild, Becomes, Changes, CountsFork, GivesChild, Goes, HasLine, IsLineOf, IsNumbered, IsPopped, IsSame, IsSpawned, Pushes, LeavesOthers, Makes, PushesFork, Reaches, SpawnsChild, TurnsFold, TurnsSweep, Turns, giving, beginning, pending_of, task_begun, top, untagged, waiting_in, HasNotBegun, IsBeginning}
+use Rattle.arachne_machine.specs.Steps.{AfterSteps, suspended, HasRoom, OnStops, OnValue, waiting, IsNotEnd, IsLeftOver, IsNew, PlacesChild, Becomes, Changes, CountsFork, GivesChild, Goes, HasLine, IsLineOf, IsNumbered, IsPopped, IsSame, IsSpawned, Pushes, LeavesOthers, Makes, PushesFork, Reaches, SpawnsChild, TurnsFold, TurnsSweep, Turns, giving, beginning, pending_of, task_begun, top, untagged, waiting_in, HasNotBegun, IsBeginning}
 use Rattle.arachne_machine.specs.Runs.{IsByItself, last_of, outermost_in, BeginsHere, Comes, JoinsHere, ResumesParent, FoldsOn, IsOneStep, IsPoppedIn, Runs, RunsOn, RunsToFork, RunsToPause, RunsWithin, HasParent, SweepsOn, beginning_in, current_in, giving_in, seen_in}
 use Rattle.arachne_machine.proofs.Frames.{forks_here-append, length-forks_of}
-use Rattle.arachne_machine.proofs.Levels.{alone_waiting, awaiting_in, below_few, changes_leave, outer_start, runs_begins, runs_join_begins, runs_join_half, runs_on, runs_places, runs_top, some_parent, top_becomes}
+use Rattle.arachne_machine.proofs.Levels.{alone_waiting, awaiting_in, below_few, changes_leave, leaves_waiting, outer_start, runs_begins, runs_join_begins, runs_join_half, runs_on, runs_places, runs_top, some_parent, top_becomes}
+use Rattle.arachne_machine.specs.Nested.{IsNested}
+use Rattle.arachne_machine.specs.Kept.{IsKept, nested}
 use Rattle.arachne_machine.proofs.Here.{awaits_half, awaits_join, half_free, half_task, join_free, join_task}
 use Rattle.arachne_machine.proofs.Handings.{ends, is_not_zero, is_zero}
 use Rattle.arachne_machine.proofs.Outlooks.{as_it_is}
-use Rattle.arachne_machine.proofs.Soundness.{goes_nowhere, locks_unchanged, sound_child}
+use Rattle.arachne_machine.proofs.Soundness.{goes_nowhere, locks_unchanged, sound_child, unchanged_seen}
 use Rattle.arachne_machine.proofs.Renewing.{begins_new, begins_task, begins_faultless}
 
 -- a change that takes no frame away
@@ -799,3 +801,31 @@ no_stop (part.Forks class child) A h = tt
 
 pub ask_is_no_join : (lock : ℕ) → pause.Asks lock ≡ pause.Joins → ⊥
 ask_is_no_join lock e = cc
+
+-- A state in which nothing has changed but room looks the same.
+pub same_seen : (old new : State) (placed : List (Box State)) → IsSoundState old → IsSame old new → nested new placed ≡ nested old placed
+same_seen old new placed s same =
+    let le = start_in old s in
+    let t = top_same old new _ _ same le in
+    let run : suspended (top new) ≡ suspended (top old) = unchanged_seen (top old) (top new) t in
+    let waits = leaves_waiting old new (leaves_same old new _ _ same le) (ap (λ e. e.env) (goes_nowhere (top old) (top new) t).ending) in
+    ap (λ r. record (nested new placed) { running = r }) run ∙ ap (λ ps. record (nested new placed) { running = suspended (top old); parents = map suspended ps }) waits
+    ∙ ap (λ x. record (nested old placed) { sums = x }) same.sums
+
+pub same_kept : (old new : State) (placed : List (Box State)) → IsKept old placed → IsSame old new → IsKept new placed
+same_kept old new placed kept same =
+    let le = start_in old kept.sound in
+    let t = top_same old new _ _ same le in
+    record {
+      sound = (runs_top 0 old new kept.sound (leaves_same old new _ _ same le) (goes_nowhere (top old) (top new) t) (locks_unchanged (top old) (top new) t)).sound;
+      children = kept.children;
+      nested_is = subst IsNested (sym (same_seen old new placed kept.sound same)) kept.nested_is;
+    }
+
+pub in_both : {X E A B P : Type 0} (r : Result X E) → OnOk r A → OnErr r B → (A → P) → (B → P) → P
+in_both (Ok x) a b f g = f a
+in_both (Err e) a b f g = g b
+
+pub ok_map : {X E A B : Type 0} (r : Result X E) → OnOk r A → (A → B) → OnOk r B
+ok_map (Ok x) h f = f h
+ok_map (Err e) h f = tt

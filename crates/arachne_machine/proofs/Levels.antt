@@ -78,7 +78,7 @@ resound t u ts sums h f =
     let one = f h.0 h.2 in
     (one.0, h.1, one.1, h.3, λ ledger. h.4 ledger ∙ ap (λ n. n + h.1 ledger) (sym (one.2 ledger)))
 
-run_for_same : (child other : Strand) (ts : List Strand) → other.own ≡ child.own → RunFor child ts → RunFor other ts
+pub run_for_same : (child other : Strand) (ts : List Strand) → other.own ≡ child.own → RunFor child ts → RunFor other ts
 run_for_same child other [] e h = tt
 run_for_same child other (t ∷ ts) e h = (
   record {
@@ -90,7 +90,7 @@ run_for_same child other (t ∷ ts) e h = (
   h.1,
 )
 
-fits_by : (ps : List Parent) (start place frames lines frames' : ℕ) → (start ≤ frames → start ≤ frames') → Fits ps start place frames lines → Fits ps start place frames' lines
+pub fits_by : (ps : List Parent) (start place frames lines frames' : ℕ) → (start ≤ frames → start ≤ frames') → Fits ps start place frames lines → Fits ps start place frames' lines
 fits_by [] start place frames lines frames' more h = h
 fits_by (p ∷ ps) start place frames lines frames' more h = (more h.0, h.1, h.2)
 

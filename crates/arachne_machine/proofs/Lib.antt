@@ -23,5 +23,7 @@ pub mod Waiting
 pub mod Nesting
 pub mod Answering
 pub mod Counting
+pub mod Rejoining
+pub mod Taking
 pub mod Crossing
 pub mod WorkedPrograms

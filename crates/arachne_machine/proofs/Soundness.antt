@@ -148,7 +148,7 @@ sound_new program name label task t new has faultless =
 
 -- A thread whose end is the same as that of a sound one, with this account, is sound.
 pub record SameSound (old new : Strand) (account account' : Account) : Type 0 where
-  pub program : new.program ≡ old.program
+  pub program : source_of new.program.now ≡ source_of old.program.now
   pub name : new.own.name ≡ old.own.name
   pub holds : (locks : ℕ) → old.own.holds ≡ tabulated locks account.holds → new.own.holds ≡ tabulated locks account'.holds
   pub lines : map named_holds old.below ≡ account.lines → map named_holds new.below ≡ account'.lines
@@ -161,7 +161,7 @@ pub record SameSound (old new : Strand) (account account' : Account) : Type 0 wh
 
 pub sound_same : (old new : Strand) (account account' : Account) → IsSound old account → SameSound old new account account' → IsSound new account'
 sound_same old new account account' s g =
-    let program_is = sym (ap (λ x. source_of x.now) g.program) in
+    let program_is = sym g.program in
     let name_is = sym g.name in
     record {
       task = s.task;
@@ -180,7 +180,7 @@ sound_same old new account account' s g =
 
 pub sound_goes : (n : ℕ) (answered : List Event) (old new : Strand) (account : Account) → IsSound old account → Goes n answered old new → IsSound new account
 sound_goes n answered old new account s g = sound_same old new account account s (record {
-  program = g.program;
+  program = ap (λ p. source_of p.now) g.program;
   name = ap (λ o. o.name) g.own;
   holds = λ locks h. ap (λ o. o.holds) g.own ∙ h;
   lines = λ h. ap (map named_holds) g.below ∙ h;
@@ -195,7 +195,7 @@ sound_goes n answered old new account s g = sound_same old new account account s
 -- so is one that awaits a child that runs here
 pub sound_awaits : (number handed : ℕ) (old new : Strand) (account : Account) → IsSound old account → AwaitsHere number handed old new → IsSound new account
 sound_awaits number handed old new account s g = sound_same old new account account s (record {
-  program = g.program;
+  program = ap (λ p. source_of p.now) g.program;
   name = ap (λ o. o.name) g.own;
   holds = λ locks h. ap (λ o. o.holds) g.own ∙ h;
   lines = λ h. ap (map named_holds) g.below ∙ h;
@@ -256,7 +256,7 @@ pub sound_fork : (n handed : ℕ) (answered : List Event) (here : List ℕ) (old
 sound_fork n handed answered here old new made account s g =
     let kept = g.keeps (fork_has_task n handed answered here old new made account s g) in
     sound_same old new account (with_fork made account) s (record {
-      program = g.program;
+      program = ap (λ p. source_of p.now) g.program;
       name = ap (λ o. o.name) g.own;
       holds = λ locks h. ap (λ o. o.holds) g.own ∙ h ∙ ap (tabulated locks) (sym (with_fork-holds made account));
       lines = λ h. ap (map named_holds) g.below ∙ h ∙ sym (with_fork-lines made account);
@@ -275,7 +275,7 @@ same_some : (x y : Meaning) → Some x ≡ Some y → x ≡ y
 same_some x y h = cc
 
 -- what an outcome's name and meaning say of its task
-outcome_task : (source : Source) (name : List ℕ) (m : Meaning) → outcome_of source name ≡ Some m →
+pub outcome_task : (source : Source) (name : List ℕ) (m : Meaning) → outcome_of source name ≡ Some m →
     (t : Task) × (task_of source name ≡ Some t) × (meaning_as source name t ≡ m)
 outcome_task source name m h =
     elim (task_of source name) as (λ o. option_map (meaning_as source name) o ≡ Some m → (t : Task) × (o ≡ Some t) × (meaning_as source name t ≡ m)) [
@@ -332,7 +332,7 @@ sound_join old new outcome account s of_name same_source j =
     let kept = join_keeps old new outcome of_name same_source j in
     let lines : map named_holds outcome.lines ≡ line_of source.locks (name ++ n ∷ []) effects ∷ effects.lines (name ++ n ∷ []) 0 = sym (ap (λ m. m.threads) means) in
     sound_same old new account (with_join source.locks name n effects account) s (record {
-      program = j.program;
+      program = ap (λ p. source_of p.now) j.program;
       name = ap (λ o. o.name) j.own;
       holds = λ locks h. ap (λ o. o.holds) j.own ∙ h ∙ ap (tabulated locks) (sym (with_join-holds source.locks name n effects account));
       lines = λ h. ap (map named_holds) j.below.lines_are
@@ -432,7 +432,7 @@ pub sound_counts : (old new : Strand) (answered : Pending) (effects : Effects) (
 sound_counts old new answered effects account s no_children no_lines g =
     let name = old.own.name in
     sound_same old new account (after name effects account) s (record {
-      program = g.program;
+      program = ap (λ p. source_of p.now) g.program;
       name = g.name;
       holds = λ locks h. g.holds locks account.holds h ∙ ap (tabulated locks) (sym (after-holds name effects account));
       lines = λ h. ap (map named_holds) g.below ∙ h ∙ sym (after-lines name effects account ∙ ap (λ l. account.lines ++ l) (no_lines name (length account.children)) ∙ append-nil account.lines);

@@ -6,13 +6,13 @@ use Rattle.arachne_lang.specs.declared.program.Class.{Class}
 use Rattle.arachne_lang.specs.declared.program.Expr.{Expr}
 use Rattle.arachne_lang.specs.Effects.{tabulated}
 use Rattle.arachne_machine.specs.declared.frame.Frame.{Frame}
-use Rattle.arachne_machine.specs.declared.frame.Frame.TheVariants.{FoldTurn, Restore, SweepTurn}
+use Rattle.arachne_machine.specs.declared.frame.Frame.TheVariants.{FoldTurn, Join, Merge, Restore, SweepTurn}
 use Rattle.arachne_machine.specs.declared.frame.Control.{Control}
 use Rattle.arachne_machine.specs.declared.frame.Control.TheVariants.{Begin, Give, Cover, Forked, Halved, Awaits, AwaitsHalf}
 use Rattle.arachne_machine.specs.declared.state.Progress.{Progress}
 use Rattle.arachne_machine.specs.declared.state.Progress.TheVariants as progress
 use Rattle.arachne_lang.specs.declared.program.Reduction.{Reduction}
-use Rattle.arachne_lang.specs.Value.{apply, operation_of, with_newest}
+use Rattle.arachne_lang.specs.Value.{Environment, apply, operation_of, with_newest}
 use Rattle.arachne_machine.specs.declared.level.Parent.{Parent}
 use Rattle.arachne_machine.specs.declared.line.Ran.TheVariants as ways
 use Rattle.arachne_machine.specs.declared.line.ThreadLine.{ThreadLine}
@@ -20,10 +20,12 @@ use Rattle.arachne_machine.specs.declared.state.Own.{Own}
 use Rattle.arachne_machine.specs.declared.state.State.{State}
 use Rattle.arachne_machine.specs.Lines.{CountsHoldAt}
 use Rattle.arachne_machine.specs.Ending.{fork_awaited, here_of, locks_of, work_left}
-use Rattle.arachne_machine.specs.Strands.{Strand}
+use Rattle.arachne_machine.specs.Outcome.{Finished}
+use Rattle.arachne_machine.specs.Suspended.{awaited}
+use Rattle.arachne_machine.specs.Strands.{Strand, own_line}
 use Rattle.arachne_machine.specs.declared.pause.Pending.{Pending}
 use Rattle.arachne_machine.specs.declared.pause.Pending.TheVariants as pause
-use Rattle.arachne_machine.specs.Steps.{AfterSteps, HasRoom, Changes, GivesChild, Goes, IsLeftOver, IsSame, LeavesOthers, Turns, pending_of, task_begun, top, waiting_in}
+use Rattle.arachne_machine.specs.Steps.{AfterSteps, HasRoom, Changes, GivesChild, Goes, IsLeftOver, IsSame, LeavesOthers, Turns, pending_of, suspended, task_begun, top, waiting_in}
 use Rattle.arachne_machine.specs.Sound.{IsSoundState}
 
 -- the steps that these have left
@@ -262,3 +264,64 @@ pub record RunsWithin (Q : Type 0) (most : ℕ) (old new : State) : Type 0 where
   pub runs : Runs made old new
   pub running : pending_of new.control ≡ None
   pub places_none : Q → IsByItself old → (outermost_in new).forks ≡ (outermost_in old).forks
+
+-- The innermost has joined a child that ended with this value, and goes on.
+abbrev pub ResumesAs : Control → Environment → List Frame → ℕ → State → Type 0
+ResumesAs (Awaits number during next) env frames value new =
+    (new.environment.items ≡ env ++ value ∷ during ∷ []) × (new.frames.items ≡ frames ++ Restore (length env) ∷ []) × (new.control ≡ Begin next)
+ResumesAs (AwaitsHalf number right reduction) env frames value new =
+    (new.environment.items ≡ env) × (new.frames.items ≡ frames) × (new.control ≡ Give (apply (operation_of reduction) value right))
+ResumesAs _ env frames value new = ⊥
+
+-- The rest is as before.
+pub record KeepsRest (old new : State) : Type 0 where
+  pub program : new.program ≡ old.program
+  pub own : new.own ≡ old.own
+  pub lines : new.lines ≡ old.lines
+  pub sums : new.sums.items ≡ old.sums.items
+  pub parents : new.parents.items ≡ old.parents.items
+  pub level : new.level ≡ old.level
+
+-- The innermost has joined this outcome, which is that of the child that it awaited.
+pub record JoinsOutcome (old : State) (outcome : Finished) (new : State) : Type 0 where
+  pub of_child : awaited (suspended (top old)) ≡ Some outcome.name
+  pub some : 1 ≤ length outcome.lines
+  pub lines : new.lines ≡ old.lines ++ outcome.lines
+  pub few : length new.lines < 2 ^ 63
+  pub sums : (n : ℕ) (own others : ℕ → ℕ) → old.sums.items ≡ tabulated n own → outcome.sums ≡ tabulated n others → new.sums.items ≡ tabulated n (λ ledger. own ledger + others ledger)
+  pub program : new.program ≡ old.program
+  pub own : new.own ≡ old.own
+  pub parents : new.parents.items ≡ old.parents.items
+  pub level : new.level ≡ old.level
+  pub resumes : ResumesAs old.control old.environment.items old.frames.items outcome.value new
+
+-- The child of another state, which the innermost awaits, goes on in this one.
+pub record TakesIn (old child new : State) : Type 0 where
+  pub program : new.program ≡ old.program
+  pub own : new.own ≡ old.own
+  pub lines : new.lines ≡ old.lines ++ own_line child.own ∷ child.lines
+  pub few : length new.lines < 2 ^ 63
+  pub sums : (n : ℕ) (own others : ℕ → ℕ) → old.sums.items ≡ tabulated n own → child.sums.items ≡ tabulated n others → new.sums.items ≡ tabulated n (λ ledger. own ledger + others ledger)
+  pub parents : new.parents.items ≡ old.parents.items ++ record { level = old.level; control = old.control } ∷ []
+  pub level : new.level ≡ record { start = length old.frames.items; forks = child.level.forks; place = length old.lines }
+  pub environment : new.environment.items ≡ child.environment.items
+  pub frames : new.frames.items ≡ old.frames.items ++ child.frames.items
+  pub control_is : new.control ≡ child.control
+
+-- It looks the same, whatever memory it has.
+pub record LooksSame (old new : State) : Type 0 where
+  pub program : new.program ≡ old.program
+  pub own : own_line new.own ≡ own_line old.own
+  pub lines : new.lines ≡ old.lines
+  pub sums : new.sums.items ≡ old.sums.items
+  pub parents : new.parents.items ≡ old.parents.items
+  pub level : new.level ≡ old.level
+  pub environment : new.environment.items ≡ old.environment.items
+  pub frames : new.frames.items ≡ old.frames.items
+  pub control : new.control ≡ old.control
+
+-- It stands before the step in which it came to await a child.
+abbrev pub StandsBefore : Control → State → State → Type 0
+StandsBefore (Awaits number during next) old new = Changes old new old.environment.items (old.frames.items ++ Join number next ∷ []) (Give during)
+StandsBefore (AwaitsHalf number right reduction) old new = Changes old new old.environment.items (old.frames.items ++ Merge number reduction ∷ []) (Give right)
+StandsBefore _ old new = ⊥

@@ -334,30 +334,8 @@ impl<'p> Thread<'p> {
         ensures err { OnErr result (self.new ≡ self.old) }
         ensures handed_back { IfErr result (λ e. handed_back e ≡ outcome.entry) }
     {
-        if !self.state.awaits(&outcome.own.name) {
-            return Err(NotJoined::Foreign(outcome));
-        }
-        if self.state.reserve_turn().is_err() {
-            return Err(NotJoined::Memory(outcome));
-        }
-        let Outcome {
-            program,
-            value,
-            sums,
-            own,
-            below,
-        } = outcome;
-        if let Err((own, below)) = self.state.lines.append(own, below) {
-            return Err(NotJoined::Memory(Outcome {
-                program,
-                value,
-                sums,
-                own,
-                below,
-            }));
-        }
-        self.state.join_with_room(value, &sums);
-        Ok(())
+        let _ = &outcome.value;
+        self.state.join(outcome)
     }
 
     /// The outcome of a thread that has ended. It takes no memory.
