@@ -22,21 +22,41 @@ use Rattle.arachne_machine.specs.declared.state.State.{State}
 use Rattle.arachne_machine.specs.Account.{Account}
 use Rattle.arachne_machine.specs.Trace.{At, Event}
 use Rattle.arachne_machine.specs.Ending.{begun_trace, resume_trace, forks_of, forks_here, lock_freed, releases, AwaitsFork, IsForkedIn, KeepsForks, account_at_end, begun, ending, environment_of, fork_awaited, frames_left, here_of, locks_of, trace_left, unjoined_of, work_left}
-use Rattle.arachne_machine.specs.Faultless.{IsWithoutFault, held_by}
+use Rattle.arachne_machine.specs.Faultless.{IsFaultlessFrame, IsFaultlessNext, IsWithoutFault, held_by}
 use Rattle.arachne_machine.specs.Outcome.{named_holds}
 use Rattle.arachne_machine.specs.Strands.{Strand, Fits, below_at, line_at, owned_at, owned_of, own_line, strand_at}
-use Rattle.arachne_machine.specs.Steps.{AfterSteps, Becomes, Changes, Goes, IsNumbered, LeavesOthers, giving, pending_of, suspended, top, waiting, waiting_in}
+use Rattle.arachne_machine.specs.Steps.{AfterSteps, Becomes, IsPopped, Changes, Goes, IsNumbered, LeavesOthers, giving, pending_of, suspended, top, waiting, waiting_in}
 use Rattle.arachne_machine.specs.Sound.{AreSound, IsRunningFor, IsSound, IsSoundState, RunFor}
 use Rattle.arachne_machine.specs.Runs.{LooksSame, StandsBefore, TakesIn}
 use Rattle.arachne_machine.specs.Suspended.{Suspended, added, awaited}
+use Rattle.arachne_machine.specs.Nested.{in_place_of}
 use Rattle.arachne_machine.proofs.Tabulated.{added_is}
 use Rattle.arachne_machine.proofs.Faultlessness.{append-faultless}
 use Rattle.arachne_machine.proofs.Outlooks.{IsAt, account_at, append-keeps, at_faultless, ending_at, faultless_at, keeps_there, there_keeps, work_at}
 use Rattle.arachne_machine.proofs.Soundness.{sound_same}
 use Rattle.arachne_machine.proofs.Joining.{awaited_child}
 use Rattle.arachne_machine.proofs.Handings.{hand_join, hand_merge}
-use Rattle.arachne_machine.proofs.Levels.{alone_waiting, changes_leave, sound_top, top_becomes}
+use Rattle.arachne_machine.proofs.Levels.{alone_waiting, changes_leave, leaves_waiting, sound_top, top_becomes}
 use Rattle.arachne_machine.proofs.Going.{start_in}
+
+-- as one that runs in its parent's place
+abbrev pub placed_here : Strand → Strand
+placed_here t = record t { own = record t.own { label = record t.own.label { ran = ways.InPlace } } }
+
+here_sound : (t : Strand) (account : Account) → IsSound t account → IsSound (placed_here t) account
+here_sound t account s = record {
+  task = s.task;
+  has_task = s.has_task;
+  holds = s.holds;
+  lines = s.lines;
+  forks = s.forks;
+  value = s.value;
+  environment = s.environment;
+  whole = s.whole;
+  numbered = s.numbered;
+  faultless = s.faultless;
+  keeps = s.keeps;
+}
 
 -- Two threads that differ at most in their program, whose text is one.
 pub record IsCopy (t u : Strand) : Type 0 where
@@ -154,7 +174,7 @@ same_environment t name task a has =
 pub record Taken (old child new : State) : Type 0 where
   pub sound : IsSoundState new
   pub waits : waiting_in new ≡ top old ∷ waiting_in old
-  pub seen : suspended (top new) ≡ record (suspended (top child)) { program = old.program.now }
+  pub seen : suspended (top new) ≡ record (in_place_of (suspended (top child))) { program = old.program.now }
   pub sums : new.sums.items ≡ added old.sums.items child.sums.items
   pub work : work_left (top new) ≡ work_left (top child)
 
@@ -167,15 +187,16 @@ seam_line xs ys x = ap (λ n. line_at (xs ++ x ∷ ys) n) (omega arith) ∙ get_
 drop_behind : (xs ys : List Frame) → drop (length xs) (xs ++ ys) ≡ ys
 drop_behind xs ys = ap (λ n. drop n (xs ++ ys)) (omega arith) ∙ drop-append-add xs ys 0
 
-taken_copy : (old child new : State) → IsSoundState child → child.parents.items ≡ [] → source_of child.program.now ≡ source_of old.program.now → TakesIn old child new → IsCopy (top child) (top new)
+taken_copy : (old child new : State) → IsSoundState child → child.parents.items ≡ [] → source_of child.program.now ≡ source_of old.program.now → TakesIn old child new → IsCopy (placed_here (top child)) (top new)
 taken_copy old child new s none source t =
     let q : Parent = record { level = old.level; control = old.control } in
     let ps : reverse new.parents.items ≡ q ∷ reverse old.parents.items = ap reverse t.parents ∙ reverse-append old.parents.items (q ∷ []) in
-    let x = own_line child.own in
+    let x : ThreadLine = record (own_line child.own) { ran = ways.InPlace } in
     record {
       source = ap (λ p. source_of p.now) t.program ∙ sym source;
       own = ap (λ x. owned_at new.own x new.lines new.level.place) ps ∙ ap (λ v. owned_of (line_at new.lines v.place)) t.level ∙ ap (λ l. owned_of (line_at l (length old.lines))) t.lines
-          ∙ ap owned_of (seam_line old.lines child.lines x) ∙ ap (λ ps. owned_at child.own (reverse ps) child.lines child.level.place) (sym none);
+          ∙ ap owned_of (seam_line old.lines child.lines x)
+          ∙ ap (λ ps. let o = owned_at child.own (reverse ps) child.lines child.level.place in record o { label = record o.label { ran = ways.InPlace } }) (sym none);
       below = ap (λ x. below_at x new.lines new.level.place) ps ∙ ap (λ v. drop (v.place + 1) new.lines) t.level ∙ ap (drop (length old.lines + 1)) t.lines
           ∙ drop-append-add old.lines (x ∷ child.lines) 1 ∙ ap (λ ps. below_at (reverse ps) child.lines child.level.place) (sym none);
       forks = ap (λ v. v.forks) t.level;
@@ -185,14 +206,14 @@ taken_copy old child new s none source t =
       control = t.control_is;
     }
 
-pub taken : (old child new : State) → IsSoundState old → IsSoundState child → child.parents.items ≡ [] → source_of child.program.now ≡ source_of old.program.now → child.own.label.ran ≡ ways.InPlace →
+pub taken : (old child new : State) → IsSoundState old → IsSoundState child → child.parents.items ≡ [] → source_of child.program.now ≡ source_of old.program.now →
     pending_of old.control ≡ Some pause.Joins → awaited (suspended (top old)) ≡ Some child.own.name → TakesIn old child new → Taken old child new
-taken old child new s c none source ran joins of_child t =
+taken old child new s c none source joins of_child t =
     let q : Parent = record { level = old.level; control = old.control } in
     let ps = reverse old.parents.items in
     let parents : reverse new.parents.items ≡ q ∷ ps = ap reverse t.parents ∙ reverse-append old.parents.items (q ∷ []) in
     let copy = taken_copy old child new c none source t in
-    let end = copy_ending (top child) (top new) copy in
+    let end : ending (top new) ≡ ending (top child) = copy_ending (placed_here (top child)) (top new) copy in
     let own : (top child).own ≡ owned_at child.own [] child.lines child.level.place = ap (λ ps. owned_at child.own (reverse ps) child.lines child.level.place) none in
     let awaits = awaits_task (top old) child.own.name old.control refl joins s.sound.2.keeps of_child in
     let sound_c : AreSound (top child ∷ []) c.sums_of = subst (λ ts. AreSound (top child ∷ ts) c.sums_of) (alone_waiting child none) c.sound in
@@ -207,7 +228,7 @@ taken old child new s c none source ran joins of_child t =
     ∙ ap (λ x. waiting old.program x (reverse new.parents.items) new.lines new.frames.items new.level.start new.level.place (ending (top new)).env) t.own
     ∙ ap (λ x. waiting old.program old.own x new.lines new.frames.items new.level.start new.level.place (ending (top new)).env) parents
     ∙ ap (λ x. waiting old.program old.own (q ∷ ps) new.lines new.frames.items x.start x.place (ending (top new)).env) t.level
-    ∙ ap (λ x. by x (take (length old.frames.items) new.frames.items) (ending (top new)).env) (ap (take (length old.lines)) t.lines ∙ take-append_seam old.lines (own_line child.own ∷ child.lines))
+    ∙ ap (λ x. by x (take (length old.frames.items) new.frames.items) (ending (top new)).env) (ap (take (length old.lines)) t.lines ∙ take-append_seam old.lines (record (own_line child.own) { ran = ways.InPlace } ∷ child.lines))
     ∙ ap (λ x. by old.lines x (ending (top new)).env) (ap (take (length old.frames.items)) t.frames ∙ take-append_seam old.frames.items child.frames.items)
     ∙ ap (λ x. by old.lines old.frames.items x) env in
     let all : ℕ → ℕ = λ ledger. s.sums_of ledger + c.sums_of ledger in
@@ -220,7 +241,7 @@ taken old child new s c none source ran joins of_child t =
           sound = subst (λ ts. AreSound (top new ∷ ts) all) (sym waits) (
             sound_c.0,
             s.sums_of,
-            copy_sound (top child) (top new) sound_c.0 copy sound_c.2,
+            copy_sound (placed_here (top child)) (top new) sound_c.0 copy (here_sound (top child) sound_c.0 sound_c.2),
             s.sound,
             λ ledger. omega (arith, sound_c.4 ledger, sound_c.3 ledger),
           );
@@ -228,21 +249,128 @@ taken old child new s c none source ran joins of_child t =
             record {
               number = awaits.number;
               awaits = awaits.awaits;
-              named = ap (λ o. o.name) (copy.own ∙ own) ∙ awaits.named;
-              in_place = ap (λ o. o.label.ran) (copy.own ∙ own) ∙ ran;
+              named = ap (λ o. o.name) copy.own ∙ ap (λ o. o.name) own ∙ awaits.named;
+              in_place = ap (λ o. o.label.ran) copy.own;
             },
             s.run_for,
           );
           fits = subst (λ x. Fits x new.level.start new.level.place (length new.frames.items) (length new.lines)) (sym parents)
               (subst (λ v. Fits (q ∷ ps) v.start v.place (length new.frames.items) (length new.lines)) (sym t.level) (
                 omega (arith, ap length t.frames, length-append old.frames.items child.frames.items),
-                omega (arith, ap length t.lines, length-append old.lines (own_line child.own ∷ child.lines)),
+                omega (arith, ap length t.lines, length-append old.lines (record (own_line child.own) { ran = ways.InPlace } ∷ child.lines)),
                 s.fits,
               ));
           few = t.few;
         };
       waits = waits;
-      seen = copy_seen (top child) (top new) copy ∙ ap (λ p. record (suspended (top child)) { program = p.now }) t.program;
+      seen = copy_seen (placed_here (top child)) (top new) copy ∙ ap (λ p. record (in_place_of (suspended (top child))) { program = p.now }) t.program;
       sums = added_is (source_of old.program.now).ledgers s.sums_of c.sums_of old.sums.items child.sums.items new.sums.items s.sums childs sums;
-      work = copy_work (top child) (top new) copy;
+      work = copy_work (placed_here (top child)) (top new) copy;
     }
+
+-- The thread stands before the step in which it came to await a child.
+pub record Unstepped (old new : State) : Type 0 where
+  pub sound : IsSoundState new
+  pub leaves : LeavesOthers old new
+  pub waits : waiting_in new ≡ waiting_in old
+  pub work : work_left (top new) ≡ work_left (top old) + 1
+  pub own : (top new).own ≡ (top old).own
+  pub forks : (top new).forks ≡ (top old).forks
+  pub pending : pending_of new.control ≡ None
+
+popped_by : (t u : Strand) (f : Frame) (v : ℕ) → Becomes t u t.environment (t.frames ++ f ∷ []) (Give v) → IsPopped f u (giving t v)
+popped_by t u f v b = record {
+  program = b.program;
+  own = b.own;
+  below = b.below;
+  forks = b.forks;
+  environment_is = b.environment_is;
+  frames_are = b.frames_are;
+  control_is = b.control_is;
+}
+
+stepped_by : (t : Strand) (v : ℕ) (k : Control) → t.control ≡ k → Becomes (giving t v) t t.environment t.frames k
+stepped_by t v k is = record { program = refl; own = refl; below = refl; forks = refl; environment_is = refl; frames_are = refl; control_is = is }
+
+-- with this newest frame, and this value to be handed to it
+unstepped_by : (old new : State) (f : Frame) (v : ℕ) → IsSoundState old → Changes old new old.environment.items (old.frames.items ++ f ∷ []) (Give v) → AfterSteps 1 (top new) (Some pause.Joins) (top old) →
+    (IsWithoutFault (top old) → IsWithoutFault (top new)) → (KeepsForks (top old) → KeepsForks (top new)) → Unstepped old new
+unstepped_by old new f v s changed step faultless keeps =
+    let le = start_in old s in
+    let l = changes_leave old new _ _ _ changed le in
+    let g = step.0.goes in
+    let one : step.0.made ≡ 1 = omega (arith, step.0.at_least, step.0.at_most) in
+    let b = top_becomes old new _ _ _ changed le in
+    let env : (ending (top new)).env ≡ (ending (top old)).env = sym (ap (λ e. e.env) g.ending) in
+    record {
+      sound = sound_top old new s l env b.own (λ account sound. (account, sound_same (top old) (top new) account account sound (record {
+        program = ap (λ p. source_of p.now) b.program;
+        name = ap (λ o. o.name) b.own;
+        holds = λ locks h. ap (λ o. o.holds) b.own ∙ h;
+        lines = λ h. ap (map named_holds) b.below ∙ h;
+        forks = λ h. b.forks ∙ h;
+        ending = sym g.ending;
+        whole = sym (g.account account);
+        numbered = λ h. (omega (arith, h.0, b.forks, ap length b.below, ap length g.unjoined), omega (arith, h.1, ap length b.below));
+        faultless = faultless;
+        keeps = keeps;
+      }), λ ledger. refl));
+      leaves = l;
+      waits = leaves_waiting old new l env;
+      work = omega (arith, g.work, one);
+      own = b.own;
+      forks = b.forks;
+      pending = ap pending_of changed.control_is;
+    }
+
+-- what has no fault, and whose forks are the program's, with one frame more
+with_frame : (source : Source) (name : List ℕ) (t u : Strand) (f : Frame) (v : ℕ) (k : Control) → IsAt source name k t.frames t.environment t → IsAt source name (Give v) (t.frames ++ f ∷ []) t.environment u →
+    frames_left k t.frames ≡ t.frames → (IsFaultlessNext source (held_by false t.frames) k → IsFaultlessFrame source (held_by false t.frames) f) → IsWithoutFault t → IsWithoutFault u
+with_frame source name t u f v k at at' left one h =
+    let was = faultless_at source name k t.frames t.environment t at h in
+    at_faultless source name (Give v) (t.frames ++ f ∷ []) t.environment u at'
+    (append-faultless source false t.frames (f ∷ []) was.0 (one was.1, tt), tt)
+
+unstepped_at : (old new : State) (k : Control) → old.control ≡ k → IsSoundState old → StandsBefore k old new → Unstepped old new
+unstepped_at old new (Awaits n v next) is s changed =
+    let le = start_in old s in
+    let f = Join n next in
+    let t = top old in
+    let u = top new in
+    let b = top_becomes old new _ _ _ changed le in
+    let source = source_of old.program.now in
+    let at : IsAt source t.own.name (Awaits n v next) t.frames t.environment t = record { source_is = refl; name_is = refl; control_is = is; frames_are = refl; environment_is = refl } in
+    let at' : IsAt source t.own.name (Give v) (t.frames ++ f ∷ []) t.environment u = record {
+      source_is = ap (λ p. source_of p.now) b.program;
+      name_is = ap (λ o. o.name) b.own;
+      control_is = b.control_is;
+      frames_are = b.frames_are;
+      environment_is = b.environment_is;
+    } in
+    unstepped_by old new f v s changed (hand_join u (giving t v) t v n next (popped_by t u f v b) refl (stepped_by t v (Awaits n v next) is))
+    (with_frame source t.own.name t u f v (Awaits n v next) at at' refl (λ h. h))
+    (λ h. let was = keeps_there source t.own.name (Awaits n v next) t.frames t.environment t at h in
+    there_keeps source t.own.name (Give v) (t.frames ++ f ∷ []) t.environment u at' (tt, append-keeps source t.own.name t.frames (f ∷ []) (begun source t.own.name (Give v) t.environment) (was.0, tt) was.1))
+unstepped_at old new (AwaitsHalf n v reduction) is s changed =
+    let le = start_in old s in
+    let f = Merge n reduction in
+    let t = top old in
+    let u = top new in
+    let b = top_becomes old new _ _ _ changed le in
+    let source = source_of old.program.now in
+    let at : IsAt source t.own.name (AwaitsHalf n v reduction) t.frames t.environment t = record { source_is = refl; name_is = refl; control_is = is; frames_are = refl; environment_is = refl } in
+    let at' : IsAt source t.own.name (Give v) (t.frames ++ f ∷ []) t.environment u = record {
+      source_is = ap (λ p. source_of p.now) b.program;
+      name_is = ap (λ o. o.name) b.own;
+      control_is = b.control_is;
+      frames_are = b.frames_are;
+      environment_is = b.environment_is;
+    } in
+    unstepped_by old new f v s changed (hand_merge u (giving t v) t v n reduction (popped_by t u f v b) refl (stepped_by t v (AwaitsHalf n v reduction) is))
+    (with_frame source t.own.name t u f v (AwaitsHalf n v reduction) at at' refl (λ h. h))
+    (λ h. let was = keeps_there source t.own.name (AwaitsHalf n v reduction) t.frames t.environment t at h in
+    there_keeps source t.own.name (Give v) (t.frames ++ f ∷ []) t.environment u at' (tt, append-keeps source t.own.name t.frames (f ∷ []) (begun source t.own.name (Give v) t.environment) (was.0, tt) was.1))
+unstepped_at old new _ is s changed = absurd changed
+
+pub unstepped : (old new : State) → IsSoundState old → StandsBefore old.control old new → Unstepped old new
+unstepped old new s changed = unstepped_at old new old.control refl s changed

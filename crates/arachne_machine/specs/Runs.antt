@@ -299,7 +299,7 @@ pub record JoinsOutcome (old : State) (outcome : Finished) (new : State) : Type 
 pub record TakesIn (old child new : State) : Type 0 where
   pub program : new.program ≡ old.program
   pub own : new.own ≡ old.own
-  pub lines : new.lines ≡ old.lines ++ own_line child.own ∷ child.lines
+  pub lines : new.lines ≡ old.lines ++ record (own_line child.own) { ran = ways.InPlace } ∷ child.lines
   pub few : length new.lines < 2 ^ 63
   pub sums : (n : ℕ) (own others : ℕ → ℕ) → old.sums.items ≡ tabulated n own → child.sums.items ≡ tabulated n others → new.sums.items ≡ tabulated n (λ ledger. own ledger + others ledger)
   pub parents : new.parents.items ≡ old.parents.items ++ record { level = old.level; control = old.control } ∷ []

@@ -70,7 +70,8 @@ impl<'p> State<'p> {
     #[inline(always)]
     fn descend(&mut self, awaits: Control<'p>, place: usize, forks: u64)
         requires { vec_len self.old.parents + 1 ≤ vec_capacity self.old.parents }
-        ensures { Descends self.old self.new awaits.entry place forks }
+        ensures descends { Descends self.old self.new awaits.entry place forks }
+        ensures frames { self.new.frames ≡ self.old.frames }
     {
         self.parents.push_reserved(Parent {
             level: self.level,
@@ -94,10 +95,13 @@ impl<'p> State<'p> {
         self.parents.try_reserve(1)?;
         self.frames.try_reserve(child.frames.len())?;
         let place = self.lines.len();
+        let ran = child.own.label.ran;
+        child.own.label.ran = Ran::InPlace;
         let below = replace(&mut child.lines, Lines::new(self.alloc));
         if let Err((own, below)) = self.lines.append(child.take_line(), below) {
             child.lines = below;
             child.put_back_line(own);
+            child.own.label.ran = ran;
             return Err(AllocError);
         }
         add_each(&mut self.sums, &child.sums);
