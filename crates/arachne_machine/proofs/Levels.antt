@@ -149,7 +149,7 @@ changes_leave old new env gs k c le = record {
   more = omega (arith, le, ap length c.frames_are, length-append old.frames.items gs);
 }
 
-last_same : (t u : Strand) (ts : List Strand) → t.forks ≡ u.forks → (last_of t ts).forks ≡ (last_of u ts).forks
+pub last_same : (t u : Strand) (ts : List Strand) → t.forks ≡ u.forks → (last_of t ts).forks ≡ (last_of u ts).forks
 last_same t u [] e = e
 last_same t u (p ∷ ps) e = refl
 

@@ -25,5 +25,7 @@ pub mod Answering
 pub mod Counting
 pub mod Rejoining
 pub mod Taking
+pub mod Handed
+pub mod Showing
 pub mod Crossing
 pub mod WorkedPrograms

@@ -15,6 +15,7 @@ use Rattle.arachne_machine.specs.declared.frame.Frame.TheVariants.{Join, Merge}
 use Rattle.arachne_machine.specs.declared.frame.Control.{Control}
 use Rattle.arachne_machine.specs.declared.frame.Control.TheVariants.{Begin, Give, Cover, Forked, Halved, Awaits, AwaitsHalf, Asks, Frees, Tallies, Ended}
 use Rattle.arachne_machine.specs.declared.level.Parent.{Parent}
+use Rattle.arachne_machine.specs.declared.line.Label.{Label}
 use Rattle.arachne_machine.specs.declared.line.ThreadLine.{ThreadLine}
 use Rattle.arachne_machine.specs.declared.line.Ran.TheVariants as ways
 use Rattle.arachne_machine.specs.declared.pause.Pending.TheVariants as pause
@@ -39,12 +40,16 @@ use Rattle.arachne_machine.proofs.Handings.{hand_join, hand_merge}
 use Rattle.arachne_machine.proofs.Levels.{alone_waiting, changes_leave, leaves_waiting, sound_top, top_becomes}
 use Rattle.arachne_machine.proofs.Going.{start_in}
 
+-- with another label
+abbrev pub relabelled : Label → Strand → Strand
+relabelled label t = record t { own = record t.own { label = label } }
+
 -- as one that runs in its parent's place
 abbrev pub placed_here : Strand → Strand
-placed_here t = record t { own = record t.own { label = record t.own.label { ran = ways.InPlace } } }
+placed_here t = relabelled (record t.own.label { ran = ways.InPlace }) t
 
-here_sound : (t : Strand) (account : Account) → IsSound t account → IsSound (placed_here t) account
-here_sound t account s = record {
+here_sound : (t : Strand) (label : Label) (account : Account) → IsSound t account → IsSound (relabelled label t) account
+here_sound t label account s = record {
   task = s.task;
   has_task = s.has_task;
   holds = s.holds;
@@ -241,7 +246,7 @@ taken old child new s c none source joins of_child t =
           sound = subst (λ ts. AreSound (top new ∷ ts) all) (sym waits) (
             sound_c.0,
             s.sums_of,
-            copy_sound (placed_here (top child)) (top new) sound_c.0 copy (here_sound (top child) sound_c.0 sound_c.2),
+            copy_sound (placed_here (top child)) (top new) sound_c.0 copy (here_sound (top child) (record (top child).own.label { ran = ways.InPlace }) sound_c.0 sound_c.2),
             s.sound,
             λ ledger. omega (arith, sound_c.4 ledger, sound_c.3 ledger),
           );

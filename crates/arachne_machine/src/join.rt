@@ -91,6 +91,7 @@ impl<'p> State<'p> {
         ensures ok { OnOk result (TakesIn self.old child.old self.new) }
         ensures err { OnErr result (IsSame self.old self.new) }
         ensures childs { OnErr result (LooksSame child.old child.new) }
+        ensures room { OnErr result (HasRoom self.old → HasRoom self.new) }
     {
         self.parents.try_reserve(1)?;
         self.frames.try_reserve(child.frames.len())?;

@@ -1,8 +1,8 @@
 //! A thread with those that run in its place, as callers advance, answer and join it.
-ghost use Rattle.std.specs.Prelude.{◌≡◌, ◌≢◌, ◌↔◌, ◌≤◌, ◌+◌, ◌-◌, ℕ, ◌∷◌, [], ◌++◌, true, None, Some, IfOk, OnOk, IfErr, OnErr, IsTrue};
+ghost use Rattle.std.specs.Prelude.{◌≡◌, ◌≢◌, ◌↔◌, ◌≤◌, ◌+◌, ◌-◌, ℕ, ◌∷◌, [], ◌++◌, true, None, Some, IfOk, IfSome, OnOk, IfErr, OnErr, IsTrue};
 ghost use Rattle.arachne_lang.specs.Effects.{tabulated};
 ghost use Rattle.arachne_machine.specs.Suspended.{IsAnswered, IsAsk, IsFree, IsFresh, IsNext, IsTally, Joined, SameThread, added, awaited, own_line_of, raised};
-ghost use Rattle.arachne_machine.specs.Advance.{AdvancedAlone, AwaitsAt, Moves, PlacesNone, RefusedAlone, IsForeign, IsNotAwaited, IsSpentAt, PausesAt, child_back, handed_back};
+ghost use Rattle.arachne_machine.specs.Advance.{AdvancedAlone, AwaitsAt, Moves, PlacesNone, RefusedAlone, IsForeign, IsNotAwaited, IsSpentAt, PausesAt, child_back, handed_back, pause_seen};
 ghost use Rattle.arachne_machine.specs.Nested.{AwaitsElsewhere, FallsBy, IsAlone, IsChildOf, IsNested, IsPlacing, MayBePlaced, Nested, PlacesAtFork, SameWhole, alone, begun_in, pending_in, spilled_of, whole, with_tag, work_in};
 ghost use Rattle.arachne_machine.specs.Faultless.{PausesWithin};
 ghost use Rattle.arachne_machine.specs.Kept.{IsSoundChild, nested};
@@ -166,42 +166,8 @@ impl<'p> Thread<'p> {
         ensures err_alone { OnErr result (IsAlone self.old → (whole self.new).forks ≡ (whole self.old).forks → RefusedAlone left.old self.old self.new) }
         ensures err_everywhere { P.gives_all ≡ true → OnErr result (IsAlone self.old → (whole self.new).forks ≡ (whole self.old).forks) }
     {
-        while *left > 0 {
-            if let Some((class, child)) = self.state.advance(left, spares, places)? {
-                return Ok(Pause::Forks(class, thread_of(child)));
-            }
-            match self.state.pending() {
-                None => return Ok(Pause::Budget),
-                Some(Pending::Joins) if !self.placed.is_empty() => {
-                    if !self.take_up(spares)? {
-                        return Ok(Pause::Joins);
-                    }
-                }
-                Some(pending) => return Ok(pause_at(pending)),
-            }
-        }
-        Ok(Pause::Budget)
-    }
-
-    /// Where the innermost thread awaits the newest child that was placed here, that one goes on in its place. Where memory is
-    /// refused it stands before the step in which it came to await it.
-    #[cold]
-    #[inline(never)]
-    fn take_up(&mut self, spares: &mut Spares<'p>) -> Result<bool, AllocError> {
-        let Some(mut child) = self.placed.pop() else {
-            return Ok(false);
-        };
-        if !self.state.awaits(&child.own.name) {
-            self.placed.push_reserved(child);
-            return Ok(false);
-        }
-        if self.state.take_in(&mut child).is_err() {
-            self.placed.push_reserved(child);
-            self.state.stand_before_join();
-            return Err(AllocError);
-        }
-        spares.keep(child);
-        Ok(true)
+        let forked = self.state.advance_with(&mut self.placed, left, spares, places)?;
+        Ok(pause_of(forked, self.state.pending()))
     }
 
     /// Answers a fork once the child was given away. It takes no memory.
@@ -377,14 +343,21 @@ fn thread_of<'p>(state: Box<State<'p>>) -> Thread<'p>
     }
 }
 
-/// What callers see of a pause for which no child is given.
-fn pause_at<'p>(pending: Pending) -> Pause<'p> {
+/// What callers see of a pause, by the child that was forked or what is not answered.
+#[inline(always)]
+fn pause_of<'p>(forked: Option<(Class, Box<State<'p>>)>, pending: Option<Pending>) -> Pause<'p>
+    requires { IfSome forked (λ f. IsSoundChild f.1.value) }
+    ensures { result ≡ pause_seen forked.entry pending }
+{
+    if let Some((class, child)) = forked {
+        return Pause::Forks(class, thread_of(child));
+    }
     match pending {
-        Pending::Forks => Pause::Budget,
-        Pending::Joins => Pause::Joins,
-        Pending::Asks(lock) => Pause::Asks(lock),
-        Pending::Frees(lock) => Pause::Frees(lock),
-        Pending::Tallies(ledger, amount) => Pause::Tallies(ledger, amount),
-        Pending::Ended => Pause::Ended,
+        None | Some(Pending::Forks) => Pause::Budget,
+        Some(Pending::Joins) => Pause::Joins,
+        Some(Pending::Asks(lock)) => Pause::Asks(lock),
+        Some(Pending::Frees(lock)) => Pause::Frees(lock),
+        Some(Pending::Tallies(ledger, amount)) => Pause::Tallies(ledger, amount),
+        Some(Pending::Ended) => Pause::Ended,
     }
 }
