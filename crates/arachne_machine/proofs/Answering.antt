@@ -133,8 +133,14 @@ seen_answered old new placed p l pending g =
       trace = (p, pending, sym g.trace);
     }
 
-pub kept_answered : (old new : State) (placed : List (Box State)) (p : Pending) → IsKept old placed → LeavesOthers old new → Goes 0 (At p ∷ []) (top old) (top new) → IsKept new placed
-kept_answered old new placed p kept l g =
+goes_none : (k : Control) → pending_of k ≡ None → pending_of k ≡ Some pause.Ended → ⊥
+goes_none k none e = let both : ◌≡◌ {A = Option Pending} None (Some pause.Ended) = sym none ∙ e in cc
+
+pub going : (t : State) → pending_of t.control ≡ None → pending_of t.control ≡ Some pause.Ended → t.parents.items ≡ []
+going t none e = absurd (goes_none t.control none e)
+
+pub kept_answered : (old new : State) (placed : List (Box State)) (p : Pending) → IsKept old placed → pending_of new.control ≡ None → LeavesOthers old new → Goes 0 (At p ∷ []) (top old) (top new) → IsKept new placed
+kept_answered old new placed p kept none l g =
     let env = ap (λ e. e.env) g.ending in
     let parents = ap (map suspended) (leaves_waiting old new l env) in
     let same = answered_thread p (top old) (top new) g in
@@ -143,6 +149,7 @@ kept_answered old new placed p kept l g =
       children = kept.children;
       nested_is = subst (λ ps. IsNested (record (nested new placed) { parents = ps })) (sym parents)
           (nested_same (suspended (top old)) (suspended (top new)) (map suspended (waiting_in old)) _ _ _ same.program same.name same.label kept.nested_is);
+      ended = going new none;
     }
 
 -- a change of what comes next alone
@@ -210,7 +217,7 @@ fork_past old new placed kept pending turns =
     let on = turns_top old new (after_fork old.control) turns (start_within old placed kept) in
     let taken = fork_taken (top old) (top new) old.control refl pending on.1 in (
       record {
-        kept = kept_answered old new placed pause.Forks kept on.0 taken.0;
+        kept = kept_answered old new placed pause.Forks kept taken.1 on.0 taken.0;
         seen = seen_answered old new placed pause.Forks on.0 pending taken.0;
         pending = taken.1;
       },
@@ -223,7 +230,7 @@ free_past old new placed lock value kept is turns =
     let on = turns_top old new (Give value) turns (start_within old placed kept) in
     let goes = answers_free (top old) (top new) lock value is on.1 in (
       record {
-        kept = kept_answered old new placed (pause.Frees lock) kept on.0 goes;
+        kept = kept_answered old new placed (pause.Frees lock) kept (ap pending_of turns.control_is) on.0 goes;
         seen = seen_answered old new placed (pause.Frees lock) on.0 (ap pending_of is) goes;
         pending = ap pending_of turns.control_is;
       },
@@ -239,6 +246,7 @@ kept_alone t placed h none =
       sound = h.sound;
       children = λ k d lt. absurd (omega (arith, lt));
       nested_is = record { awaiting = subst (Await (suspended (top t))) (sym parents) tt; waiting = tt };
+      ended = λ e. h.alone;
     })
 
 -- What it brings in the end is what its name means.

@@ -32,7 +32,7 @@ use Rattle.arachne_machine.proofs.Tabulated.{tabulated-same}
 use Rattle.arachne_machine.proofs.Soundness.{after-sums, counted_seen, sound_counts}
 use Rattle.arachne_machine.proofs.Joining.{counts_hold, counts_tally}
 use Rattle.arachne_machine.proofs.Nesting.{label_seen, name_seen, program_seen}
-use Rattle.arachne_machine.proofs.Answering.{nested_same}
+use Rattle.arachne_machine.proofs.Answering.{going, nested_same}
 use Rattle.arachne_machine.proofs.Going.{line_in}
 
 -- What is so of a state and what callers see of it once an answer has counted.
@@ -81,6 +81,7 @@ counted_by old new placed answered effects kept pending children lines c program
           children = kept.children;
           nested_is = subst (λ ps. IsNested (record (nested new placed) { parents = ps })) (sym parents)
               (nested_same (suspended (top old)) (suspended (top new)) (map suspended (waiting_in old)) _ _ _ seen.program seen.name seen.label kept.nested_is);
+          ended = going new c.pending;
         };
       whole = record {
           program = program_seen new placed ∙ ap (λ p. p.now) program ∙ sym (program_seen old placed);

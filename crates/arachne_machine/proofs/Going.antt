@@ -11,7 +11,12 @@ use Rattle.arachne_lang.specs.declared.program.Expr.{Expr}
 use Rattle.arachne_lang.specs.declared.program.Reduction.{Reduction}
 use Rattle.arachne_lang.specs.Program.{source_of, tree_of}
 use Rattle.arachne_lang.specs.Value.{apply, operation_of}
-use Rattle.arachne_lang.specs.Effects.{Child, tabulated}
+use Rattle.arachne_lang.specs.Effects.{Child, Evaluate, tabulated}
+use Rattle.arachne_lang.specs.Meaning.{task_of}
+use Rattle.arachne_lang.specs.Checked.{IsChecked}
+use Rattle.arachne_lang.specs.Value.{Environment}
+use Rattle.arachne_lang.specs.declared.program.Program.{Program}
+use Rattle.arachne_machine.specs.Faultless.{IsFaultlessNext}
 use Rattle.arachne_machine.specs.declared.frame.Stretch.{Stretch}
 use Rattle.arachne_machine.specs.declared.frame.Frame.{Frame}
 use Rattle.arachne_machine.specs.declared.frame.Frame.TheVariants.{JoinHere, MergeHere}
@@ -29,16 +34,16 @@ use Rattle.arachne_machine.specs.Work.{work_of, task_work}
 use Rattle.arachne_machine.specs.Ending.{ending, stretch_task, unjoined_of, fork_awaited, fork_here, forks_here, forks_of}
 use Rattle.arachne_machine.specs.Strands.{Owned, Strand, Fits, owned_at, below_at}
 use Rattle.arachne_machine.specs.Sound.{AreSound, IsSound, IsSoundState, RunFor}
-use Rattle.arachne_machine.specs.Steps.{AfterSteps, suspended, HasRoom, OnStops, OnValue, waiting, IsNotEnd, IsLeftOver, IsNew, PlacesChild, Becomes, Changes, CountsFork, GivesChild, Goes, HasLine, IsLineOf, IsNumbered, IsPopped, IsSame, IsSpawned, Pushes, LeavesOthers, Makes, PushesFork, Reaches, SpawnsChild, TurnsFold, TurnsSweep, Turns, giving, beginning, pending_of, task_begun, top, untagged, waiting_in, HasNotBegun, IsBeginning}
+use Rattle.arachne_machine.specs.Steps.{AfterSteps, IsRenewed, suspended, HasRoom, OnStops, OnValue, waiting, IsNotEnd, IsLeftOver, IsNew, PlacesChild, Becomes, Changes, CountsFork, GivesChild, Goes, HasLine, IsLineOf, IsNumbered, IsPopped, IsSame, IsSpawned, Pushes, LeavesOthers, Makes, PushesFork, Reaches, SpawnsChild, TurnsFold, TurnsSweep, Turns, giving, beginning, pending_of, task_begun, top, untagged, waiting_in, HasNotBegun, IsBeginning}
 use Rattle.arachne_machine.specs.Runs.{IsByItself, last_of, outermost_in, BeginsHere, Comes, JoinsHere, ResumesParent, FoldsOn, IsOneStep, IsPoppedIn, Runs, RunsOn, RunsToFork, RunsToPause, RunsWithin, HasParent, SweepsOn, beginning_in, current_in, giving_in, seen_in}
 use Rattle.arachne_machine.proofs.Frames.{forks_here-append, length-forks_of}
 use Rattle.arachne_machine.proofs.Levels.{alone_waiting, awaiting_in, below_few, changes_leave, leaves_waiting, outer_start, runs_begins, runs_join_begins, runs_join_half, runs_on, runs_places, runs_top, some_parent, top_becomes}
 use Rattle.arachne_machine.specs.Nested.{IsNested}
-use Rattle.arachne_machine.specs.Kept.{IsKept, nested}
+use Rattle.arachne_machine.specs.Kept.{IsKept, IsSoundChild, nested}
 use Rattle.arachne_machine.proofs.Here.{awaits_half, awaits_join, half_free, half_task, join_free, join_task}
 use Rattle.arachne_machine.proofs.Handings.{ends, is_not_zero, is_zero}
 use Rattle.arachne_machine.proofs.Outlooks.{as_it_is}
-use Rattle.arachne_machine.proofs.Soundness.{goes_nowhere, locks_unchanged, sound_child, unchanged_seen}
+use Rattle.arachne_machine.proofs.Soundness.{sound_new, goes_nowhere, locks_unchanged, sound_child, unchanged_seen}
 use Rattle.arachne_machine.proofs.Renewing.{begins_new, begins_task, begins_faultless}
 
 -- a change that takes no frame away
@@ -316,25 +321,23 @@ runs_place had old new f k made none s c placed =
 own_of : Own → Owned
 own_of own = record { name = own.name; label = own.label; holds = own.holds.items }
 
-child_top : (old child : State) (begins : Control) → IsSpawned old begins child → HasNotBegun old.program (own_of child.own) begins old.environment.items (top child)
+renewed_top : (program : Bor Program) (own : Own) (sums : List ℕ) (k : Control) (env : Environment) (t : State) → IsRenewed program own sums k env t → HasNotBegun program (own_of t.own) k env (top t)
 unfolding own_of
-child_top old child begins c =
-    let r = c.renewed in
-    record {
-      program_is = r.program_is;
-      own_is = ap (λ ps. owned_at child.own (reverse ps) child.lines child.level.place) r.parents;
-      below = ap (λ ps. below_at (reverse ps) child.lines child.level.place) r.parents ∙ r.lines;
-      forks = ap (λ x. x.forks) r.level;
-      environment_is = r.environment_is;
-      frames = ap (λ x. drop x.start child.frames.items) r.level ∙ r.frames;
-      control_is = r.control_is;
-    }
+renewed_top program own sums k env t r = record {
+  program_is = r.program_is;
+  own_is = ap (λ ps. owned_at t.own (reverse ps) t.lines t.level.place) r.parents;
+  below = ap (λ ps. below_at (reverse ps) t.lines t.level.place) r.parents ∙ r.lines;
+  forks = ap (λ x. x.forks) r.level;
+  environment_is = r.environment_is;
+  frames = ap (λ x. drop x.start t.frames.items) r.level ∙ r.frames;
+  control_is = r.control_is;
+}
 
 pub spawned_top : (old new child : State) (begins : Control) (f : Frame) (k : Control) → IsBeginning begins → CountsFork old new f k → IsSpawned old begins child → old.level.start ≤ length old.frames.items →
     SpawnsChild (top old) (top new) (top child) begins f k
 unfolding own_of
 spawned_top old new child begins f k beginning c spawned le =
-    let t = child_top old child begins spawned in
+    let t = renewed_top old.program child.own child.sums.items begins old.environment.items child spawned.renewed in
     let fresh = begins_new old.program (own_of child.own) begins old.environment.items (top child) beginning spawned.holds t in
     record {
       pushed = counts_top old new f k c le;
@@ -344,17 +347,33 @@ spawned_top old new child begins f k beginning c spawned le =
       faultless = begins_faultless old.program (own_of child.own) begins old.environment.items (top child) t;
     }
 
-child_sound : (old child : State) (begins : Control) → IsSpawned old begins child → IsSound (top child) untouched → IsSoundState child
-child_sound old child begins c sound =
-    let r = c.renewed in
-    let none = alone_waiting child r.parents in
+renewed_sound : (program : Bor Program) (own : Own) (sums : List ℕ) (k : Control) (env : Environment) (t : State) → IsRenewed program own sums k env t →
+    t.sums.items ≡ tabulated program.now.ledgers (λ ledger. 0) → IsSound (top t) untouched → IsSoundState t
+renewed_sound program own sums k env t r zeros sound =
+    let none = alone_waiting t r.parents in
     record {
       sums_of = λ ledger. 0;
-      sums = c.sums ∙ ap (λ p. tabulated p.now.ledgers (λ ledger. 0)) (sym r.program_is);
-      sound = subst (λ ts. AreSound (top child ∷ ts) (λ ledger. 0)) (sym none) (untouched, (λ ledger. 0), sound, (λ ledger. refl), λ ledger. refl);
-      run_for = subst (RunFor (top child)) (sym none) tt;
-      fits = subst (λ ps. Fits (reverse ps) child.level.start child.level.place (length child.frames.items) (length child.lines)) (sym r.parents) (ap (λ x. x.start) r.level);
+      sums = zeros ∙ ap (λ p. tabulated p.now.ledgers (λ ledger. 0)) (sym r.program_is);
+      sound = subst (λ ts. AreSound (top t ∷ ts) (λ ledger. 0)) (sym none) (untouched, (λ ledger. 0), sound, (λ ledger. refl), λ ledger. refl);
+      run_for = subst (RunFor (top t)) (sym none) tt;
+      fits = subst (λ ps. Fits (reverse ps) t.level.start t.level.place (length t.frames.items) (length t.lines)) (sym r.parents) (ap (λ x. x.start) r.level);
       few = omega (arith, ap length r.lines);
+    }
+
+-- The root of a program.
+pub root_sound : (program : Bor Program) (own : Own) (sums : List ℕ) (root : Bor Expr) (t : State) → IsRenewed program own sums (Begin root) [] t →
+    t.own.holds.items ≡ tabulated program.now.locks (λ lock. 0) → t.sums.items ≡ tabulated program.now.ledgers (λ ledger. 0) → t.own.name ≡ [] →
+    task_of (source_of program.now) [] ≡ Some (Evaluate (tree_of root.now) []) →
+    (IsChecked (source_of program.now) → IsFaultlessNext (source_of program.now) false (Begin root)) → IsSoundChild t
+unfolding own_of
+root_sound program own sums root t r holds zeros name has free =
+    let h = renewed_top program own sums (Begin root) [] t r in
+    let fresh = begins_new program (own_of t.own) (Begin root) [] (top t) tt holds h in
+    record {
+      sound = renewed_sound program own sums (Begin root) [] t r zeros
+          (sound_new program.now t.own.name t.own.label (Evaluate (tree_of root.now) []) (top t) fresh (ap (task_of (source_of program.now)) name ∙ has)
+          (λ checked. begins_faultless program (own_of t.own) (Begin root) [] (top t) h (free checked)));
+      alone = r.parents;
     }
 
 pub comes_fork : {Q : Type 0} → (had : ℕ) (old new : State) (child : Box State) (class : Class) (begins : Control) (f : Frame) (k : Control) → IsSoundState old → pending_of old.control ≡ None → IsBeginning begins →
@@ -370,7 +389,7 @@ comes_fork had old new child class begins f k s running beginning c spawned give
       runs = runs_nothing had old old s (as_is old) running;
       leaves = counts_leave old new f k c le;
       gives = g;
-      sound = child_sound old child.value begins spawned (sound_child 1 (top old) (top new) (top child.value) _ s.sound.0 s.sound.2 g);
+      sound = renewed_sound old.program child.value.own child.value.sums.items begins old.environment.items child.value spawned.renewed spawned.sums (sound_child 1 (top old) (top new) (top child.value) _ s.sound.0 s.sound.2 g);
       alone = spawned.renewed.parents;
       sums = spawned.sums;
     }
@@ -820,6 +839,7 @@ same_kept old new placed kept same =
       sound = (runs_top 0 old new kept.sound (leaves_same old new _ _ same le) (goes_nowhere (top old) (top new) t) (locks_unchanged (top old) (top new) t)).sound;
       children = kept.children;
       nested_is = subst IsNested (sym (same_seen old new placed kept.sound same)) kept.nested_is;
+      ended = λ e. same.parents ∙ kept.ended (ap pending_of (sym same.control_is) ∙ e);
     }
 
 pub in_both : {X E A B P : Type 0} (r : Result X E) → OnOk r A → OnErr r B → (A → P) → (B → P) → P

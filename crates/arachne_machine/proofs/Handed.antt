@@ -38,7 +38,8 @@ use Rattle.arachne_machine.proofs.Levels.{alone_waiting, leaves_waiting, runs_on
 use Rattle.arachne_machine.proofs.Advancing.{sound_after}
 use Rattle.arachne_machine.proofs.Tabulated.{length-tabulated}
 use Rattle.arachne_machine.proofs.Nesting.{works_seen}
-use Rattle.arachne_machine.proofs.Going.{runs_nothing, as_is, same_kept, same_seen}
+use Rattle.arachne_machine.proofs.Answering.{going}
+use Rattle.arachne_machine.proofs.Going.{stopped_pending, runs_nothing, as_is, same_kept, same_seen}
 use Rattle.arachne_machine.proofs.Taking.{Taken, Unstepped, taken, unstepped}
 
 -- A state whose parents none are, as callers see it.
@@ -138,7 +139,7 @@ all_left P xs ys h = λ k d lt. subst P (get_or_append_left xs ys d k lt) (h k d
 all_last : {X : Type 0} (P : X → Type 0) (xs : List X) (x : X) → All P (xs ++ x ∷ []) → P x
 all_last P xs x h = subst P (get_or-append_seam xs x [] x) (h (length xs) x (omega (arith, length-append xs (x ∷ []))))
 
-all_one : {X : Type 0} (P : X → Type 0) (x : X) → P x → All P (x ∷ [])
+pub all_one : {X : Type 0} (P : X → Type 0) (x : X) → P x → All P (x ∷ [])
 all_one P x p zero d lt = p
 all_one P x p (suc k) d lt = absurd (omega (arith, lt))
 
@@ -187,8 +188,9 @@ await_all t (u ∷ us) h p = (
 )
 
 -- A sound state with sound children that may run here is kept.
-pub kept_sound : (t : State) (qs : List (Box State)) → IsSoundState t → All (λ child. IsSoundChild child.value) qs → ArePlaced (source_of t.program.now) (seen_children qs) → IsKept t qs
-kept_sound t qs s children placed = record {
+pub kept_sound : (t : State) (qs : List (Box State)) → IsSoundState t → All (λ child. IsSoundChild child.value) qs → ArePlaced (source_of t.program.now) (seen_children qs) →
+    (pending_of t.control ≡ Some pause.Ended → t.parents.items ≡ []) → IsKept t qs
+kept_sound t qs s children placed ended = record {
   sound = s;
   children = children;
   nested_is = record {
@@ -196,6 +198,7 @@ kept_sound t qs s children placed = record {
           (programs_waiting t.program t.own (reverse t.parents.items) t.lines t.frames.items t.level.start t.level.place (ending (top t)).env);
       waiting = placed;
     };
+  ended = ended;
 }
 
 pub work_seen : (t : State) (qs : List (Box State)) → work_in (nested t qs) ≡ work_in_state t + works (seen_children qs)
@@ -236,7 +239,7 @@ taken_up old new ps qs child kept is joins of_child takes =
     let n = newest_of old ps qs child kept is in
     let t = taken old child.value new kept.sound n.sound.sound n.sound.alone n.source joins of_child takes in
     record {
-      kept = kept_sound new qs t.sound n.others (subst (λ p. ArePlaced (source_of p.now) (seen_children qs)) (sym takes.program) n.rest);
+      kept = kept_sound new qs t.sound n.others (subst (λ p. ArePlaced (source_of p.now) (seen_children qs)) (sym takes.program) n.rest) (going new (ap pending_of takes.control_is ∙ n.placed.not_paused));
       work = omega (arith, t.work, ap works (ap (map suspended) t.waits), ap works n.seen);
       pending = ap pending_of takes.control_is ∙ n.placed.not_paused;
     }
@@ -262,7 +265,7 @@ stood_back old new ps qs kept b =
     record {
       kept = kept_sound new qs u.sound (subst (λ l. All (λ c. IsSoundChild c.value) l) (sym b.are) (All-append Sound b.rest (b.back ∷ []) n.others one))
           (subst (ArePlaced (source_of new.program.now)) (sym seen)
-          (subst (λ p. ArePlaced (source_of p.now) (suspended (top b.child.value) ∷ seen_children b.rest)) (sym program) (n.placed, n.rest)));
+          (subst (λ p. ArePlaced (source_of p.now) (suspended (top b.child.value) ∷ seen_children b.rest)) (sym program) (n.placed, n.rest))) (going new u.pending);
       program = program;
       own = u.leaves.own ∙ b.same.own;
       work = omega (arith, whole, u.work, ap works (ap (map suspended) u.waits), ap works seen, ap works n.seen);
@@ -302,6 +305,9 @@ as_many_here t qs kept = λ k d lt.
     ap length sound.sound.sums ∙ length-tabulated (source_of c.value.program.now).ledgers sound.sound.sums_of ∙ ap (λ x. x.ledgers) source
     ∙ sym (ap length kept.sound.sums ∙ length-tabulated (source_of t.program.now).ledgers kept.sound.sums_of)
 
+same_next : (a b : Pending) → ◌≡◌ {A = Option Pending} (Some a) (Some b) → a ≡ b
+same_next a b e = cc
+
 -- A pause keeps the state.
 pub record Paused (last new : State) (qs : List (Box State)) : Type 0 where
   pub kept : IsKept new qs
@@ -319,8 +325,9 @@ stops_within n a (pause.Frees lock) b h = h.0
 stops_within n a (pause.Tallies ledger amount) b h = h.0
 stops_within n a pause.Ended b h = h.0
 
-pub paused : (last new : State) (qs : List (Box State)) (next : Pending) → IsKept last qs → LeavesOthers last new → AfterSteps 1 (top last) (Some next) (top new) → Paused last new qs
-paused last new qs next kept l stops =
+pub paused : (last new : State) (qs : List (Box State)) (next : Pending) → IsKept last qs → LeavesOthers last new → (next ≡ pause.Ended → new.parents.items ≡ []) → AfterSteps 1 (top last) (Some next) (top new) →
+    Paused last new qs
+paused last new qs next kept l ended stops =
     let w = stops_within 1 (top last) next (top new) stops in
     let g = w.goes in
     let one : w.made ≡ 1 = omega (arith, w.at_least, w.at_most) in
@@ -328,7 +335,8 @@ paused last new qs next kept l stops =
     let waits = leaves_waiting last new l env in
     record {
       kept = kept_sound new qs (sound_top last new kept.sound l env g.own (λ account sound. (account, sound_after 1 (top last) (top new) (Some next) account sound stops, λ ledger. refl))) kept.children
-          (subst (λ p. ArePlaced (source_of p.now) (seen_children qs)) (sym l.program) kept.nested_is.waiting);
+          (subst (λ p. ArePlaced (source_of p.now) (seen_children qs)) (sym l.program) kept.nested_is.waiting)
+          (λ e. ended (same_next next pause.Ended (sym (stopped_pending 1 (top last) next (top new) stops) ∙ e)));
       work = omega (arith, g.work, one, ap works (ap (map suspended) waits));
       waits = waits;
       forks = g.forks;
@@ -357,7 +365,7 @@ went_on had some most left a b c ps qs w r less =
       made = w.made + r.made;
       fewer = omega (arith, r.fewer);
       counted = omega (arith, r.counted);
-      kept = kept_sound c qs r.runs.sound w.kept.children (subst (λ p. ArePlaced (source_of p.now) (seen_children qs)) (sym r.runs.program) w.kept.nested_is.waiting);
+      kept = kept_sound c qs r.runs.sound w.kept.children (subst (λ p. ArePlaced (source_of p.now) (seen_children qs)) (sym r.runs.program) w.kept.nested_is.waiting) (going c r.running);
       program = r.runs.program ∙ w.program;
       own = r.runs.own ∙ w.own;
       work = omega (arith, w.work, work, work_seen c qs, work_seen b qs);
@@ -383,7 +391,7 @@ went_refused had some a b c ps qs w more r =
     record {
       made = w.made + r.made;
       at_most = omega (arith, w.counted, r.at_most, more);
-      kept = kept_sound c qs r.runs.sound w.kept.children (subst (λ p. ArePlaced (source_of p.now) (seen_children qs)) (sym r.runs.program) w.kept.nested_is.waiting);
+      kept = kept_sound c qs r.runs.sound w.kept.children (subst (λ p. ArePlaced (source_of p.now) (seen_children qs)) (sym r.runs.program) w.kept.nested_is.waiting) (going c r.running);
       program = r.runs.program ∙ w.program;
       own = r.runs.own ∙ w.own;
       work = omega (arith, w.work, work, work_seen c qs, work_seen b qs);
@@ -412,7 +420,7 @@ pub went_up : {Q : Type 0} → (had some left : ℕ) (a b c d : State) (ps qs rs
     Went Q had left a ps d rs
 went_up had some left a b c d ps qs rs child w beside one r is of_child takes joins =
     let last = went_on had some beside left a b r.last ps qs w r.runs (omega (arith, one)) in
-    let at = paused r.last c qs pause.Joins last.kept r.leaves r.stops in
+    let at = paused r.last c qs pause.Joins last.kept r.leaves r.ended r.stops in
     let up = taken_up c d qs rs child at.kept is joins of_child takes in
     record {
       made = last.made + 1;
@@ -430,7 +438,7 @@ pub went_back : {Q : Type 0} → (had some left : ℕ) (a b c d : State) (ps qs 
     RunsToPause Q beside left b pause.Joins c → StandsBack c qs d rs → WentWithin Q (had - 1) a ps d rs
 went_back had some left a b c d ps qs rs w beside one r back =
     let last = went_on had some beside left a b r.last ps qs w r.runs (omega (arith, one)) in
-    let at = paused r.last c qs pause.Joins last.kept r.leaves r.stops in
+    let at = paused r.last c qs pause.Joins last.kept r.leaves r.ended r.stops in
     let b' = stood_back c d qs rs at.kept back in
     record {
       made = last.made;
@@ -446,7 +454,7 @@ went_back had some left a b c d ps qs rs w beside one r back =
 pub advanced_kept : {Q : Type 0} → (had some left : ℕ) (a b c : State) (ps qs : List (Box State)) (next : Option Pending) → Went Q had some a ps b qs → Advances Q some left b None next c → IsKept c qs
 advanced_kept had some left a b c ps qs None w r = (went_on had some some left a b c ps qs w r.0 (omega arith)).kept
 advanced_kept had some left a b c ps qs (Some next) w r =
-    (paused r.2.last c qs next (went_on had some r.0 left a b r.2.last ps qs w r.2.runs (omega (arith, r.1))).kept r.2.leaves r.2.stops).kept
+    (paused r.2.last c qs next (went_on had some r.0 left a b r.2.last ps qs w r.2.runs (omega (arith, r.1))).kept r.2.leaves r.2.ended r.2.stops).kept
 
 -- It pauses, or has made all steps.
 pub went_paused : (Q : Type 0) → (had some left : ℕ) (a b c : State) (ps qs : List (Box State)) (next : Option Pending) → Went Q had some a ps b qs → Advances Q some left b None next c → next ≡ pending_of c.control →

@@ -27,5 +27,6 @@ pub mod Rejoining
 pub mod Taking
 pub mod Handed
 pub mod Showing
+pub mod Begun
 pub mod Crossing
 pub mod WorkedPrograms

@@ -32,7 +32,7 @@ use Rattle.arachne_machine.proofs.Soundness.{join_keeps, join_sums, joined_accou
 use Rattle.arachne_machine.proofs.Joining.{awaited_child, joins_fork, joins_half}
 use Rattle.arachne_machine.proofs.Levels.{below_few, run_for_same, waiting_frames, waiting_lines}
 use Rattle.arachne_machine.proofs.Nesting.{same_whole}
-use Rattle.arachne_machine.proofs.Answering.{nested_same}
+use Rattle.arachne_machine.proofs.Answering.{going, nested_same}
 use Rattle.arachne_machine.proofs.Going.{line_in, start_in}
 
 -- Lines behind all others leave each thread's own where it is, and come below the innermost.
@@ -155,6 +155,7 @@ rejoined old new placed outcome kept of_name source j =
           children = kept.children;
           nested_is = subst (λ qs. IsNested (record (nested new placed) { parents = qs })) (sym parents)
               (nested_same (suspended (top old)) (suspended (top new)) (map suspended (waiting_in old)) _ _ _ seen.program seen.name seen.label kept.nested_is);
+          ended = going new joins.pending;
         };
       whole = same_whole old new placed placed j.program j.own;
       joined = seen;

@@ -85,7 +85,7 @@ shown_stop Q had beside left old new ps qs next one p =
     let last = p.last in
     let w = p.went in
     let l = p.leaves in
-    let at = paused last new qs next w.kept l p.stops in
+    let at = paused last new qs next w.kept l p.ended p.stops in
     let forks : (outermost_in new).forks ≡ (outermost_in last).forks =
     ap (λ ts. (last_of (top new) ts).forks) at.waits ∙ last_same (top new) (top last) (waiting_in last) at.forks in
     record {
@@ -136,6 +136,9 @@ shown_pause Q had beside left old new ps qs pause.Ended one p =
       everywhere = s.everywhere;
     }
 
+forks_go_on : ◌≡◌ {A = Option Pending} (Some pause.Forks) (Some pause.Ended) → ⊥
+forks_go_on e = cc
+
 -- it forks a child
 shown_fork : (Q : Type 0) (had beside left : ℕ) (old new : State) (ps qs : List (Box State)) (class : Class) (child : Box State) → IsKept old ps → had ≡ beside + 1 → WentToFork Q beside left old ps class child.value new qs →
     Shown Q had left old ps (pauses.Forks class (nested child.value [])) new qs
@@ -157,7 +160,8 @@ shown_fork Q had beside left old new ps qs class child was one f =
       sound_fork 1 (work_left (top c)) [] [] (top last) (top new) made account sound g,
       λ ledger. ap (λ f. f ledger) (with_fork-sums made account),
     )) in
-    let kept_new = kept_sound new qs sound w.kept.children (subst (λ p. ArePlaced (source_of p.now) (seen_children qs)) (sym l.program) w.kept.nested_is.waiting) in
+    let kept_new = kept_sound new qs sound w.kept.children (subst (λ p. ArePlaced (source_of p.now) (seen_children qs)) (sym l.program) w.kept.nested_is.waiting)
+    (λ e. absurd (forks_go_on (sym f.gives.pending ∙ e))) in
     let alone_c : IsAlone (nested c []) = (ap (map suspended) (alone_waiting c f.alone), refl, f.gives.fresh.here) in
     let whole_c : whole (nested c []) ≡ suspended (top c) = ap (λ ts. outermost (suspended (top c)) (map suspended ts)) (alone_waiting c f.alone) in
     let fresh : IsFresh (suspended (top new)).program ((suspended (top new)).name ++ (top last).forks ∷ []) 0 (whole (nested c [])) =

@@ -48,7 +48,7 @@ relabelled label t = record t { own = record t.own { label = label } }
 abbrev pub placed_here : Strand → Strand
 placed_here t = relabelled (record t.own.label { ran = ways.InPlace }) t
 
-here_sound : (t : Strand) (label : Label) (account : Account) → IsSound t account → IsSound (relabelled label t) account
+pub here_sound : (t : Strand) (label : Label) (account : Account) → IsSound t account → IsSound (relabelled label t) account
 here_sound t label account s = record {
   task = s.task;
   has_task = s.has_task;
@@ -79,17 +79,17 @@ at_itself t = record { source_is = refl; name_is = refl; control_is = refl; fram
 at_copy : (t u : Strand) → IsCopy t u → IsAt (source_of t.program.now) t.own.name t.control t.frames t.environment u
 at_copy t u c = record { source_is = c.source; name_is = ap (λ o. o.name) c.own; control_is = c.control; frames_are = c.frames; environment_is = c.environment }
 
-copy_ending : (t u : Strand) → IsCopy t u → ending u ≡ ending t
+pub copy_ending : (t u : Strand) → IsCopy t u → ending u ≡ ending t
 copy_ending t u c =
     ending_at (source_of t.program.now) t.own.name t.control t.frames t.environment u (at_copy t u c)
     ∙ sym (ending_at (source_of t.program.now) t.own.name t.control t.frames t.environment t (at_itself t))
 
-copy_work : (t u : Strand) → IsCopy t u → work_left u ≡ work_left t
+pub copy_work : (t u : Strand) → IsCopy t u → work_left u ≡ work_left t
 copy_work t u c =
     work_at (source_of t.program.now) t.own.name t.control t.frames t.environment u (at_copy t u c)
     ∙ sym (work_at (source_of t.program.now) t.own.name t.control t.frames t.environment t (at_itself t))
 
-copy_sound : (t u : Strand) (account : Account) → IsCopy t u → IsSound t account → IsSound u account
+pub copy_sound : (t u : Strand) (account : Account) → IsCopy t u → IsSound t account → IsSound u account
 copy_sound t u account c s =
     let source = source_of t.program.now in
     let name = t.own.name in
@@ -124,7 +124,7 @@ copy_trace t u c =
     ∙ ap (λ x. trace_by (source_of t.program.now) t.own.name t.control t.frames x) c.environment
 
 -- what callers see of it
-copy_seen : (t u : Strand) → IsCopy t u → suspended u ≡ record (suspended t) { program = u.program.now }
+pub copy_seen : (t u : Strand) → IsCopy t u → suspended u ≡ record (suspended t) { program = u.program.now }
 copy_seen t u c =
     let all : Suspended → Suspended = λ s. s in
     let work = copy_work t u c in

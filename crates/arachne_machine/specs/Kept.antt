@@ -30,6 +30,8 @@ pub record IsKept (t : State) (placed : List (Box State)) : Type 0 where
   pub sound : IsSoundState t
   pub children : All (λ child. IsSoundChild child.value) placed
   pub nested_is : IsNested (nested t placed)
+  -- a thread that others wait for does not rest once it has ended
+  pub ended : pending_of t.control ≡ Some pause.Ended → t.parents.items ≡ []
 
 -- what callers see of children that were handed back, the newest first
 abbrev pub seen_children : List (Box State) → List Suspended

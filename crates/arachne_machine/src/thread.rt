@@ -212,7 +212,16 @@ impl<'p> Thread<'p> {
 
     /// Answers a fork with its child, which runs in this thread's place once it is awaited. Where memory is
     /// refused nothing has changed, and the child comes back.
-    fn place_forked(&mut self, child: Thread<'p>) -> Result<(), Thread<'p>> {
+    fn place_forked(&mut self, child: Thread<'p>) -> Result<(), Thread<'p>>
+        requires pending { pending_in self.old ≡ Some pause.Forks }
+        requires child { MayBePlaced self.old child }
+        ensures whole { SameWhole self.old self.new }
+        ensures ok { OnOk result (PlacesAtFork self.old child.entry self.new) }
+        ensures pending { OnOk result (pending_in self.new ≡ None) }
+        ensures work { OnOk result (work_in self.new ≡ work_in self.old + work_in child.entry) }
+        ensures err { OnErr result (self.new ≡ self.old) }
+        ensures handed_back { IfErr result (λ back. back ≡ child.entry) }
+    {
         if self.placed.try_reserve(1).is_err() {
             return Err(child);
         }
@@ -225,15 +234,20 @@ impl<'p> Thread<'p> {
 
     /// The child that is awaited goes on in this thread's place. Where it answers an error nothing has changed, and the
     /// child comes back.
-    fn begin_awaited(&mut self, child: Thread<'p>) -> Result<(), NotPlaced<'p>> {
-        if !self.state.awaits(child.name()) {
+    fn begin_awaited(&mut self, child: Thread<'p>) -> Result<(), NotPlaced<'p>>
+        requires pending { pending_in self.old ≡ Some pause.Joins }
+        requires child { MayBePlaced self.old child }
+        ensures whole { SameWhole self.old self.new }
+        ensures ok { OnOk result (self.new ≡ begun_in self.old child.entry) }
+        ensures foreign { IsNotAwaited result ↔ (awaited self.old.running ≢ Some (whole child.entry).name) }
+        ensures err { OnErr result (self.new ≡ self.old) }
+        ensures handed_back { IfErr result (λ e. child_back e ≡ child.entry) }
+    {
+        if !self.state.awaits(&child.state.own.name) {
             return Err(NotPlaced::Foreign(child));
         }
         let mut child = child;
-        let ran = child.state.own.label.ran;
-        child.state.own.label.ran = Ran::InPlace;
         if self.state.take_in(&mut child.state).is_err() {
-            child.state.own.label.ran = ran;
             return Err(NotPlaced::Memory(child));
         }
         Ok(())

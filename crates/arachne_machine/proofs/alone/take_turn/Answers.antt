@@ -1,4 +1,4 @@
-use Rattle.std.proofs.Common.{rules, ◌≡◌, ◌<◌, [], ◌∷◌, ◌++◌, length, map, reverse, sym, ap, ◌∙◌, subst}
+use Rattle.std.proofs.Common.{rules, refl, ◌≡◌, ◌<◌, [], ◌∷◌, ◌++◌, length, map, reverse, sym, ap, ◌∙◌, subst}
 use Rattle.arachne_lang.specs.Program.{source_of}
 use Rattle.arachne_machine.specs.Alone.{key, Rests}
 use Rattle.arachne_machine.specs.Nested.{IsAlone}
@@ -12,7 +12,8 @@ returns-in_ok-push-in-Budget-clause-rests c =
     let ts = c.args.threads.now.items in
     let keys = map key (reverse c.args.outcomes.now.items) in
     let new = c.advance_within.new.self in
-    let made = c.in_ok-advance_within.ensures.alone c.requires.rests.0.alone in
+    let alone = c.requires.rests.0.alone in
+    let made = c.in_ok-advance_within.ensures.alone alone (c.in_ok-advance_within.ensures.everywhere refl alone) in
     let advanced = rw c.in-Budget.is at made.does in
     subst (λ l. Rests p l keys) (sym (pushed ts c.push.new.self.items new c.in_ok-push-in-Budget.ensures.items))
     (rests_same p c.args.thread new (reverse ts) keys advanced.0 made.alone (rw c.in-Budget.is at c.in_ok-advance_within.ensures.ok).1 c.requires.rests)
@@ -25,7 +26,8 @@ returns-in_ok-push-in-Forks-2-clause-rests c =
     let mid = c.advance_within.new.self in
     let new = c.forked.new.self in
     let child = c.in-Forks.child in
-    let made = c.in_ok-advance_within.ensures.alone c.requires.rests.0.alone in
+    let alone = c.requires.rests.0.alone in
+    let made = c.in_ok-advance_within.ensures.alone alone (c.in_ok-advance_within.ensures.everywhere refl alone) in
     let advanced = rw c.in-Forks.is at made.does in
     let moved = rw c.in-Forks.is at c.in_ok-advance_within.ensures.ok in
     let first = pushed ts c.push-in-Forks.new.self.items new c.in_ok-push-in-Forks.ensures.items in
@@ -43,7 +45,8 @@ returns-in_ok-push-in-Ok-clause-rests c =
     let outcome = c.unwrap-outcome.result in
     let mid = c.advance_within.new.self in
     let new = c.joined.new.self in
-    let made = c.in_ok-advance_within.ensures.alone c.requires.rests.0.alone in
+    let alone = c.requires.rests.0.alone in
+    let made = c.in_ok-advance_within.ensures.alone alone (c.in_ok-advance_within.ensures.everywhere refl alone) in
     let advanced = rw c.in-Joins.is at made.does in
     let popped : outs ≡ left ++ outcome ∷ [] = rw c.unwrap-outcome.ensures at c.pop.ensures.items in
     let rests : Rests p (c.args.thread ∷ reverse ts) (key outcome ∷ map key (reverse left)) =
@@ -59,7 +62,8 @@ returns-in_ok-push-in-Ended-clause-rests c =
     let outs = c.args.outcomes.now.items in
     let outcome = c.finish_into.result in
     let mid = c.advance_within.new.self in
-    let made = c.in_ok-advance_within.ensures.alone c.requires.rests.0.alone in
+    let alone = c.requires.rests.0.alone in
+    let made = c.in_ok-advance_within.ensures.alone alone (c.in_ok-advance_within.ensures.everywhere refl alone) in
     let advanced = rw c.in-Ended.is at made.does in
     subst (λ l. Rests p (reverse ts) (map key l)) (sym (pushed outs c.push-in-Ended.new.self.items outcome c.in_ok-push-in-Ended.ensures.items))
     (rests_end p c.args.thread mid.running (reverse ts) outcome (map key (reverse outs)) advanced.0 advanced.4
@@ -72,7 +76,8 @@ returns-in_ok-push-in-Asks-clause-rests c =
     let keys = map key (reverse c.args.outcomes.now.items) in
     let mid = c.advance_within.new.self in
     let new = c.granted.new.self in
-    let made = c.in_ok-advance_within.ensures.alone c.requires.rests.0.alone in
+    let alone = c.requires.rests.0.alone in
+    let made = c.in_ok-advance_within.ensures.alone alone (c.in_ok-advance_within.ensures.everywhere refl alone) in
     let advanced = rw c.in-Asks.is at made.does in
     subst (λ l. Rests p l keys) (sym (pushed ts c.push-in-Asks.new.self.items new c.in_ok-push-in-Asks.ensures.items))
     (rests_same p c.args.thread new (reverse ts) keys (same_on c.args.thread.running mid.running new.running advanced.0 c.granted.ensures.same) (subst IsAlone (sym c.granted.ensures.others) made.alone) c.granted.ensures.pending c.requires.rests)
@@ -84,7 +89,8 @@ returns-in_ok-push-in-Frees-clause-rests c =
     let keys = map key (reverse c.args.outcomes.now.items) in
     let mid = c.advance_within.new.self in
     let new = c.freed.new.self in
-    let made = c.in_ok-advance_within.ensures.alone c.requires.rests.0.alone in
+    let alone = c.requires.rests.0.alone in
+    let made = c.in_ok-advance_within.ensures.alone alone (c.in_ok-advance_within.ensures.everywhere refl alone) in
     let advanced = rw c.in-Frees.is at made.does in
     subst (λ l. Rests p l keys) (sym (pushed ts c.push-in-Frees.new.self.items new c.in_ok-push-in-Frees.ensures.items))
     (rests_same p c.args.thread new (reverse ts) keys (same_on c.args.thread.running mid.running new.running advanced.0 c.freed.ensures.same) (subst IsAlone (sym c.freed.ensures.others) made.alone) c.freed.ensures.pending c.requires.rests)
@@ -96,7 +102,8 @@ returns-in_ok-push-in-Tallies-clause-rests c =
     let keys = map key (reverse c.args.outcomes.now.items) in
     let mid = c.advance_within.new.self in
     let new = c.tallied.new.self in
-    let made = c.in_ok-advance_within.ensures.alone c.requires.rests.0.alone in
+    let alone = c.requires.rests.0.alone in
+    let made = c.in_ok-advance_within.ensures.alone alone (c.in_ok-advance_within.ensures.everywhere refl alone) in
     let advanced = rw c.in-Tallies.is at made.does in
     subst (λ l. Rests p l keys) (sym (pushed ts c.push-in-Tallies.new.self.items new c.in_ok-push-in-Tallies.ensures.items))
     (rests_same p c.args.thread new (reverse ts) keys (same_on c.args.thread.running mid.running new.running advanced.0 c.tallied.ensures.same) (subst IsAlone (sym c.tallied.ensures.others) made.alone) c.tallied.ensures.pending c.requires.rests)
@@ -107,7 +114,8 @@ unwrap-outcome-requires c =
     let ts = c.args.threads.now.items in
     let outs = c.args.outcomes.now.items in
     let mid = c.advance_within.new.self in
-    let made = c.in_ok-advance_within.ensures.alone c.requires.rests.0.alone in
+    let alone = c.requires.rests.0.alone in
+    let made = c.in_ok-advance_within.ensures.alone alone (c.in_ok-advance_within.ensures.everywhere refl alone) in
     let advanced = rw c.in-Joins.is at made.does in
     let some : 0 < length outs = some_outcome p c.args.thread mid.running (reverse ts) outs advanced.0 advanced.3 c.requires.rests in
     search rules
@@ -120,7 +128,8 @@ joined-requires-clause-program c =
     let left = c.pop.new.self.items in
     let outcome = c.unwrap-outcome.result in
     let mid = c.advance_within.new.self in
-    let made = c.in_ok-advance_within.ensures.alone c.requires.rests.0.alone in
+    let alone = c.requires.rests.0.alone in
+    let made = c.in_ok-advance_within.ensures.alone alone (c.in_ok-advance_within.ensures.everywhere refl alone) in
     let advanced = rw c.in-Joins.is at made.does in
     let popped : outs ≡ left ++ outcome ∷ [] = rw c.unwrap-outcome.ensures at c.pop.ensures.items in
     let rests : Rests p (c.args.thread ∷ reverse ts) (key outcome ∷ map key (reverse left)) =
@@ -136,7 +145,8 @@ unreachable-requires c =
     let left = c.pop.new.self.items in
     let outcome = c.unwrap-outcome.result in
     let mid = c.advance_within.new.self in
-    let made = c.in_ok-advance_within.ensures.alone c.requires.rests.0.alone in
+    let alone = c.requires.rests.0.alone in
+    let made = c.in_ok-advance_within.ensures.alone alone (c.in_ok-advance_within.ensures.everywhere refl alone) in
     let advanced = rw c.in-Joins.is at made.does in
     let popped : outs ≡ left ++ outcome ∷ [] = rw c.unwrap-outcome.ensures at c.pop.ensures.items in
     let rests : Rests p (c.args.thread ∷ reverse ts) (key outcome ∷ map key (reverse left)) =
