@@ -50,14 +50,14 @@ label_given t label s none =
     let was : AreSound (top t ∷ []) s.sums_of = subst (λ ts. AreSound (top t ∷ ts) s.sums_of) (alone_waiting t none) s.sound in
     record {
       sound = record {
-          sums_of = s.sums_of;
-          sums = s.sums;
-          sound = subst (λ ts. AreSound (top u ∷ ts) s.sums_of) (sym (alone_waiting u none))
-              (was.0, was.1, copy_sound (relabelled label (top t)) (top u) was.0 copy (here_sound (top t) label was.0 was.2), was.3, was.4);
-          run_for = subst (RunFor (top u)) (sym (alone_waiting u none)) tt;
-          fits = s.fits;
-          few = s.few;
-        };
+        sums_of = s.sums_of;
+        sums = s.sums;
+        sound = subst (λ ts. AreSound (top u ∷ ts) s.sums_of) (sym (alone_waiting u none))
+            (was.0, was.1, copy_sound (relabelled label (top t)) (top u) was.0 copy (here_sound (top t) label was.0 was.2), was.3, was.4);
+        run_for = subst (RunFor (top u)) (sym (alone_waiting u none)) tt;
+        fits = s.fits;
+        few = s.few;
+      };
       seen = copy_seen (relabelled label (top t)) (top u) copy;
       work = copy_work (relabelled label (top t)) (top u) copy;
     }
@@ -121,14 +121,14 @@ handed_back old child new ps cps qs box kept kept_c may forks turns is pushed =
           (subst (ArePlaced (source_of new.program.now)) (sym placed) (one, past.0.kept.nested_is.waiting)) (going new past.0.pending);
       whole = same_whole old new ps qs turns.program turns.own;
       places = record {
-          same = past.0.seen.same;
-          sums = turns.sums;
-          holds = past.0.seen.holds;
-          locks = past.1;
-          parents = ap (λ n. n.parents) others;
-          placed = placed;
-          trace = past.0.seen.trace;
-        };
+        same = past.0.seen.same;
+        sums = turns.sums;
+        holds = past.0.seen.holds;
+        locks = past.1;
+        parents = ap (λ n. n.parents) others;
+        placed = placed;
+        trace = past.0.seen.trace;
+      };
       pending = past.0.pending;
       work = omega (arith, past.0.seen.work, ap works placed, alone_work child cps may.alone);
     }

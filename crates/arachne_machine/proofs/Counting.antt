@@ -63,31 +63,31 @@ counted_by old new placed answered effects kept pending children lines c program
     let same = sound_counts (top old) (top new) answered effects s.sound.0 s.sound.2 children lines c in
     record {
       kept = record {
-          sound = record {
-              sums_of = λ ledger. s.sums_of ledger + effects.sums ledger;
-              sums = subst (λ p. new.sums.items ≡ tabulated (source_of p.now).ledgers (λ ledger. s.sums_of ledger + effects.sums ledger)) (sym program)
-                  (sums (source_of old.program.now).ledgers s.sums_of s.sums);
-              sound = subst (λ ts. AreSound (top new ∷ ts) (λ ledger. s.sums_of ledger + effects.sums ledger)) (sym waits) (
-                after (top old).own.name effects s.sound.0,
-                s.sound.1,
-                same,
-                s.sound.3,
-                λ ledger. omega (arith, s.sound.4 ledger, ap (λ f. f ledger) (after-sums (top old).own.name effects s.sound.0)),
-              );
-              run_for = subst (RunFor (top new)) (sym waits) (run_for_by (top old) (top new) (waiting_in old) c.name c.label s.run_for);
-              fits = fits;
-              few = omega (arith, s.few, few);
-            };
-          children = kept.children;
-          nested_is = subst (λ ps. IsNested (record (nested new placed) { parents = ps })) (sym parents)
-              (nested_same (suspended (top old)) (suspended (top new)) (map suspended (waiting_in old)) _ _ _ seen.program seen.name seen.label kept.nested_is);
-          ended = going new c.pending;
+        sound = record {
+          sums_of = λ ledger. s.sums_of ledger + effects.sums ledger;
+          sums = subst (λ p. new.sums.items ≡ tabulated (source_of p.now).ledgers (λ ledger. s.sums_of ledger + effects.sums ledger)) (sym program)
+              (sums (source_of old.program.now).ledgers s.sums_of s.sums);
+          sound = subst (λ ts. AreSound (top new ∷ ts) (λ ledger. s.sums_of ledger + effects.sums ledger)) (sym waits) (
+            after (top old).own.name effects s.sound.0,
+            s.sound.1,
+            same,
+            s.sound.3,
+            λ ledger. omega (arith, s.sound.4 ledger, ap (λ f. f ledger) (after-sums (top old).own.name effects s.sound.0)),
+          );
+          run_for = subst (RunFor (top new)) (sym waits) (run_for_by (top old) (top new) (waiting_in old) c.name c.label s.run_for);
+          fits = fits;
+          few = omega (arith, s.few, few);
         };
+        children = kept.children;
+        nested_is = subst (λ ps. IsNested (record (nested new placed) { parents = ps })) (sym parents)
+            (nested_same (suspended (top old)) (suspended (top new)) (map suspended (waiting_in old)) _ _ _ seen.program seen.name seen.label kept.nested_is);
+        ended = going new c.pending;
+      };
       whole = record {
-          program = program_seen new placed ∙ ap (λ p. p.now) program ∙ sym (program_seen old placed);
-          name = name_seen new placed ∙ name ∙ sym (name_seen old placed);
-          label = label_seen new placed ∙ label ∙ sym (label_seen old placed);
-        };
+        program = program_seen new placed ∙ ap (λ p. p.now) program ∙ sym (program_seen old placed);
+        name = name_seen new placed ∙ name ∙ sym (name_seen old placed);
+        label = label_seen new placed ∙ label ∙ sym (label_seen old placed);
+      };
       same = seen;
       parents = parents;
       locks = c.locks;
@@ -173,10 +173,11 @@ hold_past old counted new placed lock body kept asks h is =
     subst (λ x. Fits (reverse x) new.level.start new.level.place (length new.frames.items) (length new.lines)) (sym parents)
     (subst (λ x. Fits ps x.start x.place (length new.frames.items) (length new.lines)) (sym level)
     (subst (λ x. Fits ps old.level.start old.level.place (length x) (length new.lines)) (sym frames)
-    (subst (λ x. Fits ps old.level.start old.level.place (length old.frames.items) x) (sym many) kept.sound.fits))) in
-    (counted_by old new placed (pause.Asks lock) (held lock) kept (ap pending_of asks) refl (λ name next. refl) counts program (ap (λ o. o.name) own ∙ h'.own_name) (ap (λ o. o.label) own ∙ h'.own_label)
-    waits fits many (λ n f e. ap (λ s. s.sums.items) is ∙ h.sums ∙ e ∙ tabulated-same n f (λ ledger. f ledger + 0) (λ k. omega arith)),
-    counts)
+    (subst (λ x. Fits ps old.level.start old.level.place (length old.frames.items) x) (sym many) kept.sound.fits))) in (
+      counted_by old new placed (pause.Asks lock) (held lock) kept (ap pending_of asks) refl (λ name next. refl) counts program (ap (λ o. o.name) own ∙ h'.own_name) (ap (λ o. o.label) own ∙ h'.own_label)
+          waits fits many (λ n f e. ap (λ s. s.sums.items) is ∙ h.sums ∙ e ∙ tabulated-same n f (λ ledger. f ledger + 0) (λ k. omega arith)),
+      counts,
+    )
 
 pub tally_past : (old counted new : State) (placed : List (Box State)) (ledger amount : ℕ) (body : Bor Expr) → IsKept old placed → old.control ≡ Tallies ledger amount body → CountsTally old counted ledger amount →
     new ≡ record counted { control = Begin body } → Counted old new placed × Counts (pause.Tallies ledger amount) (tallied ledger amount) (top old) (top new)
@@ -210,7 +211,8 @@ tally_past old counted new placed ledger amount body kept tallies h is =
     subst (λ x. Fits (reverse x) new.level.start new.level.place (length new.frames.items) (length new.lines)) (sym parents)
     (subst (λ x. Fits ps x.start x.place (length new.frames.items) (length new.lines)) (sym level)
     (subst (λ x. Fits ps old.level.start old.level.place (length x) (length new.lines)) (sym frames)
-    (subst (λ x. Fits ps old.level.start old.level.place (length old.frames.items) x) (sym many) kept.sound.fits))) in
-    (counted_by old new placed (pause.Tallies ledger amount) (tallied ledger amount) kept (ap pending_of tallies) refl (λ name next. refl) counts program (ap (λ o. o.name) own) (ap (λ o. o.label) own)
-    waits fits many (λ n f e. ap (λ s. s.sums.items) is ∙ h.sums n f e),
-    counts)
+    (subst (λ x. Fits ps old.level.start old.level.place (length old.frames.items) x) (sym many) kept.sound.fits))) in (
+      counted_by old new placed (pause.Tallies ledger amount) (tallied ledger amount) kept (ap pending_of tallies) refl (λ name next. refl) counts program (ap (λ o. o.name) own) (ap (λ o. o.label) own)
+          waits fits many (λ n f e. ap (λ s. s.sums.items) is ∙ h.sums n f e),
+      counts,
+    )

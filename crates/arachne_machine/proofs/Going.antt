@@ -242,14 +242,17 @@ runs_next had some left a b c m n = record {
 -- The innermost pauses.
 pub comes_stop : {Q : Type 0} → (had : ℕ) (a c : State) (next : Pending) → IsSoundState a → pending_of a.control ≡ None → LeavesOthers a c → (next ≡ pause.Ended → c.parents.items ≡ []) →
     (next ≡ pause.Joins → HasRoom c) → AfterSteps 1 (top a) (Some next) (top c) → Comes Q had had a part.Stops c
-comes_stop had a c next s running l ended room stops = (next, record {
-  last = a;
-  runs = runs_nothing had a a s (as_is a) running;
-  leaves = l;
-  stops = stops;
-  ended = ended;
-  room = room;
-})
+comes_stop had a c next s running l ended room stops = (
+  next,
+  record {
+    last = a;
+    runs = runs_nothing had a a s (as_is a) running;
+    leaves = l;
+    stops = stops;
+    ended = ended;
+    room = room;
+  },
+)
 
 pub not_ended : (c : State) (next : Pending) → IsNotEnd next → next ≡ pause.Ended → c.parents.items ≡ []
 not_ended c next h e = absurd (subst IsNotEnd e h)
@@ -486,19 +489,21 @@ comes_half_here had v number before old new left s popped le b =
     let off = top_popped before (giving_in old v) f popped le in
     let mid = giving (top old) v in
     let k = AwaitsHalf number v left.reduction in
-    let on : State = record new { control = Cover left } in
-    (record {
-      made = 1;
-      fewer = omega arith;
-      counted = omega arith;
-      runs = runs_begins before (giving_in old v) on f number (task_work (source_of old.program.now).arrays (stretch_task left old.environment.items))
-          k (Cover left) s le popped (begins_giving old on v number _ _ (begins_as old new number _ _ (Cover left) b)) tt
-          (awaits_half (top before) mid (awaiting_in old k) v number left off refl (awaiting_becomes old v k)) refl
-          (half_task (top before) mid v number left off refl s.sound.2.keeps)
-          (half_free (top before) mid v number left off refl);
-      running = refl;
-      places_none = λ q alone. absurd (not_by_itself before (giving_in old v) f number popped le refl alone);
-    }, tt)
+    let on : State = record new { control = Cover left } in (
+      record {
+        made = 1;
+        fewer = omega arith;
+        counted = omega arith;
+        runs = runs_begins before (giving_in old v) on f number (task_work (source_of old.program.now).arrays (stretch_task left old.environment.items))
+            k (Cover left) s le popped (begins_giving old on v number _ _ (begins_as old new number _ _ (Cover left) b)) tt
+            (awaits_half (top before) mid (awaiting_in old k) v number left off refl (awaiting_becomes old v k)) refl
+            (half_task (top before) mid v number left off refl s.sound.2.keeps)
+            (half_free (top before) mid v number left off refl);
+        running = refl;
+        places_none = λ q alone. absurd (not_by_itself before (giving_in old v) f number popped le refl alone);
+      },
+      tt,
+    )
 
 -- A child that ran here has ended.
 abbrev joins_as : (old new : State) (v : ℕ) (variables : List ℕ) (gs : List Frame) (k other : Control) → JoinsHere old new variables gs k →
@@ -537,12 +542,13 @@ comes_join Q old new v had left (part.Value result) s long h =
     (omega (arith, h.6)) (omega (arith, h.6)) refl)
 comes_join Q old new v had left part.Goes s long h =
     let w = apply (operation_of h.2) v h.1 in
-    let given : giving_in new w ≡ new = ap (λ k. record new { control = k }) (sym h.3.control_is) in
-    (subst (λ x. RunsOn Q had left 1 (giving_in old v) x) given
-    (joined_on had left 1 (giving_in old v) (giving_in new w) (was_nested old new v _ _ _ h.3)
-    (runs_join_half (giving_in old v) (giving_in new w) v h.0 h.1 h.2 s refl long (joins_as old new v _ _ _ (Give w) h.3) h.4)
-    (omega (arith, h.5)) (omega (arith, h.5)) refl),
-    subst IsLeftOver (sym h.3.control_is) tt)
+    let given : giving_in new w ≡ new = ap (λ k. record new { control = k }) (sym h.3.control_is) in (
+      subst (λ x. RunsOn Q had left 1 (giving_in old v) x) given
+          (joined_on had left 1 (giving_in old v) (giving_in new w) (was_nested old new v _ _ _ h.3)
+          (runs_join_half (giving_in old v) (giving_in new w) v h.0 h.1 h.2 s refl long (joins_as old new v _ _ _ (Give w) h.3) h.4)
+          (omega (arith, h.5)) (omega (arith, h.5)) refl),
+      subst IsLeftOver (sym h.3.control_is) tt,
+    )
 comes_join Q old new v had left part.Stops s long h = absurd h
 comes_join Q old new v had left (part.Forks class child) s long h = absurd h
 

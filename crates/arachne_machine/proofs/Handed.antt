@@ -111,15 +111,15 @@ looks_sound old new s l none =
     let alone : AreSound (top old ∷ []) s.sums_of = subst (λ ts. AreSound (top old ∷ ts) s.sums_of) (alone_waiting old none) s.sound in
     record {
       sound = record {
-          sums_of = s.sums_of;
-          sums = l.sums ∙ subst (λ p. old.sums.items ≡ tabulated (source_of p.now).ledgers s.sums_of) (sym l.program) s.sums;
-          sound = subst (λ ts. AreSound (top new ∷ ts) s.sums_of) (sym (alone_waiting new none'))
-              (alone.0, alone.1, sound_goes 0 [] (top old) (top new) alone.0 alone.2 g, alone.3, alone.4);
-          run_for = subst (RunFor (top new)) (sym (alone_waiting new none')) tt;
-          fits = subst (λ ps. Fits (reverse ps) new.level.start new.level.place (length new.frames.items) (length new.lines)) (sym none')
-              (ap (λ v. v.start) l.level ∙ subst (λ ps. Fits (reverse ps) old.level.start old.level.place (length old.frames.items) (length old.lines)) none s.fits);
-          few = omega (arith, s.few, ap length l.lines);
-        };
+        sums_of = s.sums_of;
+        sums = l.sums ∙ subst (λ p. old.sums.items ≡ tabulated (source_of p.now).ledgers s.sums_of) (sym l.program) s.sums;
+        sound = subst (λ ts. AreSound (top new ∷ ts) s.sums_of) (sym (alone_waiting new none'))
+            (alone.0, alone.1, sound_goes 0 [] (top old) (top new) alone.0 alone.2 g, alone.3, alone.4);
+        run_for = subst (RunFor (top new)) (sym (alone_waiting new none')) tt;
+        fits = subst (λ ps. Fits (reverse ps) new.level.start new.level.place (length new.frames.items) (length new.lines)) (sym none')
+            (ap (λ v. v.start) l.level ∙ subst (λ ps. Fits (reverse ps) old.level.start old.level.place (length old.frames.items) (length old.lines)) none s.fits);
+        few = omega (arith, s.few, ap length l.lines);
+      };
       seen = unchanged_seen (top old) (top new) b;
       work = omega (arith, g.work);
       own = b.own;
@@ -158,9 +158,11 @@ Programs program (t ∷ ts) = (t.program ≡ program) × Programs program ts
 programs_waiting : (program : Bor Program) (own : Own) (ps : List Parent) (lines : List ThreadLine) (frames : List Frame) (start place : ℕ) (env : Environment) →
     Programs program (waiting program own ps lines frames start place env)
 programs_waiting program own [] lines frames start place env = tt
-programs_waiting program own (p ∷ ps) lines frames start place env =
-    (refl, programs_waiting program own ps (take place lines) (take start frames) p.level.start p.level.place
-    (ending (strand_at program own ps (take place lines) p.level env (take start frames) p.control)).env)
+programs_waiting program own (p ∷ ps) lines frames start place env = (
+  refl,
+  programs_waiting program own ps (take place lines) (take start frames) p.level.start p.level.place
+      (ending (strand_at program own ps (take place lines) p.level env (take start frames) p.control)).env,
+)
 
 joins_then : (k : Control) (n : ℕ) → fork_awaited k ≡ n ∷ [] → pending_of k ≡ Some pause.Joins
 joins_then (Awaits number during next) n e = refl
@@ -194,10 +196,10 @@ kept_sound t qs s children placed ended = record {
   sound = s;
   children = children;
   nested_is = record {
-      awaiting = await_all (top t) (waiting_in t) s.run_for
-          (programs_waiting t.program t.own (reverse t.parents.items) t.lines t.frames.items t.level.start t.level.place (ending (top t)).env);
-      waiting = placed;
-    };
+    awaiting = await_all (top t) (waiting_in t) s.run_for
+        (programs_waiting t.program t.own (reverse t.parents.items) t.lines t.frames.items t.level.start t.level.place (ending (top t)).env);
+    waiting = placed;
+  };
   ended = ended;
 }
 

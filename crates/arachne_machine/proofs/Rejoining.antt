@@ -135,28 +135,28 @@ rejoined old new placed outcome kept of_name source j =
     let added_all = j.sums (source_of old.program.now).ledgers s.sums_of sums.0 s.sums sums.1 in
     record {
       kept = record {
-          sound = record {
-              sums_of = all;
-              sums = subst (λ p. new.sums.items ≡ tabulated (source_of p.now).ledgers all) (sym j.program) added_all;
-              sound = subst (λ ts. AreSound (top new ∷ ts) all) (sym waits) (
-                joined_account (top old) joins.number s.sound.0,
-                s.sound.1,
-                sound_join (top old) (top new) outcome s.sound.0 s.sound.2 of_name source joins,
-                s.sound.3,
-                λ ledger. omega (arith, s.sound.4 ledger, sums.2 ledger),
-              );
-              run_for = subst (RunFor (top new)) (sym waits) (run_for_same (top old) (top new) (waiting_in old) own s.run_for);
-              fits = subst (λ x. Fits (reverse x) new.level.start new.level.place (length new.frames.items) (length new.lines)) (sym j.parents)
-                  (subst (λ x. Fits ps x.start x.place (length new.frames.items) (length new.lines)) (sym j.level)
-                  (fits_more ps old.level.start old.level.place (length old.frames.items) (length old.lines) (length new.frames.items) (length new.lines) frames.1
-                  (omega (arith, ap length j.lines, length-append old.lines outcome.lines)) s.fits));
-              few = j.few;
-            };
-          children = kept.children;
-          nested_is = subst (λ qs. IsNested (record (nested new placed) { parents = qs })) (sym parents)
-              (nested_same (suspended (top old)) (suspended (top new)) (map suspended (waiting_in old)) _ _ _ seen.program seen.name seen.label kept.nested_is);
-          ended = going new joins.pending;
+        sound = record {
+          sums_of = all;
+          sums = subst (λ p. new.sums.items ≡ tabulated (source_of p.now).ledgers all) (sym j.program) added_all;
+          sound = subst (λ ts. AreSound (top new ∷ ts) all) (sym waits) (
+            joined_account (top old) joins.number s.sound.0,
+            s.sound.1,
+            sound_join (top old) (top new) outcome s.sound.0 s.sound.2 of_name source joins,
+            s.sound.3,
+            λ ledger. omega (arith, s.sound.4 ledger, sums.2 ledger),
+          );
+          run_for = subst (RunFor (top new)) (sym waits) (run_for_same (top old) (top new) (waiting_in old) own s.run_for);
+          fits = subst (λ x. Fits (reverse x) new.level.start new.level.place (length new.frames.items) (length new.lines)) (sym j.parents)
+              (subst (λ x. Fits ps x.start x.place (length new.frames.items) (length new.lines)) (sym j.level)
+              (fits_more ps old.level.start old.level.place (length old.frames.items) (length old.lines) (length new.frames.items) (length new.lines) frames.1
+              (omega (arith, ap length j.lines, length-append old.lines outcome.lines)) s.fits));
+          few = j.few;
         };
+        children = kept.children;
+        nested_is = subst (λ qs. IsNested (record (nested new placed) { parents = qs })) (sym parents)
+            (nested_same (suspended (top old)) (suspended (top new)) (map suspended (waiting_in old)) _ _ _ seen.program seen.name seen.label kept.nested_is);
+        ended = going new joins.pending;
+      };
       whole = same_whole old new placed placed j.program j.own;
       joined = seen;
       parents = parents;

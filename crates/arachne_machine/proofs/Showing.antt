@@ -91,10 +91,10 @@ shown_stop Q had beside left old new ps qs next one p =
     record {
       kept = at.kept;
       stops = record {
-          same = same_whole old new ps qs (l.program ∙ w.program) (l.own ∙ w.own);
-          pending = stopped_pending 1 (top last) next (top new) p.stops;
-          work = record { made = w.made + 1; at_least = omega arith; at_most = omega (arith, w.counted, one); left = omega (arith, w.work, at.work) };
-        };
+        same = same_whole old new ps qs (l.program ∙ w.program) (l.own ∙ w.own);
+        pending = stopped_pending 1 (top last) next (top new) p.stops;
+        work = record { made = w.made + 1; at_least = omega arith; at_most = omega (arith, w.counted, one); left = omega (arith, w.work, at.work) };
+      };
       within = λ checked. pauses_seen new at.kept.sound (subst (λ p. IsChecked (source_of p.now)) (sym (l.program ∙ w.program)) checked);
       alone = λ alone places.
           let b = w.by_itself (none_placed ps alone.1) in
@@ -170,32 +170,32 @@ shown_fork Q had beside left old new ps qs class child was one f =
     record {
       kept = kept_new;
       moves = (
-          same_whole old new ps qs (l.program ∙ w.program) (l.own ∙ w.own),
-          f.gives.pending,
-          record {
-            number = (top last).forks;
-            others = unjoined_of (top last);
-            unjoined = g.unjoined;
-            alone = alone_c;
-            fresh = fresh;
-            no_sums = f.sums ∙ ap (λ p. tabulated p.now.ledgers (λ ledger. 0)) (sym l.program);
-            task = shown.task;
-            is_child = subst (λ p. child_of (source_of p.now) (top new).own.name (top last).forks ≡ Some (record { class = class; task = shown.task })) (sym g.program)
-                (subst (λ n. child_of (source_of last.program.now) n (top last).forks ≡ Some (record { class = class; task = shown.task })) (ap (λ o. o.name) (sym g.own)) shown.is_child);
-          },
-          record {
-            awaits = ap (λ l. option_map (λ number. (top new).own.name ++ number ∷ []) (slice_get l 0)) g.unjoined ∙ ap Some (sym fresh.has_name);
-            same_source = ap source_of (fresh.same_program ∙ sym (program_seen new qs));
-            not_paused = shown.fresh.not_paused;
-            alone = alone_c;
-          },
-          record {
-            made = w.made + 1;
-            at_least = omega arith;
-            at_most = omega (arith, w.counted, one);
-            left = omega (arith, w.work, kept.work, taken, ap works (ap (map suspended) waits), ap works (ap (map suspended) (alone_waiting c f.alone)));
-          },
-        );
+        same_whole old new ps qs (l.program ∙ w.program) (l.own ∙ w.own),
+        f.gives.pending,
+        record {
+          number = (top last).forks;
+          others = unjoined_of (top last);
+          unjoined = g.unjoined;
+          alone = alone_c;
+          fresh = fresh;
+          no_sums = f.sums ∙ ap (λ p. tabulated p.now.ledgers (λ ledger. 0)) (sym l.program);
+          task = shown.task;
+          is_child = subst (λ p. child_of (source_of p.now) (top new).own.name (top last).forks ≡ Some (record { class = class; task = shown.task })) (sym g.program)
+              (subst (λ n. child_of (source_of last.program.now) n (top last).forks ≡ Some (record { class = class; task = shown.task })) (ap (λ o. o.name) (sym g.own)) shown.is_child);
+        },
+        record {
+          awaits = ap (λ l. option_map (λ number. (top new).own.name ++ number ∷ []) (slice_get l 0)) g.unjoined ∙ ap Some (sym fresh.has_name);
+          same_source = ap source_of (fresh.same_program ∙ sym (program_seen new qs));
+          not_paused = shown.fresh.not_paused;
+          alone = alone_c;
+        },
+        record {
+          made = w.made + 1;
+          at_least = omega arith;
+          at_most = omega (arith, w.counted, one);
+          left = omega (arith, w.work, kept.work, taken, ap works (ap (map suspended) waits), ap works (ap (map suspended) (alone_waiting c f.alone)));
+        },
+      );
       spent = omega (arith, w.fewer, one);
       elsewhere = tt;
       within = λ checked. pauses_seen new sound (subst (λ p. IsChecked (source_of p.now)) (sym (l.program ∙ w.program)) checked);
@@ -219,9 +219,10 @@ shown_fork Q had beside left old new ps qs class child was one f =
           let by = by_itself old ps alone in
           let same = b.1.places_none q by in
           let go = b.1.runs.by_itself by same in
-          let none : new.parents.items ≡ [] = l.parents ∙ go.alone.parents in
-          (ap (map suspended) (alone_waiting new none),
-          omega (arith, g.forks, alone_forks last go.alone.parents, alone_forks new none, whole_forks new qs, whole_forks old ps, same));
+          let none : new.parents.items ≡ [] = l.parents ∙ go.alone.parents in (
+            ap (map suspended) (alone_waiting new none),
+            omega (arith, g.forks, alone_forks last go.alone.parents, alone_forks new none, whole_forks new qs, whole_forks old ps, same),
+          );
     }
 
 pub shown : (Q : Type 0) (had left : ℕ) (old new : State) (ps qs : List (Box State)) (forked : Option (Class × Box State)) (next : Option Pending) → IsKept old ps → AdvancesWith Q had left old ps forked next new qs →

@@ -241,32 +241,32 @@ taken old child new s c none source joins of_child t =
     let sums = t.sums (source_of old.program.now).ledgers s.sums_of c.sums_of s.sums childs in
     record {
       sound = record {
-          sums_of = all;
-          sums = sums ∙ ap (λ p. tabulated (source_of p.now).ledgers all) (sym t.program);
-          sound = subst (λ ts. AreSound (top new ∷ ts) all) (sym waits) (
-            sound_c.0,
-            s.sums_of,
-            copy_sound (placed_here (top child)) (top new) sound_c.0 copy (here_sound (top child) (record (top child).own.label { ran = ways.InPlace }) sound_c.0 sound_c.2),
-            s.sound,
-            λ ledger. omega (arith, sound_c.4 ledger, sound_c.3 ledger),
-          );
-          run_for = subst (RunFor (top new)) (sym waits) (
-            record {
-              number = awaits.number;
-              awaits = awaits.awaits;
-              named = ap (λ o. o.name) copy.own ∙ ap (λ o. o.name) own ∙ awaits.named;
-              in_place = ap (λ o. o.label.ran) copy.own;
-            },
-            s.run_for,
-          );
-          fits = subst (λ x. Fits x new.level.start new.level.place (length new.frames.items) (length new.lines)) (sym parents)
-              (subst (λ v. Fits (q ∷ ps) v.start v.place (length new.frames.items) (length new.lines)) (sym t.level) (
-                omega (arith, ap length t.frames, length-append old.frames.items child.frames.items),
-                omega (arith, ap length t.lines, length-append old.lines (record (own_line child.own) { ran = ways.InPlace } ∷ child.lines)),
-                s.fits,
-              ));
-          few = t.few;
-        };
+        sums_of = all;
+        sums = sums ∙ ap (λ p. tabulated (source_of p.now).ledgers all) (sym t.program);
+        sound = subst (λ ts. AreSound (top new ∷ ts) all) (sym waits) (
+          sound_c.0,
+          s.sums_of,
+          copy_sound (placed_here (top child)) (top new) sound_c.0 copy (here_sound (top child) (record (top child).own.label { ran = ways.InPlace }) sound_c.0 sound_c.2),
+          s.sound,
+          λ ledger. omega (arith, sound_c.4 ledger, sound_c.3 ledger),
+        );
+        run_for = subst (RunFor (top new)) (sym waits) (
+          record {
+            number = awaits.number;
+            awaits = awaits.awaits;
+            named = ap (λ o. o.name) copy.own ∙ ap (λ o. o.name) own ∙ awaits.named;
+            in_place = ap (λ o. o.label.ran) copy.own;
+          },
+          s.run_for,
+        );
+        fits = subst (λ x. Fits x new.level.start new.level.place (length new.frames.items) (length new.lines)) (sym parents)
+            (subst (λ v. Fits (q ∷ ps) v.start v.place (length new.frames.items) (length new.lines)) (sym t.level) (
+              omega (arith, ap length t.frames, length-append old.frames.items child.frames.items),
+              omega (arith, ap length t.lines, length-append old.lines (record (own_line child.own) { ran = ways.InPlace } ∷ child.lines)),
+              s.fits,
+            ));
+        few = t.few;
+      };
       waits = waits;
       seen = copy_seen (placed_here (top child)) (top new) copy ∙ ap (λ p. record (in_place_of (suspended (top child))) { program = p.now }) t.program;
       sums = added_is (source_of old.program.now).ledgers s.sums_of c.sums_of old.sums.items child.sums.items new.sums.items s.sums childs sums;
@@ -308,18 +308,22 @@ unstepped_by old new f v s changed step faultless keeps =
     let b = top_becomes old new _ _ _ changed le in
     let env : (ending (top new)).env ≡ (ending (top old)).env = sym (ap (λ e. e.env) g.ending) in
     record {
-      sound = sound_top old new s l env b.own (λ account sound. (account, sound_same (top old) (top new) account account sound (record {
-        program = ap (λ p. source_of p.now) b.program;
-        name = ap (λ o. o.name) b.own;
-        holds = λ locks h. ap (λ o. o.holds) b.own ∙ h;
-        lines = λ h. ap (map named_holds) b.below ∙ h;
-        forks = λ h. b.forks ∙ h;
-        ending = sym g.ending;
-        whole = sym (g.account account);
-        numbered = λ h. (omega (arith, h.0, b.forks, ap length b.below, ap length g.unjoined), omega (arith, h.1, ap length b.below));
-        faultless = faultless;
-        keeps = keeps;
-      }), λ ledger. refl));
+      sound = sound_top old new s l env b.own (λ account sound. (
+        account,
+        sound_same (top old) (top new) account account sound (record {
+          program = ap (λ p. source_of p.now) b.program;
+          name = ap (λ o. o.name) b.own;
+          holds = λ locks h. ap (λ o. o.holds) b.own ∙ h;
+          lines = λ h. ap (map named_holds) b.below ∙ h;
+          forks = λ h. b.forks ∙ h;
+          ending = sym g.ending;
+          whole = sym (g.account account);
+          numbered = λ h. (omega (arith, h.0, b.forks, ap length b.below, ap length g.unjoined), omega (arith, h.1, ap length b.below));
+          faultless = faultless;
+          keeps = keeps;
+        }),
+        λ ledger. refl,
+      ));
       leaves = l;
       waits = leaves_waiting old new l env;
       work = omega (arith, g.work, one);

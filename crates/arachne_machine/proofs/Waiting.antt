@@ -154,6 +154,10 @@ rests_root program tag thread alone fresh = (
   (fresh.has_name, refl),
 )
 
+-- an answer leaves a thread by itself
+pub alone_on : (old new : Nested) → IsAlone old → new.parents ≡ old.parents → new.placed ≡ old.placed → new.running.here ≡ old.running.here → IsAlone new
+alone_on old new alone parents placed here = (parents ∙ alone.0, placed ∙ alone.1, here ∙ alone.2)
+
 pub pushed : {A : Type 0} → (xs ys : List A) (x : A) → ys ≡ xs ++ x ∷ [] → reverse ys ≡ x ∷ reverse xs
 pushed xs ys x e = ap reverse e ∙ reverse-append xs (x ∷ [])
 

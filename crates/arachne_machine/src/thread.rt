@@ -166,7 +166,9 @@ impl<'p> Thread<'p> {
         ensures err_alone { OnErr result (IsAlone self.old → (whole self.new).forks ≡ (whole self.old).forks → RefusedAlone left.old self.old self.new) }
         ensures err_everywhere { P.gives_all ≡ true → OnErr result (IsAlone self.old → (whole self.new).forks ≡ (whole self.old).forks) }
     {
-        let forked = self.state.advance_with(&mut self.placed, left, spares, places)?;
+        let forked = self
+            .state
+            .advance_with(&mut self.placed, left, spares, places)?;
         Ok(pause_of(forked, self.state.pending()))
     }
 

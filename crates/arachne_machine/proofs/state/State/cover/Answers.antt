@@ -29,10 +29,11 @@ returns-then-not-is_any-clause-ok g c =
     let s = c.args.stretch in
     let new = c.halve_here.new.self in
     let counts = c.in_ok-halve_here.ensures.counts in
-    let long : max 1 s.grain < s.end - s.first = omega (arith, c.if-count-max.true, c.max.ensures, c.saturating_sub-count.ensures) in
-    (runs_place _ t new _ _ _ (λ all. search (rules, c.is_any.ensures all)) c.requires.sound counts
-    (λ pushed. places_half (top t) (top new) s (s.first + c.saturating_sub-count.result / 2) c.requires.covers long (ap (λ n. s.first + n / 2) c.saturating_sub-count.ensures) pushed),
-    subst IsLeftOver (sym counts.control_is) tt)
+    let long : max 1 s.grain < s.end - s.first = omega (arith, c.if-count-max.true, c.max.ensures, c.saturating_sub-count.ensures) in (
+      runs_place _ t new _ _ _ (λ all. search (rules, c.is_any.ensures all)) c.requires.sound counts
+          (λ pushed. places_half (top t) (top new) s (s.first + c.saturating_sub-count.result / 2) c.requires.covers long (ap (λ n. s.first + n / 2) c.saturating_sub-count.ensures) pushed),
+      subst IsLeftOver (sym counts.control_is) tt,
+    )
 
 pub returns-then-count-max-clause-ok : goal.returns-then-count-max-clause-ok
 returns-then-count-max-clause-ok g c =
