@@ -1,6 +1,6 @@
 -- The answers to pauses.
-use Rattle.std.proofs.Common.{◌≡◌, ◌≤◌, length, ℕ, ◌+◌, List, [], ◌∷◌, ◌++◌, None, Some, Option, refl, ap, sym, ◌∙◌, subst, arith}
-use Rattle.std.specs.Prelude.{map, reverse, All}
+use Rattle.std.proofs.Common.{◌≡◌, ◌≤◌, length, ℕ, List, [], ◌∷◌, ◌++◌, None, Some, Option, refl, ap, sym, ◌∙◌, subst, arith}
+use Rattle.std.specs.Prelude.{map, reverse}
 use Rattle.std.specs.Borrow.{Bor}
 use Rattle.std.specs.Global.{Box}
 use Rattle.std.proofs.lemmas.List.{append-nil}
@@ -13,14 +13,13 @@ use Rattle.arachne_machine.specs.declared.frame.Control.TheVariants.{Begin, Give
 use Rattle.arachne_machine.specs.declared.pause.Pending.{Pending}
 use Rattle.arachne_machine.specs.declared.pause.Pending.TheVariants as pause
 use Rattle.arachne_machine.specs.declared.state.State.{State}
-use Rattle.arachne_machine.specs.Account.{Account}
 use Rattle.arachne_machine.specs.Trace.{At}
-use Rattle.arachne_machine.specs.Ending.{AwaitsFork, fork_awaited, forks_of, forks_here, lock_freed, releases, frames_left, locks_of}
+use Rattle.arachne_machine.specs.Ending.{AwaitsFork, fork_awaited, forks_of, lock_freed, releases, frames_left, locks_of}
 use Rattle.arachne_machine.specs.Strands.{Strand, owned_at, below_at, own_line}
 use Rattle.arachne_machine.specs.Suspended.{Suspended, SameThread, IsAnswered}
-use Rattle.arachne_machine.specs.Nested.{Nested, Await, ArePlaced, IsNested, SameWhole, pending_in, work_in, works}
+use Rattle.arachne_machine.specs.Nested.{Nested, Await, ArePlaced, IsNested, SameWhole, work_in, works}
 use Rattle.arachne_machine.specs.Steps.{Becomes, Goes, LeavesOthers, Changes, Turns, pending_of, suspended, top, waiting_in}
-use Rattle.arachne_machine.specs.Sound.{IsSound, IsSoundState, AreSound}
+use Rattle.arachne_machine.specs.Sound.{IsSoundState, AreSound}
 use Rattle.arachne_machine.specs.Kept.{IsKept, IsSoundChild, nested}
 use Rattle.arachne_machine.specs.Outcome.{IsOfItsName}
 use Rattle.arachne_lang.specs.Effects.{tabulated}

@@ -1,28 +1,27 @@
 -- A child comes back to run in its parent's place.
-use Rattle.std.proofs.Common.{◌≡◌, ◌≢◌, length, length-append, ℕ, ◌+◌, List, [], ◌∷◌, ◌++◌, None, Some, refl, ap, sym, ◌∙◌, subst, arith}
+use Rattle.std.proofs.Common.{◌≡◌, length, ◌+◌, List, [], ◌∷◌, ◌++◌, None, Some, refl, ap, sym, ◌∙◌, subst, arith}
 use Rattle.std.specs.Prelude.{map, reverse, All}
 use Rattle.std.specs.Global.{Box}
 use Rattle.std.proofs.lemmas.List.Elements.{All-append}
 use Rattle.arachne_lang.specs.Program.{source_of}
-use Rattle.arachne_lang.specs.Effects.{tabulated}
 use Rattle.arachne_machine.specs.declared.line.Label.{Label}
 use Rattle.arachne_machine.specs.declared.line.ThreadLine.{ThreadLine}
 use Rattle.arachne_machine.specs.declared.line.Ran.TheVariants as ways
 use Rattle.arachne_machine.specs.declared.pause.Pending.TheVariants as pause
 use Rattle.arachne_machine.specs.declared.state.State.{State}
 use Rattle.arachne_machine.specs.Ending.{work_left}
-use Rattle.arachne_machine.specs.Strands.{Strand, Fits, below_at, owned_at, own_line}
-use Rattle.arachne_machine.specs.Steps.{Turns, pending_of, suspended, top, waiting_in}
+use Rattle.arachne_machine.specs.Strands.{below_at, owned_at, own_line}
+use Rattle.arachne_machine.specs.Steps.{Turns, pending_of, suspended, top}
 use Rattle.arachne_machine.specs.Sound.{AreSound, IsSoundState, RunFor}
 use Rattle.arachne_machine.specs.Runs.{LooksSame, TakesIn, after_fork, last_of}
-use Rattle.arachne_machine.specs.Suspended.{Suspended, awaited, own_line_of}
-use Rattle.arachne_machine.specs.Nested.{ArePlaced, IsAlone, IsPlaced, MayBePlaced, Nested, PlacesAtFork, SameWhole, begun_in, in_place_of, pending_in, whole, work_in, works}
+use Rattle.arachne_machine.specs.Suspended.{awaited, own_line_of}
+use Rattle.arachne_machine.specs.Nested.{ArePlaced, IsAlone, IsPlaced, MayBePlaced, PlacesAtFork, SameWhole, begun_in, in_place_of, whole, work_in, works}
 use Rattle.arachne_machine.specs.Kept.{IsKept, IsSoundChild, nested, seen_children}
 use Rattle.arachne_machine.proofs.Levels.{alone_waiting}
 use Rattle.arachne_machine.proofs.Nesting.{program_seen, same_whole, whole_seen}
 use Rattle.arachne_machine.proofs.Answering.{fork_past, going}
 use Rattle.arachne_machine.proofs.Taking.{IsCopy, copy_seen, copy_sound, copy_work, here_sound, relabelled, taken}
-use Rattle.arachne_machine.proofs.Handed.{Looks, all_one, kept_sound, looks_nested, looks_sound, newest_seen, none_parents, none_placed, own_name}
+use Rattle.arachne_machine.proofs.Handed.{all_one, kept_sound, looks_nested, looks_sound, newest_seen, none_parents, own_name}
 use Rattle.arachne_machine.proofs.Tabulated.{length-tabulated}
 
 -- A thread by itself has another label.

@@ -1,9 +1,8 @@
 -- The answers that count a hold or an amount.
-use Rattle.std.proofs.Common.{◌≡◌, ◌≤◌, ◌<◌, length, ℕ, ◌+◌, List, [], ◌∷◌, ◌++◌, None, Some, refl, ap, sym, ◌∙◌, subst, arith, take, drop, get_or}
+use Rattle.std.proofs.Common.{◌≡◌, length, ℕ, ◌+◌, List, [], ◌∷◌, None, Some, refl, ap, sym, ◌∙◌, subst, arith, take, drop}
 use Rattle.std.specs.Prelude.{◌==◌, if◌then◌else◌, map, reverse}
 use Rattle.std.specs.Borrow.{Bor}
 use Rattle.std.specs.Global.{Box}
-use Rattle.std.proofs.Math.ListN.{set}
 use Rattle.std.proofs.lemmas.List.{drop-set-lt, get_or-set_same, length-set, take-set}
 use Rattle.arachne_lang.specs.declared.program.Expr.{Expr}
 use Rattle.arachne_lang.specs.declared.program.Program.{Program}
@@ -18,12 +17,11 @@ use Rattle.arachne_machine.specs.declared.pause.Pending.{Pending}
 use Rattle.arachne_machine.specs.declared.pause.Pending.TheVariants as pause
 use Rattle.arachne_machine.specs.declared.state.Own.{Own}
 use Rattle.arachne_machine.specs.declared.state.State.{State}
-use Rattle.arachne_machine.specs.Account.{Account, after}
+use Rattle.arachne_machine.specs.Account.{after}
 use Rattle.arachne_machine.specs.Ending.{ending, locks_of}
-use Rattle.arachne_machine.specs.Lines.{CountsHoldAt}
-use Rattle.arachne_machine.specs.Strands.{Strand, Fits, below_at, line_at, owned_at, owned_of, strand_at}
+use Rattle.arachne_machine.specs.Strands.{Strand, Fits, below_at, line_at, owned_at, strand_at}
 use Rattle.arachne_machine.specs.Steps.{Counts, IsLineOf, pending_of, suspended, top, waiting, waiting_in}
-use Rattle.arachne_machine.specs.Sound.{AreSound, IsRunningFor, IsSound, IsSoundState, RunFor}
+use Rattle.arachne_machine.specs.Sound.{AreSound, RunFor}
 use Rattle.arachne_machine.specs.Runs.{CountsHold, CountsTally, IsCountedIn}
 use Rattle.arachne_machine.specs.Suspended.{IsAnswered, SameThread}
 use Rattle.arachne_machine.specs.Nested.{IsNested, SameWhole, work_in, works}

@@ -1,5 +1,5 @@
 -- A state with the children that were handed back to it.
-use Rattle.std.proofs.Common.{◌≡◌, ◌≢◌, ◌≤◌, ◌<◌, ◌-◌, get_or, take, drop, length, length-append, ℕ, ◌+◌, Bool, true, false, List, [], ◌∷◌, ◌++◌, None, Some, Option, refl, ap, sym, ◌∙◌, subst, arith}
+use Rattle.std.proofs.Common.{◌≡◌, ◌≢◌, ◌≤◌, ◌<◌, ◌-◌, get_or, take, drop, length, length-append, ℕ, ◌+◌, List, [], ◌∷◌, ◌++◌, None, Some, Option, refl, ap, sym, ◌∙◌, subst, arith}
 use Rattle.std.specs.Prelude.{zero, suc, map, reverse, option_map, slice_get, All}
 use Rattle.std.specs.Borrow.{Bor}
 use Rattle.std.proofs.lemmas.List.Elements.{All-append}
@@ -18,29 +18,26 @@ use Rattle.arachne_lang.specs.declared.program.Class.{Class}
 use Rattle.arachne_lang.specs.Program.{source_of}
 use Rattle.arachne_lang.specs.Effects.{tabulated}
 use Rattle.arachne_machine.specs.declared.level.Parent.{Parent}
-use Rattle.arachne_machine.specs.declared.line.Label.{Label}
-use Rattle.arachne_machine.specs.declared.line.Ran.TheVariants as ways
 use Rattle.arachne_machine.specs.declared.pause.Pending.{Pending}
 use Rattle.arachne_machine.specs.declared.pause.Pending.TheVariants as pause
 use Rattle.arachne_machine.specs.declared.state.State.{State}
-use Rattle.arachne_machine.specs.Account.{Account}
 use Rattle.arachne_machine.specs.Ending.{ending, here_of, fork_awaited, forks_of, work_left}
-use Rattle.arachne_machine.specs.Strands.{Strand, Fits, owned_at, below_at, own_line, strand_at}
-use Rattle.arachne_machine.specs.Steps.{AfterSteps, Becomes, GoesWithin, IsSame, LeavesOthers, pending_of, suspended, top, waiting, waiting_in}
-use Rattle.arachne_machine.specs.Sound.{AreSound, IsSound, IsSoundState, RunFor}
-use Rattle.arachne_machine.specs.Runs.{Advances, LooksSame, RunsOn, RunsWithin, RunsToPause, RunsToFork, TakesIn, work_in_state, works_left}
+use Rattle.arachne_machine.specs.Strands.{Strand, Fits, owned_at, below_at, strand_at}
+use Rattle.arachne_machine.specs.Steps.{AfterSteps, Becomes, GoesWithin, LeavesOthers, pending_of, suspended, top, waiting, waiting_in}
+use Rattle.arachne_machine.specs.Sound.{AreSound, IsSoundState, RunFor}
+use Rattle.arachne_machine.specs.Runs.{Advances, LooksSame, RunsOn, RunsWithin, RunsToPause, RunsToFork, TakesIn, work_in_state}
 use Rattle.arachne_machine.specs.Suspended.{Suspended, awaited}
-use Rattle.arachne_machine.specs.Nested.{ArePlaced, Await, AwaitsElsewhere, IsNested, IsPlaced, Nested, SameWhole, begun_in, in_place_of, work_in, works}
-use Rattle.arachne_machine.specs.Kept.{AdvancesWith, IsKept, IsSoundChild, StandsBack, TakesUp, Went, WentToFork, WentToPause, WentWithin, nested, seen_children}
+use Rattle.arachne_machine.specs.Nested.{ArePlaced, Await, AwaitsElsewhere, IsPlaced, work_in, works}
+use Rattle.arachne_machine.specs.Kept.{AdvancesWith, IsKept, IsSoundChild, StandsBack, Went, WentToFork, WentWithin, nested, seen_children}
 use Rattle.arachne_machine.proofs.Soundness.{goes_nowhere, sound_goes, unchanged_seen}
-use Rattle.arachne_machine.proofs.Outlooks.{IsAt}
 use Rattle.arachne_machine.proofs.Levels.{alone_waiting, leaves_waiting, runs_on, sound_top}
 use Rattle.arachne_machine.proofs.Advancing.{sound_after}
 use Rattle.arachne_machine.proofs.Tabulated.{length-tabulated}
 use Rattle.arachne_machine.proofs.Nesting.{works_seen}
 use Rattle.arachne_machine.proofs.Answering.{going}
-use Rattle.arachne_machine.proofs.Going.{stopped_pending, runs_nothing, as_is, same_kept, same_seen}
-use Rattle.arachne_machine.proofs.Taking.{Taken, Unstepped, taken, unstepped}
+use Rattle.arachne_machine.proofs.Going.{runs_nothing, as_is}
+use Rattle.arachne_machine.proofs.Lasting.{stopped_pending, same_kept, same_seen}
+use Rattle.arachne_machine.proofs.Taking.{taken, unstepped}
 
 -- A state whose parents none are, as callers see it.
 cons_seen : (s : Suspended) (ss : List Suspended) → s ∷ ss ≡ [] → ⊥

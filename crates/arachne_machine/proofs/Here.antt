@@ -1,9 +1,8 @@
 -- A child that is to run here begins, and is joined.
-use Rattle.std.proofs.Common.{◌≡◌, ℕ, ◌+◌, List, [], ◌∷◌, ◌++◌, false, length, Some, refl, ap, subst, sym, ◌∙◌, arith}
+use Rattle.std.proofs.Common.{◌≡◌, ℕ, List, [], ◌∷◌, ◌++◌, false, Some, refl, ap, subst, sym, ◌∙◌, arith}
 use Rattle.std.specs.Borrow.{Bor}
 use Rattle.std.proofs.lemmas.List.{append-nil}
 use Rattle.arachne_lang.specs.declared.program.Expr.{Expr}
-use Rattle.arachne_lang.specs.Tree.{Source}
 use Rattle.arachne_lang.specs.Program.{source_of, tree_of}
 use Rattle.arachne_lang.specs.Effects.{Evaluate}
 use Rattle.arachne_lang.specs.Meaning.{task_of}
@@ -15,12 +14,12 @@ use Rattle.arachne_machine.specs.declared.frame.Control.TheVariants.{Begin, Cove
 use Rattle.arachne_machine.specs.declared.pause.Pending.TheVariants as pause
 use Rattle.arachne_machine.specs.Work.{work_of, task_work}
 use Rattle.arachne_machine.specs.Trace.{with_steps}
-use Rattle.arachne_machine.specs.Ending.{child_task, environment_of, stretch_task, fork_awaited, forks_of, forks_here, lock_freed, releases, frames_left, KeepsForks, AwaitsFork}
+use Rattle.arachne_machine.specs.Ending.{stretch_task, fork_awaited, forks_of, forks_here, lock_freed, releases, frames_left, KeepsForks}
 use Rattle.arachne_machine.specs.Faultless.{IsFaultless, IsFaultlessFrame, IsFaultlessNext, IsWithoutFault, held_by}
 use Rattle.arachne_machine.specs.Strands.{Strand}
 use Rattle.arachne_machine.specs.Steps.{AwaitsHere, Becomes, IsPopped, pending_of}
 use Rattle.arachne_machine.proofs.Faultlessness.{faultless-append}
-use Rattle.arachne_machine.proofs.Outlooks.{Any, faultless_at, SameOutlook, KeepsTop, itself, IsAt, at_of, alone, framed_as, same_end, unjoined_at, here_at, locks_at, keeps_at}
+use Rattle.arachne_machine.proofs.Outlooks.{Any, faultless_at, SameOutlook, KeepsTop, itself, at_of, alone, framed_as, same_end, unjoined_at, here_at, locks_at, keeps_at}
 
 awaits_by : (before mid new : Strand) (v number handed : ℕ) (f : Frame) (k' : Control) → IsPopped f before mid → mid.control ≡ Give v →
     Becomes mid new mid.environment mid.frames k' → ((fs : List Frame) → frames_left k' fs ≡ fs) →

@@ -25,9 +25,9 @@ use Rattle.arachne_machine.specs.declared.state.Own.{Own}
 use Rattle.arachne_machine.specs.declared.state.State.{State}
 use Rattle.arachne_machine.specs.Account.{Account, untouched, with_fork}
 use Rattle.arachne_machine.specs.Trace.{At}
-use Rattle.arachne_machine.specs.Ending.{child_task, ending, environment_of, fork_awaited, here_of, work_left, locks_of}
+use Rattle.arachne_machine.specs.Ending.{child_task, ending, environment_of, fork_awaited, here_of, locks_of}
 use Rattle.arachne_machine.specs.Strands.{Strand, strand_at, line_at, owned_of, owned_at, below_at, Fits}
-use Rattle.arachne_machine.specs.Sound.{IsSound, AreSound, IsSoundState, IsRunningFor, RunFor}
+use Rattle.arachne_machine.specs.Sound.{IsSound, AreSound, IsSoundState, RunFor}
 use Rattle.arachne_machine.specs.Steps.{Goes, Changes, Becomes, Joins, suspended, PlacesChild, AwaitsHere, HasNotBegun, IsBeginning, LeavesOthers, task_begun, top, waiting, waiting_in}
 use Rattle.arachne_machine.specs.Runs.{Runs, BeginsHere, JoinsHere, HandsResult, ResumesParent, IsByItself, last_of, outermost_in, works_left}
 use Rattle.arachne_machine.proofs.Soundness.{IsOver, goes_on, joined_account, join_keeps, over_means, over_sums, sound_goes, sound_awaits, sound_join, sound_new, sound_fork, fork_has_task, with_fork-sums, with_join-sums}

@@ -18,6 +18,7 @@ pub mod Soundness
 pub mod Here
 pub mod Levels
 pub mod Going
+pub mod Lasting
 pub mod Advancing
 pub mod Waiting
 pub mod Nesting

@@ -1,9 +1,9 @@
 -- The outcome of a child that had a state of its own is joined.
-use Rattle.std.proofs.Common.{◌≡◌, ◌≢◌, ◌≤◌, ◌<◌, length, length-append, append_assoc, ℕ, ◌+◌, List, [], ◌∷◌, ◌++◌, None, Some, refl, ap, sym, ◌∙◌, subst, arith, take, drop, get_or}
+use Rattle.std.proofs.Common.{◌≡◌, ◌≤◌, length, length-append, append_assoc, ℕ, ◌+◌, List, [], ◌∷◌, ◌++◌, None, refl, ap, sym, ◌∙◌, subst, arith, take, drop}
 use Rattle.std.specs.Prelude.{map, reverse}
 use Rattle.std.specs.Borrow.{Bor}
 use Rattle.std.specs.Global.{Box}
-use Rattle.std.proofs.lemmas.List.{append-nil, drop-append-le, get_or_append_left, take-append-le}
+use Rattle.std.proofs.lemmas.List.{drop-append-le, get_or_append_left, take-append-le}
 use Rattle.arachne_lang.specs.declared.program.Program.{Program}
 use Rattle.arachne_lang.specs.Program.{source_of}
 use Rattle.arachne_lang.specs.Value.{Environment, apply, operation_of}
@@ -11,18 +11,17 @@ use Rattle.arachne_lang.specs.Effects.{tabulated, task_effects}
 use Rattle.arachne_machine.specs.declared.frame.Frame.{Frame}
 use Rattle.arachne_machine.specs.declared.frame.Frame.TheVariants.{Restore}
 use Rattle.arachne_machine.specs.declared.frame.Control.{Control}
-use Rattle.arachne_machine.specs.declared.frame.Control.TheVariants.{Begin, Give, Cover, Forked, Halved, Awaits, AwaitsHalf, Asks, Frees, Tallies, Ended}
+use Rattle.arachne_machine.specs.declared.frame.Control.TheVariants.{Awaits, AwaitsHalf}
 use Rattle.arachne_machine.specs.declared.level.Parent.{Parent}
 use Rattle.arachne_machine.specs.declared.line.ThreadLine.{ThreadLine}
-use Rattle.arachne_machine.specs.declared.pause.Pending.TheVariants as pause
 use Rattle.arachne_machine.specs.declared.state.Own.{Own}
 use Rattle.arachne_machine.specs.declared.state.State.{State}
 use Rattle.arachne_machine.specs.Ending.{ending}
 use Rattle.arachne_machine.specs.Lines.{Gains}
 use Rattle.arachne_machine.specs.Outcome.{Finished, IsOfItsName, meaning_in}
-use Rattle.arachne_machine.specs.Strands.{Strand, Fits, below_at, line_at, owned_at, owned_of}
+use Rattle.arachne_machine.specs.Strands.{Fits, below_at, owned_at, owned_of}
 use Rattle.arachne_machine.specs.Steps.{HasLine, IsLineOf, Joins, pending_of, suspended, top, waiting, waiting_in}
-use Rattle.arachne_machine.specs.Sound.{AreSound, IsSound, IsSoundState, RunFor}
+use Rattle.arachne_machine.specs.Sound.{AreSound, IsSoundState, RunFor}
 use Rattle.arachne_machine.specs.Runs.{JoinsOutcome, ResumesAs}
 use Rattle.arachne_machine.specs.Suspended.{Joined, added}
 use Rattle.arachne_machine.specs.Nested.{IsNested, SameWhole, work_in, works}

@@ -1,5 +1,5 @@
 -- What callers see of an advance.
-use Rattle.std.proofs.Common.{◌≡◌, ◌≤◌, ◌<◌, ◌-◌, ℕ, ◌+◌, List, [], ◌∷◌, ◌++◌, None, Some, Option, refl, ap, sym, ◌∙◌, subst, arith}
+use Rattle.std.proofs.Common.{◌≡◌, ◌-◌, ℕ, ◌+◌, List, [], ◌∷◌, ◌++◌, None, Some, Option, refl, ap, sym, ◌∙◌, subst, arith}
 use Rattle.std.specs.Prelude.{map, option_map, slice_get}
 use Rattle.std.specs.Global.{Box}
 use Rattle.arachne_lang.specs.declared.program.Class.{Class}
@@ -12,20 +12,19 @@ use Rattle.arachne_machine.specs.declared.pause.Pending.TheVariants as pause
 use Rattle.arachne_machine.specs.declared.pause.Pause.{Pause}
 use Rattle.arachne_machine.specs.declared.pause.Pause.TheVariants as pauses
 use Rattle.arachne_machine.specs.declared.state.State.{State}
-use Rattle.arachne_machine.specs.Account.{Account, with_fork}
-use Rattle.arachne_machine.specs.Ending.{ending, unjoined_of, work_left}
-use Rattle.arachne_machine.specs.Steps.{AfterSteps, GivesChild, LeavesOthers, pending_of, suspended, task_begun, top, waiting_in}
-use Rattle.arachne_machine.specs.Sound.{IsSoundState}
-use Rattle.arachne_machine.specs.Runs.{GoesByItself, IsByItself, RunsOn, last_of, outermost_in}
-use Rattle.arachne_machine.specs.Suspended.{Forked, IsFresh, awaited}
-use Rattle.arachne_machine.specs.Nested.{ArePlaced, FallsBy, outermost, IsAlone, IsChildOf, IsForked, Nested, SameWhole, Stops, pending_in, whole, work_in, works}
+use Rattle.arachne_machine.specs.Account.{with_fork}
+use Rattle.arachne_machine.specs.Ending.{unjoined_of, work_left}
+use Rattle.arachne_machine.specs.Steps.{pending_of, suspended, task_begun, top, waiting_in}
+use Rattle.arachne_machine.specs.Runs.{IsByItself, last_of, outermost_in}
+use Rattle.arachne_machine.specs.Suspended.{IsFresh}
+use Rattle.arachne_machine.specs.Nested.{ArePlaced, FallsBy, outermost, IsAlone, SameWhole, Stops, whole, work_in, works}
 use Rattle.arachne_machine.specs.Advance.{Advanced, AdvancedAlone, AwaitsAt, IsSpentAt, Moves, PausesAt, PlacesNone, RefusedAlone, pause_at, pause_seen}
 use Rattle.arachne_machine.specs.Kept.{AdvancesWith, IsKept, Went, WentToFork, WentToPause, WentWithin, nested, seen_children}
 use Rattle.arachne_machine.proofs.Soundness.{fork_has_task, forked_seen, gives_after, goes_then_stops, same_thread, sound_fork, with_fork-sums}
 use Rattle.arachne_machine.proofs.Advancing.{advanced_seen}
 use Rattle.arachne_machine.proofs.Levels.{alone_waiting, last_same, leaves_waiting, sound_top}
 use Rattle.arachne_machine.proofs.Nesting.{pauses_seen, program_seen, same_whole, whole_seen}
-use Rattle.arachne_machine.proofs.Going.{stopped_pending}
+use Rattle.arachne_machine.proofs.Lasting.{stopped_pending}
 use Rattle.arachne_machine.proofs.Handed.{kept_sound, none_parents, none_placed, paused}
 
 -- What callers see of it.

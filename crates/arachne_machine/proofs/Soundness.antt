@@ -1,6 +1,6 @@
 -- A sound thread stays sound, and ends in the outcome of its name.
 use Rattle.std.proofs.Common.{◌≡◌, ◌≤◌, ℕ, ◌+◌, List, [], ◌∷◌, ◌++◌, length, map, Option, None, Some, refl, ap, sym, ◌∙◌, subst, arith, rules, length-append}
-use Rattle.std.specs.Prelude.{option_map, option_and_then, slice_get, IsSome, OnOk, OnErr, Result, Ok, Err}
+use Rattle.std.specs.Prelude.{option_map, option_and_then, slice_get, IsSome}
 use Rattle.std.proofs.lemmas.List.{append-nil, map-append}
 use Rattle.arachne_lang.specs.declared.program.Program.{Program}
 use Rattle.arachne_lang.specs.declared.meaning.Meaning.{Meaning}
@@ -16,7 +16,6 @@ use Rattle.arachne_machine.specs.declared.pause.Pending.TheVariants as pause
 use Rattle.arachne_machine.specs.Suspended.{own_line_of, SameThread, MakesSteps, Forked, Joined, awaited}
 use Rattle.arachne_machine.specs.Strands.{Strand}
 use Rattle.arachne_machine.specs.declared.line.Label.{Label}
-use Rattle.arachne_machine.specs.Lines.{Gains}
 use Rattle.arachne_machine.specs.Outcome.{Finished, named_holds, meaning_as, meaning_in, outcome_of, IsOfItsName}
 use Rattle.arachne_machine.specs.Account.{Account, untouched, after, with_fork, with_join}
 use Rattle.arachne_machine.specs.Ending.{child_task, account_joined, ending, account_at_end, work_left, trace_left, unjoined_of, locks_of, forks_here, KeepsForks, resume, resume_account, frames_left, begun, begun_account, fork_awaited, forks_of, lock_freed, releases}
@@ -30,7 +29,7 @@ use Rattle.arachne_machine.proofs.Frames.{with_steps-add}
 use Rattle.arachne_machine.proofs.Names.{task_below-child, slice_get-seam}
 use Rattle.arachne_machine.proofs.Outlooks.{at_of, ending_at, account_at, work_at, at_faultless, there_keeps}
 use Rattle.arachne_machine.proofs.Splitting.{child_task-found}
-use Rattle.arachne_machine.proofs.Tabulated.{tabulated-same, length-tabulated, added_is}
+use Rattle.arachne_machine.proofs.Tabulated.{tabulated-same}
 
 -- steps after steps
 pub goes_on : (m n k : ℕ) (a b c : Strand) → Goes m [] a b → Goes n [] b c → k ≡ m + n → Goes k [] a c

@@ -1,5 +1,5 @@
 -- Steps that are made together, of those that are left.
-use Rattle.std.proofs.Common.{◌≡◌, ◌≤◌, ℕ, ◌+◌, ◌-◌, ◌++◌, Option, None, Some, refl, ap, sym, subst, ◌∙◌, arith}
+use Rattle.std.proofs.Common.{◌≡◌, ℕ, ◌++◌, None, Some, refl, ap, sym, subst, ◌∙◌, arith}
 use Rattle.std.specs.Prelude.{IfOk, Result, Ok, Err}
 use Rattle.std.specs.Borrow.{Bor}
 use Rattle.arachne_lang.specs.declared.program.Expr.{Expr}
@@ -11,7 +11,6 @@ use Rattle.arachne_machine.specs.Ending.{lock_freed, releases}
 use Rattle.arachne_machine.specs.Strands.{Strand}
 use Rattle.arachne_machine.specs.Steps.{AfterSteps, IsNotEnd, IsUnchanged, Makes, Reaches, beginning, giving, pending_of, top}
 use Rattle.arachne_machine.specs.Runs.{IsOneStep, seen_in}
-use Rattle.arachne_machine.proofs.Outlooks.{as_it_is}
 use Rattle.arachne_machine.proofs.Soundness.{goes_nowhere}
 
 pub makes_nothing : (had : ℕ) (a b : Strand) → IsUnchanged a b → pending_of a.control ≡ None → Makes had had 0 a b

@@ -1,10 +1,8 @@
 -- A child of another state goes on in the place of the thread that awaits it.
-use Rattle.std.proofs.Common.{◌≡◌, ◌≤◌, ◌<◌, length, length-append, ℕ, ◌+◌, List, [], ◌∷◌, ◌++◌, false, None, Some, refl, ap, sym, ◌∙◌, subst, arith, take, drop, get_or}
+use Rattle.std.proofs.Common.{◌≡◌, length, length-append, ℕ, ◌+◌, List, [], ◌∷◌, ◌++◌, false, None, Some, refl, ap, sym, ◌∙◌, subst, arith, take, drop}
 use Rattle.std.specs.Prelude.{map, reverse}
-use Rattle.std.specs.Borrow.{Bor}
-use Rattle.std.proofs.lemmas.List.{append-nil, drop-append-le, get_or-append-add, reverse-append, take-append-le}
-use Rattle.std.proofs.Math.Seq.{drop-append-add, drop-length, take-append_seam, take-length}
-use Rattle.arachne_lang.specs.declared.program.Program.{Program}
+use Rattle.std.proofs.lemmas.List.{get_or-append-add, reverse-append}
+use Rattle.std.proofs.Math.Seq.{drop-append-add, take-append_seam}
 use Rattle.arachne_lang.specs.Program.{source_of}
 use Rattle.arachne_lang.specs.Tree.{Source}
 use Rattle.arachne_lang.specs.Value.{Environment}
@@ -22,13 +20,13 @@ use Rattle.arachne_machine.specs.declared.pause.Pending.TheVariants as pause
 use Rattle.arachne_machine.specs.declared.state.State.{State}
 use Rattle.arachne_machine.specs.Account.{Account}
 use Rattle.arachne_machine.specs.Trace.{At, Event}
-use Rattle.arachne_machine.specs.Ending.{begun_trace, resume_trace, forks_of, forks_here, lock_freed, releases, AwaitsFork, IsForkedIn, KeepsForks, account_at_end, begun, ending, environment_of, fork_awaited, frames_left, here_of, locks_of, trace_left, unjoined_of, work_left}
+use Rattle.arachne_machine.specs.Ending.{begun_trace, resume_trace, forks_of, forks_here, lock_freed, releases, AwaitsFork, IsForkedIn, KeepsForks, begun, ending, environment_of, fork_awaited, frames_left, trace_left, work_left}
 use Rattle.arachne_machine.specs.Faultless.{IsFaultlessFrame, IsFaultlessNext, IsWithoutFault, held_by}
 use Rattle.arachne_machine.specs.Outcome.{named_holds}
 use Rattle.arachne_machine.specs.Strands.{Strand, Fits, below_at, line_at, owned_at, owned_of, own_line, strand_at}
-use Rattle.arachne_machine.specs.Steps.{AfterSteps, Becomes, IsPopped, Changes, Goes, IsNumbered, LeavesOthers, giving, pending_of, suspended, top, waiting, waiting_in}
-use Rattle.arachne_machine.specs.Sound.{AreSound, IsRunningFor, IsSound, IsSoundState, RunFor}
-use Rattle.arachne_machine.specs.Runs.{LooksSame, StandsBefore, TakesIn}
+use Rattle.arachne_machine.specs.Steps.{AfterSteps, Becomes, IsPopped, Changes, LeavesOthers, giving, pending_of, suspended, top, waiting, waiting_in}
+use Rattle.arachne_machine.specs.Sound.{AreSound, IsSound, IsSoundState, RunFor}
+use Rattle.arachne_machine.specs.Runs.{StandsBefore, TakesIn}
 use Rattle.arachne_machine.specs.Suspended.{Suspended, added, awaited}
 use Rattle.arachne_machine.specs.Nested.{in_place_of}
 use Rattle.arachne_machine.proofs.Tabulated.{added_is}

@@ -20,7 +20,6 @@ use Rattle.arachne_machine.specs.declared.state.State.{State}
 use Rattle.arachne_machine.specs.declared.state.Progress.{Progress}
 use Rattle.arachne_machine.specs.declared.state.Progress.TheVariants as part
 use Rattle.arachne_machine.specs.declared.line.Ran.TheVariants as ways
-use Rattle.arachne_machine.specs.declared.level.Level.{Level}
 use Rattle.arachne_machine.specs.declared.level.Parent.{Parent}
 use Rattle.arachne_machine.specs.declared.line.Label.{Label}
 use Rattle.arachne_machine.specs.Strands.{Owned, Strand, strand_at}
@@ -28,7 +27,7 @@ use Rattle.arachne_machine.specs.Lines.{Gains}
 use Rattle.arachne_machine.specs.Outcome.{Finished}
 use Rattle.arachne_machine.specs.Account.{Account, untouched, after, with_fork}
 use Rattle.arachne_machine.specs.declared.line.ThreadLine.{ThreadLine}
-use Rattle.arachne_machine.specs.Suspended.{Suspended, awaited}
+use Rattle.arachne_machine.specs.Suspended.{Suspended}
 use Rattle.arachne_machine.specs.Work.{task_work}
 use Rattle.arachne_machine.specs.Trace.{Event, At, with_steps, task_trace}
 use Rattle.arachne_machine.specs.Faultless.{IsFaultlessNext, IsWithoutFault}

@@ -1,7 +1,6 @@
 use Rattle.std.proofs.Common.{rules, refl, ◌≡◌, ◌<◌, [], ◌∷◌, ◌++◌, length, map, reverse, sym, ap, ◌∙◌, subst}
 use Rattle.arachne_lang.specs.Program.{source_of}
 use Rattle.arachne_machine.specs.Alone.{key, Rests}
-use Rattle.arachne_machine.specs.Nested.{IsAlone}
 use Rattle.arachne_machine.proofs.Nesting.{whole_is}
 use Rattle.arachne_machine.proofs.Waiting.{alone_on, pushed, same_on, some_outcome, rests_same, rests_fork, rests_end, ready}
 use Rattle.arachne_machine.proofs.alone.take_turn.Goals as goal

@@ -1,9 +1,10 @@
 use Rattle.std.proofs.Common.{true, ◌≡◌, ◌+◌, ◌-◌, None, subst, sym, arith}
 use Rattle.arachne_machine.specs.declared.state.Progress.TheVariants as way
-use Rattle.arachne_machine.specs.Steps.{pending_of, top}
+use Rattle.arachne_machine.specs.Steps.{top}
 use Rattle.arachne_machine.specs.Runs.{Advances, Comes, RunsOn, beginning_in, current_in}
 use Rattle.arachne_machine.proofs.Strides.{some_none}
-use Rattle.arachne_machine.proofs.Going.{as_is, forks_next, on_err, pauses_next, refused_next, runs_next, runs_nothing, stopped_pending}
+use Rattle.arachne_machine.proofs.Going.{as_is, runs_next, runs_nothing}
+use Rattle.arachne_machine.proofs.Lasting.{forks_next, on_err, pauses_next, refused_next, stopped_pending}
 use Rattle.arachne_machine.proofs.state.State.advance.Goals as goal
 
 pub loop-rest-init : goal.loop-rest-init

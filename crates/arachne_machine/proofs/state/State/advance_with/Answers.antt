@@ -1,11 +1,8 @@
-use Rattle.std.proofs.Common.{◌≡◌, true, false, List, None, Some, refl, sym, subst}
-use Rattle.std.specs.Global.{Box}
-use Rattle.arachne_machine.specs.declared.pause.Pending.TheVariants as pause
-use Rattle.arachne_machine.specs.declared.state.State.{State}
+use Rattle.std.proofs.Common.{◌≡◌, true, None, refl, sym, subst}
 use Rattle.arachne_machine.specs.Steps.{pending_of}
 use Rattle.arachne_machine.specs.Runs.{Advances}
 use Rattle.arachne_machine.specs.Kept.{AdvancesWith, TakesUp}
-use Rattle.arachne_machine.proofs.Going.{on_err}
+use Rattle.arachne_machine.proofs.Lasting.{on_err}
 use Rattle.arachne_machine.proofs.Handed.{advanced_kept, as_many_here, went_back, went_forked, went_nothing, went_paused, went_refused, went_up}
 use Rattle.arachne_machine.proofs.state.State.advance_with.Goals as goal
 

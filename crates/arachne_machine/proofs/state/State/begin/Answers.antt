@@ -1,20 +1,21 @@
-use Rattle.std.proofs.Common.{rules, ◌≤◌, ◌<◌, ◌∷◌, ◌++◌, [], length, refl, arith, sym, ap, ◌∙◌}
+use Rattle.std.proofs.Common.{rules, ◌∷◌, [], refl, arith, sym, ap, ◌∙◌}
 use Rattle.std.specs.Prelude.{slice_index}
 use Rattle.arachne_lang.specs.Tree.{Number, Variable, Length, Item, Choose, Bind, Tally, Hold, Fold, Sweep}
 use Rattle.arachne_lang.specs.Program.{source_of, tree_of}
 use Rattle.arachne_machine.specs.declared.frame.Frame.TheVariants.{Index, Branch, Extend, Amount, Release, FoldTo, SweepTo}
-use Rattle.arachne_machine.specs.declared.frame.Control.TheVariants.{Begin, Give, Asks}
+use Rattle.arachne_machine.specs.declared.frame.Control.TheVariants.{Give, Asks}
 use Rattle.arachne_machine.specs.declared.pause.Pending.TheVariants as pause
 use Rattle.arachne_machine.specs.declared.state.Progress.TheVariants as way
 use Rattle.arachne_machine.specs.Steps.{beginning, giving, top}
-use Rattle.arachne_machine.specs.Runs.{beginning_in, giving_in}
-use Rattle.arachne_machine.proofs.Outlooks.{as_beginning, begins_with, given}
+use Rattle.arachne_machine.specs.Runs.{beginning_in}
+use Rattle.arachne_machine.proofs.Outlooks.{as_beginning, given}
 use Rattle.arachne_machine.proofs.Openings.{begins_by, goes_to_value, goes_to_part, open_number, open_variable, open_length, open_item, open_choice, open_binding, open_tally, open_hold, open_fold, open_sweep}
 use Rattle.arachne_machine.proofs.Handings.{once}
 use Rattle.arachne_machine.proofs.Splitting.{goes_to_fork, places_fork}
 use Rattle.arachne_machine.proofs.Strides.{ok_both, reaches_value}
 use Rattle.arachne_machine.proofs.Levels.{changes_leave, top_becomes}
-use Rattle.arachne_machine.proofs.Going.{ask_is_no_join, comes_enter, comes_fork, comes_of, comes_stop, enters_begun, forks_begun, forks_part, leaves_begun, leaves_from, line_in, no_stop, not_ended, number_fits, runs_place, spawns_begun, start_in}
+use Rattle.arachne_machine.proofs.Going.{comes_enter, comes_fork, comes_of, comes_stop, enters_begun, forks_begun, forks_part, leaves_begun, line_in, not_ended, number_fits, runs_place, spawns_begun, start_in}
+use Rattle.arachne_machine.proofs.Lasting.{ask_is_no_join, leaves_from, no_stop}
 use Rattle.arachne_machine.proofs.state.State.begin.Goals.{in-Item+in_ok-part-in-Item, in-If+in_ok-part-in-If, in-Let+in_ok-part-in-Let, in-Tally+in_ok-part-in-Tally, in-Fold+in_ok-part-in-Fold, in-Sweep+in_ok-part-in-Sweep}
 use Rattle.arachne_machine.proofs.state.State.begin.Goals as goal
 

@@ -7,7 +7,8 @@ use Rattle.arachne_machine.specs.Runs.{seen_in}
 use Rattle.arachne_machine.proofs.Handings.{covers}
 use Rattle.arachne_machine.proofs.Splitting.{goes_to_half, places_half}
 use Rattle.arachne_machine.proofs.Strides.{reaches_once}
-use Rattle.arachne_machine.proofs.Going.{comes_fork, comes_of, leaves_on, leaves_same, leaves_seen, line_in, number_fits, one_step_no_stop, runs_place, start_in, start_same, sweeps_leave, sweeps_top, top_same}
+use Rattle.arachne_machine.proofs.Going.{comes_fork, comes_of, leaves_on, leaves_same, leaves_seen, line_in, number_fits, runs_place, start_in, start_same, sweeps_leave, sweeps_top, top_same}
+use Rattle.arachne_machine.proofs.Lasting.{one_step_no_stop}
 use Rattle.arachne_machine.proofs.state.State.cover.Goals as goal
 
 pub halve_here-requires : goal.halve_here-requires

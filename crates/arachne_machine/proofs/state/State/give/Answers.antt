@@ -1,8 +1,9 @@
-use Rattle.std.proofs.Common.{rules, ◌≡◌, ◌+◌, ◌≤◌, vec_len, vec_capacity, refl, subst, ◌∙◌, arith}
+use Rattle.std.proofs.Common.{rules, ◌+◌, ◌≤◌, vec_len, vec_capacity, refl, subst, ◌∙◌, arith}
 use Rattle.arachne_machine.specs.declared.state.State.{State}
 use Rattle.arachne_machine.specs.Steps.{IsSame}
 use Rattle.arachne_machine.specs.Runs.{Comes, giving_in}
-use Rattle.arachne_machine.proofs.Going.{comes_more, nearer_value, on_err, refused_after, refused_same, runs_more, runs_nothing, without_value}
+use Rattle.arachne_machine.proofs.Going.{comes_more, runs_more, runs_nothing}
+use Rattle.arachne_machine.proofs.Lasting.{nearer_value, on_err, refused_after, refused_same, without_value}
 use Rattle.arachne_machine.proofs.state.State.give.Goals as goal
 
 pub returns-then-is_err-clause-err : goal.returns-then-is_err-clause-err

@@ -1,6 +1,5 @@
 use Rattle.std.proofs.Common.{◌≤◌, length, true, false, refl, ap, ◌∙◌, subst}
 use Rattle.arachne_lang.specs.Value.{apply}
-use Rattle.arachne_machine.specs.declared.frame.Control.TheVariants.{Begin}
 use Rattle.arachne_machine.specs.Steps.{IsPopped, beginning, giving, top}
 use Rattle.arachne_machine.specs.Runs.{seen_in}
 use Rattle.arachne_machine.proofs.Outlooks.{as_giving, begins_with, given_from}
@@ -8,7 +7,8 @@ use Rattle.arachne_machine.proofs.Handings.{hand_index, hand_right, hand_apply, 
 use Rattle.arachne_machine.proofs.Strides.{part_begun, reaches_once, reaches_part, reaches_value}
 use Rattle.arachne_machine.proofs.state.State.hand_within.Goals.{then-value-eq0, else-value-eq0}
 use Rattle.arachne_machine.proofs.Levels.{changes_leave, top_becomes}
-use Rattle.arachne_machine.proofs.Going.{as_is, begins_no_stop, one_step_no_stop, folds_leave, folds_top, leaves_on, leaves_same, leaves_seen, start_same, sweeps_leave, sweeps_top, top_same}
+use Rattle.arachne_machine.proofs.Going.{as_is, folds_leave, folds_top, leaves_on, leaves_same, leaves_seen, start_same, sweeps_leave, sweeps_top, top_same}
+use Rattle.arachne_machine.proofs.Lasting.{begins_no_stop, one_step_no_stop}
 use Rattle.arachne_machine.proofs.state.State.hand_within.Goals as goal
 
 pub returns-in-Index-clause-made : goal.returns-in-Index-clause-made

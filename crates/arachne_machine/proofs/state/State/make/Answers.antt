@@ -1,8 +1,9 @@
-use Rattle.std.proofs.Common.{subst, sym, ◌∙◌}
+use Rattle.std.proofs.Common.{subst, sym}
 use Rattle.arachne_machine.specs.Steps.{IsSame}
 use Rattle.arachne_machine.specs.Runs.{Comes, RunsOn, current_in, giving_in}
 use Rattle.arachne_machine.proofs.Strides.{ok_then}
-use Rattle.arachne_machine.proofs.Going.{comes_more, current_running, current_same, err_then, refused_after, refused_same}
+use Rattle.arachne_machine.proofs.Going.{comes_more}
+use Rattle.arachne_machine.proofs.Lasting.{current_running, current_same, err_then, refused_after, refused_same}
 use Rattle.arachne_machine.proofs.state.State.make.Goals as goal
 
 pub returns-in-Ok-Value-clause-ok : goal.returns-in-Ok-Value-clause-ok

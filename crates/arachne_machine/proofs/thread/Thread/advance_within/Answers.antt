@@ -1,14 +1,12 @@
-use Rattle.std.proofs.Common.{◌≡◌, ◌-◌, true, List, None, Some, refl, ap, sym, ◌∙◌, subst}
-use Rattle.std.specs.Global.{Box}
-use Rattle.arachne_machine.specs.declared.state.State.{State}
+use Rattle.std.proofs.Common.{◌≡◌, ◌-◌, true, ap, sym, ◌∙◌, subst}
 use Rattle.arachne_machine.specs.Steps.{pending_of, suspended, top}
 use Rattle.arachne_machine.specs.Kept.{AdvancesWith, IsKept, WentWithin, nested}
 use Rattle.arachne_machine.specs.Advance.{AdvancedAlone, Moves, PausesAt, PlacesNone, RefusedAlone, pause_seen}
 use Rattle.arachne_lang.specs.Program.{source_of}
 use Rattle.arachne_lang.specs.Checked.{IsChecked}
 use Rattle.arachne_machine.proofs.Nesting.{program_seen}
-use Rattle.arachne_machine.specs.Nested.{IsAlone, Nested, SameWhole, pending_in, whole}
-use Rattle.arachne_machine.proofs.Going.{on_err}
+use Rattle.arachne_machine.specs.Nested.{IsAlone, SameWhole, pending_in, whole}
+use Rattle.arachne_machine.proofs.Lasting.{on_err}
 use Rattle.arachne_machine.proofs.Showing.{shown, shown_refusal}
 use Rattle.arachne_machine.proofs.thread.Thread.advance_within.Goals as goal
 

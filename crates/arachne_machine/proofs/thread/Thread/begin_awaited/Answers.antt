@@ -1,5 +1,4 @@
 use Rattle.std.proofs.Common.{rules, ◌≡◌, length, Some, refl, ap, sym, ◌∙◌, subst}
-use Rattle.arachne_machine.specs.declared.state.State.{State}
 use Rattle.arachne_machine.specs.Kept.{nested}
 use Rattle.arachne_machine.specs.Nested.{MayBePlaced, SameWhole, begun_in, pending_in, whole}
 use Rattle.arachne_machine.specs.Runs.{LooksSame, TakesIn}

@@ -1,18 +1,15 @@
-use Rattle.std.proofs.Common.{◌≡◌, ◌≢◌, length, Some, List, sym, ap, ◌∙◌, subst}
+use Rattle.std.proofs.Common.{◌≡◌, length, List, sym, ap, ◌∙◌, subst}
 use Rattle.std.specs.Prelude.{OnErr, OnOk}
-use Rattle.std.specs.Global.{Box}
 use Rattle.arachne_lang.specs.Program.{source_of}
-use Rattle.arachne_machine.specs.declared.pause.Pending.TheVariants as pause
-use Rattle.arachne_machine.specs.declared.state.State.{State}
 use Rattle.arachne_machine.specs.Outcome.{IsOfItsName}
 use Rattle.arachne_machine.specs.Kept.{nested}
 use Rattle.arachne_machine.specs.Nested.{Nested, SameWhole, pending_in, whole, work_in}
 use Rattle.arachne_machine.specs.Runs.{JoinsOutcome}
 use Rattle.arachne_machine.specs.Steps.{HasLine, IsSame, pending_of, suspended, top}
 use Rattle.arachne_machine.specs.Suspended.{Suspended, Joined, added, awaited}
-use Rattle.arachne_machine.specs.Advance.{IsForeign}
 use Rattle.arachne_machine.proofs.Nesting.{program_seen, same_whole}
-use Rattle.arachne_machine.proofs.Going.{in_both, line_in, ok_map, same_kept, same_seen, err_then}
+use Rattle.arachne_machine.proofs.Going.{line_in}
+use Rattle.arachne_machine.proofs.Lasting.{in_both, ok_map, same_kept, same_seen, err_then}
 use Rattle.arachne_machine.proofs.Rejoining.{Rejoined, as_many_sums, rejoined}
 use Rattle.arachne_machine.proofs.thread.Thread.joined.Goals as goal
 

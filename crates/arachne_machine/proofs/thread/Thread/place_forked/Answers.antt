@@ -1,4 +1,4 @@
-use Rattle.std.proofs.Common.{◌≡◌, ◌∷◌, ◌++◌, [], ap, sym, ◌∙◌, subst}
+use Rattle.std.proofs.Common.{◌∷◌, ◌++◌, [], ap, sym, ◌∙◌, subst}
 use Rattle.std.specs.Box.{with_value}
 use Rattle.std.specs.Global.{Box}
 use Rattle.arachne_machine.specs.declared.line.Ran.TheVariants as ways

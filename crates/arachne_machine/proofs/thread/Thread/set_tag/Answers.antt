@@ -1,6 +1,5 @@
 use Rattle.std.proofs.Common.{ap, sym, ◌∙◌, subst}
 use Rattle.arachne_machine.specs.declared.line.Label.{Label}
-use Rattle.arachne_machine.specs.declared.line.Ran.TheVariants as ways
 use Rattle.arachne_machine.specs.declared.state.State.{State}
 use Rattle.arachne_machine.specs.Kept.{IsKept}
 use Rattle.arachne_machine.proofs.Handed.{kept_sound, none_parents}

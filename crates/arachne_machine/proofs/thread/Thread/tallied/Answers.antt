@@ -1,17 +1,12 @@
-use Rattle.std.proofs.Common.{◌≡◌, None, List, ap, sym, ◌∙◌, subst}
-use Rattle.std.specs.Global.{Box}
+use Rattle.std.proofs.Common.{ap, sym, ◌∙◌, subst}
 use Rattle.arachne_lang.specs.Program.{source_of}
-use Rattle.arachne_machine.specs.declared.pause.Pending.TheVariants as pause
-use Rattle.arachne_machine.specs.declared.frame.Control.TheVariants.{Begin, Asks, Tallies}
-use Rattle.arachne_machine.specs.declared.state.State.{State}
 use Rattle.arachne_machine.specs.Kept.{nested}
 use Rattle.arachne_machine.specs.Nested.{Nested, SameWhole, pending_in, work_in}
-use Rattle.arachne_machine.specs.Runs.{CountsHold, CountsTally}
-use Rattle.arachne_machine.specs.Steps.{HasLine, pending_of, suspended, top}
-use Rattle.arachne_machine.specs.Suspended.{IsAnswered, IsAsk, IsTally, SameThread, raised}
+use Rattle.arachne_machine.specs.Runs.{CountsTally}
+use Rattle.arachne_machine.specs.Steps.{pending_of, suspended, top}
+use Rattle.arachne_machine.specs.Suspended.{IsAnswered, IsTally, SameThread, raised}
 use Rattle.arachne_machine.proofs.Tabulated.{kept_is, raised_is}
-use Rattle.arachne_machine.proofs.Going.{line_in}
-use Rattle.arachne_machine.proofs.Counting.{hold_past, tally_past}
+use Rattle.arachne_machine.proofs.Counting.{tally_past}
 use Rattle.arachne_machine.proofs.thread.Thread.tallied.Goals as goal
 
 pub tallied-requires : goal.tallied-requires
