@@ -62,7 +62,7 @@ impl<'a, H: Wait, T: Tagged, C: Contexts<T>> Cores<'a, H, T, C> {
     }
 
     /// Whether a core has a place for a thread that shares it. The first that has one is the last that is looked at.
-    fn is_any_free(&self, seat: &mut C::Seat) -> bool
+    pub fn is_any_free(&self, seat: &mut C::Seat) -> bool
         requires { C.sits self.now.table.now seat.old }
         ensures seat { C.sits self.now.table.now seat.new }
         ensures weight { C.weight seat.new ≡ C.weight seat.old }

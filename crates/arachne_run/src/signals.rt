@@ -1,6 +1,10 @@
-//! At which places threads may be ready, and which workers sleep.
-ghost use Rattle.std.specs.Prelude.{◌≡◌, IfOk};
+//! What kernel threads tell one another: where threads may be ready, who sleeps, how many slices ended, who is parked.
+//!
+//! It may touch atomics alone.
+ghost use Rattle.std.specs.Prelude.{◌≡◌, ◌<◌, IfOk};
+ghost use Rattle.arachne_arbiter.specs.KernelThreads.{counted_cores, parked_cores};
 
+use arachne_arbiter::{Parking, SliceCounts};
 use arachne_core::{CORES, FULL_MASK, Place, SLOTS};
 use crossbeam_utils::CachePadded;
 use std::alloc::{AllocError, Global};
@@ -23,33 +27,58 @@ pub(crate) fn bit_of(index: u8) -> u64 {
     }
 }
 
-/// For each core a word on a cache line of its own: a bit for each index at which a thread may be ready, and one that says
-/// that the core's worker sleeps. A bit is a hint: the table alone says what is ready, and what no bit shows is found by a
-/// look at all that is occupied.
+/// For each core a word on a cache line of its own, the count of its slices and the parker of its kernel thread. The word has a
+/// bit for each index at which a thread may be ready, and one that says that the core's worker sleeps. A bit is a hint: the
+/// table alone says what is ready, and what no bit shows is found by a look at all that is occupied.
 #[derive(Drop)]
-pub(crate) struct Readiness {
+pub(crate) struct Signals {
     words: Vec<CachePadded<AtomicU64>>,
+    slices: SliceCounts,
+    parking: Parking,
 }
 
 // Contracts see for how many cores it is.
-impl Model for Readiness {
-    ghost use Rattle.std.specs.Prelude.{ℕ, vec_len};
+impl Model for Signals {
+    ghost use Rattle.std.specs.Prelude.{◌≡◌, ℕ, vec_len};
+    ghost use Rattle.arachne_arbiter.specs.KernelThreads.{counted_cores, parked_cores};
 
     ghost Value = { ℕ };
 
-    ghost view = { λ r. vec_len r.words };
+    ghost view = { λ s. vec_len s.words };
+
+    ghost invariant = { λ s. (counted_cores s.slices ≡ vec_len s.words) × (parked_cores s.parking ≡ vec_len s.words) };
 }
 
-impl Readiness {
-    /// No thread is ready, and no worker sleeps.
-    pub(crate) fn new(alloc: Global, cores: u8) -> Result<Readiness, AllocError>
-        ensures { IfOk result (λ readiness. readiness ≡ cores) }
+impl Signals {
+    /// No thread is ready, no slice has ended, and no worker sleeps.
+    pub(crate) fn new(alloc: Global, cores: u8) -> Result<Signals, AllocError>
+        ensures { IfOk result (λ signals. signals ≡ cores) }
     {
         let mut words = Vec::with_capacity(alloc, usize::from(cores))?;
         for _ in 0..cores {
             words.push(CachePadded::new(AtomicU64::new(0)))?;
         }
-        Ok(Readiness { words })
+        let slices = SliceCounts::new(alloc, cores)?;
+        let parking = Parking::new(alloc, cores)?;
+        Ok(Signals {
+            words,
+            slices,
+            parking,
+        })
+    }
+
+    /// The parkers of the kernel threads.
+    pub(crate) fn parking(&self) -> &Parking
+        ensures { parked_cores result.now ≡ self.now }
+    {
+        &self.parking
+    }
+
+    /// The counts of the slices.
+    pub(crate) fn slices(&self) -> &SliceCounts
+        ensures { counted_cores result.now ≡ self.now }
+    {
+        &self.slices
     }
 
     /// The thread at a place may be ready. The core's worker is woken if it sleeps.
@@ -75,11 +104,12 @@ impl Readiness {
         }
     }
 
-    /// Wakes all workers that sleep.
+    /// Wakes all workers, those that sleep and those that are parked.
     pub(crate) fn wake_all(&self) {
         for word in &self.words {
             wake(word);
         }
+        self.parking.unpark_all();
     }
 
     /// The indexes of a core that were hinted at since they were taken last.
@@ -93,7 +123,7 @@ impl Readiness {
     }
 
     /// Whether there is something to take.
-    pub(crate) fn is_hinted(&self, core: u8) -> bool {
+    pub(crate) fn is_any(&self, core: u8) -> bool {
         match self.words.get(usize::from(core)) {
             Some(word) => word.load(Ordering::SeqCst) != 0,
             None => false,

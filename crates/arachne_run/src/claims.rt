@@ -4,26 +4,6 @@ ghost use Rattle.std.specs.Prelude.{◌≡◌, [], ◌∷◌, IfErr, MatchOption
 use std::alloc::Global;
 use std::marker::Model;
 
-/// The places of its core that a worker has claimed, and that no thread has, and the seat that they are out with.
-#[derive(Drop)]
-pub(crate) struct Reserve<S, K> {
-    pub(crate) seat: S,
-    pub(crate) claims: Claims<K>,
-}
-
-impl<S, K> Reserve<S, K> {
-    /// Nothing is kept. It takes no memory.
-    pub(crate) fn new(alloc: Global, seat: S) -> Reserve<S, K>
-        ensures seat { result.seat ≡ seat }
-        ensures none { result.claims ≡ [] }
-    {
-        Reserve {
-            seat,
-            claims: Claims::new(alloc),
-        }
-    }
-}
-
 /// Claims that are kept.
 ///
 /// Contracts see them, the newest first.

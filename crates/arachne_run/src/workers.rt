@@ -3,14 +3,19 @@ ghost use Rattle.std.specs.Prelude.{◌≡◌, ◌<◌, ◌≤◌, IfSome, vec_c
 ghost use Rattle.std.specs.Thread.{IsSync};
 ghost use Rattle.arachne_run.specs.Tokens.{AreIdle, IsSetUp};
 
+use crate::claims::Claims;
+use crate::execute::Worker;
 use crate::fault::WorkerFault;
 use crate::gate::Gate;
+use crate::locks::Locks;
 use crate::machine::Machine;
-use crate::reserve::Reserve;
+use crate::queue::Agenda;
+use crate::seat::Seat;
 use crate::slice::RunJob;
+use crate::sums::Sums;
+use crate::tags::Tags;
 use crate::tokens::Tokens;
-use crate::worker::{Kit, Worker};
-use arachne_contexts::{Contexts, Seats};
+use arachne_contexts::{Contexts, Seats, Tagged};
 use rand_core::Rng;
 use std::alloc::Global;
 use std::marker::PhantomData;
@@ -21,12 +26,12 @@ use std::thread::{Promise, Threads};
 
 /// The tokens that a worker gives back are of this machine.
 #[derive(Drop)]
-struct Returns<C> {
-    machine: Snapshot<Machine<C>>,
+struct Returns<C, K: Tagged + Drop> {
+    machine: Snapshot<Machine<C, K>>,
 }
 
-impl<C> Returns<C> {
-    fn to(machine: &Machine<C>) -> Returns<C>
+impl<C, K: Tagged + Drop> Returns<C, K> {
+    fn to(machine: &Machine<C, K>) -> Returns<C, K>
         ensures { result.machine.value ≡ machine.now }
     {
         Returns {
@@ -35,7 +40,7 @@ impl<C> Returns<C> {
     }
 }
 
-impl<C: Seats> Promise<Option<Tokens<C::Seat>>> for Returns<C> {
+impl<C: Seats, K: Tagged + Drop> Promise<Option<Tokens<C::Seat, K>>> for Returns<C, K> {
     ghost kept_by = { λ promise tokens. IfSome tokens (AreIdle C.sits C.idle promise.machine.value) };
 }
 
@@ -49,12 +54,12 @@ pub(crate) fn work_all<
 >(
     rt: &H,
     alloc: Global,
-    machine: &Machine<C>,
+    machine: &Machine<C, T::Ticket>,
     gate: &G,
     root: T,
     choosers: Vec<R>,
-    tokens: Tokens<C::Seat>,
-) -> Option<Tokens<C::Seat>>
+    tokens: Tokens<C::Seat, T::Ticket>,
+) -> Option<Tokens<C::Seat, T::Ticket>>
     requires tokens { AreIdle C.sits C.idle machine.now tokens }
     requires set_up { IsSetUp C.core_count C.slot_count machine.now }
     ensures { IfSome result (AreIdle C.sits C.idle machine.now) }
@@ -62,7 +67,7 @@ pub(crate) fn work_all<
     thread::scope(
         thread::scope_env(),
         rt,
-        |scope| -> Option<Tokens<C::Seat>>
+        |scope| -> Option<Tokens<C::Seat, T::Ticket>>
             requires { IsSync H.row × AreIdle C.sits C.idle machine.now tokens × IsSetUp C.core_count C.slot_count machine.now }
             ensures { IfSome result (AreIdle C.sits C.idle machine.entry.now) }
         {
@@ -80,12 +85,13 @@ pub(crate) fn work_all<
                 };
                 let started = scope.spawn_with(
                     Returns::to(machine),
-                    move || -> Option<Tokens<C::Seat>>
+                    move || -> Option<Tokens<C::Seat, T::Ticket>>
                         requires { AreIdle C.sits C.idle machine.now theirs × IsSetUp C.core_count C.slot_count machine.now × (core < machine.now.cores) }
                         ensures { IfSome result (AreIdle C.sits C.idle machine.entry.now) }
                     {
+                        let _ = of;
                         work_on::<H, T, C, R, G>(
-                            rt, alloc, machine, gate, core, chooser, theirs, of,
+                            rt, alloc, machine, gate, core, chooser, theirs, None,
                         )
                     },
                 );
@@ -95,11 +101,17 @@ pub(crate) fn work_all<
                 };
                 others.push_reserved(other);
             }
-            let mut all = work_from_root::<H, T, C, R, G>(
-                rt, alloc, machine, gate, root, own, tokens,
-            );
+            let mut all = match own {
+                Some(chooser) => work_on::<H, T, C, R, G>(
+                    rt, alloc, machine, gate, 0, chooser, tokens, Some(root),
+                ),
+                None => {
+                    machine.shared.fail(rt, WorkerFault::KernelThread);
+                    None
+                }
+            };
             for other in others {
-                all = joined::<H, C>(rt, machine, all, other.join(rt));
+                all = joined::<H, C, T::Ticket>(rt, machine, all, other.join(rt));
             }
             all
         },
@@ -108,14 +120,14 @@ pub(crate) fn work_all<
 
 /// The tokens and the chooser of one worker more, for which there is room among the others then. Where they can't be had
 /// that is recorded.
-fn part_off<H: Wait, C: Seats, R: Drop, W>(
+fn part_off<H: Wait, C: Seats, K: Tagged + Drop, R: Drop, W>(
     rt: &H,
     alloc: Global,
-    machine: &Machine<C>,
-    tokens: Tokens<C::Seat>,
+    machine: &Machine<C, K>,
+    tokens: Tokens<C::Seat, K>,
     chooser: Option<R>,
     others: &mut Vec<W>,
-) -> (Tokens<C::Seat>, Option<(Tokens<C::Seat>, R)>)
+) -> (Tokens<C::Seat, K>, Option<(Tokens<C::Seat, K>, R)>)
     requires { AreIdle C.sits C.idle machine.now tokens }
     ensures own { AreIdle C.sits C.idle machine.now result.0 }
     ensures theirs { IfSome result.1 (λ part. AreIdle C.sits C.idle machine.now part.0) }
@@ -140,12 +152,12 @@ fn part_off<H: Wait, C: Seats, R: Drop, W>(
 }
 
 /// The tokens of two workers together, if both gave theirs back.
-fn joined<H: Wait, C: Seats>(
+fn joined<H: Wait, C: Seats, K: Tagged + Drop>(
     rt: &H,
-    machine: &Machine<C>,
-    own: Option<Tokens<C::Seat>>,
-    others: Option<Tokens<C::Seat>>,
-) -> Option<Tokens<C::Seat>>
+    machine: &Machine<C, K>,
+    own: Option<Tokens<C::Seat, K>>,
+    others: Option<Tokens<C::Seat, K>>,
+) -> Option<Tokens<C::Seat, K>>
     requires own { IfSome own (AreIdle C.sits C.idle machine.now) }
     requires others { IfSome others (AreIdle C.sits C.idle machine.now) }
     ensures { IfSome result (AreIdle C.sits C.idle machine.now) }
@@ -155,73 +167,88 @@ fn joined<H: Wait, C: Seats>(
     Some(own.join::<H, C>(rt, machine, others))
 }
 
-/// Gives the root its place, and works on core 0 until all stop. The tokens, unless something is out with them after
-/// a fault.
-fn work_from_root<H: Wait, T: RunJob, C: Contexts<T>, R: Rng + Drop, G: Gate>(
-    rt: &H,
-    alloc: Global,
-    machine: &Machine<C>,
-    gate: &G,
-    root: T,
-    chooser: Option<R>,
-    tokens: Tokens<C::Seat>,
-) -> Option<Tokens<C::Seat>>
-    requires tokens { AreIdle C.sits C.idle machine.now tokens }
-    requires set_up { IsSetUp C.core_count C.slot_count machine.now }
-    ensures { IfSome result (AreIdle C.sits C.idle machine.now) }
-{
-    let Some(chooser) = chooser else {
-        machine.shared.fail(rt, WorkerFault::KernelThread);
-        return None;
-    };
-    let (tokens, seat) = tokens.split_seat::<H, C>(rt, machine);
-    let mut places = Reserve::new(alloc, seat);
-    let mut kit = Kit::new(alloc, tokens, chooser, T::spares(alloc));
-    let worker: Worker<'_, H, T, C, R, G> = Worker {
-        rt,
-        alloc,
-        machine,
-        gate,
-        core: 0,
-        of: PhantomData,
-    };
-    if let Err(fault) = worker.begin(&mut kit, &mut places, root) {
-        machine.shared.fail(rt, fault);
-        return None;
-    }
-    Some(kit.tokens.join_seat::<H, C>(rt, machine, places.seat))
-}
-
-/// Works on one core until all stop. The tokens, unless something is out with them after a fault.
+/// Works on one core until all stop, where there is a root from it on. The tokens, unless something is out with them after a
+/// fault.
 fn work_on<H: Wait, T: RunJob, C: Contexts<T>, R: Rng + Drop, G: Gate>(
     rt: &H,
     alloc: Global,
-    machine: &Machine<C>,
+    machine: &Machine<C, T::Ticket>,
     gate: &G,
     core: u8,
     chooser: R,
-    tokens: Tokens<C::Seat>,
-    of: PhantomData<(T, R)>,
-) -> Option<Tokens<C::Seat>>
+    tokens: Tokens<C::Seat, T::Ticket>,
+    root: Option<T>,
+) -> Option<Tokens<C::Seat, T::Ticket>>
     requires tokens { AreIdle C.sits C.idle machine.now tokens }
     requires set_up { IsSetUp C.core_count C.slot_count machine.now }
     requires core { core < machine.now.cores }
     ensures { IfSome result (AreIdle C.sits C.idle machine.now) }
 {
-    let (tokens, seat) = tokens.split_seat::<H, C>(rt, machine);
-    let mut places = Reserve::new(alloc, seat);
-    let mut kit = Kit::new(alloc, tokens, chooser, T::spares(alloc));
-    let worker: Worker<'_, H, T, C, R, G> = Worker {
+    let Tokens {
+        seat,
+        share,
+        lock_seats,
+        pass,
+        arbiter,
+    } = tokens;
+    let (seat, spare) = machine.table.split(rt, seat);
+    let desk: Seat<'_, H, T, C, R> = Seat {
         rt,
         alloc,
         machine,
-        gate,
         core,
-        of,
+        seat,
+        held: None,
+        spare,
+        kept: Claims::new(alloc),
+        pass,
+        arbiter,
+        chooser,
+        tags: Tags::new(),
+        spares: T::spares(alloc),
     };
-    if let Err(fault) = worker.work(&mut kit, &mut places) {
+    let mut worker = Worker {
+        rt,
+        gate,
+        shared: &machine.shared,
+        core,
+        slots: machine.slots,
+        quantum: machine.quantum,
+        desk,
+        locks: Locks::new(&machine.locks, lock_seats),
+        sums: Sums::new(&machine.ledgers, share),
+        agenda: Agenda::new(alloc),
+        slices: 0,
+    };
+    if let Err(fault) = begin_with(&mut worker, root) {
         machine.shared.fail(rt, fault);
         return None;
     }
-    Some(kit.tokens.join_seat::<H, C>(rt, machine, places.seat))
+    let Worker { desk, locks, sums, .. } = worker;
+    let Seat {
+        seat,
+        spare,
+        pass,
+        arbiter,
+        ..
+    } = desk;
+    Some(Tokens {
+        seat: machine.table.join_seats(rt, seat, spare),
+        share: sums.into_share(),
+        lock_seats: locks.into_seats(),
+        pass,
+        arbiter,
+    })
+}
+
+/// Gives the root its place, if there is one, and works until all stop.
+fn begin_with<'a, H: Wait, T: RunJob, C: Contexts<T>, R: Rng, G: Gate>(
+    worker: &mut Worker<'a, H, Seat<'a, H, T, C, R>, G>,
+    root: Option<T>,
+) -> Result<(), WorkerFault> {
+    if let Some(root) = root {
+        let index = worker.desk.post_root(root)?;
+        worker.agenda.note(index);
+    }
+    worker.work()
 }
