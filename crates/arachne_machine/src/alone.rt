@@ -1,3 +1,4 @@
+//! Runs all threads of a program in turn on one kernel thread.
 ghost use Rattle.std.specs.Prelude.{◌≡◌, ◌+◌, ◌∷◌, ◌≤◌, ◌<◌, map, reverse, sum_by, None, IfOk, OnOk};
 ghost use Rattle.arachne_lang.specs.Program.{source_of};
 ghost use Rattle.arachne_lang.specs.Meaning.{meaning_of};

@@ -1,3 +1,4 @@
+//! The answers to a pause that need no outcome of a child.
 use crate::frame::Control;
 use crate::state::State;
 use crate::tables::add_at;

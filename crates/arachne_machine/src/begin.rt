@@ -1,3 +1,4 @@
+//! The steps that begin an expression.
 use crate::frame::{Control, Frame};
 use crate::placing::Placing;
 use crate::spares::Spares;

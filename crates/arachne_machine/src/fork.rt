@@ -1,3 +1,4 @@
+//! The steps that fork a child or split a sweep.
 use crate::frame::{Control, Frame, Stretch};
 use crate::placing::Placing;
 use crate::spares::Spares;

@@ -1,3 +1,4 @@
+//! What a thread does next, and the frames that say what comes after it.
 use arachne_lang::{Expr, Operation, Reduction};
 
 /// A part of a sweep: the numbers from a first one to below an end.

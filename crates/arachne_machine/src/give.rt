@@ -1,3 +1,4 @@
+//! Hands a value on from frame to frame.
 use crate::begin::cost_of;
 use crate::frame::{Control, Frame, Stretch};
 use crate::placing::Placing;

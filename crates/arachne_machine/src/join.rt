@@ -1,3 +1,4 @@
+//! How children begin in their parent's place, and how they are joined.
 use crate::frame::{Control, Frame};
 use crate::level::{Level, Parent};
 use crate::line::{Ran, ThreadLine};

@@ -1,3 +1,4 @@
+//! Where a thread is in a state that others may share, and who waits for it.
 ghost use Rattle.std.specs.Prelude.{◌≡◌};
 
 use crate::frame::Control;

@@ -1,3 +1,4 @@
+//! What is known of a thread that has ended.
 ghost use Rattle.arachne_machine.specs.Lines.{HoldsOnceMore};
 
 use crate::tables::add_at;

@@ -1,3 +1,4 @@
+//! The lines of threads in order, of which many are moved at most once.
 ghost use Rattle.std.specs.Prelude.{◌≡◌, ◌+◌, ◌-◌, ◌≤◌, ◌<◌, ◌^◌, List, [], ◌∷◌, ◌++◌, get_or, length, vec_len, vec_capacity, IfOk, IfErr, OnOk, OnErr};
 ghost use Rattle.arachne_machine.specs.declared.line.ThreadLine.{ThreadLine};
 ghost use Rattle.arachne_machine.specs.Lines.{CountsHoldAt, lines_in};

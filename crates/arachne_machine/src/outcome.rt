@@ -1,3 +1,4 @@
+//! What a thread brings in the end: its value, its ledger sums and its lines.
 ghost use Rattle.std.specs.Prelude.{◌≡◌, ◌∷◌, IfOk, IfErr};
 ghost use Rattle.arachne_machine.specs.Outcome.{IsOfItsName};
 

@@ -1,3 +1,4 @@
+//! Why a thread pauses, and which pauses are not answered.
 use crate::outcome::Outcome;
 use crate::thread::Thread;
 use arachne_lang::Class;

@@ -1,3 +1,4 @@
+//! Memory that ended threads leave for new ones.
 use crate::state::State;
 use arachne_lang::Program;
 use std::alloc::{AllocError, Global};

@@ -1,3 +1,4 @@
+//! What a thread is between two steps.
 use crate::frame::{Control, Frame};
 use crate::level::{Level, Parent};
 use crate::line::{Label, Ran, ThreadLine};
@@ -165,14 +166,7 @@ impl<'p> State<'p> {
         let mut begins = self.beginning();
         while rest > 0 {
             rest -= 1;
-            let begun = match begins {
-                Some(expr) => self.begin(expr, &mut rest, spares, places)?,
-                None => self.go_on_from_control(&mut rest, spares, places)?,
-            };
-            let progress = match begun {
-                Progress::Value(value) => self.give(value, &mut rest, places)?,
-                other => other,
-            };
+            let progress = self.make(begins, &mut rest, spares, places)?;
             match progress {
                 Progress::Begin(expr) => begins = Some(expr),
                 Progress::Goes => begins = None,
@@ -187,14 +181,12 @@ impl<'p> State<'p> {
                 Progress::Value(_) => unreachable!(),
             }
         }
-        if let Some(expr) = begins {
-            self.control = Control::Begin(expr);
-        }
+        self.settle(begins);
         *left = 0;
         Ok(None)
     }
 
-    /// The expression that is begun next, if that is so.
+    /// The expression that is begun next, where one is.
     #[inline(always)]
     fn beginning(&self) -> Option<&'p Expr> {
         match self.control {
@@ -203,9 +195,41 @@ impl<'p> State<'p> {
         }
     }
 
-    /// A step that begins no expression.
+    /// Writes down that this expression is begun next, where one is.
     #[inline(always)]
-    fn go_on_from_control<P: Placing>(
+    fn settle(&mut self, begins: Option<&'p Expr>) {
+        if let Some(expr) = begins {
+            self.control = Control::Begin(expr);
+        }
+    }
+
+    /// A step, and with it further ones of those that are left, which need nothing but what is known then. It begins this expression,
+    /// or else a part of a sweep, or takes a value that was left over; and hands on the value that is known at once.
+    #[inline(always)]
+    fn make<P: Placing>(
+        &mut self,
+        begins: Option<&'p Expr>,
+        left: &mut u32,
+        spares: &mut Spares<'p>,
+        places: &mut P,
+    ) -> Result<Progress<'p>, AllocError> {
+        let begun = match begins {
+            Some(expr) => self.begin(expr, left, spares, places),
+            None => self.resume(left, spares, places),
+        };
+        match begun {
+            Ok(Progress::Value(value)) => self.give(value, left, places),
+            Ok(progress) => Ok(progress),
+            Err(refused) => {
+                self.settle(begins);
+                Err(refused)
+            }
+        }
+    }
+
+    /// A value that was left over is taken, or a part of a sweep is begun.
+    #[inline(always)]
+    fn resume<P: Placing>(
         &mut self,
         left: &mut u32,
         spares: &mut Spares<'p>,

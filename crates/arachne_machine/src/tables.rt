@@ -1,3 +1,4 @@
+//! Tables of numbers, one for each ledger or lock.
 ghost use Rattle.std.specs.Prelude.{◌≡◌, ℕ, ◌+◌, ◌==◌, if◌then◌else◌, length, IfOk};
 ghost use Rattle.arachne_lang.specs.Effects.{tabulated};
 

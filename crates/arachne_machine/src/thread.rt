@@ -1,3 +1,4 @@
+//! A thread with those that run in its place, as callers advance, answer and join it.
 ghost use Rattle.std.specs.Prelude.{◌≡◌, ◌≢◌, ◌↔◌, ◌≤◌, ◌+◌, ◌-◌, ℕ, ◌∷◌, [], ◌++◌, true, None, Some, IfOk, OnOk, IfErr, OnErr, IsTrue};
 ghost use Rattle.arachne_lang.specs.Effects.{tabulated};
 ghost use Rattle.arachne_machine.specs.Suspended.{IsAnswered, IsAsk, IsFree, IsFresh, IsNext, IsTally, Joined, SameThread, added, awaited, own_line_of, raised};
