@@ -22,11 +22,13 @@ enum Alteration {
     RefusesMemory,
     /// A claim on another core than 0 finds it full.
     IsFull,
+    /// Each seat has something out.
+    HasOut,
 }
 
 /// A table behind a lock that hands on all calls, or all but one. A run makes its table itself, so the number of cores says
 /// which: of 5 cores it hands back each thread that is to be finished, of 6 it refuses memory to a claim on a core that is in
-/// use, of 7 all cores but 0 are full, and of any other number it answers nothing by itself.
+/// use, of 7 all cores but 0 are full, of 8 each seat has something out, and of any other number it answers nothing by itself.
 #[derive(Drop)]
 pub struct Altered<T: Tagged> {
     inner: LockedContexts<T>,
@@ -57,6 +59,7 @@ impl<T: Tagged + Drop> Seats for Altered<T> {
             5 => Alteration::HandsBack,
             6 => Alteration::RefusesMemory,
             7 => Alteration::IsFull,
+            8 => Alteration::HasOut,
             _ => Alteration::None,
         };
         Ok((Altered { inner, alteration }, seat))
@@ -75,7 +78,10 @@ impl<T: Tagged + Drop> Seats for Altered<T> {
     }
 
     fn out(&self, seat: &LockedSeat) -> u32 {
-        self.inner.out(seat)
+        match self.alteration {
+            Alteration::HasOut => 1,
+            _ => self.inner.out(seat),
+        }
     }
 }
 
