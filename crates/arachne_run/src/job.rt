@@ -1,16 +1,22 @@
 //! What a context holds in a run: a thread of the program.
-ghost use Rattle.std.specs.Prelude.{◌≡◌, ◌≤◌, false, true, [], All, IfOk, IfSome, None, Some};
+ghost use Rattle.std.specs.Prelude.{◌≡◌, ◌≤◌, false, true, [], IfOk, OnOk, None, Some};
 ghost use Rattle.arachne_lang.specs.Program.{source_of};
 ghost use Rattle.arachne_lang.specs.Checked.{IsChecked};
-ghost use Rattle.arachne_run.specs.Threads.{IsForking, IsGoing, IsAwaiting, pause_of, program_of, tag_of};
-ghost use Rattle.arachne_run.specs.Cells.{IsOf, IsFor};
+ghost use Rattle.arachne_machine.specs.Nested.{IsPlacing, MayBePlaced};
+ghost use Rattle.arachne_machine.specs.Suspended.{awaited};
+ghost use Rattle.arachne_machine.specs.declared.pause.Pending.TheVariants as pause;
+ghost use Rattle.arachne_run.specs.Threads.{IsForking, IsGoing, IsAwaiting, name_of, pause_of, program_of, running_tag_of, tag_of};
+ghost use Rattle.arachne_run.specs.Cells.{IsFoundOf, IsOf, IsFor};
+ghost use Rattle.arachne_run.specs.Ends.{awaited_at};
+ghost use Rattle.arachne_run.specs.Slices.{IsLeft, UsesSteps};
 
+use crate::ends::{Awaited, End};
 use crate::fault::WorkerFault;
 use crate::left::{Found, Waiting};
 use crate::slice::{JobOf, RunJob, Slice};
 use crate::spares::Spares;
-use crate::waiting::{SpilledEnd, Ticket, WaitCell};
-use crate::wanted::{OutcomeReceiver, OutcomeSender, Wanted};
+use crate::waiting::{Ticket, WaitCell};
+use crate::wanted::{OutcomeReceiver, Wanted};
 use arachne_contexts::Tagged;
 use arachne_core::{Rest, ThreadId};
 use arachne_lang::Program;
@@ -19,24 +25,10 @@ use std::alloc::{AllocError, Global};
 use std::marker::Model;
 use std::snapshot::Snapshot;
 
-/// Where a thread leaves its outcome: in a cell of a block, or in that in which it has waited.
-#[derive(Drop)]
-pub enum End<'p> {
-    Block(OutcomeSender<'p>),
-    Own(SpilledEnd<'p>),
-}
-
-/// Where the outcome of a child comes to.
-#[derive(Drop)]
-pub enum Awaited<'p> {
-    Block(OutcomeReceiver<'p>),
-    Own(WaitCell<'p>),
-}
-
 /// A thread of the program, with the end that leaves its outcome, the ends that await those of the children that it has
 /// forked and not joined, the newest last, and the id under which its parent runs.
 ///
-/// Contracts see the thread.
+/// Contracts see the thread and that id.
 #[derive(Drop)]
 pub struct Job<'p> {
     thread: Thread<'p>,
@@ -46,20 +38,25 @@ pub struct Job<'p> {
 }
 
 impl<'p> Model for Job<'p> {
-    ghost use Rattle.arachne_run.specs.Threads.{Thread};
+    ghost use Rattle.std.specs.Prelude.{All};
+    ghost use Rattle.arachne_run.specs.Threads.{Posted, program_of};
+    ghost use Rattle.arachne_run.specs.Cells.{IsOf, IsFor};
+    ghost use Rattle.arachne_run.specs.Ends.{awaited_at, left_at};
 
-    ghost Value = { Thread };
+    ghost Value = { Posted };
 
     ghost use Rattle.std.specs.Coded.{codes};
     ghost use Rattle.arachne_lang.specs.contracts.program.Expr as expr;
 
     ghost coded = { Prim.hlevel (codes, expr.the_row.coded) };
 
-    ghost view = { λ j. j.thread };
+    ghost view = { λ j. record { thread = j.thread; parent = j.parent } };
+
+    ghost invariant = { λ j. IsFor j.thread (left_at j.end) × All (λ awaited. IsOf (program_of j.thread) (awaited_at awaited)) j.awaited.items };
 }
 
 impl<'p> Tagged for Job<'p> {
-    ghost tag_of = { λ j. tag_of j };
+    ghost tag_of = { λ j. tag_of j.thread };
 
     fn tag(&self) -> u64 {
         self.thread.tag()
@@ -73,7 +70,13 @@ impl<'p> RunJob for Job<'p> {
 
     type Spares = Spares<'p>;
 
-    ghost forks = { λ j child. IsForking j child };
+    ghost running_tag_of = { λ j. running_tag_of j.thread };
+
+    ghost parent_of = { λ j. j.parent };
+
+    ghost pause_of = { λ j. pause_of j.thread };
+
+    ghost forks = { λ j child. IsForking j.thread child };
 
     fn spares(alloc: Global) -> Spares<'p> {
         Spares::new(alloc)
@@ -222,7 +225,7 @@ impl<'p> Job<'p> {
         parent: Option<ThreadId>,
         spares: &mut Spares<'p>,
     ) -> Result<(Job<'p>, OutcomeReceiver<'p>), AllocError>
-        ensures thread { IfOk result (λ made. made.0 ≡ thread.entry) }
+        ensures thread { IfOk result (λ made. made.0 ≡ record { thread = thread.entry; parent = parent }) }
         ensures receiver { IfOk result (λ made. IsFor thread.entry made.1.opening.key) }
     {
         let wanted = Wanted {
@@ -245,7 +248,14 @@ impl<'p> Job<'p> {
         left: &mut u32,
         spares: &mut Spares<'p>,
         places: &mut P,
-    ) -> Result<Slice<Thread<'p>>, WorkerFault> {
+    ) -> Result<Slice<Thread<'p>>, WorkerFault>
+        requires some { 1 ≤ left.old }
+        requires going { IsGoing self.old.thread }
+        ensures tag { tag_of self.new.thread ≡ tag_of self.old.thread }
+        ensures parent { self.new.parent ≡ self.old.parent }
+        ensures left { IfOk result (λ slice. IsLeft (λ j child. IsForking j.thread child) (λ j. pause_of j.thread) slice self.new) }
+        ensures steps { IfOk result (λ slice. UsesSteps slice left.old left.new) }
+    {
         match self.thread.advance_within(left, &mut spares.threads, places)? {
             Pause::Budget => Ok(Slice::Goes),
             Pause::Forks(class, child) => Ok(Slice::Forks(class, child)),
@@ -264,7 +274,14 @@ impl<'p> Job<'p> {
     }
 
     /// The child runs in this thread's place once it is awaited, or at once where it is.
-    fn place(&mut self, child: Thread<'p>) -> Result<(), WorkerFault> {
+    fn place(&mut self, child: Thread<'p>) -> Result<(), WorkerFault>
+        requires pending { IsPlacing (pause_of self.old.thread) }
+        requires child { MayBePlaced self.old.thread child }
+        requires forked { pause_of self.old.thread ≡ Some pause.Forks → awaited self.old.thread.running ≡ Some (name_of child) }
+        ensures tag { tag_of self.new.thread ≡ tag_of self.old.thread }
+        ensures parent { self.new.parent ≡ self.old.parent }
+        ensures answered { OnOk result (pause_of self.new.thread ≡ None) }
+    {
         match self.thread.in_place(child) {
             Ok(()) => Ok(()),
             Err(NotPlaced::Memory(_)) => Err(WorkerFault::Memory),
@@ -273,7 +290,10 @@ impl<'p> Job<'p> {
     }
 
     /// Expects the outcome of a child.
-    fn expect(&mut self, awaited: Awaited<'p>) -> Result<(), WorkerFault> {
+    fn expect(&mut self, awaited: Awaited<'p>) -> Result<(), WorkerFault>
+        requires { IsOf (program_of self.old.thread) (awaited_at awaited) }
+        ensures { self.new ≡ self.old }
+    {
         match self.awaited.push(awaited) {
             Ok(()) => Ok(()),
             Err(_) => Err(WorkerFault::Memory),
@@ -281,7 +301,13 @@ impl<'p> Job<'p> {
     }
 
     /// Joins the child that it awaits, if that has ended, and runs it in place, if it waits still. Whether it goes on.
-    fn join(&mut self, spares: &mut Spares<'p>) -> Result<bool, WorkerFault> {
+    fn join(&mut self, spares: &mut Spares<'p>) -> Result<bool, WorkerFault>
+        requires { IsAwaiting self.old.thread }
+        ensures tag { tag_of self.new.thread ≡ tag_of self.old.thread }
+        ensures parent { self.new.parent ≡ self.old.parent }
+        ensures joined { IfOk result (λ joined. joined ≡ true → IsGoing self.new.thread) }
+        ensures awaits { IfOk result (λ joined. joined ≡ false → IsAwaiting self.new.thread) }
+    {
         match self.find(spares)? {
             Found::Outcome(outcome) => match self.thread.joined(outcome) {
                 Ok(()) => Ok(true),
@@ -297,7 +323,10 @@ impl<'p> Job<'p> {
     }
 
     /// What is in the cell of the child that it awaits. Where that is something, the cell is used up.
-    fn find(&mut self, spares: &mut Spares<'p>) -> Result<Found<'p>, WorkerFault> {
+    fn find(&mut self, spares: &mut Spares<'p>) -> Result<Found<'p>, WorkerFault>
+        ensures same { self.new ≡ self.old }
+        ensures found { IfOk result (IsFoundOf (program_of self.old.thread)) }
+    {
         let Some(awaited) = self.awaited.pop() else {
             return Err(WorkerFault::Foreign);
         };

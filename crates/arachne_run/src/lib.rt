@@ -5,6 +5,7 @@ mod audit;
 mod claims;
 mod classes;
 mod desk;
+mod ends;
 mod execute;
 mod fault;
 mod find;

@@ -8,14 +8,15 @@ use crate::fault::WorkerFault;
 use crate::machine::Machine;
 use crate::policy;
 use crate::queue::Post;
+use crate::shared::Shared;
 use crate::slice::{RunJob, Slice};
 use crate::tags::Tags;
 use arachne_arbiter::{Arbiter, Cores};
-use arachne_contexts::{Claimed, Contexts, Held, Moved, Placed, Rested, Taken, Woken};
+use arachne_contexts::{Claimed, Contexts, Held, Moved, Placed, Rested, Seats, Tagged, Taken, Woken};
 use arachne_core::{MarkWord, OccWord, Place, Rest, ThreadId};
 use arachne_lang::Class;
 use arachne_machine::Placing;
-use arachne_spill::{SpillPass, SpillQueue};
+use arachne_spill::{CAPACITY, SpillPass};
 use rand_core::Rng;
 use std::alloc::Global;
 use std::marker::PhantomData;
@@ -46,16 +47,14 @@ pub(crate) struct Seat<'a, H, T: RunJob, C: Contexts<T>, R> {
 
 /// What a thread is told at its forks.
 #[derive(Drop)]
-struct Openings<'a, 'b, H, T: RunJob, C: Contexts<T>, R> {
+struct Openings<'a, 'b, H, T, C: Seats, R> {
     cores: Cores<'a, H, T, C>,
-    machine: &'a Machine<C, T::Ticket>,
-    seat: &'b mut C::Seat,
-    pass: &'b mut SpillPass<T::Ticket>,
+    shared: &'a Shared,
     chooser: &'b mut R,
     tags: &'b mut Tags,
 }
 
-impl<'a, 'b, H: Wait, T: RunJob, C: Contexts<T>, R: Rng> Placing for Openings<'a, 'b, H, T, C, R> {
+impl<'a, 'b, H: Wait, T: Tagged, C: Contexts<T>, R: Rng> Placing for Openings<'a, 'b, H, T, C, R> {
     ghost use Rattle.std.specs.Prelude.{false};
 
     ghost gives_all = { false };
@@ -64,8 +63,8 @@ impl<'a, 'b, H: Wait, T: RunJob, C: Contexts<T>, R: Rng> Placing for Openings<'a
     #[inline(always)]
     fn is_any(&mut self, class: Class) -> bool {
         if class == Class::Exclusive
-            || self.cores.is_any_free(self.seat)
-            || !self.machine.tickets.is_full(self.pass)
+            || self.cores.is_any_free()
+            || self.shared.signals().waiting() < CAPACITY as u64
         {
             return true;
         }
@@ -75,7 +74,7 @@ impl<'a, 'b, H: Wait, T: RunJob, C: Contexts<T>, R: Rng> Placing for Openings<'a
 
     #[inline(always)]
     fn tag(&mut self) -> u64 {
-        self.tags.take(&self.machine.shared)
+        self.tags.take(self.shared)
     }
 }
 
@@ -115,9 +114,7 @@ impl<'a, H: Wait, T: RunJob, C: Contexts<T>, R: Rng> Desk for Seat<'a, H, T, C, 
         };
         let mut openings: Openings<'_, '_, H, T, C, R> = Openings {
             cores,
-            machine: self.machine,
-            seat: &mut self.seat,
-            pass: &mut self.pass,
+            shared: &self.machine.shared,
             chooser: &mut self.chooser,
             tags: &mut self.tags,
         };
@@ -247,13 +244,14 @@ impl<'a, H: Wait, T: RunJob, C: Contexts<T>, R: Rng> Desk for Seat<'a, H, T, C, 
     }
 
     fn has_tickets(&mut self) -> bool {
-        !self.machine.tickets.is_empty(&mut self.pass)
+        self.machine.shared.signals().waiting() > 0
     }
 
     fn take_ticket(&mut self) -> Result<(bool, Option<u8>), WorkerFault> {
         let Some(ticket) = self.machine.tickets.pop(self.rt, &mut self.pass) else {
             return Ok((false, None));
         };
+        self.machine.shared.signals().ticket_went();
         if !T::still_waits(&ticket) {
             return Ok((true, None));
         }
@@ -347,7 +345,10 @@ impl<'a, H: Wait, T: RunJob, C: Contexts<T>, R: Rng> Seat<'a, H, T, C, R> {
         let me = held.id();
         if let Some(ticket) = held.value.put_aside(self.alloc, me, child, tag, waits)? {
             // Where the queue was filled meanwhile, the child waits without a ticket, for its parent.
-            let _ = self.machine.tickets.push(self.rt, &mut self.pass, ticket);
+            let pushed = self.machine.tickets.push(self.rt, &mut self.pass, ticket);
+            if pushed.is_ok() {
+                self.machine.shared.signals().ticket_came();
+            }
         }
         Ok(Stop::Goes)
     }

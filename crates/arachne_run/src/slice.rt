@@ -2,6 +2,10 @@
 ghost use Rattle.std.specs.Prelude.{◌≡◌, ◌≤◌, [], IfOk, IfSome, OnOk};
 ghost use Rattle.arachne_lang.specs.Program.{source_of};
 ghost use Rattle.arachne_lang.specs.Checked.{IsChecked};
+ghost use Rattle.std.specs.Prelude.{ℕ, Option, None, Some};
+ghost use Rattle.arachne_core.specs.declared.thread_id.ThreadId.{ThreadId};
+ghost use Rattle.arachne_machine.specs.declared.pause.Pending.{Pending};
+ghost use Rattle.arachne_run.specs.Slices.{IsLeft, MayRest, UsesSteps};
 
 use crate::fault::WorkerFault;
 use crate::wanted::OutcomeReceiver;
@@ -43,6 +47,15 @@ pub trait RunJob: Tagged + Drop {
     /// What a worker keeps of ended threads for those that begin.
     type Spares: Drop + Send;
 
+    /// The tag of the thread that goes on next: the job's own, or that of one that runs in its place.
+    ghost running_tag_of: { Self → ℕ };
+
+    /// The id under which its parent runs. The root has none.
+    ghost parent_of: { Self → Option ThreadId };
+
+    /// The pause that is not answered.
+    ghost pause_of: { Self → Option Pending };
+
     /// The job forks this child, and is not answered.
     ghost forks: { Self → Self.Child → Type 0 };
 
@@ -50,10 +63,12 @@ pub trait RunJob: Tagged + Drop {
     fn spares(alloc: Global) -> Self::Spares;
 
     /// The tag of the thread that goes on next, and whose the pause is that is not answered.
-    fn running_tag(&self) -> u64;
+    fn running_tag(&self) -> u64
+        ensures { result ≡ running_tag_of self.now };
 
     /// How it rests: ready where its pause was answered, blocked where it waits. None where it can't rest.
-    fn rest(&self) -> Option<Rest>;
+    fn rest(&self) -> Option<Rest>
+        ensures { IfSome result (λ rest. MayRest rest (pause_of self.now)) };
 
     /// Goes on for at most as many steps as are left, of which fewer are left then. A thread that waits makes none. A child
     /// for which there is no place runs in this job's.
@@ -62,7 +77,12 @@ pub trait RunJob: Tagged + Drop {
         left: &mut u32,
         spares: &mut Self::Spares,
         places: &mut P,
-    ) -> Result<Slice<Self::Child>, WorkerFault>;
+    ) -> Result<Slice<Self::Child>, WorkerFault>
+        requires { 1 ≤ left.old }
+        ensures tag { Self.tag_of self.new ≡ Self.tag_of self.old }
+        ensures steps { IfOk result (λ slice. UsesSteps slice left.old left.new) }
+        ensures parent { parent_of self.new ≡ parent_of self.old }
+        ensures left { IfOk result (λ slice. IsLeft forks pause_of slice self.new) };
 
     /// The child becomes a job of its own with this tag, whose parent runs under this id.
     fn fork_off(
@@ -72,7 +92,13 @@ pub trait RunJob: Tagged + Drop {
         child: Self::Child,
         tag: u64,
         spares: &mut Self::Spares,
-    ) -> Result<Self, WorkerFault>;
+    ) -> Result<Self, WorkerFault>
+        requires { forks self.old child }
+        ensures tag { Self.tag_of self.new ≡ Self.tag_of self.old }
+        ensures parent { parent_of self.new ≡ parent_of self.old }
+        ensures child { IfOk result (λ job. Self.tag_of job ≡ tag) }
+        ensures childs_parent { IfOk result (λ job. parent_of job ≡ Some me) }
+        ensures answered { OnOk result (pause_of self.new ≡ None) };
 
     /// The child waits with this tag for a place, or until this job, which runs under this id, awaits it. The ticket for it;
     /// none where it is not to wait or memory is refused, and the child runs in this job's place.
@@ -83,7 +109,12 @@ pub trait RunJob: Tagged + Drop {
         child: Self::Child,
         tag: u64,
         waits: bool,
-    ) -> Result<Option<Self::Ticket>, WorkerFault>;
+    ) -> Result<Option<Self::Ticket>, WorkerFault>
+        requires { forks self.old child }
+        ensures tag { Self.tag_of self.new ≡ Self.tag_of self.old }
+        ensures parent { parent_of self.new ≡ parent_of self.old }
+        ensures answered { OnOk result (pause_of self.new ≡ None) }
+        ensures ticket { IfOk result (λ made. IfSome made (λ ticket. Self.Ticket.tag_of ticket ≡ tag)) };
 
     /// Whether a ticket's child waits still. Nothing is taken.
     fn still_waits(ticket: &Self::Ticket) -> bool;
@@ -92,10 +123,14 @@ pub trait RunJob: Tagged + Drop {
     fn of_ticket(alloc: Global, ticket: Self::Ticket, spares: &mut Self::Spares) -> Option<Self>;
 
     /// What it asks for is done: it holds the lock that it asked for, the lock is free, or the amount was added.
-    fn answer(&mut self) -> Result<(), WorkerFault>;
+    fn answer(&mut self) -> Result<(), WorkerFault>
+        ensures tag { Self.tag_of self.new ≡ Self.tag_of self.old }
+        ensures parent { parent_of self.new ≡ parent_of self.old }
+        ensures answered { OnOk result (pause_of self.new ≡ None) };
 
     /// Leaves the outcome for its parent, which is to be woken; the root has none.
-    fn leave(self, spares: &mut Self::Spares) -> Result<Option<ThreadId>, WorkerFault>;
+    fn leave(self, spares: &mut Self::Spares) -> Result<Option<ThreadId>, WorkerFault>
+        ensures { IfOk result (λ parent. parent ≡ parent_of self) };
 }
 
 /// The jobs of a program's threads.
@@ -108,5 +143,6 @@ pub trait JobOf<'p>: RunJob {
     ) -> Result<(Self, OutcomeReceiver<'p>), AllocError>
         requires { IsChecked (source_of program.now) }
         ensures program { IfOk result (λ made. made.1.opening.key.program.value ≡ program.now) }
-        ensures name { IfOk result (λ made. made.1.opening.key.name.value ≡ []) };
+        ensures name { IfOk result (λ made. made.1.opening.key.name.value ≡ []) }
+        ensures parent { IfOk result (λ made. Self.parent_of made.0 ≡ None) };
 }

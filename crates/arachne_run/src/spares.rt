@@ -1,7 +1,7 @@
 //! What a worker keeps of ended threads for those that begin.
 ghost use Rattle.std.specs.Prelude.{◌≡◌, []};
 
-use crate::job::Awaited;
+use crate::ends::Awaited;
 use crate::wanted::Wanted;
 use arachne_join::SpareCells;
 use arachne_machine::{Outcome, Spares as SpareThreads};

@@ -92,6 +92,10 @@ impl<T: Tagged + Drop> Contexts<T> for Altered<T> {
 
     ghost has = { λ table seat outs. Unit {0} };
 
+    fn glance<R: Wait>(&self, rt: &R, core: u8) -> u64 {
+        self.inner.glance(rt, core)
+    }
+
     fn look<R: Wait>(&self, rt: &R, seat: &mut LockedSeat, core: u8) -> u64 {
         self.inner.look(rt, seat, core)
     }
