@@ -63,7 +63,9 @@ impl<'a, H: Wait, D: Desk, G: Gate> Worker<'a, H, D, G> {
     /// Whether the thread in hand has another slice at once: no other is known to be ready, no ticket could be taken, and the
     /// workers go on.
     fn goes_on(&mut self) -> bool {
-        if self.agenda.is_any() || self.shared.is_stopped() || self.shared.signals().is_any(self.core)
+        if self.agenda.is_any()
+            || self.shared.is_stopped()
+            || self.shared.signals().is_any(self.core)
         {
             return false;
         }
@@ -104,57 +106,48 @@ impl<'a, H: Wait, D: Desk, G: Gate> Worker<'a, H, D, G> {
                 Stop::Goes => {}
                 Stop::Ends => return Ok(SliceEnd::Ended),
                 Stop::Blocks => return Ok(SliceEnd::Waits),
-                stop => {
-                    if !self.serve(stop, &mut left)? {
-                        return Ok(SliceEnd::Waits);
-                    }
-                }
+                stop => match self.serve(stop, left)? {
+                    Some(most) => left = most,
+                    None => return Ok(SliceEnd::Waits),
+                },
             }
         }
         self.tell();
         Ok(SliceEnd::GoesOn)
     }
 
-    /// Does what the thread in hand asks for. Whether it goes on; else it waits.
-    fn serve(&mut self, stop: Stop, left: &mut u32) -> Result<bool, WorkerFault> {
+    /// Does what the thread in hand asks for, which had so many steps left. How many it has then; none where it waits.
+    fn serve(&mut self, stop: Stop, left: u32) -> Result<Option<u32>, WorkerFault> {
+        let who = self.who();
         match stop {
-            Stop::Posted(post) => self.posted(post),
+            Stop::Posted(post) => {
+                self.posted(post);
+                return Ok(Some(left));
+            }
             Stop::Asks(lock) => {
-                if !self.locks.ask(self.rt, lock, self.who())? {
-                    return Ok(false);
+                if !self.locks.ask(self.rt, lock, who)? {
+                    return Ok(None);
                 }
-                self.desk.answer()?;
             }
             Stop::Awaits(lock) => {
-                // The look counts as a step.
-                *left = left.saturating_sub(1);
-                if !self.locks.check(self.rt, lock, self.who())? {
-                    return Ok(false);
+                if !self.locks.check(self.rt, lock, who)? {
+                    return Ok(None);
                 }
-                self.desk.answer()?;
             }
-            Stop::Frees(lock) => self.free(lock, left)?,
-            Stop::Tallies(ledger, amount) => {
-                self.sums.add(ledger, amount)?;
-                self.desk.answer()?;
+            Stop::Frees(lock) => {
+                if let Some(next) = self.locks.free(self.rt, lock, who)? {
+                    self.wake(next, Cause::HoldsLock);
+                }
             }
-            Stop::Goes | Stop::Blocks | Stop::Ends => {}
+            Stop::Tallies(ledger, amount) => self.sums.add(ledger, amount)?,
+            Stop::Goes | Stop::Blocks | Stop::Ends => return Ok(Some(left)),
         }
-        Ok(true)
-    }
-
-    /// Frees a lock for the thread in hand, and wakes the thread that holds it next. Where that one is to go on here, few steps
-    /// are left.
-    fn free(&mut self, lock: u64, left: &mut u32) -> Result<(), WorkerFault> {
-        let next = self.locks.free(self.rt, lock, self.who())?;
         self.desk.answer()?;
-        if let Some(id) = next {
-            self.wake(id, Cause::HoldsLock);
-            if self.agenda.has_next() {
-                *left = (*left).min(policy::STEPS_PAST_FREE);
-            }
+        if self.agenda.has_next() {
+            // The next holder of a lock is to go on here.
+            return Ok(Some(left.min(policy::STEPS_PAST_FREE)));
         }
-        Ok(())
+        Ok(Some(left))
     }
 
     /// The thread in hand as the locks know it: by the tag of the one that runs in its place, under its own id.

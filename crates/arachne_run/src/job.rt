@@ -160,11 +160,7 @@ impl<'p> RunJob for Job<'p> {
         ticket.still_waits()
     }
 
-    fn of_ticket(
-        alloc: Global,
-        ticket: Ticket<'p>,
-        spares: &mut Spares<'p>,
-    ) -> Option<Job<'p>> {
+    fn of_ticket(alloc: Global, ticket: Ticket<'p>, spares: &mut Spares<'p>) -> Option<Job<'p>> {
         let (waiting, end) = ticket.take()?;
         let Waiting { mut thread, parent } = waiting;
         thread.set_spilled();
@@ -256,7 +252,10 @@ impl<'p> Job<'p> {
         ensures left { IfOk result (λ slice. IsLeft (λ j child. IsForking j.thread child) (λ j. pause_of j.thread) slice self.new) }
         ensures steps { IfOk result (λ slice. UsesSteps slice left.old left.new) }
     {
-        match self.thread.advance_within(left, &mut spares.threads, places)? {
+        match self
+            .thread
+            .advance_within(left, &mut spares.threads, places)?
+        {
             Pause::Budget => Ok(Slice::Goes),
             Pause::Forks(class, child) => Ok(Slice::Forks(class, child)),
             Pause::Joins => {

@@ -37,7 +37,12 @@ impl<'a> Locks<'a> {
     }
 
     /// Asks for a lock. Whether the thread holds it at once; else it waits.
-    pub(crate) fn ask<H: Wait>(&mut self, rt: &H, lock: u64, who: Who) -> Result<bool, WorkerFault> {
+    pub(crate) fn ask<H: Wait>(
+        &mut self,
+        rt: &H,
+        lock: u64,
+        who: Who,
+    ) -> Result<bool, WorkerFault> {
         let lock = self.number_of(lock)?;
         let backoff = Backoff::new();
         for _ in rt.forever() {

@@ -5,12 +5,12 @@ ghost use Rattle.arachne_sleep.specs.History.{IsSound};
 ghost use Rattle.arachne_sleep.specs.OneHolder.{HasOneHolderAtATime};
 ghost use Rattle.arachne_run.specs.Tokens.{AreIdle, IsSetUp};
 
-use crate::fault::WorkerFault;
 use crate::classes::has_exclusive;
+use crate::fault::WorkerFault;
 use crate::policy::may_keep_places;
 use crate::shared::Shared;
 use crate::tokens::Tokens;
-use arachne_arbiter::Arbiter;
+use arachne_arbiter::{Arbiter, Cores};
 use arachne_contexts::{Contexts, Seats, Tagged};
 use arachne_core::{CORES, SLOTS};
 use arachne_lang::Program;
@@ -19,6 +19,7 @@ use arachne_policy::CoreOrder;
 use arachne_sleep::{LockEvent, SleepLocks};
 use arachne_spill::SpillQueue;
 use std::alloc::{AllocError, Global};
+use std::marker::PhantomData;
 use std::sync::Wait;
 
 /// The table of contexts, the ledgers, the locks, and the words that all workers look at.
@@ -49,6 +50,23 @@ pub(crate) struct Remains {
     pub(crate) histories: Vec<Vec<LockEvent>>,
     /// How many orders were applied.
     pub(crate) applied: usize,
+}
+
+impl<C: Seats, K: Tagged + Drop> Machine<C, K> {
+    /// The cores of the table.
+    pub(crate) fn cores<'a, H, T>(&'a self, rt: &'a H) -> Cores<'a, H, T, C>
+        requires { IsSetUp C.core_count C.slot_count self.now }
+        ensures table { result.table.now ≡ self.now.table }
+        ensures count { result.count ≡ self.now.cores }
+    {
+        Cores {
+            rt,
+            table: &self.table,
+            count: self.cores,
+            slots: self.slots,
+            of: PhantomData,
+        }
+    }
 }
 
 impl<C: Seats + Drop, K: Tagged + Drop> Machine<C, K> {
@@ -129,7 +147,9 @@ impl<C: Seats + Drop, K: Tagged + Drop> Machine<C, K> {
         let mut pass = tokens.pass;
         while self.tickets.pop(rt, &mut pass).is_some() {}
         let is_all = self.table.is_whole(&tokens.seat) && self.table.out(&tokens.seat) == 0;
-        if !is_all || !tokens.share.is_whole() || !self.locks.are_whole(&tokens.lock_seats)
+        if !is_all
+            || !tokens.share.is_whole()
+            || !self.locks.are_whole(&tokens.lock_seats)
             || !self.tickets.is_whole(&pass)
         {
             return Err(WorkerFault::Token);

@@ -12,13 +12,13 @@ ghost use Rattle.arachne_run.specs.Reports.{histories_in, meaning_in, tags_of};
 ghost use Rattle.arachne_run.specs.Setups.{IsFirstOrderFault, IsSetupFault, is_of_setup, refusal_of};
 ghost use Rattle.arachne_run.specs.declared.fault.RunFault.{RunFault};
 
-use crate::workers::work_all;
 use crate::fault::RunFault;
 use crate::gate::Gate;
 use crate::machine::Machine;
 use crate::report::Report;
 use crate::setup::Setup;
 use crate::slice::JobOf;
+use crate::workers::work_all;
 use arachne_contexts::Contexts;
 use arachne_lang::Program;
 use rand_core::Rng;

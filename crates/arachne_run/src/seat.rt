@@ -5,30 +5,30 @@
 use crate::claims::Claims;
 use crate::desk::{Desk, Grip, Stop, Tended};
 use crate::fault::WorkerFault;
+use crate::forking::{Fork, Openings, OpeningsOf, answer_fork};
 use crate::machine::Machine;
 use crate::policy;
-use crate::queue::Post;
-use crate::shared::Shared;
 use crate::slice::{RunJob, Slice};
+use crate::tables::{free_place, post_waiting, tend};
 use crate::tags::Tags;
-use arachne_arbiter::{Arbiter, Cores};
-use arachne_contexts::{Claimed, Contexts, Held, Moved, Placed, Rested, Seats, Tagged, Taken, Woken};
+use arachne_arbiter::Arbiter;
+use arachne_contexts::{Claimed, Contexts, Held, Moved, Placed, Rested, Taken, Woken};
 use arachne_core::{MarkWord, OccWord, Place, Rest, ThreadId};
-use arachne_lang::Class;
-use arachne_machine::Placing;
-use arachne_spill::{CAPACITY, SpillPass};
+use arachne_spill::SpillPass;
 use rand_core::Rng;
 use std::alloc::Global;
-use std::marker::PhantomData;
+use std::marker::{Model, PhantomData};
 use std::sync::Wait;
 
-/// What a worker has at the table.
+/// What a worker has at the table. Contracts see nothing of it: its invariant says what is out with its seats.
 #[derive(Drop)]
 pub(crate) struct Seat<'a, H, T: RunJob, C: Contexts<T>, R> {
     pub(crate) rt: &'a H,
     pub(crate) alloc: Global,
     pub(crate) machine: &'a Machine<C, T::Ticket>,
     pub(crate) core: u8,
+    /// Something else may be out with the seats, since the table has not known a token. The worker is at its end then.
+    pub(crate) is_broken: bool,
     /// With it the thread in hand is out.
     pub(crate) seat: C::Seat,
     pub(crate) held: Option<Held<T, C::Hold>>,
@@ -45,42 +45,26 @@ pub(crate) struct Seat<'a, H, T: RunJob, C: Contexts<T>, R> {
     pub(crate) spares: T::Spares,
 }
 
-/// What a thread is told at its forks.
-#[derive(Drop)]
-struct Openings<'a, 'b, H, T, C: Seats, R> {
-    cores: Cores<'a, H, T, C>,
-    shared: &'a Shared,
-    chooser: &'b mut R,
-    tags: &'b mut Tags,
-}
+impl<'a, H, T: RunJob, C: Contexts<T>, R> Model for Seat<'a, H, T, C, R> {
+    ghost use Rattle.std.specs.Prelude.{◌≡◌, ◌<◌, false, map};
+    ghost use Rattle.arachne_contexts.specs.Out.{Claim as a_claim};
+    ghost use Rattle.arachne_spill.specs.Views.{IsPassOf};
+    ghost use Rattle.arachne_run.specs.Tokens.{in_hand, IsArbiterOf, IsSetUp};
 
-impl<'a, 'b, H: Wait, T: Tagged, C: Contexts<T>, R: Rng> Placing for Openings<'a, 'b, H, T, C, R> {
-    ghost use Rattle.std.specs.Prelude.{false};
+    ghost Value = { Unit {0} };
 
-    ghost gives_all = { false };
+    ghost view = { λ s. tt };
 
-    /// Whether a child may get a place, or wait for one. Where it may not, the chooser's word for it is drawn here.
-    #[inline(always)]
-    fn is_any(&mut self, class: Class) -> bool {
-        if class == Class::Exclusive
-            || self.cores.is_any_free()
-            || self.shared.signals().waiting() < CAPACITY as u64
-        {
-            return true;
-        }
-        let _ = self.chooser.next_u64();
-        false
-    }
-
-    #[inline(always)]
-    fn tag(&mut self) -> u64 {
-        self.tags.take(self.shared)
-    }
+    ghost invariant = { λ s. IsSetUp C.core_count C.slot_count s.machine.now × (s.core < s.machine.now.cores)
+        × C.sits s.machine.now.table s.seat × C.sits s.machine.now.table s.spare
+        × (s.is_broken ≡ false → C.has s.machine.now.table s.seat (in_hand T.tag_of s.held))
+        × (s.is_broken ≡ false → C.has s.machine.now.table s.spare (map a_claim s.kept))
+        × IsPassOf s.machine.now.tickets s.pass × IsArbiterOf s.machine.now s.arbiter };
 }
 
 impl<'a, H: Wait, T: RunJob, C: Contexts<T>, R: Rng> Desk for Seat<'a, H, T, C, R> {
     fn take(&mut self, index: u8) -> Grip {
-        if index >= self.machine.slots || self.held.is_some() {
+        if index >= self.machine.slots || self.held.is_some() || self.is_broken {
             return Grip::None;
         }
         let table = &self.machine.table;
@@ -108,26 +92,53 @@ impl<'a, H: Wait, T: RunJob, C: Contexts<T>, R: Rng> Desk for Seat<'a, H, T, C, 
     }
 
     fn advance(&mut self, left: &mut u32) -> Result<Stop, WorkerFault> {
-        let cores = self.cores();
+        let machine = self.machine;
         let Some(held) = &mut self.held else {
             return Err(WorkerFault::Token);
         };
-        let mut openings: Openings<'_, '_, H, T, C, R> = Openings {
-            cores,
-            shared: &self.machine.shared,
-            chooser: &mut self.chooser,
-            tags: &mut self.tags,
-        };
-        match held.value.slice(left, &mut self.spares, &mut openings)? {
-            Slice::Goes => Ok(Stop::Goes),
-            Slice::Forks(class, child) => self.fork(class, child),
-            Slice::Blocks => Ok(Stop::Blocks),
-            Slice::Asks(lock) => Ok(Stop::Asks(lock)),
-            Slice::Awaits(lock) => Ok(Stop::Awaits(lock)),
-            Slice::Frees(lock) => Ok(Stop::Frees(lock)),
-            Slice::Tallies(ledger, amount) => Ok(Stop::Tallies(ledger, amount)),
-            Slice::Ends => Ok(Stop::Ends),
+        if self.is_broken {
+            return Err(WorkerFault::Token);
         }
+        let mut openings: OpeningsOf<'_, '_, '_, H, T, C, R> = OpeningsOf {
+            openings: Openings {
+                rt: self.rt,
+                table: &machine.table,
+                cores: machine.cores,
+                slots: machine.slots,
+                shared: &machine.shared,
+                chooser: &mut self.chooser,
+                tags: &mut self.tags,
+            },
+            of: PhantomData,
+        };
+        let stop = match held.value.slice(left, &mut self.spares, &mut openings)? {
+            Slice::Goes => Stop::Goes,
+            Slice::Forks(class, child) => {
+                let tag = self.tags.take(&machine.shared);
+                let fork = Fork { class, child, tag };
+                self.is_broken = true;
+                let stop = answer_fork::<H, T, C, R>(
+                    self.rt,
+                    self.alloc,
+                    machine,
+                    &mut self.seat,
+                    &mut self.pass,
+                    held,
+                    fork,
+                    &mut self.chooser,
+                    &mut self.spares,
+                )?;
+                self.is_broken = false;
+                stop
+            }
+            Slice::Blocks => Stop::Blocks,
+            Slice::Asks(lock) => Stop::Asks(lock),
+            Slice::Awaits(lock) => Stop::Awaits(lock),
+            Slice::Frees(lock) => Stop::Frees(lock),
+            Slice::Tallies(ledger, amount) => Stop::Tallies(ledger, amount),
+            Slice::Ends => Stop::Ends,
+        };
+        Ok(stop)
     }
 
     fn answer(&mut self) -> Result<(), WorkerFault> {
@@ -138,6 +149,9 @@ impl<'a, H: Wait, T: RunJob, C: Contexts<T>, R: Rng> Desk for Seat<'a, H, T, C, 
     }
 
     fn rest(&mut self) -> Result<Rest, WorkerFault> {
+        if self.is_broken {
+            return Err(WorkerFault::Token);
+        }
         let Some(held) = self.held.take() else {
             return Err(WorkerFault::Token);
         };
@@ -157,6 +171,9 @@ impl<'a, H: Wait, T: RunJob, C: Contexts<T>, R: Rng> Desk for Seat<'a, H, T, C, 
     }
 
     fn end(&mut self) -> Result<Option<ThreadId>, WorkerFault> {
+        if self.is_broken {
+            return Err(WorkerFault::Token);
+        }
         let Some(held) = self.held.take() else {
             return Err(WorkerFault::Token);
         };
@@ -171,16 +188,24 @@ impl<'a, H: Wait, T: RunJob, C: Contexts<T>, R: Rng> Desk for Seat<'a, H, T, C, 
     }
 
     fn settle_places(&mut self, before: OccWord) -> Result<(), WorkerFault> {
-        if !self.machine.may_keep {
+        if !self.machine.may_keep || self.is_broken {
             return Ok(());
         }
         if policy::keeps_place(before, self.machine.slots) {
-            self.keep_place()?;
+            let table = &self.machine.table;
+            self.is_broken = true;
+            let claimed = table.claim(self.rt, &mut self.spare, self.core);
+            if let Ok(Claimed::Place(claim)) = claimed
+                && let Err(claim) = self.kept.keep(claim)
+                && table.give_back(self.rt, &mut self.spare, claim).is_err()
+            {
+                return Err(WorkerFault::Token);
+            }
+            self.is_broken = false;
         }
-        if self.kept.count() > 0
-            && policy::gives_back(self.look(), self.kept.count(), self.machine.slots)
-        {
-            self.give_all_back()?;
+        let kept = self.kept.count();
+        if kept > 0 && policy::gives_back(self.look(), kept, self.machine.slots) {
+            return self.give_all_back();
         }
         Ok(())
     }
@@ -190,9 +215,13 @@ impl<'a, H: Wait, T: RunJob, C: Contexts<T>, R: Rng> Desk for Seat<'a, H, T, C, 
     }
 
     fn give_all_back(&mut self) -> Result<(), WorkerFault> {
+        if self.is_broken {
+            return Err(WorkerFault::Token);
+        }
         let table = &self.machine.table;
         while let Some(claim) = self.kept.take() {
             if table.give_back(self.rt, &mut self.spare, claim).is_err() {
+                self.is_broken = true;
                 return Err(WorkerFault::Token);
             }
         }
@@ -248,6 +277,9 @@ impl<'a, H: Wait, T: RunJob, C: Contexts<T>, R: Rng> Desk for Seat<'a, H, T, C, 
     }
 
     fn take_ticket(&mut self) -> Result<(bool, Option<u8>), WorkerFault> {
+        if self.is_broken {
+            return Err(WorkerFault::Token);
+        }
         let Some(ticket) = self.machine.tickets.pop(self.rt, &mut self.pass) else {
             return Ok((false, None));
         };
@@ -255,12 +287,27 @@ impl<'a, H: Wait, T: RunJob, C: Contexts<T>, R: Rng> Desk for Seat<'a, H, T, C, 
         if !T::still_waits(&ticket) {
             return Ok((true, None));
         }
-        let index = self.post_waiting(ticket)?;
-        Ok((true, index))
+        self.is_broken = true;
+        let (rt, machine) = (self.rt, self.machine);
+        let Some(claim) = free_place::<H, T, C>(
+            rt,
+            machine,
+            &mut self.spare,
+            &mut self.kept,
+            self.core,
+        )?
+        else {
+            self.is_broken = false;
+            return Ok((true, None));
+        };
+        let index = claim.place().index;
+        let job = T::of_ticket(self.alloc, ticket, &mut self.spares);
+        let posted = post_waiting::<H, T, C>(rt, machine, &mut self.spare, claim, job)?;
+        self.is_broken = false;
+        Ok((true, if posted { Some(index) } else { None }))
     }
 
     fn tend(&mut self) -> Tended {
-        let cores = self.cores();
         let Some(arbiter) = &mut self.arbiter else {
             return Tended {
                 applied: None,
@@ -268,8 +315,7 @@ impl<'a, H: Wait, T: RunJob, C: Contexts<T>, R: Rng> Desk for Seat<'a, H, T, C, 
             };
         };
         let before = arbiter.applied();
-        let signals = self.machine.shared.signals();
-        let receivers = arbiter.tend(&cores, &mut self.seat, signals.parking(), signals.slices());
+        let receivers = tend::<H, T, C>(self.rt, self.machine, &mut self.seat, arbiter);
         let after = arbiter.applied();
         Tended {
             applied: if after != before { Some(after) } else { None },
@@ -285,134 +331,12 @@ impl<'a, H: Wait, T: RunJob, C: Contexts<T>, R: Rng> Desk for Seat<'a, H, T, C, 
     }
 
     fn park(&mut self) -> bool {
-        let parking = self.machine.shared.signals().parking();
-        let cores = self.cores();
-        cores.park_if_drained(&mut self.seat, parking, self.core)
-    }
-}
-
-impl<'a, H: Wait, T: RunJob, C: Contexts<T>, R: Rng> Seat<'a, H, T, C, R> {
-    /// The cores of the table.
-    fn cores(&self) -> Cores<'a, H, T, C> {
-        Cores {
-            rt: self.rt,
-            table: &self.machine.table,
-            count: self.machine.cores,
-            slots: self.machine.slots,
-            of: PhantomData,
-        }
-    }
-
-    /// Answers a fork: the child gets a place on a core that has one for a thread of its class. Else a normal one waits, if there
-    /// is room in the queue, and another one runs in place.
-    fn fork(&mut self, class: Class, child: T::Child) -> Result<Stop, WorkerFault> {
-        let cores = self.cores();
-        let claim = match class {
-            Class::Normal => cores.claim_normal(&mut self.seat, &mut self.chooser)?,
-            Class::Exclusive => cores.claim_exclusive(&mut self.seat)?,
-        };
-        match claim {
-            Some(claim) => self.post_child(claim, child),
-            None => self.put_aside(class, child),
-        }
-    }
-
-    /// The child becomes a thread at the claimed place.
-    fn post_child(&mut self, claim: C::Claim, child: T::Child) -> Result<Stop, WorkerFault> {
-        let tag = self.tags.take(&self.machine.shared);
-        let Some(held) = &mut self.held else {
-            return Err(WorkerFault::Token);
-        };
-        let me = held.id();
-        let job = held
-            .value
-            .fork_off(self.alloc, me, child, tag, &mut self.spares)?;
-        let place = claim.place();
         let table = &self.machine.table;
-        match table.post(self.rt, &mut self.seat, claim, job) {
-            Ok(id) => Ok(Stop::Posted(Post { id, place })),
-            Err(_) => Err(WorkerFault::Token),
+        let drained = table.is_drained(self.rt, &mut self.seat, self.core);
+        if drained {
+            let parking = self.machine.shared.signals().parking();
+            parking.park(self.rt, self.core);
         }
-    }
-
-    /// The child waits for a place, or runs in place.
-    fn put_aside(&mut self, class: Class, child: T::Child) -> Result<Stop, WorkerFault> {
-        let tag = self.tags.take(&self.machine.shared);
-        let waits = class == Class::Normal && !self.machine.tickets.is_full(&mut self.pass);
-        let Some(held) = &mut self.held else {
-            return Err(WorkerFault::Token);
-        };
-        let me = held.id();
-        if let Some(ticket) = held.value.put_aside(self.alloc, me, child, tag, waits)? {
-            // Where the queue was filled meanwhile, the child waits without a ticket, for its parent.
-            let pushed = self.machine.tickets.push(self.rt, &mut self.pass, ticket);
-            if pushed.is_ok() {
-                self.machine.shared.signals().ticket_came();
-            }
-        }
-        Ok(Stop::Goes)
-    }
-
-    /// Posts a ticket's child on the core, at a place that is kept or free, if it waits still. Its index.
-    fn post_waiting(&mut self, ticket: T::Ticket) -> Result<Option<u8>, WorkerFault> {
-        let table = &self.machine.table;
-        let claim = match self.kept.take() {
-            Some(claim) => claim,
-            None => match table.claim(self.rt, &mut self.spare, self.core) {
-                Ok(Claimed::Place(claim)) => claim,
-                Ok(_) => return Ok(None),
-                Err(_) => return Err(WorkerFault::Memory),
-            },
-        };
-        let place = claim.place();
-        match T::of_ticket(self.alloc, ticket, &mut self.spares) {
-            Some(job) => match table.post(self.rt, &mut self.spare, claim, job) {
-                Ok(_) => Ok(Some(place.index)),
-                Err(_) => Err(WorkerFault::Token),
-            },
-            None => match table.give_back(self.rt, &mut self.spare, claim) {
-                Ok(()) => Ok(None),
-                Err(_) => Err(WorkerFault::Token),
-            },
-        }
-    }
-
-    /// Keeps a place of the core, if there is one that is free.
-    fn keep_place(&mut self) -> Result<(), WorkerFault> {
-        let table = &self.machine.table;
-        let Ok(Claimed::Place(claim)) = table.claim(self.rt, &mut self.spare, self.core) else {
-            return Ok(());
-        };
-        if let Err(claim) = self.kept.keep(claim)
-            && table.give_back(self.rt, &mut self.spare, claim).is_err()
-        {
-            return Err(WorkerFault::Token);
-        }
-        Ok(())
-    }
-
-    /// The root's place on this core, which a table on which nothing runs has.
-    fn claim_root(&mut self) -> Result<C::Claim, WorkerFault> {
-        let table = &self.machine.table;
-        for _ in self.rt.forever() {
-            match table.claim(self.rt, &mut self.seat, self.core) {
-                Ok(Claimed::Place(claim)) => return Ok(claim),
-                Ok(Claimed::Full(_) | Claimed::Closed(_)) => return Err(WorkerFault::Token),
-                Ok(Claimed::Lost(_)) => {}
-                Err(_) => return Err(WorkerFault::Memory),
-            }
-        }
-        unreachable!()
-    }
-
-    /// Posts the root on this core. Its index.
-    pub(crate) fn post_root(&mut self, root: T) -> Result<u8, WorkerFault> {
-        let claim = self.claim_root()?;
-        let place = claim.place();
-        let table = &self.machine.table;
-        match table.post(self.rt, &mut self.seat, claim, root) {
-            Ok(_) => Ok(place.index),
-            Err(_) => Err(WorkerFault::Token),
-        }
+        drained
     }
 }

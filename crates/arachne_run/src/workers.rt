@@ -13,6 +13,7 @@ use crate::queue::Agenda;
 use crate::seat::Seat;
 use crate::slice::RunJob;
 use crate::sums::Sums;
+use crate::tables::post_root;
 use crate::tags::Tags;
 use crate::tokens::Tokens;
 use arachne_contexts::{Contexts, Seats, Tagged};
@@ -103,7 +104,14 @@ pub(crate) fn work_all<
             }
             let mut all = match own {
                 Some(chooser) => work_on::<H, T, C, R, G>(
-                    rt, alloc, machine, gate, 0, chooser, tokens, Some(root),
+                    rt,
+                    alloc,
+                    machine,
+                    gate,
+                    0,
+                    chooser,
+                    tokens,
+                    Some(root),
                 ),
                 None => {
                     machine.shared.fail(rt, WorkerFault::KernelThread);
@@ -191,12 +199,23 @@ fn work_on<H: Wait, T: RunJob, C: Contexts<T>, R: Rng + Drop, G: Gate>(
         pass,
         arbiter,
     } = tokens;
-    let (seat, spare) = machine.table.split(rt, seat);
+    let (mut seat, spare) = machine.table.split(rt, seat);
+    let mut agenda = Agenda::new(alloc);
+    if let Some(root) = root {
+        match post_root::<H, T, C>(rt, machine, &mut seat, root) {
+            Ok(index) => agenda.note(index),
+            Err(fault) => {
+                machine.shared.fail(rt, fault);
+                return None;
+            }
+        }
+    }
     let desk: Seat<'_, H, T, C, R> = Seat {
         rt,
         alloc,
         machine,
         core,
+        is_broken: false,
         seat,
         held: None,
         spare,
@@ -217,21 +236,33 @@ fn work_on<H: Wait, T: RunJob, C: Contexts<T>, R: Rng + Drop, G: Gate>(
         desk,
         locks: Locks::new(&machine.locks, lock_seats),
         sums: Sums::new(&machine.ledgers, share),
-        agenda: Agenda::new(alloc),
+        agenda,
         slices: 0,
     };
-    if let Err(fault) = begin_with(&mut worker, root) {
+    if let Err(fault) = worker.work() {
         machine.shared.fail(rt, fault);
         return None;
     }
-    let Worker { desk, locks, sums, .. } = worker;
+    let Worker {
+        desk,
+        locks,
+        sums,
+        ..
+    } = worker;
     let Seat {
+        is_broken,
         seat,
+        held,
         spare,
+        kept,
         pass,
         arbiter,
         ..
     } = desk;
+    if is_broken || held.is_some() || kept.count() > 0 {
+        machine.shared.fail(rt, WorkerFault::Token);
+        return None;
+    }
     Some(Tokens {
         seat: machine.table.join_seats(rt, seat, spare),
         share: sums.into_share(),
@@ -239,16 +270,4 @@ fn work_on<H: Wait, T: RunJob, C: Contexts<T>, R: Rng + Drop, G: Gate>(
         pass,
         arbiter,
     })
-}
-
-/// Gives the root its place, if there is one, and works until all stop.
-fn begin_with<'a, H: Wait, T: RunJob, C: Contexts<T>, R: Rng, G: Gate>(
-    worker: &mut Worker<'a, H, Seat<'a, H, T, C, R>, G>,
-    root: Option<T>,
-) -> Result<(), WorkerFault> {
-    if let Some(root) = root {
-        let index = worker.desk.post_root(root)?;
-        worker.agenda.note(index);
-    }
-    worker.work()
 }

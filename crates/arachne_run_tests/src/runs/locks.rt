@@ -4,9 +4,9 @@ use super::rows::{MACHINES, Row, rows_hold};
 use super::{FORMS, Source};
 use crate::choosers::{SPREAD, ZEROS};
 use crate::gates::Watching;
+use arachne_core::SLOTS;
 use arachne_run::Report;
 use arachne_sleep::{LockEvent, Who};
-use arachne_core::SLOTS;
 use std::alloc::Global;
 use std::test::Fail;
 

@@ -3,7 +3,7 @@ use Rattle.std.proofs.lemmas.List.Elements.{All-push, All-tail}
 use denote.Param.Send.{sendable}
 use Rattle.std.proofs.Crossing as std
 use Rattle.arachne_run.proofs.Crossing.{machine_sync, tokens_send}
-use Rattle.arachne_run.proofs.crew.fn.work_all.scope.Goals as goal
+use Rattle.arachne_run.proofs.workers.fn.work_all.scope.Goals as goal
 
 pub loop-core-preserved : goal.loop-core-preserved
 loop-core-preserved g c =
