@@ -106,7 +106,11 @@ impl<C: Seats + Drop, K: Tagged + Drop> Machine<C, K> {
             slots,
             quantum,
             orders: count,
-            may_keep: may_keep_places(has_exclusive(&program.root), count),
+            may_keep: may_keep_places(
+                has_exclusive(&program.root),
+                count,
+                program.locks > 0 && cores > 1,
+            ),
         };
         let tokens = Tokens {
             seat,

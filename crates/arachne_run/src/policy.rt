@@ -34,9 +34,10 @@ pub(crate) fn has_room(now: OccWord, slots: u8) -> bool {
     !now.is_closed() && !now.is_exclusive() && now.count() < slots
 }
 
-/// Whether places may be kept at all: not where a thread may want a whole core, nor where orders may close one.
-pub(crate) fn may_keep_places(has_exclusive: bool, orders: usize) -> bool {
-    !has_exclusive && orders == 0
+/// Whether places may be kept at all: not where a thread may want a whole core, nor where orders may close one, nor where a thread
+/// that holds a lock may be moved from one core to another.
+pub(crate) fn may_keep_places(has_exclusive: bool, orders: usize, moves_holders: bool) -> bool {
+    !has_exclusive && orders == 0 && !moves_holders
 }
 
 /// Whether a place that a thread leaves is kept: its core was full.
