@@ -1,4 +1,4 @@
-pub mod Laying
+pub mod Listing
 pub mod Accounts
 pub mod Tabulated
 pub mod Names
@@ -8,15 +8,16 @@ pub mod Frames
 pub mod Faultlessness
 pub mod Outlooks
 pub mod Renewing
-pub mod Purity
 pub mod Openings
 pub mod Handings
 pub mod Splitting
 pub mod Joining
 pub mod Soundness
-pub mod Strides
+pub mod Here
+pub mod Levels
 pub mod Advancing
 pub mod Waiting
 pub mod Nesting
+pub mod Answering
 pub mod Crossing
 pub mod WorkedPrograms

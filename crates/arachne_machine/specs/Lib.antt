@@ -6,12 +6,13 @@ pub mod Advance
 pub mod Work
 pub mod Trace
 pub mod Turns
-pub mod Pure
 pub mod Account
+pub mod Strands
 pub mod Ending
 pub mod Steps
-pub mod Stops
 pub mod Sound
+pub mod Runs
+pub mod Kept
 pub mod Alone
 pub mod Faultless
 pub use Rattle.arachne_lang.specs.Tree

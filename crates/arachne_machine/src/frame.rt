@@ -5,6 +5,8 @@ use arachne_lang::{Expr, Operation, Reduction};
 #[derive(Clone, Copy)]
 pub struct Stretch<'p> {
     pub reduction: Reduction,
+    /// How many steps the body takes, where that is the same for all numbers; else 0.
+    pub cost: u32,
     pub grain: u64,
     pub first: u64,
     pub end: u64,
@@ -84,6 +86,17 @@ pub enum Frame<'p> {
         number: u64,
         reduction: Reduction,
     },
+    /// The child of this number begins here, and once it has ended this expression goes on.
+    JoinHere {
+        number: u64,
+        child: &'p Expr,
+        after: &'p Expr,
+    },
+    /// The value is that of the right half of a part of a sweep; the child of this number begins the left one here.
+    MergeHere {
+        number: u64,
+        left: Stretch<'p>,
+    },
     /// The value is a fold's first number; then come its end, its first value and its body.
     FoldTo(&'p Expr, &'p Expr, &'p Expr),
     /// The value is the end of a fold from this number on; then come its first value and its body.
@@ -95,6 +108,7 @@ pub enum Frame<'p> {
         next: u64,
         end: u64,
         body: &'p Expr,
+        cost: u32,
     },
     /// The value is a sweep's first number; then come its end and its body.
     SweepTo(Reduction, u64, &'p Expr, &'p Expr),

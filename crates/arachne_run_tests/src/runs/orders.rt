@@ -7,6 +7,7 @@ use super::rows::{Row, row_holds, rows_hold};
 use super::{FORMS, Source};
 use crate::choosers::{CORE_ONE, CORE_THREE, SPREAD, ZEROS};
 use crate::gates::Watching;
+use arachne_core::SLOTS;
 use arachne_policy::{CoreOrder, OrderKind};
 use std::alloc::{AllocError, Global};
 use std::test::Fail;
@@ -57,6 +58,7 @@ const COMING_AND_GOING: Row = Row {
     shows: "cores come and go",
     source: MANY,
     forms: FORMS,
+    slots: SLOTS,
     machines: &[(4, 1, 4)],
     draws: SPREAD,
     orders: &[],
@@ -98,6 +100,7 @@ const ROWS: &[Row] = &[
         shows: "an exclusive child among those that wait is joined in turn",
         source: WAITING,
         forms: FORMS,
+        slots: SLOTS,
         machines: &[(3, 1, 3)],
         draws: SPREAD,
         orders: &[
@@ -133,6 +136,7 @@ const ROWS: &[Row] = &[
         shows: "orders are counted",
         source: SWEEP,
         forms: FORMS,
+        slots: SLOTS,
         machines: &[(4, 1, 4)],
         draws: SPREAD,
         orders: &[
@@ -161,6 +165,7 @@ const ROWS: &[Row] = &[
         shows: "orders are counted",
         source: SWEEP,
         forms: FORMS,
+        slots: SLOTS,
         machines: &[(4, 1, 4)],
         draws: SPREAD,
         orders: &[
@@ -195,6 +200,7 @@ const ROWS: &[Row] = &[
         shows: "a closed core gets no thread",
         source: FORK,
         forms: FORMS,
+        slots: SLOTS,
         machines: &[(4, 1, 4), (4, 100, 4)],
         draws: CORE_THREE,
         orders: &[CoreOrder {
@@ -212,6 +218,7 @@ const ROWS: &[Row] = &[
         shows: "a granted core gets threads again",
         source: LATE,
         forms: FORMS,
+        slots: SLOTS,
         machines: &[(4, 1, 4)],
         draws: CORE_THREE,
         orders: &[
@@ -237,6 +244,7 @@ const ROWS: &[Row] = &[
         shows: "a closed core is drained",
         source: COUNTING,
         forms: FORMS,
+        slots: SLOTS,
         machines: &[(2, 1, 2)],
         draws: CORE_ONE,
         orders: &[CoreOrder {
@@ -253,6 +261,7 @@ const ROWS: &[Row] = &[
         shows: "a closed core is drained",
         source: COUNTING,
         forms: FORMS,
+        slots: SLOTS,
         machines: &[(2, 100, 2)],
         draws: CORE_ONE,
         orders: &[CoreOrder {
@@ -270,6 +279,7 @@ const ROWS: &[Row] = &[
         shows: "a thread that has a core alone stays",
         source: ALONE,
         forms: FORMS,
+        slots: SLOTS,
         machines: &[(2, 1, 2)],
         draws: ZEROS,
         orders: &[CoreOrder {
@@ -277,7 +287,7 @@ const ROWS: &[Row] = &[
             kind: OrderKind::Release,
             core: 1,
         }],
-        watching: Watching::Meeting,
+        watching: Watching::Meeting(500),
         facts: &[
             (Fact::Value, 1),
             (Fact::Applied, 1),

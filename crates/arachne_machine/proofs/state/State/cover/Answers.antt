@@ -1,13 +1,9 @@
 use Rattle.std.proofs.Common.{◌≤◌, ◌<◌, ◌+◌, ◌-◌, ◌/◌, length, ap, arith}
 use Rattle.std.specs.Prelude.{max}
-use Rattle.arachne_lang.specs.declared.program.Class.TheVariants.{Normal}
-use Rattle.arachne_machine.specs.declared.state.Stop.TheVariants as stop
 use Rattle.arachne_machine.specs.Ending.{unjoined_of}
-use Rattle.arachne_machine.specs.Steps.{pending_of, seen}
 use Rattle.arachne_machine.proofs.Frames.{length-forks_of}
 use Rattle.arachne_machine.proofs.Handings.{covers}
 use Rattle.arachne_machine.proofs.Splitting.{goes_to_half}
-use Rattle.arachne_machine.proofs.Strides.{reaches_once, reaches_stop}
 use Rattle.arachne_machine.proofs.state.State.cover.Goals as goal
 
 pub halve-requires : goal.halve-requires
@@ -19,18 +15,14 @@ halve-requires c =
 
 pub returns-then-count-max-clause-ok : goal.returns-then-count-max-clause-ok
 returns-then-count-max-clause-ok c =
-    let t = c.args.self.now in
     let s = c.args.stretch in
     let long : max 1 s.grain < s.end - s.first = omega (arith, c.if-count-max.true, c.max.ensures, c.saturating_sub-count.ensures) in
-    reaches_stop _ t (stop.Forks Normal c.in_ok-child.child) c.halve.new.self (ap pending_of c.requires.covers)
-    (goes_to_half t c.halve.new.self c.in_ok-child.child.value s (s.first + c.saturating_sub-count.result / 2) c.requires.covers long
-    (ap (λ n. s.first + n / 2) c.saturating_sub-count.ensures) c.in_ok-child.ensures.ok)
+    goes_to_half c.args.self.now c.halve.new.self c.in_ok-child.child.value s (s.first + c.saturating_sub-count.result / 2) c.requires.covers long
+    (ap (λ n. s.first + n / 2) c.saturating_sub-count.ensures) c.in_ok-child.ensures.ok
 
 pub returns-clause-ok : goal.returns-clause-ok
 returns-clause-ok c =
-    let t = c.args.self.now in
     let s = c.args.stretch in
     let short : s.end - s.first ≤ max 1 s.grain = omega (arith, c.if-count-max.false, c.max.ensures, c.saturating_sub-count.ensures) in
-    let after = seen c.turn_sweep.result c.turn_sweep.new.self in
-    reaches_once _ _ t c.turn_sweep.result c.turn_sweep.new.self c.turn_sweep.ensures.step
-    (covers t c.reserve_turn.new.self after s c.unit-unit.result c.reserve_turn.ensures.same c.requires.covers short c.unit-unit.ensures c.turn_sweep.ensures.turns)
+    covers c.args.self.now c.reserve_turn.new.self c.turn_sweep.new.self s c.unit-unit.result c.reserve_turn.ensures.same c.requires.covers short
+    c.unit-unit.ensures c.turn_sweep.ensures

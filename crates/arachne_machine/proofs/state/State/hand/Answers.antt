@@ -1,83 +1,43 @@
-use Rattle.std.proofs.Common.{true, false, refl, ap, ◌∙◌, subst}
-use Rattle.arachne_lang.specs.Value.{apply}
+use Rattle.std.proofs.Common.{None, true, false, refl, sym, ap, subst}
+use Rattle.arachne_machine.specs.Steps.{IsPopped, AfterSteps, giving}
+use Rattle.arachne_machine.proofs.Outlooks.{given, as_giving, given_from}
+use Rattle.arachne_machine.proofs.Handings.{hand_index, hand_right, hand_apply, hand_branch, is_zero, is_not_zero, hand_extend, hand_restore}
 use Rattle.arachne_machine.specs.declared.frame.Control.TheVariants.{Begin}
-use Rattle.arachne_machine.specs.declared.state.State.{State}
-use Rattle.arachne_machine.specs.Steps.{IsPopped, beginning, giving, seen}
-use Rattle.arachne_machine.proofs.Outlooks.{as_giving, begins_with, given_from}
-use Rattle.arachne_machine.proofs.Handings.{hand_index, hand_right, hand_apply, hand_branch, is_zero, is_not_zero, hand_extend, hand_restore, hand_fold_turn, hand_sweep_turn}
-use Rattle.arachne_machine.proofs.Strides.{part_begun, reaches_once, reaches_part, reaches_value}
-use Rattle.arachne_machine.proofs.state.State.hand.Goals.{then-value-eq0, else-value-eq0}
+use Rattle.arachne_machine.proofs.state.State.hand.Goals.{in-Right, in-Branch, then-value-eq0, else-value-eq0, in-Extend}
 use Rattle.arachne_machine.proofs.state.State.hand.Goals as goal
 
 pub returns-in-Index-clause-made : goal.returns-in-Index-clause-made
 returns-in-Index-clause-made c = λ before popped.
     let t = giving c.args.self.now c.args.value in
-    reaches_value _ _ before c.args.self.now
-    (hand_index before t _ c.args.value c.in-Index.array c.item.result (subst (λ f. IsPopped f before t) c.in-Index.is popped) refl c.item.ensures (given_from c.args.self.now c.args.value _ _ refl))
+    hand_index before t _ c.args.value c.in-Index.array c.item.result (subst (λ f. IsPopped f before t) c.in-Index.is popped) refl c.item.ensures (given t _ _ refl)
 
 pub returns-in-Apply-clause-made : goal.returns-in-Apply-clause-made
 returns-in-Apply-clause-made c = λ before popped.
     let t = giving c.args.self.now c.args.value in
-    reaches_value _ _ before c.args.self.now
-    (hand_apply before t _ c.args.value c.in-Apply.first c.apply.result c.in-Apply.operation (subst (λ f. IsPopped f before t) c.in-Apply.is popped) refl c.apply.ensures (given_from c.args.self.now c.args.value _ _ refl))
+    hand_apply before t _ c.args.value c.in-Apply.left c.apply.result c.in-Apply.operation (subst (λ f. IsPopped f before t) c.in-Apply.is popped) refl c.apply.ensures (given t _ _ refl)
 
 pub returns-in-Restore-clause-made : goal.returns-in-Restore-clause-made
 returns-in-Restore-clause-made c = λ before popped.
     let t = giving c.args.self.now c.args.value in
-    let less : State = record c.args.self.now { environment = c.truncate.new.self } in
-    reaches_value _ _ before less
-    (hand_restore before t (giving less c.args.value) c.args.value c.in-Restore.length (subst (λ f. IsPopped f before t) c.in-Restore.is popped) refl
-    (record { program = refl; own = refl; below = refl; sums = refl; forks = refl; environment_is = c.truncate.ensures.items; frames_are = refl; control_is = refl }))
+    hand_restore before t _ c.args.value c.in-Restore.length (subst (λ f. IsPopped f before t) c.in-Restore.is popped) refl
+    (record { program = refl; own = refl; below = refl; sums = refl; forks = refl; environment_is = c.truncate.ensures.items; frames_are = refl; control_is = refl })
 
-pub returns-in-Right-clause-made : goal.returns-in-Right-clause-made
-returns-in-Right-clause-made c = λ before popped.
-    let t = c.args.self.now in
-    let v = c.args.value in
-    let right = c.in-Right.right in
-    let new = c.go_on.new.self in
-    reaches_part _ before _ new right c.go_on.ensures.begins
-    (hand_right before (giving t v) (beginning new right) v c.in-Right.operation right (subst (λ f. IsPopped f before (giving t v)) c.in-Right.is popped) refl
-    (as_giving t (beginning new right) v _ _ _ (begins_with t new right _ _ _ c.go_on.ensures.same)))
-
-pub returns-in-Extend-clause-made : goal.returns-in-Extend-clause-made
-returns-in-Extend-clause-made c = λ before popped.
-    let t = c.args.self.now in
-    let v = c.args.value in
-    let body = c.in-Extend.body in
-    let new = c.extend.new.self in
-    reaches_part _ before _ new body c.extend.ensures.begins
-    (hand_extend before (giving t v) (beginning new body) v body (subst (λ f. IsPopped f before (giving t v)) c.in-Extend.is popped) refl
-    (as_giving t (beginning new body) v _ _ _ (begins_with t new body _ _ _ c.extend.ensures.same)))
-
-pub returns-in-FoldTurn-clause-made : goal.returns-in-FoldTurn-clause-made
-returns-in-FoldTurn-clause-made c = λ before popped.
-    let t = c.args.self.now in
-    let v = c.args.value in
-    let dropped = c.drop_newest.new.self in
-    let after = seen c.turn_fold.result c.turn_fold.new.self in
-    reaches_once _ _ before c.turn_fold.result c.turn_fold.new.self c.turn_fold.ensures.step
-    (hand_fold_turn before (giving t v) dropped after v c.in-FoldTurn.next c.in-FoldTurn.end c.in-FoldTurn.body t.control
-    (subst (λ f. IsPopped f before (giving t v)) c.in-FoldTurn.is popped) refl (as_giving t dropped v _ _ _ c.drop_newest.ensures.same) c.turn_fold.ensures.turns)
-
-pub returns-in-SweepTurn-clause-made : goal.returns-in-SweepTurn-clause-made
-returns-in-SweepTurn-clause-made c = λ before popped.
-    let t = c.args.self.now in
-    let v = c.args.value in
-    let dropped = c.drop_newest-in-SweepTurn.new.self in
-    let after = seen c.turn_sweep.result c.turn_sweep.new.self in
-    reaches_once _ _ before c.turn_sweep.result c.turn_sweep.new.self c.turn_sweep.ensures.step
-    (hand_sweep_turn before (giving t v) dropped after v c.in-SweepTurn.reduction c.in-SweepTurn.next c.in-SweepTurn.end c.in-SweepTurn.so_far c.apply-value.result c.in-SweepTurn.body t.control
-    (subst (λ f. IsPopped f before (giving t v)) c.in-SweepTurn.is popped) refl (as_giving t dropped v _ _ _ c.drop_newest-in-SweepTurn.ensures.same)
-    (c.apply-value.ensures ∙ ap (λ o. apply o c.in-SweepTurn.so_far v) c.operation.ensures)
-    c.turn_sweep.ensures.turns)
-
-pub returns-after-value-eq0-clause-made : goal.returns-after-value-eq0-clause-made
-returns-after-value-eq0-clause-made c = λ before popped.
+pub returns-clause-made : goal.returns-clause-made
+returns-clause-made c = λ before popped.
     let t = c.args.self.now in
     let v = c.args.value in
     let gives = giving t v in
-    let popped_off = subst (λ f. IsPopped f before gives) c.in-Branch.is popped in
-    elim c.if-value-eq0.branch [
-      | then-value-eq0 b ↦ part_begun _ before t t c.if-value-eq0.next c.in-Branch.second c.in-Branch.second refl b.next-is refl (hand_branch before gives (beginning t c.in-Branch.second) v c.in-Branch.first c.in-Branch.second true popped_off refl (is_zero v b.if-value-eq0.true) (given_from t v _ _ refl))
-      | else-value-eq0 b ↦ part_begun _ before t t c.if-value-eq0.next c.in-Branch.first c.in-Branch.first refl b.next-is refl (hand_branch before gives (beginning t c.in-Branch.first) v c.in-Branch.first c.in-Branch.second false popped_off refl (is_not_zero v b.if-value-eq0.false) (given_from t v _ _ refl))
+    elim c.match-frame.branch [
+      | in-Right w ↦ subst (λ x. AfterSteps 1 before None x) (sym w.self-is)
+          (hand_right before gives _ v w.in-Right.operation w.in-Right.right (subst (λ f. IsPopped f before gives) w.in-Right.is popped) refl
+          (as_giving t _ v _ _ _ w.go_on.ensures))
+      | in-Branch w ↦
+          let popped_off = subst (λ f. IsPopped f before gives) w.in-Branch.is popped in
+          subst (λ x. AfterSteps 1 before None x) (sym w.self-is)
+          (elim w.if-value-eq0.branch [
+            | then-value-eq0 b ↦ hand_branch before gives _ v w.in-Branch.first w.in-Branch.second true popped_off refl (is_zero v b.if-value-eq0.true) (given_from t v _ _ (ap Begin b.self-is))
+            | else-value-eq0 b ↦ hand_branch before gives _ v w.in-Branch.first w.in-Branch.second false popped_off refl (is_not_zero v b.if-value-eq0.false) (given_from t v _ _ (ap Begin b.self-is))
+          ])
+      | in-Extend w ↦ subst (λ x. AfterSteps 1 before None x) (sym w.self-is)
+          (hand_extend before gives _ v w.in-Extend.body (subst (λ f. IsPopped f before gives) w.in-Extend.is popped) refl (as_giving t _ v _ _ _ w.extend.ensures))
     ]

@@ -23,7 +23,7 @@ invariant_of-self-2 c =
     let same : child ≡ c.args.child.running = ap (λ v. v.running) c.child.view_is in
     let was = whole_is c.args.child c.requires.child.alone.0 in
     let joins : a.pending ≡ Some pause.Joins = pending_is a.pending (reverse ps) pause.Joins (ap pending_in c.self.view_is ∙ c.requires.pending) in
-    let name : awaited a ≡ Some child.name = c.awaits-is_awaited.ensures.0 (search rules) ∙ ap Some (c.name.ensures ∙ ap (λ v. v.name) (was ∙ sym same)) in
+    let name : awaited a ≡ Some child.name = c.if-not-awaits.ensures.0 refl ∙ ap Some (c.name.ensures ∙ ap (λ v. v.name) (was ∙ sym same)) in
     let seen = ap (λ v. source_of (whole v).program) (sym c.self.view_is) ∙ outer_source a (reverse ps) c.self.invariant.nested.awaiting in
     let source : source_of child.program ≡ source_of a.program =
     ap (λ v. source_of v.program) (same ∙ sym was) ∙ c.requires.child.same_source ∙ seen in

@@ -1,0 +1,197 @@
+//! How a fork is answered: its child is posted at a place, waits for one, or runs in its parent's.
+//!
+//! It may touch the table through the seat that it is given, and the queue of those that wait.
+ghost use Rattle.std.specs.Prelude.{◌≡◌, [], ◌∷◌, OnOk};
+ghost use Rattle.arachne_arbiter.specs.Placed.{GetsPlace};
+ghost use Rattle.arachne_contexts.specs.Out.{Claim as a_claim};
+ghost use Rattle.arachne_spill.specs.Views.{IsPassOf};
+ghost use Rattle.arachne_run.specs.Tokens.{IsSameThread, IsSetUp, thread_in};
+
+use crate::desk::Stop;
+use crate::fault::WorkerFault;
+use crate::machine::Machine;
+use crate::policy;
+use crate::queue::Post;
+use crate::shared::Shared;
+use crate::slice::RunJob;
+use crate::tags::Tags;
+use arachne_contexts::{Contexts, Held, Identified, Placed, Seats, Tagged};
+use arachne_core::OccWord;
+use arachne_lang::Class;
+use arachne_machine::Placing;
+use arachne_spill::{CAPACITY, SpillPass};
+use rand_core::Rng;
+use std::alloc::Global;
+use std::marker::PhantomData;
+use std::sync::Wait;
+
+/// What a thread is told at its forks.
+#[derive(Drop)]
+pub(crate) struct Openings<'a, 'r, 't, H, C: Seats, R> {
+    pub(crate) rt: &'a H,
+    pub(crate) table: &'a C,
+    pub(crate) cores: u8,
+    pub(crate) slots: u8,
+    pub(crate) shared: &'a Shared,
+    pub(crate) chooser: &'r mut R,
+    pub(crate) tags: &'t mut Tags,
+    ghost counted: { C.core_count table.now ≡ cores },
+}
+
+/// Openings over a table for jobs of one type.
+#[derive(Drop)]
+pub(crate) struct OpeningsOf<'a, 'r, 't, H, T, C: Seats, R> {
+    pub(crate) openings: Openings<'a, 'r, 't, H, C, R>,
+    pub(crate) of: PhantomData<T>,
+}
+
+impl<'a, 'r, 't, H: Wait, T: Tagged, C: Contexts<T>, R: Rng> Placing
+    for OpeningsOf<'a, 'r, 't, H, T, C, R> {
+    ghost use Rattle.std.specs.Prelude.{false};
+
+    ghost gives_all = { false };
+
+    /// Whether a child may get a place, or wait for one. Where it may not, the chooser's word for it is drawn here. The looks are
+    /// with no seat: the claim decides.
+    #[inline(always)]
+    fn is_any(&mut self, class: Class) -> bool {
+        let openings = &mut self.openings;
+        if class == Class::Exclusive {
+            return true;
+        }
+        for core in 0..openings.cores {
+            let seen = OccWord::from_word(openings.table.glance(openings.rt, core));
+            if let Some(seen) = seen
+                && policy::has_room(seen, openings.slots)
+            {
+                return true;
+            }
+        }
+        if openings.shared.signals().waiting() < CAPACITY as u64 {
+            return true;
+        }
+        let _ = openings.chooser.next_u64();
+        false
+    }
+
+    #[inline(always)]
+    fn tag(&mut self) -> u64 {
+        let openings = &mut self.openings;
+        openings.tags.take(openings.shared)
+    }
+}
+
+/// A child that is forked, and the tag that it gets.
+#[derive(Drop)]
+pub(crate) struct Fork<Child> {
+    pub(crate) class: Class,
+    pub(crate) child: Child,
+    pub(crate) tag: u64,
+}
+
+/// Answers a fork of the thread in hand: the child gets a place on a core that has one for a thread of its class. Else a normal one
+/// waits, if there is room in the queue, and another one runs in place.
+pub(crate) fn answer_fork<H: Wait, T: RunJob, C: Contexts<T>, R: Rng>(
+    rt: &H,
+    alloc: Global,
+    machine: &Machine<C, T::Ticket>,
+    seat: &mut C::Seat,
+    pass: &mut SpillPass<T::Ticket>,
+    held: &mut Held<T, C::Hold>,
+    fork: Fork<T::Child>,
+    chooser: &mut R,
+    spares: &mut T::Spares,
+) -> Result<Stop, WorkerFault>
+    requires seat { C.sits machine.now.table seat.old }
+    requires out { C.has machine.now.table seat.old (thread_in T.tag_of held.old ∷ []) }
+    requires pass { IsPassOf machine.now.tickets pass.old }
+    requires set_up { IsSetUp C.core_count C.slot_count machine.now }
+    requires forks { T.forks held.old.value fork.child }
+    ensures seat { C.sits machine.now.table seat.new }
+    ensures out { OnOk result (C.has machine.now.table seat.new (thread_in T.tag_of held.new ∷ [])) }
+    ensures pass { IsPassOf machine.now.tickets pass.new }
+{
+    let Fork { class, child, tag } = fork;
+    match claim::<H, T, C, R>(rt, machine, seat, chooser, class)? {
+        Some(claim) => {
+            post_child::<H, T, C>(rt, alloc, machine, seat, held, claim, child, tag, spares)
+        }
+        None => put_aside::<H, T, C>(rt, alloc, machine, pass, held, class, child, tag),
+    }
+}
+
+/// A place for a thread that is forked. A normal one gets it on the core with fewer threads of two that are drawn, else on another
+/// core that has one; an exclusive one on an empty core.
+fn claim<H: Wait, T: RunJob, C: Contexts<T>, R: Rng>(
+    rt: &H,
+    machine: &Machine<C, T::Ticket>,
+    seat: &mut C::Seat,
+    chooser: &mut R,
+    class: Class,
+) -> Result<Option<C::Claim>, WorkerFault>
+    requires seat { C.sits machine.now.table seat.old }
+    requires set_up { IsSetUp C.core_count C.slot_count machine.now }
+    ensures seat { C.sits machine.now.table seat.new }
+    ensures out { GetsPlace (C.has machine.now.table) seat.old seat.new result }
+{
+    let cores = machine.cores::<H, T>(rt);
+    let place = match class {
+        Class::Normal => cores.claim_normal(seat, chooser)?,
+        Class::Exclusive => cores.claim_exclusive(seat)?,
+    };
+    Ok(place)
+}
+
+/// The child that the thread in hand forks becomes a thread at the claimed place.
+fn post_child<H: Wait, T: RunJob, C: Contexts<T>>(
+    rt: &H,
+    alloc: Global,
+    machine: &Machine<C, T::Ticket>,
+    seat: &mut C::Seat,
+    held: &mut Held<T, C::Hold>,
+    claim: C::Claim,
+    child: T::Child,
+    tag: u64,
+    spares: &mut T::Spares,
+) -> Result<Stop, WorkerFault>
+    requires seat { C.sits machine.now.table seat.old }
+    requires out { C.has machine.now.table seat.old (a_claim claim ∷ thread_in T.tag_of held.old ∷ []) }
+    requires forks { T.forks held.old.value child }
+    ensures seat { C.sits machine.now.table seat.new }
+    ensures out { OnOk result (C.has machine.now.table seat.new (thread_in T.tag_of held.new ∷ [])) }
+{
+    let me = held.id();
+    let job = held.value.fork_off(alloc, me, child, tag, spares)?;
+    let place = claim.place();
+    match machine.table.post(rt, seat, claim, job) {
+        Ok(id) => Ok(Stop::Posted(Post { id, place })),
+        Err(_) => Err(WorkerFault::Token),
+    }
+}
+
+/// The child that the thread in hand forks waits for a place, or runs in place.
+fn put_aside<H: Wait, T: RunJob, C: Contexts<T>>(
+    rt: &H,
+    alloc: Global,
+    machine: &Machine<C, T::Ticket>,
+    pass: &mut SpillPass<T::Ticket>,
+    held: &mut Held<T, C::Hold>,
+    class: Class,
+    child: T::Child,
+    tag: u64,
+) -> Result<Stop, WorkerFault>
+    requires pass { IsPassOf machine.now.tickets pass.old }
+    requires forks { T.forks held.old.value child }
+    ensures pass { IsPassOf machine.now.tickets pass.new }
+    ensures thread { IsSameThread T.tag_of held.old held.new }
+{
+    let waits = class == Class::Normal && !machine.tickets.is_full(pass);
+    let me = held.id();
+    if let Some(ticket) = held.value.put_aside(alloc, me, child, tag, waits)? {
+        // Where the queue was filled meanwhile, the child waits without a ticket, for its parent.
+        if machine.tickets.push(rt, pass, ticket).is_ok() {
+            machine.shared.signals().ticket_came();
+        }
+    }
+    Ok(Stop::Goes)
+}
