@@ -1,8 +1,9 @@
 -- Histories that go on, and events with their places.
 use Rattle.std.specs.Prelude.{◌≡◌, ℕ, ◌+◌, List, [], ◌∷◌, ◌++◌, length, drop, slice_get, count_by, ◌==◌, nat_lt, if◌then◌else◌}
-use Rattle.std.specs.declared.option.Option.TheVariants.{Some}
+use Rattle.std.specs.declared.option.Option.{Option}
+use Rattle.std.specs.declared.option.Option.TheVariants.{None, Some}
 use Rattle.arachne_sleep.specs.declared.event.LockEvent.{LockEvent}
-use Rattle.arachne_sleep.specs.declared.event.LockEvent.TheVariants.{Grant}
+use Rattle.arachne_sleep.specs.declared.event.LockEvent.TheVariants.{Ask, Grant, Free}
 use Rattle.arachne_sleep.specs.declared.answer.Pass.{Pass}
 use Rattle.arachne_sleep.specs.declared.view.PlacedEvent.{PlacedEvent}
 
@@ -39,3 +40,20 @@ pub record IsMadeOf (history : List LockEvent) (made : List PlacedEvent) : Type 
 -- the pass is of the lock with this number, and names a grant of its thread at its place
 abbrev pub IsGrantedIn : ℕ → List LockEvent → Pass → Type 0
 IsGrantedIn number history pass = (pass.lock ≡ number) × (slice_get history pass.at ≡ Some (Grant pass.who))
+
+-- the pass of the lock with this number for an event at this place, if that is a grant
+abbrev pub pass_of : ℕ → ℕ → Option LockEvent → Option Pass
+pass_of number at (Some (Grant who)) = Some (record { lock = number; who = who; at = at })
+pass_of number at (Some (Ask who)) = None
+pass_of number at (Some (Free who)) = None
+pass_of number at None = None
+
+-- the pass for a place of the history, if there is one
+abbrev pub pass_at : ℕ → List LockEvent → Option ℕ → Option Pass
+pass_at number history None = None
+pass_at number history (Some at) = pass_of number at (slice_get history at)
+
+-- the place of a pass, if there is one
+abbrev pub place_of : Option Pass → Option ℕ
+place_of None = None
+place_of (Some pass) = Some pass.at

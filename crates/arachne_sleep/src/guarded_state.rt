@@ -2,6 +2,7 @@
 ghost use Rattle.std.specs.Prelude.{◌≡◌, [], None};
 ghost use Rattle.arachne_sleep.specs.History.{IsSound};
 ghost use Rattle.arachne_sleep.specs.Calls.{IsAsked, IsFreed, IsChecked, pass_asked};
+ghost use Rattle.arachne_sleep.specs.Histories.{place_of};
 
 use crate::answer::{AskFault, Asked, Freed, NotHolder, Pass};
 use crate::event::LockEvent;
@@ -11,31 +12,41 @@ use crossbeam_utils::CachePadded;
 use std::alloc::Global;
 use std::marker::Model;
 
-/// A lock's state, on cache lines of its own, and the pass that the last call got of it.
+/// A lock's state, on cache lines of its own, and the place of the pass that the last call got of it.
 ///
-/// The pass is for proofs alone: the step that gives the guard back finds it here.
+/// The place is for proofs alone: the step that gives the guard back finds it here.
 #[derive(Drop)]
 pub struct GuardedState {
     state: CachePadded<LockState>,
-    last_pass: Option<Pass>,
+    last_pass: Option<usize>,
 }
 
 impl Model for GuardedState {
     ghost use Rattle.crossbeam_utils.specs.Padded.{padded_value};
+    ghost use Rattle.arachne_sleep.specs.Histories.{pass_at};
     ghost use Rattle.arachne_sleep.specs.Views.{Guarded};
 
     ghost Value = { Guarded };
 
-    ghost view = { λ g. record { state = padded_value g.state; last_pass = g.last_pass } };
+    ghost view = { λ g. record { state = padded_value g.state; last_pass = pass_at (padded_value g.state).number (padded_value g.state).history g.last_pass } };
 }
 
-fn pass_of(answer: Result<Asked, AskFault>) -> Option<Pass>
-    ensures { result ≡ pass_asked answer }
+fn place_asked(answer: &Result<Asked, AskFault>) -> Option<usize>
+    ensures { result ≡ place_of (pass_asked answer.now) }
 {
     match answer {
-        Ok(Asked::Granted(pass)) => Some(pass),
+        Ok(Asked::Granted(pass)) => Some(pass.at),
         Ok(Asked::Queued { at: _ }) => None,
         Err(_) => None,
+    }
+}
+
+fn place_checked(pass: &Option<Pass>) -> Option<usize>
+    ensures { result ≡ place_of pass.now }
+{
+    match pass {
+        Some(pass) => Some(pass.at),
+        None => None,
     }
 }
 
@@ -56,7 +67,7 @@ impl GuardedState {
         ensures sound { IsSound self.new.state.history }
     {
         let answer = self.state.ask(who);
-        self.last_pass = pass_of(answer);
+        self.last_pass = place_asked(&answer);
         answer
     }
 
@@ -77,7 +88,7 @@ impl GuardedState {
     {
         let _ = self.state.history();
         let answer = self.state.check(who);
-        self.last_pass = answer;
+        self.last_pass = place_checked(&answer);
         answer
     }
 
