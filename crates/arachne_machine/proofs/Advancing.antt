@@ -1,5 +1,5 @@
 -- What callers see of an advance.
-use Rattle.std.proofs.Common.{ℕ, ◌+◌, List, [], ◌∷◌, ◌++◌, Option, None, Some, inl, inr, ◌≡◌, refl, ap, sym, subst, ◌∙◌, arith}
+use Rattle.std.proofs.Common.{ℕ, ◌+◌, List, [], ◌∷◌, ◌++◌, Option, None, Some, inl, inr, ◌≡◌, refl, ap, sym, ◌∙◌, arith}
 use Rattle.std.specs.Prelude.{max}
 use Rattle.std.proofs.lemmas.Bool.{cases_lt}
 use Rattle.arachne_lang.specs.Tree.{Tree, Source, Number, Variable, Length, Item, Binary, Choose, Bind, Tally, Hold, Fork, Fold, Sweep}

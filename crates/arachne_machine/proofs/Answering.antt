@@ -1,6 +1,6 @@
 -- The answers to pauses.
-use Rattle.std.proofs.Common.{◌≡◌, ◌≤◌, length, ℕ, ◌+◌, List, [], ◌∷◌, ◌++◌, None, Some, Option, refl, ap, sym, ◌∙◌, subst, arith}
-use Rattle.std.specs.Prelude.{map, reverse, All}
+use Rattle.std.proofs.Common.{◌≡◌, ◌≤◌, length, ℕ, List, [], ◌∷◌, ◌++◌, None, Some, Option, refl, ap, sym, ◌∙◌, subst, arith}
+use Rattle.std.specs.Prelude.{map, reverse}
 use Rattle.std.specs.Borrow.{Bor}
 use Rattle.std.specs.Global.{Box}
 use Rattle.std.proofs.lemmas.List.{append-nil}
@@ -13,14 +13,13 @@ use Rattle.arachne_machine.specs.declared.frame.Control.TheVariants.{Begin, Give
 use Rattle.arachne_machine.specs.declared.pause.Pending.{Pending}
 use Rattle.arachne_machine.specs.declared.pause.Pending.TheVariants as pause
 use Rattle.arachne_machine.specs.declared.state.State.{State}
-use Rattle.arachne_machine.specs.Account.{Account}
 use Rattle.arachne_machine.specs.Trace.{At}
-use Rattle.arachne_machine.specs.Ending.{AwaitsFork, fork_awaited, forks_of, forks_here, lock_freed, releases, frames_left, locks_of}
+use Rattle.arachne_machine.specs.Ending.{AwaitsFork, fork_awaited, forks_of, lock_freed, releases, frames_left, locks_of}
 use Rattle.arachne_machine.specs.Strands.{Strand, owned_at, below_at, own_line}
 use Rattle.arachne_machine.specs.Suspended.{Suspended, SameThread, IsAnswered}
-use Rattle.arachne_machine.specs.Nested.{Nested, Await, ArePlaced, IsNested, SameWhole, pending_in, work_in, works}
+use Rattle.arachne_machine.specs.Nested.{Nested, Await, ArePlaced, IsNested, SameWhole, work_in, works}
 use Rattle.arachne_machine.specs.Steps.{Becomes, Goes, LeavesOthers, Changes, Turns, pending_of, suspended, top, waiting_in}
-use Rattle.arachne_machine.specs.Sound.{IsSound, IsSoundState, AreSound}
+use Rattle.arachne_machine.specs.Sound.{IsSoundState, AreSound}
 use Rattle.arachne_machine.specs.Kept.{IsKept, IsSoundChild, nested}
 use Rattle.arachne_machine.specs.Outcome.{IsOfItsName}
 use Rattle.arachne_lang.specs.Effects.{tabulated}
@@ -133,8 +132,14 @@ seen_answered old new placed p l pending g =
       trace = (p, pending, sym g.trace);
     }
 
-pub kept_answered : (old new : State) (placed : List (Box State)) (p : Pending) → IsKept old placed → LeavesOthers old new → Goes 0 (At p ∷ []) (top old) (top new) → IsKept new placed
-kept_answered old new placed p kept l g =
+goes_none : (k : Control) → pending_of k ≡ None → pending_of k ≡ Some pause.Ended → ⊥
+goes_none k none e = let both : ◌≡◌ {A = Option Pending} None (Some pause.Ended) = sym none ∙ e in cc
+
+pub going : (t : State) → pending_of t.control ≡ None → pending_of t.control ≡ Some pause.Ended → t.parents.items ≡ []
+going t none e = absurd (goes_none t.control none e)
+
+pub kept_answered : (old new : State) (placed : List (Box State)) (p : Pending) → IsKept old placed → pending_of new.control ≡ None → LeavesOthers old new → Goes 0 (At p ∷ []) (top old) (top new) → IsKept new placed
+kept_answered old new placed p kept none l g =
     let env = ap (λ e. e.env) g.ending in
     let parents = ap (map suspended) (leaves_waiting old new l env) in
     let same = answered_thread p (top old) (top new) g in
@@ -143,6 +148,7 @@ kept_answered old new placed p kept l g =
       children = kept.children;
       nested_is = subst (λ ps. IsNested (record (nested new placed) { parents = ps })) (sym parents)
           (nested_same (suspended (top old)) (suspended (top new)) (map suspended (waiting_in old)) _ _ _ same.program same.name same.label kept.nested_is);
+      ended = going new none;
     }
 
 -- a change of what comes next alone
@@ -210,7 +216,7 @@ fork_past old new placed kept pending turns =
     let on = turns_top old new (after_fork old.control) turns (start_within old placed kept) in
     let taken = fork_taken (top old) (top new) old.control refl pending on.1 in (
       record {
-        kept = kept_answered old new placed pause.Forks kept on.0 taken.0;
+        kept = kept_answered old new placed pause.Forks kept taken.1 on.0 taken.0;
         seen = seen_answered old new placed pause.Forks on.0 pending taken.0;
         pending = taken.1;
       },
@@ -223,7 +229,7 @@ free_past old new placed lock value kept is turns =
     let on = turns_top old new (Give value) turns (start_within old placed kept) in
     let goes = answers_free (top old) (top new) lock value is on.1 in (
       record {
-        kept = kept_answered old new placed (pause.Frees lock) kept on.0 goes;
+        kept = kept_answered old new placed (pause.Frees lock) kept (ap pending_of turns.control_is) on.0 goes;
         seen = seen_answered old new placed (pause.Frees lock) on.0 (ap pending_of is) goes;
         pending = ap pending_of turns.control_is;
       },
@@ -239,6 +245,7 @@ kept_alone t placed h none =
       sound = h.sound;
       children = λ k d lt. absurd (omega (arith, lt));
       nested_is = record { awaiting = subst (Await (suspended (top t))) (sym parents) tt; waiting = tt };
+      ended = λ e. h.alone;
     })
 
 -- What it brings in the end is what its name means.

@@ -107,7 +107,7 @@ Grows-frame source name (FoldTo to first body) s a =
     grows_on a.children once.children (accounted source name (FoldTo to first body) s a).children (grows_after name _ a) (grows_twice name _ _ once)
 Grows-frame source name (FoldFirst from first body) s a = grows_twice name _ _ a
 Grows-frame source name (FoldStart from to body) s a = grows_after name _ a
-Grows-frame source name (FoldTurn next end body cost) s a = grows_after name _ a
+Grows-frame source name (FoldTurn next end body) s a = grows_after name _ a
 Grows-frame source name (SweepTo reduction grain to body) s a = grows_twice name _ _ a
 Grows-frame source name (SweepStart reduction grain from body) s a = grows_after name _ a
 Grows-frame source name (SweepTurn reduction next end so_far body) s a = grows_after name _ a

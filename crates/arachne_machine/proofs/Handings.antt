@@ -230,9 +230,9 @@ without-one env x =
     ap (λ n. take n (env ++ x ∷ [])) long ∙ take-append_seam env (x ∷ [])
 
 -- A turn of a fold that has a value so far, or its end.
-fold_turn : (source : Source) (name env : List ℕ) (v next end : ℕ) (body : Bor Expr) (cost : ℕ) → next < end →
-    StepOutlook 1 source name (Give v) (FoldStart next end body ∷ []) env (Begin body) (FoldTurn (next + 1) end body cost ∷ []) (with_newest (with_newest env next) v)
-fold_turn source name env v next end body cost lt =
+fold_turn : (source : Source) (name env : List ℕ) (v next end : ℕ) (body : Bor Expr) → next < end →
+    StepOutlook 1 source name (Give v) (FoldStart next end body ∷ []) env (Begin body) (FoldTurn (next + 1) end body ∷ []) (with_newest (with_newest env next) v)
+fold_turn source name env v next end body lt =
     let A = source.arrays in
     let L = source.locks in
     let t = tree_of body.now in
@@ -264,59 +264,59 @@ fold_end source name env v next end body le = record {
   faultless = λ held h. (tt, tt);
 }
 
-pub hand_fold_start : (before mid new : Strand) (v from to : ℕ) (body : Bor Expr) (cost : ℕ) → IsPopped (FoldStart from to body) before mid → mid.control ≡ Give v →
-    TurnsFold mid new from to body cost v → AfterSteps 1 before None new
-hand_fold_start before mid new v from to body cost popped gives turns =
+pub hand_fold_start : (before mid new : Strand) (v from to : ℕ) (body : Bor Expr) → IsPopped (FoldStart from to body) before mid → mid.control ≡ Give v →
+    TurnsFold mid new from to body v → AfterSteps 1 before None new
+hand_fold_start before mid new v from to body popped gives turns =
     let source = source_of mid.program.now in
     let name = mid.own.name in
     let env = mid.environment in
     elim (cases_lt from to) [
-      | inl lt ↦ hands_to_part before mid new v (FoldStart from to body) (FoldTurn (from + 1) to body cost) (with_newest (with_newest env from) v) body popped gives
-          (turns.turn lt) refl refl refl (fold_turn source name env v from to body cost lt)
+      | inl lt ↦ hands_to_part before mid new v (FoldStart from to body) (FoldTurn (from + 1) to body) (with_newest (with_newest env from) v) body popped gives
+          (turns.turn lt) refl refl refl (fold_turn source name env v from to body lt)
       | inr le ↦ hands_on 1 before mid new v (FoldStart from to body) (Give v) popped gives (turns.done le) (λ fs. refl) refl refl refl refl
           (fold_end source name env v from to body le)
     ]
 
-fold_on : (source : Source) (name env : List ℕ) (v next end : ℕ) (body : Bor Expr) (cost : ℕ) (k' : Control) (gs' : List Frame) (env' : List ℕ) →
+fold_on : (source : Source) (name env : List ℕ) (v next end : ℕ) (body : Bor Expr) (k' : Control) (gs' : List Frame) (env' : List ℕ) →
     StepOutlook 1 source name (Give v) (FoldStart next end body ∷ []) (without_newest 2 env) k' gs' env' →
-    StepOutlook 1 source name (Give v) (FoldTurn next end body cost ∷ []) env k' gs' env'
-fold_on source name env v next end body cost k' gs' env' s = record { ending = s.ending; account = s.account; work = s.work; trace = s.trace; faultless = s.faultless }
+    StepOutlook 1 source name (Give v) (FoldTurn next end body ∷ []) env k' gs' env'
+fold_on source name env v next end body k' gs' env' s = record { ending = s.ending; account = s.account; work = s.work; trace = s.trace; faultless = s.faultless }
 
-pub fold_giving : (t new : Strand) (v next end : ℕ) (body : Bor Expr) (cost so_far : ℕ) → TurnsFold t new next end body cost so_far → TurnsFold (giving t v) new next end body cost so_far
-fold_giving t new v next end body cost so_far turns = record {
+pub fold_giving : (t new : Strand) (v next end : ℕ) (body : Bor Expr) (so_far : ℕ) → TurnsFold t new next end body so_far → TurnsFold (giving t v) new next end body so_far
+fold_giving t new v next end body so_far turns = record {
   turn = λ lt. as_giving t new v _ _ _ (turns.turn lt);
   done = λ le. as_giving t new v _ _ _ (turns.done le);
 }
 
 -- The same in the midst of a fold, once the two newest variables were dropped.
-pub hand_fold_turn : (before mid outer new : Strand) (v next end : ℕ) (body : Bor Expr) (cost : ℕ) (k : Control) → IsPopped (FoldTurn next end body cost) before mid → mid.control ≡ Give v →
+pub hand_fold_turn : (before mid outer new : Strand) (v next end : ℕ) (body : Bor Expr) (k : Control) → IsPopped (FoldTurn next end body) before mid → mid.control ≡ Give v →
     Becomes mid outer (without_newest 2 mid.environment) mid.frames k →
-    TurnsFold outer new next end body cost v → AfterSteps 1 before None new
-hand_fold_turn before mid outer new v next end body cost k popped gives dropped turns =
+    TurnsFold outer new next end body v → AfterSteps 1 before None new
+hand_fold_turn before mid outer new v next end body k popped gives dropped turns =
     let source = source_of mid.program.now in
     let name = mid.own.name in
     let env = mid.environment in
     let fs = mid.frames in
     let less = without_newest 2 env in
-    let f = FoldTurn next end body cost in
+    let f = FoldTurn next end body in
     let popped_off = framed_as mid before env (fs ++ f ∷ []) (fs ++ f ∷ []) mid.control (Give v) popped refl gives in
     elim (cases_lt next end) [
-      | inl lt ↦ goes_on_by 1 mid before new (Give v) (Begin body) fs (f ∷ []) (FoldTurn (next + 1) end body cost ∷ []) env (with_newest (with_newest less next) v)
+      | inl lt ↦ goes_on_by 1 mid before new (Give v) (Begin body) fs (f ∷ []) (FoldTurn (next + 1) end body ∷ []) env (with_newest (with_newest less next) v)
           popped_off
           (reshaped mid new (with_newest (with_newest outer.environment next) v) (with_newest (with_newest less next) v)
-          (outer.frames ++ FoldTurn (next + 1) end body cost ∷ []) (fs ++ FoldTurn (next + 1) end body cost ∷ []) (Begin body) (Begin body)
-          (later mid outer new less (with_newest (with_newest outer.environment next) v) fs (outer.frames ++ FoldTurn (next + 1) end body cost ∷ []) k (Begin body)
+          (outer.frames ++ FoldTurn (next + 1) end body ∷ []) (fs ++ FoldTurn (next + 1) end body ∷ []) (Begin body) (Begin body)
+          (later mid outer new less (with_newest (with_newest outer.environment next) v) fs (outer.frames ++ FoldTurn (next + 1) end body ∷ []) k (Begin body)
           dropped (turns.turn lt))
-          (ap (λ e. with_newest (with_newest e next) v) dropped.environment_is) (ap (λ l. l ++ FoldTurn (next + 1) end body cost ∷ []) dropped.frames_are) refl)
-          refl refl refl refl refl refl (fold_on source name env v next end body cost (Begin body) (FoldTurn (next + 1) end body cost ∷ []) (with_newest (with_newest less next) v)
-          (fold_turn source name less v next end body cost lt))
+          (ap (λ e. with_newest (with_newest e next) v) dropped.environment_is) (ap (λ l. l ++ FoldTurn (next + 1) end body ∷ []) dropped.frames_are) refl)
+          refl refl refl refl refl refl (fold_on source name env v next end body (Begin body) (FoldTurn (next + 1) end body ∷ []) (with_newest (with_newest less next) v)
+          (fold_turn source name less v next end body lt))
       | inr le ↦ goes_on_by 1 mid before new (Give v) (Give v) fs (f ∷ []) [] env less
           popped_off
           (alone mid new less (Give v)
           (reshaped mid new outer.environment less outer.frames fs (Give v) (Give v)
           (later mid outer new less outer.environment fs outer.frames k (Give v) dropped (turns.done le))
           dropped.environment_is dropped.frames_are refl))
-          refl refl refl refl refl refl (fold_on source name env v next end body cost (Give v) [] less (fold_end source name less v next end body le))
+          refl refl refl refl refl refl (fold_on source name env v next end body (Give v) [] less (fold_end source name less v next end body le))
     ]
 
 -- Sweeps.
@@ -326,10 +326,10 @@ hand_sweep_to before mid new v reduction grain to body popped gives b =
     hands_to_part before mid new v (SweepTo reduction grain to body) (SweepStart reduction grain v body) mid.environment to popped gives b refl refl refl
     (record { ending = refl; account = λ a any. refl; work = omega arith; trace = refl; faultless = λ held h. (((h.0.0.0, h.0.0.2), tt), h.0.0.1) })
 
-pub hand_sweep_start : (before mid new : Strand) (v : ℕ) (reduction : Reduction) (cost grain first : ℕ) (body : Bor Expr) → IsPopped (SweepStart reduction grain first body) before mid → mid.control ≡ Give v →
-    Becomes mid new mid.environment mid.frames (Cover (record { reduction = reduction; cost = cost; grain = grain; first = first; end = v; body = body })) → AfterSteps 1 before None new
-hand_sweep_start before mid new v reduction cost grain first body popped gives b =
-    hands_on 1 before mid new v (SweepStart reduction grain first body) (Cover (record { reduction = reduction; cost = cost; grain = grain; first = first; end = v; body = body })) popped gives b
+pub hand_sweep_start : (before mid new : Strand) (v : ℕ) (reduction : Reduction) (grain first : ℕ) (body : Bor Expr) → IsPopped (SweepStart reduction grain first body) before mid → mid.control ≡ Give v →
+    Becomes mid new mid.environment mid.frames (Cover (record { reduction = reduction; grain = grain; first = first; end = v; body = body })) → AfterSteps 1 before None new
+hand_sweep_start before mid new v reduction grain first body popped gives b =
+    hands_on 1 before mid new v (SweepStart reduction grain first body) (Cover (record { reduction = reduction; grain = grain; first = first; end = v; body = body })) popped gives b
     (λ fs. refl) refl refl refl refl
     (record { ending = refl; account = λ a any. refl; work = omega arith; trace = ap (with_steps 1) (append-nil _); faultless = λ held h. (tt, h.0.0) })
 

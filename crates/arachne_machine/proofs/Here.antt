@@ -1,9 +1,8 @@
 -- A child that is to run here begins, and is joined.
-use Rattle.std.proofs.Common.{◌≡◌, ℕ, ◌+◌, List, [], ◌∷◌, ◌++◌, length, Some, refl, ap, sym, ◌∙◌, arith}
+use Rattle.std.proofs.Common.{◌≡◌, ℕ, List, [], ◌∷◌, ◌++◌, false, Some, refl, ap, subst, sym, ◌∙◌, arith}
 use Rattle.std.specs.Borrow.{Bor}
 use Rattle.std.proofs.lemmas.List.{append-nil}
 use Rattle.arachne_lang.specs.declared.program.Expr.{Expr}
-use Rattle.arachne_lang.specs.Tree.{Source}
 use Rattle.arachne_lang.specs.Program.{source_of, tree_of}
 use Rattle.arachne_lang.specs.Effects.{Evaluate}
 use Rattle.arachne_lang.specs.Meaning.{task_of}
@@ -11,14 +10,16 @@ use Rattle.arachne_machine.specs.declared.frame.Stretch.{Stretch}
 use Rattle.arachne_machine.specs.declared.frame.Frame.{Frame}
 use Rattle.arachne_machine.specs.declared.frame.Frame.TheVariants.{JoinHere, MergeHere}
 use Rattle.arachne_machine.specs.declared.frame.Control.{Control}
-use Rattle.arachne_machine.specs.declared.frame.Control.TheVariants.{Give, Awaits, AwaitsHalf}
+use Rattle.arachne_machine.specs.declared.frame.Control.TheVariants.{Begin, Cover, Give, Awaits, AwaitsHalf}
 use Rattle.arachne_machine.specs.declared.pause.Pending.TheVariants as pause
 use Rattle.arachne_machine.specs.Work.{work_of, task_work}
 use Rattle.arachne_machine.specs.Trace.{with_steps}
-use Rattle.arachne_machine.specs.Ending.{child_task, environment_of, stretch_task, fork_awaited, forks_of, forks_here, lock_freed, releases, frames_left, KeepsForks, AwaitsFork}
+use Rattle.arachne_machine.specs.Ending.{stretch_task, fork_awaited, forks_of, forks_here, lock_freed, releases, frames_left, KeepsForks}
+use Rattle.arachne_machine.specs.Faultless.{IsFaultless, IsFaultlessFrame, IsFaultlessNext, IsWithoutFault, held_by}
 use Rattle.arachne_machine.specs.Strands.{Strand}
 use Rattle.arachne_machine.specs.Steps.{AwaitsHere, Becomes, IsPopped, pending_of}
-use Rattle.arachne_machine.proofs.Outlooks.{Any, SameOutlook, KeepsTop, itself, IsAt, at_of, alone, framed_as, same_end, unjoined_at, here_at, locks_at, keeps_at}
+use Rattle.arachne_machine.proofs.Faultlessness.{faultless-append}
+use Rattle.arachne_machine.proofs.Outlooks.{Any, faultless_at, SameOutlook, KeepsTop, itself, at_of, alone, framed_as, same_end, unjoined_at, here_at, locks_at, keeps_at}
 
 awaits_by : (before mid new : Strand) (v number handed : ℕ) (f : Frame) (k' : Control) → IsPopped f before mid → mid.control ≡ Give v →
     Becomes mid new mid.environment mid.frames k' → ((fs : List Frame) → frames_left k' fs ≡ fs) →
@@ -94,3 +95,26 @@ awaits_half before mid new v number left popped gives b =
 pub half_task : (before mid : Strand) (v number : ℕ) (left : Stretch) → IsPopped (MergeHere number left) before mid → mid.control ≡ Give v → KeepsForks before →
     task_of (source_of mid.program.now) (mid.own.name ++ number ∷ []) ≡ Some (stretch_task left mid.environment)
 half_task before mid v number left popped gives h = (kept_top before mid v (MergeHere number left) popped gives h).1.0
+
+-- what a frame begins is without fault where the thread is
+freed_top : (before mid : Strand) (v : ℕ) (f : Frame) → IsPopped f before mid → mid.control ≡ Give v → IsWithoutFault before →
+    IsFaultlessFrame (source_of mid.program.now) (held_by false mid.frames) f
+freed_top before mid v f popped gives h =
+    let source = source_of mid.program.now in
+    let fs = mid.frames in
+    let env = mid.environment in
+    let off = framed_as mid before env (fs ++ f ∷ []) (fs ++ f ∷ []) mid.control (Give v) popped refl gives in
+    let whole = faultless_at source mid.own.name (Give v) (fs ++ f ∷ []) env before (at_of mid before (Give v) (fs ++ f ∷ []) env off) h in
+    (faultless-append source false fs (f ∷ []) whole.0).1.0
+
+pub join_free : (before mid : Strand) (v number : ℕ) (child next : Bor Expr) → IsPopped (JoinHere number child next) before mid → mid.control ≡ Give v → IsWithoutFault before →
+    IsFaultlessNext (source_of mid.program.now) false (Begin child)
+join_free before mid v number child next popped gives h =
+    let free = freed_top before mid v (JoinHere number child next) popped gives h in
+    subst (λ b. IsFaultless (source_of mid.program.now) b (tree_of child.now)) free.0 free.1
+
+pub half_free : (before mid : Strand) (v number : ℕ) (left : Stretch) → IsPopped (MergeHere number left) before mid → mid.control ≡ Give v → IsWithoutFault before →
+    IsFaultlessNext (source_of mid.program.now) false (Cover left)
+half_free before mid v number left popped gives h =
+    let free = freed_top before mid v (MergeHere number left) popped gives h in
+    (refl, subst (λ b. IsFaultless (source_of mid.program.now) b (tree_of left.body.now)) free.0 free.1)

@@ -25,9 +25,9 @@ use Rattle.arachne_machine.specs.declared.state.Own.{Own}
 use Rattle.arachne_machine.specs.declared.state.State.{State}
 use Rattle.arachne_machine.specs.Account.{Account, untouched, with_fork}
 use Rattle.arachne_machine.specs.Trace.{At}
-use Rattle.arachne_machine.specs.Ending.{child_task, ending, environment_of, fork_awaited, here_of, work_left, locks_of}
+use Rattle.arachne_machine.specs.Ending.{child_task, ending, environment_of, fork_awaited, here_of, locks_of}
 use Rattle.arachne_machine.specs.Strands.{Strand, strand_at, line_at, owned_of, owned_at, below_at, Fits}
-use Rattle.arachne_machine.specs.Sound.{IsSound, AreSound, IsSoundState, IsRunningFor, RunFor}
+use Rattle.arachne_machine.specs.Sound.{IsSound, AreSound, IsSoundState, RunFor}
 use Rattle.arachne_machine.specs.Steps.{Goes, Changes, Becomes, Joins, suspended, PlacesChild, AwaitsHere, HasNotBegun, IsBeginning, LeavesOthers, task_begun, top, waiting, waiting_in}
 use Rattle.arachne_machine.specs.Runs.{Runs, BeginsHere, JoinsHere, HandsResult, ResumesParent, IsByItself, last_of, outermost_in, works_left}
 use Rattle.arachne_machine.proofs.Soundness.{IsOver, goes_on, joined_account, join_keeps, over_means, over_sums, sound_goes, sound_awaits, sound_join, sound_new, sound_fork, fork_has_task, with_fork-sums, with_join-sums}
@@ -78,7 +78,7 @@ resound t u ts sums h f =
     let one = f h.0 h.2 in
     (one.0, h.1, one.1, h.3, λ ledger. h.4 ledger ∙ ap (λ n. n + h.1 ledger) (sym (one.2 ledger)))
 
-run_for_same : (child other : Strand) (ts : List Strand) → other.own ≡ child.own → RunFor child ts → RunFor other ts
+pub run_for_same : (child other : Strand) (ts : List Strand) → other.own ≡ child.own → RunFor child ts → RunFor other ts
 run_for_same child other [] e h = tt
 run_for_same child other (t ∷ ts) e h = (
   record {
@@ -90,7 +90,7 @@ run_for_same child other (t ∷ ts) e h = (
   h.1,
 )
 
-fits_by : (ps : List Parent) (start place frames lines frames' : ℕ) → (start ≤ frames → start ≤ frames') → Fits ps start place frames lines → Fits ps start place frames' lines
+pub fits_by : (ps : List Parent) (start place frames lines frames' : ℕ) → (start ≤ frames → start ≤ frames') → Fits ps start place frames lines → Fits ps start place frames' lines
 fits_by [] start place frames lines frames' more h = h
 fits_by (p ∷ ps) start place frames lines frames' more h = (more h.0, h.1, h.2)
 
@@ -149,7 +149,7 @@ changes_leave old new env gs k c le = record {
   more = omega (arith, le, ap length c.frames_are, length-append old.frames.items gs);
 }
 
-last_same : (t u : Strand) (ts : List Strand) → t.forks ≡ u.forks → (last_of t ts).forks ≡ (last_of u ts).forks
+pub last_same : (t u : Strand) (ts : List Strand) → t.forks ≡ u.forks → (last_of t ts).forks ≡ (last_of u ts).forks
 last_same t u [] e = e
 last_same t u (p ∷ ps) e = refl
 
@@ -493,12 +493,12 @@ outer_start (q ∷ ps) start place s p h = h.0
 one_child : (m n : ℕ) → ◌≡◌ {A = List ℕ} (m ∷ []) (n ∷ []) → m ≡ n
 one_child m n e = cc
 
-some_parent : (ps : List Parent) (q : Parent) → ps ++ q ∷ [] ≡ [] → ⊥
+pub some_parent : (ps : List Parent) (q : Parent) → ps ++ q ∷ [] ≡ [] → ⊥
 some_parent [] q e = cc
 some_parent (p ∷ ps) q e = cc
 
 -- there are no more lines below a thread than there are
-below_few : (ps : List Parent) (lines : List ThreadLine) (s place from p : ℕ) (below : List ThreadLine) → below ≡ below_at ps lines place → length below ≤ length lines
+pub below_few : (ps : List Parent) (lines : List ThreadLine) (s place from p : ℕ) (below : List ThreadLine) → below ≡ below_at ps lines place → length below ≤ length lines
 below_few [] lines s place from p below e = omega (arith, ap length e)
 below_few (q ∷ ps) lines s place from p below e = omega (arith, ap length e, ap length (take-append-drop (place + 1) lines), length-append (take (place + 1) lines) (drop (place + 1) lines))
 

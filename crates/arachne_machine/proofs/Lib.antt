@@ -6,7 +6,9 @@ pub mod Ranges
 pub mod Halves
 pub mod Frames
 pub mod Faultlessness
+pub mod Purity
 pub mod Outlooks
+pub mod Strides
 pub mod Renewing
 pub mod Openings
 pub mod Handings
@@ -15,9 +17,17 @@ pub mod Joining
 pub mod Soundness
 pub mod Here
 pub mod Levels
+pub mod Going
+pub mod Lasting
 pub mod Advancing
 pub mod Waiting
 pub mod Nesting
 pub mod Answering
+pub mod Counting
+pub mod Rejoining
+pub mod Taking
+pub mod Handed
+pub mod Showing
+pub mod Begun
 pub mod Crossing
 pub mod WorkedPrograms

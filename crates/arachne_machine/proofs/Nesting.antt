@@ -1,5 +1,5 @@
 -- A state as callers see it.
-use Rattle.std.proofs.Common.{◌≡◌, ℕ, ◌+◌, List, [], ◌∷◌, refl, ap, sym, ◌∙◌, subst, arith, take}
+use Rattle.std.proofs.Common.{◌≡◌, ◌+◌, List, [], ◌∷◌, refl, ap, sym, ◌∙◌, take}
 use Rattle.std.specs.Prelude.{map, reverse}
 use Rattle.std.specs.Borrow.{Bor}
 use Rattle.std.specs.Global.{Box}
@@ -80,3 +80,7 @@ same_whole old new placed others program own = record {
 -- what the innermost's pause names is there
 pub pauses_seen : (t : State) → IsSoundState t → IsChecked (source_of t.program.now) → PausesWithin (suspended (top t))
 pauses_seen t s checked = within_seen_sound (top t) s.sound.0 s.sound.2 checked
+
+-- a thread that waits for none
+pub whole_is : (t : Nested) → t.parents ≡ [] → whole t ≡ t.running
+whole_is t e = ap (outermost t.running) e

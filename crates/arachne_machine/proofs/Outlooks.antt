@@ -1,19 +1,21 @@
 -- What the newest frames and what comes next come to, and so the whole thread.
 use Rattle.std.proofs.Common.{◌≡◌, ℕ, ◌+◌, Bool, false, List, [], ◌∷◌, ◌++◌, None, refl, subst, ap, sym, ◌∙◌, arith, append_assoc}
 use Rattle.std.proofs.lemmas.List.{append-nil}
+use Rattle.std.specs.Borrow.{Bor}
+use Rattle.arachne_lang.specs.declared.program.Expr.{Expr}
 use Rattle.arachne_lang.specs.Tree.{Source}
 use Rattle.arachne_lang.specs.Program.{source_of}
 use Rattle.arachne_machine.specs.declared.frame.Frame.{Frame}
 use Rattle.arachne_machine.specs.declared.frame.Frame.TheVariants.{Join, Merge, JoinHere, MergeHere}
 use Rattle.arachne_machine.specs.declared.frame.Control.{Control}
-use Rattle.arachne_machine.specs.declared.frame.Control.TheVariants.{Awaits, AwaitsHalf}
+use Rattle.arachne_machine.specs.declared.frame.Control.TheVariants.{Begin, Awaits, AwaitsHalf}
 use Rattle.arachne_machine.specs.Trace.{Event, At, with_steps}
 use Rattle.arachne_machine.specs.declared.pause.Pending.TheVariants as pause
 use Rattle.arachne_machine.specs.Strands.{Strand}
 use Rattle.arachne_machine.specs.Account.{Account}
 use Rattle.arachne_machine.specs.Ending.{Status, resume, resume_account, resume_work, resume_trace, begun, begun_account, begun_work, begun_trace, fork_awaited, lock_freed, forks_of, releases, frames_left, ending, account_at_end, work_left, trace_left, unjoined_of, here_of, locks_of, fork_of, fork_here, forks_here, AwaitsFork, KeepsFork, KeepForks, KeepsForks}
 use Rattle.arachne_machine.specs.Faultless.{GoesWithoutFault, IsWithoutFault}
-use Rattle.arachne_machine.specs.Steps.{Becomes, Goes, AfterSteps, pending_of, giving}
+use Rattle.arachne_machine.specs.Steps.{Becomes, Goes, AfterSteps, pending_of, beginning, giving}
 use Rattle.arachne_machine.proofs.Faultlessness.{faultless_above}
 use Rattle.arachne_machine.proofs.Frames.{resume-append, resume_account-append, resume_work-append, resume_trace-append, with_steps-append, forks_of-append, forks_here-append, releases-append}
 
@@ -381,6 +383,30 @@ as_giving t new v env fs k b = record {
   environment_is = b.environment_is;
   frames_are = b.frames_are;
   control_is = b.control_is;
+}
+
+-- nor does what comes next before
+pub as_beginning : (t new : Strand) (e : Bor Expr) (env : List ℕ) (fs : List Frame) (k : Control) → Becomes t new env fs k → Becomes (beginning t e) new env fs k
+as_beginning t new e env fs k b = record {
+  program = b.program;
+  own = b.own;
+  below = b.below;
+  forks = b.forks;
+  environment_is = b.environment_is;
+  frames_are = b.frames_are;
+  control_is = b.control_is;
+}
+
+-- it begins this expression next
+pub begins_with : (t new : Strand) (e : Bor Expr) (env : List ℕ) (fs : List Frame) (k : Control) → Becomes t new env fs k → Becomes t (beginning new e) env fs (Begin e)
+begins_with t new e env fs k b = record {
+  program = b.program;
+  own = b.own;
+  below = b.below;
+  forks = b.forks;
+  environment_is = b.environment_is;
+  frames_are = b.frames_are;
+  control_is = refl;
 }
 
 -- and its control alone is new

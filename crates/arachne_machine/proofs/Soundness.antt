@@ -1,6 +1,6 @@
 -- A sound thread stays sound, and ends in the outcome of its name.
 use Rattle.std.proofs.Common.{◌≡◌, ◌≤◌, ℕ, ◌+◌, List, [], ◌∷◌, ◌++◌, length, map, Option, None, Some, refl, ap, sym, ◌∙◌, subst, arith, rules, length-append}
-use Rattle.std.specs.Prelude.{option_map, option_and_then, slice_get, IsSome, OnOk, OnErr, Result, Ok, Err}
+use Rattle.std.specs.Prelude.{option_map, option_and_then, slice_get, IsSome}
 use Rattle.std.proofs.lemmas.List.{append-nil, map-append}
 use Rattle.arachne_lang.specs.declared.program.Program.{Program}
 use Rattle.arachne_lang.specs.declared.meaning.Meaning.{Meaning}
@@ -16,7 +16,6 @@ use Rattle.arachne_machine.specs.declared.pause.Pending.TheVariants as pause
 use Rattle.arachne_machine.specs.Suspended.{own_line_of, SameThread, MakesSteps, Forked, Joined, awaited}
 use Rattle.arachne_machine.specs.Strands.{Strand}
 use Rattle.arachne_machine.specs.declared.line.Label.{Label}
-use Rattle.arachne_machine.specs.Lines.{Gains}
 use Rattle.arachne_machine.specs.Outcome.{Finished, named_holds, meaning_as, meaning_in, outcome_of, IsOfItsName}
 use Rattle.arachne_machine.specs.Account.{Account, untouched, after, with_fork, with_join}
 use Rattle.arachne_machine.specs.Ending.{child_task, account_joined, ending, account_at_end, work_left, trace_left, unjoined_of, locks_of, forks_here, KeepsForks, resume, resume_account, frames_left, begun, begun_account, fork_awaited, forks_of, lock_freed, releases}
@@ -30,7 +29,7 @@ use Rattle.arachne_machine.proofs.Frames.{with_steps-add}
 use Rattle.arachne_machine.proofs.Names.{task_below-child, slice_get-seam}
 use Rattle.arachne_machine.proofs.Outlooks.{at_of, ending_at, account_at, work_at, at_faultless, there_keeps}
 use Rattle.arachne_machine.proofs.Splitting.{child_task-found}
-use Rattle.arachne_machine.proofs.Tabulated.{tabulated-same, length-tabulated, added_is}
+use Rattle.arachne_machine.proofs.Tabulated.{tabulated-same}
 
 -- steps after steps
 pub goes_on : (m n k : ℕ) (a b c : Strand) → Goes m [] a b → Goes n [] b c → k ≡ m + n → Goes k [] a c
@@ -148,7 +147,7 @@ sound_new program name label task t new has faultless =
 
 -- A thread whose end is the same as that of a sound one, with this account, is sound.
 pub record SameSound (old new : Strand) (account account' : Account) : Type 0 where
-  pub program : new.program ≡ old.program
+  pub program : source_of new.program.now ≡ source_of old.program.now
   pub name : new.own.name ≡ old.own.name
   pub holds : (locks : ℕ) → old.own.holds ≡ tabulated locks account.holds → new.own.holds ≡ tabulated locks account'.holds
   pub lines : map named_holds old.below ≡ account.lines → map named_holds new.below ≡ account'.lines
@@ -161,7 +160,7 @@ pub record SameSound (old new : Strand) (account account' : Account) : Type 0 wh
 
 pub sound_same : (old new : Strand) (account account' : Account) → IsSound old account → SameSound old new account account' → IsSound new account'
 sound_same old new account account' s g =
-    let program_is = sym (ap (λ x. source_of x.now) g.program) in
+    let program_is = sym g.program in
     let name_is = sym g.name in
     record {
       task = s.task;
@@ -180,7 +179,7 @@ sound_same old new account account' s g =
 
 pub sound_goes : (n : ℕ) (answered : List Event) (old new : Strand) (account : Account) → IsSound old account → Goes n answered old new → IsSound new account
 sound_goes n answered old new account s g = sound_same old new account account s (record {
-  program = g.program;
+  program = ap (λ p. source_of p.now) g.program;
   name = ap (λ o. o.name) g.own;
   holds = λ locks h. ap (λ o. o.holds) g.own ∙ h;
   lines = λ h. ap (map named_holds) g.below ∙ h;
@@ -195,7 +194,7 @@ sound_goes n answered old new account s g = sound_same old new account account s
 -- so is one that awaits a child that runs here
 pub sound_awaits : (number handed : ℕ) (old new : Strand) (account : Account) → IsSound old account → AwaitsHere number handed old new → IsSound new account
 sound_awaits number handed old new account s g = sound_same old new account account s (record {
-  program = g.program;
+  program = ap (λ p. source_of p.now) g.program;
   name = ap (λ o. o.name) g.own;
   holds = λ locks h. ap (λ o. o.holds) g.own ∙ h;
   lines = λ h. ap (map named_holds) g.below ∙ h;
@@ -256,7 +255,7 @@ pub sound_fork : (n handed : ℕ) (answered : List Event) (here : List ℕ) (old
 sound_fork n handed answered here old new made account s g =
     let kept = g.keeps (fork_has_task n handed answered here old new made account s g) in
     sound_same old new account (with_fork made account) s (record {
-      program = g.program;
+      program = ap (λ p. source_of p.now) g.program;
       name = ap (λ o. o.name) g.own;
       holds = λ locks h. ap (λ o. o.holds) g.own ∙ h ∙ ap (tabulated locks) (sym (with_fork-holds made account));
       lines = λ h. ap (map named_holds) g.below ∙ h ∙ sym (with_fork-lines made account);
@@ -275,7 +274,7 @@ same_some : (x y : Meaning) → Some x ≡ Some y → x ≡ y
 same_some x y h = cc
 
 -- what an outcome's name and meaning say of its task
-outcome_task : (source : Source) (name : List ℕ) (m : Meaning) → outcome_of source name ≡ Some m →
+pub outcome_task : (source : Source) (name : List ℕ) (m : Meaning) → outcome_of source name ≡ Some m →
     (t : Task) × (task_of source name ≡ Some t) × (meaning_as source name t ≡ m)
 outcome_task source name m h =
     elim (task_of source name) as (λ o. option_map (meaning_as source name) o ≡ Some m → (t : Task) × (o ≡ Some t) × (meaning_as source name t ≡ m)) [
@@ -332,7 +331,7 @@ sound_join old new outcome account s of_name same_source j =
     let kept = join_keeps old new outcome of_name same_source j in
     let lines : map named_holds outcome.lines ≡ line_of source.locks (name ++ n ∷ []) effects ∷ effects.lines (name ++ n ∷ []) 0 = sym (ap (λ m. m.threads) means) in
     sound_same old new account (with_join source.locks name n effects account) s (record {
-      program = j.program;
+      program = ap (λ p. source_of p.now) j.program;
       name = ap (λ o. o.name) j.own;
       holds = λ locks h. ap (λ o. o.holds) j.own ∙ h ∙ ap (tabulated locks) (sym (with_join-holds source.locks name n effects account));
       lines = λ h. ap (map named_holds) j.below.lines_are
@@ -357,7 +356,7 @@ join_sums old new outcome account of_name same_source j =
       λ ledger. ap (λ f. f ledger) (with_join-sums source.locks old.own.name j.number effects account),
     )
 
-after-sums : (name : List ℕ) (e : Effects) (a : Account) → (after name e a).sums ≡ (λ l. a.sums l + e.sums l)
+pub after-sums : (name : List ℕ) (e : Effects) (a : Account) → (after name e a).sums ≡ (λ l. a.sums l + e.sums l)
 unfolding after
 after-sums name e a = refl
 
@@ -432,7 +431,7 @@ pub sound_counts : (old new : Strand) (answered : Pending) (effects : Effects) (
 sound_counts old new answered effects account s no_children no_lines g =
     let name = old.own.name in
     sound_same old new account (after name effects account) s (record {
-      program = g.program;
+      program = ap (λ p. source_of p.now) g.program;
       name = g.name;
       holds = λ locks h. g.holds locks account.holds h ∙ ap (tabulated locks) (sym (after-holds name effects account));
       lines = λ h. ap (map named_holds) g.below ∙ h ∙ sym (after-lines name effects account ∙ ap (λ l. account.lines ++ l) (no_lines name (length account.children)) ∙ append-nil account.lines);

@@ -8,6 +8,10 @@ use Rattle.arachne_machine.specs.declared.pause.NotJoined.{NotJoined}
 use Rattle.arachne_machine.specs.declared.pause.NotJoined.TheVariants as refused
 use Rattle.arachne_machine.specs.declared.pause.NotPlaced.{NotPlaced}
 use Rattle.arachne_machine.specs.declared.pause.NotPlaced.TheVariants as unplaced
+use Rattle.std.specs.Global.{Box}
+use Rattle.arachne_lang.specs.declared.program.Class.{Class}
+use Rattle.arachne_machine.specs.declared.state.State.{State}
+use Rattle.arachne_machine.specs.Kept.{nested}
 use Rattle.arachne_machine.specs.Faultless.{PausesWithin}
 use Rattle.arachne_machine.specs.Nested.{Nested, AwaitsElsewhere, FallsBy, IsAlone, IsChildOf, IsForked, SameWhole, Stops, pending_in, whole, work_in}
 use Rattle.arachne_machine.specs.Outcome.{Finished}
@@ -47,7 +51,7 @@ pub record AdvancedAlone (budget : ℕ) (old : Nested) (gives : Pause) (new : Ne
 
 -- No child was placed: each fork was a pause.
 abbrev pub PlacesNone : Nested → Pause → Nested → Type 0
-PlacesNone old (pauses.Forks class child) new = (whole new).forks ≡ (whole old).forks + 1
+PlacesNone old (pauses.Forks class child) new = (new.parents ≡ []) × ((whole new).forks ≡ (whole old).forks + 1)
 PlacesNone old _ new = (whole new).forks ≡ (whole old).forks
 
 -- An advance of such a thread was refused memory.
@@ -126,3 +130,8 @@ abbrev pub IsNotAwaited : Result (Unit {0}) NotPlaced → Type 0
 IsNotAwaited (Ok done) = ⊥
 IsNotAwaited (Err (unplaced.Foreign child)) = Unit {0}
 IsNotAwaited (Err (unplaced.Memory child)) = ⊥
+
+-- the pause that callers see, by the child that was forked or what is not answered
+abbrev pub pause_seen : Option (Class × Box State) → Option Pending → Pause
+pause_seen (Some forked) pending = pauses.Forks forked.0 (nested forked.1.value [])
+pause_seen None pending = pause_at pending

@@ -89,7 +89,7 @@ unwind source name (FoldFirst from first body) s = record {
 }
 unwind source name (FoldStart from to body) s =
     record { env = s.env; value = folded source.arrays (tree_of body.now) s.env from (to - from) s.value }
-unwind source name (FoldTurn next end body cost) s = record {
+unwind source name (FoldTurn next end body) s = record {
   env = without_newest 2 s.env;
   value = folded source.arrays (tree_of body.now) (without_newest 2 s.env) next (end - next) s.value;
 }
@@ -133,7 +133,7 @@ accounted source name (FoldFirst from first body) s account =
     (after name (effects_of source.arrays source.locks (tree_of first.now) s.env) account)
 accounted source name (FoldStart from to body) s account =
     after name (folded_effects source.arrays source.locks (tree_of body.now) s.env from (to - from) s.value) account
-accounted source name (FoldTurn next end body cost) s account =
+accounted source name (FoldTurn next end body) s account =
     after name (folded_effects source.arrays source.locks (tree_of body.now) (without_newest 2 s.env) next (end - next) s.value) account
 accounted source name (SweepTo reduction grain to body) s account =
     after name (task_effects source.arrays source.locks
@@ -171,7 +171,7 @@ frame_work source name (FoldFirst from first body) s =
     work_of source.arrays (tree_of first.now) s.env
     + folded_work source.arrays (tree_of body.now) s.env from (s.value - from) (value_of source.arrays (tree_of first.now) s.env) + 1
 frame_work source name (FoldStart from to body) s = folded_work source.arrays (tree_of body.now) s.env from (to - from) s.value + 1
-frame_work source name (FoldTurn next end body cost) s =
+frame_work source name (FoldTurn next end body) s =
     folded_work source.arrays (tree_of body.now) (without_newest 2 s.env) next (end - next) s.value + 1
 frame_work source name (SweepTo reduction grain to body) s =
     work_of source.arrays (tree_of to.now) s.env
@@ -204,7 +204,7 @@ frame_trace source name (FoldFirst from first body) s =
     trace_of source.arrays (tree_of first.now) s.env
     ++ (folded_trace source.arrays (tree_of body.now) s.env from (s.value - from) (value_of source.arrays (tree_of first.now) s.env) ++ Step ∷ [])
 frame_trace source name (FoldStart from to body) s = folded_trace source.arrays (tree_of body.now) s.env from (to - from) s.value ++ Step ∷ []
-frame_trace source name (FoldTurn next end body cost) s =
+frame_trace source name (FoldTurn next end body) s =
     folded_trace source.arrays (tree_of body.now) (without_newest 2 s.env) next (end - next) s.value ++ Step ∷ []
 frame_trace source name (SweepTo reduction grain to body) s =
     trace_of source.arrays (tree_of to.now) s.env

@@ -39,7 +39,7 @@ IsFaultlessFrame source held (FoldTo to first body) =
     IsFaultless source held (tree_of to.now) × IsFaultless source held (tree_of first.now) × IsFaultless source held (tree_of body.now)
 IsFaultlessFrame source held (FoldFirst from first body) = IsFaultless source held (tree_of first.now) × IsFaultless source held (tree_of body.now)
 IsFaultlessFrame source held (FoldStart from to body) = IsFaultless source held (tree_of body.now)
-IsFaultlessFrame source held (FoldTurn next end body cost) = IsFaultless source held (tree_of body.now)
+IsFaultlessFrame source held (FoldTurn next end body) = IsFaultless source held (tree_of body.now)
 IsFaultlessFrame source held (SweepTo reduction grain to body) =
     (held ≡ false) × IsFaultless source held (tree_of to.now) × IsFaultless source held (tree_of body.now)
 IsFaultlessFrame source held (SweepStart reduction grain from body) = (held ≡ false) × IsFaultless source held (tree_of body.now)

@@ -4,6 +4,7 @@ pub mod Suspended
 pub mod Nested
 pub mod Advance
 pub mod Work
+pub mod Pure
 pub mod Trace
 pub mod Turns
 pub mod Account

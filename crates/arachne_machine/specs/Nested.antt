@@ -132,9 +132,9 @@ pub record PlacesAtFork (old child new : Nested) : Type 0 where
   pub placed : new.placed ≡ in_place_of child.running ∷ old.placed
   pub trace : IsAnswered old.running new.running
 
--- the child goes on in the place of the innermost thread, which awaits it
+-- the child goes on in the place of the innermost thread, which awaits it, as a thread of its program
 abbrev pub begun_in : Nested → Nested → Nested
-begun_in t child = record { running = in_place_of child.running; parents = t.running ∷ t.parents; placed = t.placed; sums = added t.sums child.sums }
+begun_in t child = record { running = record (in_place_of child.running) { program = t.running.program }; parents = t.running ∷ t.parents; placed = t.placed; sums = added t.sums child.sums }
 
 -- The child is new, and its class and task are those that the program gives to the thread's newest fork.
 pub record IsForked (class : Class) (thread : Suspended) (child : Nested) : Type 0 where

@@ -1,14 +1,18 @@
 -- What an advance does to a state.
-use Rattle.std.specs.Prelude.{◌≡◌, ◌≤◌, ◌<◌, ℕ, ◌+◌, ◌^◌, ◌==◌, if◌then◌else◌, List, [], ◌∷◌, ◌++◌, length, reverse}
+use Rattle.std.specs.Prelude.{◌≡◌, ◌≤◌, ◌<◌, ℕ, ◌+◌, ◌^◌, ◌==◌, if◌then◌else◌, List, [], ◌∷◌, ◌++◌, length, reverse, Option, None, Some}
+use Rattle.std.specs.Borrow.{Bor}
+use Rattle.std.specs.Global.{Box}
+use Rattle.arachne_lang.specs.declared.program.Class.{Class}
+use Rattle.arachne_lang.specs.declared.program.Expr.{Expr}
 use Rattle.arachne_lang.specs.Effects.{tabulated}
 use Rattle.arachne_machine.specs.declared.frame.Frame.{Frame}
-use Rattle.arachne_machine.specs.declared.frame.Frame.TheVariants.{Restore}
+use Rattle.arachne_machine.specs.declared.frame.Frame.TheVariants.{FoldTurn, Join, Merge, Restore, SweepTurn}
 use Rattle.arachne_machine.specs.declared.frame.Control.{Control}
 use Rattle.arachne_machine.specs.declared.frame.Control.TheVariants.{Begin, Give, Cover, Forked, Halved, Awaits, AwaitsHalf}
 use Rattle.arachne_machine.specs.declared.state.Progress.{Progress}
 use Rattle.arachne_machine.specs.declared.state.Progress.TheVariants as progress
 use Rattle.arachne_lang.specs.declared.program.Reduction.{Reduction}
-use Rattle.arachne_lang.specs.Value.{apply, operation_of}
+use Rattle.arachne_lang.specs.Value.{Environment, apply, operation_of, with_newest}
 use Rattle.arachne_machine.specs.declared.level.Parent.{Parent}
 use Rattle.arachne_machine.specs.declared.line.Ran.TheVariants as ways
 use Rattle.arachne_machine.specs.declared.line.ThreadLine.{ThreadLine}
@@ -16,8 +20,12 @@ use Rattle.arachne_machine.specs.declared.state.Own.{Own}
 use Rattle.arachne_machine.specs.declared.state.State.{State}
 use Rattle.arachne_machine.specs.Lines.{CountsHoldAt}
 use Rattle.arachne_machine.specs.Ending.{fork_awaited, here_of, locks_of, work_left}
-use Rattle.arachne_machine.specs.Strands.{Strand}
-use Rattle.arachne_machine.specs.Steps.{Goes, IsSame, Turns, top, waiting_in}
+use Rattle.arachne_machine.specs.Outcome.{Finished}
+use Rattle.arachne_machine.specs.Suspended.{awaited}
+use Rattle.arachne_machine.specs.Strands.{Strand, own_line}
+use Rattle.arachne_machine.specs.declared.pause.Pending.{Pending}
+use Rattle.arachne_machine.specs.declared.pause.Pending.TheVariants as pause
+use Rattle.arachne_machine.specs.Steps.{AfterSteps, HasRoom, Changes, GivesChild, Goes, IsLeftOver, IsSame, LeavesOthers, Turns, pending_of, suspended, task_begun, top, waiting_in}
 use Rattle.arachne_machine.specs.Sound.{IsSoundState}
 
 -- the steps that these have left
@@ -162,3 +170,158 @@ pub record CountsTally (old new : State) (ledger amount : ℕ) : Type 0 where
   pub frames : new.frames.items ≡ old.frames.items
   pub control : new.control ≡ old.control
   pub sums : (n : ℕ) (own : ℕ → ℕ) → old.sums.items ≡ tabulated n own → new.sums.items ≡ tabulated n (λ other. own other + (if other == ledger then amount else 0))
+
+-- the state that hands on this value next
+abbrev pub giving_in : State → ℕ → State
+giving_in t value = record t { control = Give value }
+
+-- the state that begins this expression next
+abbrev pub beginning_in : State → Bor Expr → State
+beginning_in t expr = record t { control = Begin expr }
+
+-- the state, which begins this expression next where there is one
+abbrev pub current_in : Option (Bor Expr) → State → State
+current_in None t = t
+current_in (Some expr) t = beginning_in t expr
+
+-- the state as it is then
+abbrev pub seen_in : Progress → State → State
+seen_in (progress.Value value) t = giving_in t value
+seen_in (progress.Begin expr) t = beginning_in t expr
+seen_in _ t = t
+
+-- One step was made, and the thread has not paused. A value is then handed on in a further one.
+abbrev pub IsOneStep : ℕ → ℕ → Progress → State → Type 0
+IsOneStep had left (progress.Value value) new = left + 1 ≡ had
+IsOneStep had left (progress.Begin expr) new = left ≡ had
+IsOneStep had left progress.Goes new = (left ≡ had) × IsLeftOver new.control
+IsOneStep had left _ new = ⊥
+
+-- The first has this newest frame, and the second is without it.
+abbrev pub IsPoppedIn : Frame → State → State → Type 0
+IsPoppedIn frame before popped = Changes popped before popped.environment.items (popped.frames.items ++ frame ∷ []) popped.control
+
+-- A fold that has this value so far goes on from a number to below an end: with a turn, or not at all.
+pub record FoldsOn (old new : State) (next end : ℕ) (body : Bor Expr) (so_far : ℕ) : Type 0 where
+  pub turn : next < end →
+      Changes old new (with_newest (with_newest old.environment.items next) so_far) (old.frames.items ++ FoldTurn (next + 1) end body ∷ []) (Begin body)
+  pub done : end ≤ next → Turns old new (Give so_far)
+
+-- and so does a sweep
+pub record SweepsOn (old new : State) (reduction : Reduction) (next end : ℕ) (body : Bor Expr) (so_far : ℕ) : Type 0 where
+  pub turn : next < end →
+      Changes old new (with_newest old.environment.items next) (old.frames.items ++ SweepTurn reduction (next + 1) end so_far body ∷ []) (Begin body)
+  pub done : end ≤ next → Turns old new (Give so_far)
+
+-- The steps that were made by the threads of a state are those that are not left any more, and so many beside them; none pauses.
+-- Where Q is so, no child was placed.
+pub record RunsOn (Q : Type 0) (had left beside : ℕ) (old new : State) : Type 0 where
+  pub made : ℕ
+  pub fewer : left ≤ had
+  pub counted : left + made ≡ had + beside
+  pub runs : Runs made old new
+  pub running : pending_of new.control ≡ None
+  pub places_none : Q → IsByItself old → (outermost_in new).forks ≡ (outermost_in old).forks
+
+-- The same, and then the innermost pauses so in one step more.
+pub record RunsToPause (Q : Type 0) (had left : ℕ) (old : State) (next : Pending) (new : State) : Type 0 where
+  pub last : State
+  pub runs : RunsOn Q had left 0 old last
+  pub leaves : LeavesOthers last new
+  pub stops : AfterSteps 1 (top last) (Some next) (top new)
+  pub ended : next ≡ pause.Ended → new.parents.items ≡ []
+  -- a frame was taken away for a join
+  pub room : next ≡ pause.Joins → HasRoom new
+
+-- The same, and then the innermost forks this child in one step more.
+pub record RunsToFork (Q : Type 0) (had left : ℕ) (old : State) (class : Class) (child new : State) : Type 0 where
+  pub last : State
+  pub runs : RunsOn Q had left 0 old last
+  pub leaves : LeavesOthers last new
+  pub gives : GivesChild 1 (top last) (top new) (top child) (record { class = class; task = task_begun child.control child.environment.items })
+  pub sound : IsSoundState child
+  pub alone : child.parents.items ≡ []
+  pub sums : child.sums.items ≡ tabulated last.program.now.ledgers (λ ledger. 0)
+
+-- What comes of a step, with those that were left beside it before and after: a value that is to be handed on in the step, or what is next once it is made.
+abbrev pub Comes : Type 0 → ℕ → ℕ → State → Progress → State → Type 0
+Comes Q had left old (progress.Value value) new = RunsOn Q had left 0 old (giving_in new value)
+Comes Q had left old (progress.Begin expr) new = RunsOn Q had left 1 old (beginning_in new expr)
+Comes Q had left old progress.Goes new = RunsOn Q had left 1 old new × IsLeftOver new.control
+Comes Q had left old progress.Stops new = (next : Pending) × RunsToPause Q had left old next new
+Comes Q had left old (progress.Forks class child) new = RunsToFork Q had left old class child.value new
+
+-- What comes of an advance, by the child that it gives and the pause that is not answered: all steps are made, or one at least.
+abbrev pub Advances : Type 0 → ℕ → ℕ → State → Option (Class × Box State) → Option Pending → State → Type 0
+Advances Q had left old None None new = RunsOn Q had left 0 old new × (left ≡ 0)
+Advances Q had left old None (Some next) new = (beside : ℕ) × (had ≡ beside + 1) × RunsToPause Q beside left old next new
+Advances Q had left old (Some forked) pending new = (beside : ℕ) × (had ≡ beside + 1) × RunsToFork Q beside left old forked.0 forked.1.value new
+
+-- At most so many steps were made, and none pauses.
+pub record RunsWithin (Q : Type 0) (most : ℕ) (old new : State) : Type 0 where
+  pub made : ℕ
+  pub at_most : made ≤ most
+  pub runs : Runs made old new
+  pub running : pending_of new.control ≡ None
+  pub places_none : Q → IsByItself old → (outermost_in new).forks ≡ (outermost_in old).forks
+
+-- The innermost has joined a child that ended with this value, and goes on.
+abbrev pub ResumesAs : Control → Environment → List Frame → ℕ → State → Type 0
+ResumesAs (Awaits number during next) env frames value new =
+    (new.environment.items ≡ env ++ value ∷ during ∷ []) × (new.frames.items ≡ frames ++ Restore (length env) ∷ []) × (new.control ≡ Begin next)
+ResumesAs (AwaitsHalf number right reduction) env frames value new =
+    (new.environment.items ≡ env) × (new.frames.items ≡ frames) × (new.control ≡ Give (apply (operation_of reduction) value right))
+ResumesAs _ env frames value new = ⊥
+
+-- The rest is as before.
+pub record KeepsRest (old new : State) : Type 0 where
+  pub program : new.program ≡ old.program
+  pub own : new.own ≡ old.own
+  pub lines : new.lines ≡ old.lines
+  pub sums : new.sums.items ≡ old.sums.items
+  pub parents : new.parents.items ≡ old.parents.items
+  pub level : new.level ≡ old.level
+
+-- The innermost has joined this outcome, which is that of the child that it awaited.
+pub record JoinsOutcome (old : State) (outcome : Finished) (new : State) : Type 0 where
+  pub of_child : awaited (suspended (top old)) ≡ Some outcome.name
+  pub some : 1 ≤ length outcome.lines
+  pub lines : new.lines ≡ old.lines ++ outcome.lines
+  pub few : length new.lines < 2 ^ 63
+  pub sums : (n : ℕ) (own others : ℕ → ℕ) → old.sums.items ≡ tabulated n own → outcome.sums ≡ tabulated n others → new.sums.items ≡ tabulated n (λ ledger. own ledger + others ledger)
+  pub program : new.program ≡ old.program
+  pub own : new.own ≡ old.own
+  pub parents : new.parents.items ≡ old.parents.items
+  pub level : new.level ≡ old.level
+  pub resumes : ResumesAs old.control old.environment.items old.frames.items outcome.value new
+
+-- The child of another state, which the innermost awaits, goes on in this one.
+pub record TakesIn (old child new : State) : Type 0 where
+  pub program : new.program ≡ old.program
+  pub own : new.own ≡ old.own
+  pub lines : new.lines ≡ old.lines ++ record (own_line child.own) { ran = ways.InPlace } ∷ child.lines
+  pub few : length new.lines < 2 ^ 63
+  pub sums : (n : ℕ) (own others : ℕ → ℕ) → old.sums.items ≡ tabulated n own → child.sums.items ≡ tabulated n others → new.sums.items ≡ tabulated n (λ ledger. own ledger + others ledger)
+  pub parents : new.parents.items ≡ old.parents.items ++ record { level = old.level; control = old.control } ∷ []
+  pub level : new.level ≡ record { start = length old.frames.items; forks = child.level.forks; place = length old.lines }
+  pub environment : new.environment.items ≡ child.environment.items
+  pub frames : new.frames.items ≡ old.frames.items ++ child.frames.items
+  pub control_is : new.control ≡ child.control
+
+-- It looks the same, whatever memory it has.
+pub record LooksSame (old new : State) : Type 0 where
+  pub program : new.program ≡ old.program
+  pub own : own_line new.own ≡ own_line old.own
+  pub lines : new.lines ≡ old.lines
+  pub sums : new.sums.items ≡ old.sums.items
+  pub parents : new.parents.items ≡ old.parents.items
+  pub level : new.level ≡ old.level
+  pub environment : new.environment.items ≡ old.environment.items
+  pub frames : new.frames.items ≡ old.frames.items
+  pub control : new.control ≡ old.control
+
+-- It stands before the step in which it came to await a child.
+abbrev pub StandsBefore : Control → State → State → Type 0
+StandsBefore (Awaits number during next) old new = Changes old new old.environment.items (old.frames.items ++ Join number next ∷ []) (Give during)
+StandsBefore (AwaitsHalf number right reduction) old new = Changes old new old.environment.items (old.frames.items ++ Merge number reduction ∷ []) (Give right)
+StandsBefore _ old new = ⊥

@@ -1,5 +1,5 @@
 -- What the steps of a thread do.
-use Rattle.std.specs.Prelude.{◌≡◌, ◌≤◌, ◌<◌, ℕ, ◌+◌, ◌^◌, false, List, [], ◌∷◌, ◌++◌, length, reverse, take, Option, None, Some}
+use Rattle.std.specs.Prelude.{◌≡◌, ◌≤◌, ◌<◌, ℕ, ◌+◌, ◌^◌, false, List, [], ◌∷◌, ◌++◌, length, reverse, take, vec_len, vec_capacity, Option, None, Some}
 use Rattle.arachne_lang.specs.declared.program.Program.{Program}
 use Rattle.arachne_lang.specs.declared.program.Reduction.{Reduction}
 use Rattle.arachne_lang.specs.declared.program.Expr.{Expr}
@@ -17,8 +17,9 @@ use Rattle.arachne_machine.specs.declared.pause.Pending.{Pending}
 use Rattle.arachne_machine.specs.declared.pause.Pending.TheVariants as pause
 use Rattle.arachne_machine.specs.declared.state.Own.{Own}
 use Rattle.arachne_machine.specs.declared.state.State.{State}
+use Rattle.arachne_machine.specs.declared.state.Progress.{Progress}
+use Rattle.arachne_machine.specs.declared.state.Progress.TheVariants as part
 use Rattle.arachne_machine.specs.declared.line.Ran.TheVariants as ways
-use Rattle.arachne_machine.specs.declared.level.Level.{Level}
 use Rattle.arachne_machine.specs.declared.level.Parent.{Parent}
 use Rattle.arachne_machine.specs.declared.line.Label.{Label}
 use Rattle.arachne_machine.specs.Strands.{Owned, Strand, strand_at}
@@ -26,7 +27,7 @@ use Rattle.arachne_machine.specs.Lines.{Gains}
 use Rattle.arachne_machine.specs.Outcome.{Finished}
 use Rattle.arachne_machine.specs.Account.{Account, untouched, after, with_fork}
 use Rattle.arachne_machine.specs.declared.line.ThreadLine.{ThreadLine}
-use Rattle.arachne_machine.specs.Suspended.{Suspended, awaited}
+use Rattle.arachne_machine.specs.Suspended.{Suspended}
 use Rattle.arachne_machine.specs.Work.{task_work}
 use Rattle.arachne_machine.specs.Trace.{Event, At, with_steps, task_trace}
 use Rattle.arachne_machine.specs.Faultless.{IsFaultlessNext, IsWithoutFault}
@@ -174,9 +175,9 @@ abbrev pub IsPopped : Frame → Strand → Strand → Type 0
 IsPopped frame before popped = Becomes popped before popped.environment (popped.frames ++ frame ∷ []) popped.control
 
 -- A fold that has this value so far goes on from a number to below an end: with a turn, or not at all.
-pub record TurnsFold (old new : Strand) (next end : ℕ) (body : Bor Expr) (cost so_far : ℕ) : Type 0 where
+pub record TurnsFold (old new : Strand) (next end : ℕ) (body : Bor Expr) (so_far : ℕ) : Type 0 where
   pub turn : next < end →
-      Becomes old new (with_newest (with_newest old.environment next) so_far) (old.frames ++ FoldTurn (next + 1) end body cost ∷ []) (Begin body)
+      Becomes old new (with_newest (with_newest old.environment next) so_far) (old.frames ++ FoldTurn (next + 1) end body ∷ []) (Begin body)
   pub done : end ≤ next → Becomes old new old.environment old.frames (Give so_far)
 
 -- and so does a sweep
@@ -322,6 +323,45 @@ giving t value = record t { control = Give value }
 abbrev pub beginning : Strand → Bor Expr → Strand
 beginning t expr = record t { control = Begin expr }
 
+-- a value that was left over, or a part of a sweep
+abbrev pub IsLeftOver : Control → Type 0
+IsLeftOver (Give value) = Unit {0}
+IsLeftOver (Cover stretch) = Unit {0}
+IsLeftOver _ = ⊥
+
+-- The steps that were made are those that are not left any more, and so many beside them; the thread has not paused.
+pub record Makes (had left beside : ℕ) (old new : Strand) : Type 0 where
+  pub made : ℕ
+  pub fewer : left ≤ had
+  pub counted : left + made ≡ had + beside
+  pub goes : AfterSteps made old None new
+
+-- a pause with more to come
+abbrev pub IsNotEnd : Pending → Type 0
+IsNotEnd pause.Ended = ⊥
+IsNotEnd _ = Unit {0}
+
+-- What comes of a step of a thread by itself, with those that were left beside it before and after: a value that is to be handed on in the step, or what is
+-- next once it is made.
+abbrev pub Reaches : ℕ → ℕ → Strand → Progress → Strand → Type 0
+Reaches had left old (part.Value value) new = Makes had left 0 old (giving new value)
+Reaches had left old (part.Begin expr) new = Makes had left 1 old (beginning new expr)
+Reaches had left old part.Goes new = Makes had left 1 old new × IsLeftOver new.control
+Reaches had left old part.Stops new = (left ≡ had) × ((next : Pending) × IsNotEnd next × AfterSteps 1 old (Some next) new)
+Reaches had left old (part.Forks class child) new = ⊥
+
+abbrev pub OnStops : Progress → Type 0 → Type 0
+OnStops part.Stops A = A
+OnStops _ A = Unit {0}
+
+-- there is room for a frame
+abbrev pub HasRoom : State → Type 0
+HasRoom t = vec_len t.frames + 1 ≤ vec_capacity t.frames
+
+abbrev pub OnValue : Progress → Type 0 → Type 0
+OnValue (part.Value value) A = A
+OnValue _ A = Unit {0}
+
 -- a fork was made: the thread has this newest frame and this to do next
 pub record PushesFork (old new : Strand) (frame : Frame) (control : Control) : Type 0 where
   pub program : new.program ≡ old.program
@@ -404,10 +444,8 @@ abbrev pub IsOfRange : Frame → Type 0
 IsOfRange (FoldTo to first body) = Unit {0}
 IsOfRange (FoldFirst from first body) = Unit {0}
 IsOfRange (FoldStart from to body) = Unit {0}
-IsOfRange (FoldTurn next end body cost) = Unit {0}
 IsOfRange (SweepTo reduction grain to body) = Unit {0}
 IsOfRange (SweepStart reduction grain from body) = Unit {0}
-IsOfRange (SweepTurn reduction next end so_far body) = Unit {0}
 IsOfRange _ = ⊥
 
 -- such a frame, or one at which the thread pauses
@@ -417,3 +455,9 @@ IsPauseOrRange (Release lock) = Unit {0}
 IsPauseOrRange (Join number after) = Unit {0}
 IsPauseOrRange (Merge number reduction) = Unit {0}
 IsPauseOrRange frame = IsOfRange frame
+
+-- a frame that begins no child
+abbrev pub IsWithin : Frame → Type 0
+IsWithin (JoinHere number child after) = ⊥
+IsWithin (MergeHere number left) = ⊥
+IsWithin _ = Unit {0}

@@ -1,5 +1,5 @@
 -- The threads of a state, one by one.
-use Rattle.std.specs.Prelude.{◌≤◌, ◌<◌, ◌≡◌, ℕ, ◌+◌, List, [], ◌∷◌, drop, take, get_or}
+use Rattle.std.specs.Prelude.{◌≤◌, ◌<◌, ◌≡◌, ℕ, ◌+◌, List, [], ◌∷◌, drop, get_or}
 use Rattle.std.specs.Borrow.{Bor}
 use Rattle.arachne_lang.specs.declared.program.Program.{Program}
 use Rattle.arachne_lang.specs.Value.{Environment}

@@ -3,13 +3,25 @@ use crate::frame::{Control, Frame};
 use crate::placing::Placing;
 use crate::spares::Spares;
 use crate::state::{Progress, State};
-use arachne_lang::Expr;
+use arachne_lang::{Expr, Operation};
 use std::alloc::AllocError;
 
 /// How an expression is begun.
 impl<'p> State<'p> {
-    /// Begins this expression, with so many more steps left, of which it takes those that it makes at once. Where memory is
-    /// refused nothing has changed.
+    ghost use Rattle.std.specs.Prelude.{true, ◌≡◌, ◌≤◌, ◌∷◌, ◌++◌, [], length, slice_index, IfOk, IfSome, OnOk, OnErr};
+    ghost use Rattle.std.specs.Borrow.{Bor};
+    ghost use Rattle.arachne_lang.specs.declared.program.Expr.{Expr as Expression};
+    ghost use Rattle.arachne_lang.specs.Tree.{Binary};
+    ghost use Rattle.arachne_lang.specs.Program.{source_of, tree_of};
+    ghost use Rattle.arachne_lang.specs.Value.{array_at, value_of};
+    ghost use Rattle.arachne_machine.specs.declared.frame.Frame.TheVariants as frames;
+    ghost use Rattle.arachne_machine.specs.declared.frame.Control.TheVariants as control;
+    ghost use Rattle.arachne_machine.specs.Pure.{IsLeaf};
+    ghost use Rattle.arachne_machine.specs.Sound.{IsSoundState};
+    ghost use Rattle.arachne_machine.specs.Steps.{beginning, Changes, IsSame, LeavesOthers, OnStops, Pushes, Reaches, top};
+    ghost use Rattle.arachne_machine.specs.Runs.{beginning_in, Comes};
+
+    /// Begins this expression. Where its value is known at once nothing else has changed.
     #[inline(always)]
     pub fn begin<P: Placing>(
         &mut self,
@@ -17,90 +29,118 @@ impl<'p> State<'p> {
         left: &mut u32,
         spares: &mut Spares<'p>,
         places: &mut P,
-    ) -> Result<Progress<'p>, AllocError> {
-        match expr {
-            Expr::Num(number) => Ok(Progress::Value(*number)),
-            Expr::Var(variable) => Ok(Progress::Value(self.variable(*variable))),
-            Expr::Len(array) => Ok(Progress::Value(self.length(*array))),
-            Expr::Item(array, index) => self.enter(Frame::Index(*array), index),
+    ) -> Result<Progress<'p>, AllocError>
+        requires sound { IsSoundState (beginning_in self.old expr) }
+        ensures ok { IfOk result (λ progress. Comes (P.gives_all ≡ true) left.old left.new (beginning_in self.old expr.entry) progress self.new) }
+        ensures fewer { left.new ≤ left.old }
+        ensures err { OnErr result (IsSame self.old self.new) }
+    {
+        let part = match expr {
+            Expr::Num(number) => return Ok(Progress::Value(*number)),
+            Expr::Var(variable) => return Ok(Progress::Value(self.variable(*variable))),
+            Expr::Len(array) => return Ok(Progress::Value(self.length(*array))),
+            Expr::Item(array, index) => self.enter(Frame::Index(*array), index)?,
             Expr::Binary(operation, first, second) => {
-                if *left >= 2
-                    && let Some(x) = self.leaf(first)
-                {
-                    if let Some(y) = self.leaf(second) {
-                        *left -= 2;
-                        return Ok(Progress::Value(operation.apply(x, y)));
-                    }
-                    self.frames.push(Frame::Apply(*operation, x))?;
-                    *left -= 1;
-                    return Ok(Progress::Begin(second));
-                }
-                self.enter(Frame::Right(*operation, second), first)
+                return self.operate(*operation, first, second, left);
             }
-            Expr::If(condition, first, second) => {
-                self.enter(Frame::Branch(first, second), condition)
+            Expr::If(condition, first, second) => self.enter(
+                Frame::Branch(first, second),
+                condition,
+            )?,
+            Expr::Let(bound, body) => self.enter(Frame::Extend(body), bound)?,
+            Expr::Tally(ledger, amount, body) => self.enter(Frame::Amount(*ledger, body), amount)?,
+            Expr::Fold(from, to, first, body) => self.enter(Frame::FoldTo(to, first, body), from)?,
+            Expr::Sweep(reduction, grain, from, to, body) => self.enter(
+                Frame::SweepTo(*reduction, *grain, to, body),
+                from,
+            )?,
+            Expr::Hold(lock, body) => {
+                self.ask(*lock, body)?;
+                return Ok(Progress::Stops);
             }
-            Expr::Let(bound, body) => self.enter(Frame::Extend(body), bound),
-            Expr::Tally(ledger, amount, body) => self.enter(Frame::Amount(*ledger, body), amount),
-            Expr::Fold(from, to, first, body) => self.enter(Frame::FoldTo(to, first, body), from),
-            Expr::Sweep(reduction, grain, from, to, body) => {
-                self.enter(Frame::SweepTo(*reduction, *grain, to, body), from)
-            }
-            Expr::Hold(lock, body) => self.ask(*lock, body),
             Expr::Fork(class, child, during, after) => {
                 if !places.is_any(*class) {
-                    return self.fork_here(child, during, after);
+                    self.fork_here(child, during, after)?;
+                    return Ok(Progress::Begin(during));
                 }
                 let child = self.fork(child, during, after, spares)?;
-                Ok(Progress::Forks(*class, child))
+                return Ok(Progress::Forks(*class, child));
             }
-        }
+        };
+        Ok(Progress::Begin(part))
     }
 
-    /// The value of an expression that is a number or a variable.
+    /// Begins an operation. Sides that are numbers or variables are begun with it, each by a step, where two are left.
     #[inline(always)]
-    fn leaf(&self, expr: &Expr) -> Option<u64> {
-        match expr {
-            Expr::Var(variable) => Some(self.variable(*variable)),
-            Expr::Num(number) => Some(*number),
-            _ => None,
+    fn operate(
+        &mut self,
+        operation: Operation,
+        first: &'p Expr,
+        second: &'p Expr,
+        left: &mut u32,
+    ) -> Result<Progress<'p>, AllocError>
+        requires start { self.old.level.start ≤ length self.old.frames.items }
+        ensures ok { (expr : Bor Expression) → tree_of expr.now ≡ Binary operation (tree_of first.now) (tree_of second.now) →
+            IfOk result (λ progress. Reaches left.old left.new (beginning (top self.old) expr) progress (top self.new)) }
+        ensures leaves { IfOk result (λ progress. LeavesOthers self.old self.new × OnStops progress ⊥) }
+        ensures fewer { left.new ≤ left.old }
+        ensures err { OnErr result (IsSame self.old self.new) }
+    {
+        if *left >= 2
+            && let Some(x) = self.leaf(first)
+        {
+            *left -= 1;
+            if let Some(y) = self.leaf(second) {
+                *left -= 1;
+                return Ok(Progress::Value(operation.apply(x, y)));
+            }
+            let part = self.enter(Frame::Apply(operation, x), second)?;
+            return Ok(Progress::Begin(part));
         }
+        let part = self.enter(Frame::Right(operation, second), first)?;
+        Ok(Progress::Begin(part))
     }
 
-    /// The value of an expression of numbers, variables, items and operations.
-    pub fn pure(&self, expr: &Expr) -> u64 {
+    /// The value of a number or a variable.
+    #[inline(always)]
+    fn leaf(&self, expr: &Expr) -> Option<u64>
+        ensures leaf { IfSome result (λ _. IsLeaf (tree_of expr.now)) }
+        ensures value { IfSome result (λ value. value ≡ value_of (source_of self.now.program.now).arrays (tree_of expr.now) self.now.environment.items) }
+    {
         match expr {
-            Expr::Num(number) => *number,
-            Expr::Var(variable) => self.variable(*variable),
-            Expr::Len(array) => self.length(*array),
-            Expr::Item(array, index) => self.item(*array, self.pure(index)),
-            Expr::Binary(operation, first, second) => {
-                let x = self.pure(first);
-                let y = self.pure(second);
-                operation.apply(x, y)
-            }
-            _ => 0,
+            Expr::Num(number) => Some(*number),
+            Expr::Var(variable) => Some(self.variable(*variable)),
+            _ => None,
         }
     }
 
     /// Begins a part of an expression; the frame says what comes after it.
     #[inline(always)]
-    fn enter(&mut self, frame: Frame<'p>, part: &'p Expr) -> Result<Progress<'p>, AllocError> {
+    fn enter(&mut self, frame: Frame<'p>, part: &'p Expr) -> Result<&'p Expr, AllocError>
+        ensures part { IfOk result (λ begun. begun ≡ part.entry) }
+        ensures ok { OnOk result (Pushes self.old self.new frame.entry) }
+        ensures err { OnErr result (IsSame self.old self.new) }
+    {
         self.frames.push(frame)?;
-        Ok(Progress::Begin(part))
+        Ok(part)
     }
 
     /// Asks for a lock. It is freed once the value of the expression is known.
     #[inline(always)]
-    fn ask(&mut self, lock: u64, body: &'p Expr) -> Result<Progress<'p>, AllocError> {
+    fn ask(&mut self, lock: u64, body: &'p Expr) -> Result<(), AllocError>
+        ensures ok { OnOk result (Changes self.old self.new self.old.environment.items (self.old.frames.items ++ frames.Release lock ∷ []) (control.Asks lock body.entry)) }
+        ensures err { OnErr result (IsSame self.old self.new) }
+    {
         self.frames.push(Frame::Release(lock))?;
         self.control = Control::Asks { lock, body };
-        Ok(Progress::Stops)
+        Ok(())
     }
 
     /// The value of a variable.
     #[inline(always)]
-    fn variable(&self, variable: u64) -> u64 {
+    fn variable(&self, variable: u64) -> u64
+        ensures { result ≡ slice_index self.now.environment.items variable }
+    {
         match self.environment.get(variable as usize) {
             Some(value) => *value,
             None => 0,
@@ -109,27 +149,12 @@ impl<'p> State<'p> {
 
     /// How many items an array has.
     #[inline(always)]
-    fn length(&self, array: u64) -> u64 {
+    fn length(&self, array: u64) -> u64
+        ensures { result ≡ length (array_at (source_of self.now.program.now).arrays array) }
+    {
         match self.program.arrays.get(array as usize) {
             Some(items) => items.len() as u64,
             None => 0,
         }
-    }
-}
-
-/// How many steps an expression of numbers, variables, items and operations takes; 0 for others.
-pub fn cost_of(expr: &Expr) -> u32 {
-    match expr {
-        Expr::Num(_) | Expr::Var(_) | Expr::Len(_) => 1,
-        Expr::Item(_, index) => {
-            let cost = cost_of(index);
-            if cost == 0 { 0 } else { cost + 1 }
-        }
-        Expr::Binary(_, first, second) => {
-            let x = cost_of(first);
-            let y = cost_of(second);
-            if x == 0 || y == 0 { 0 } else { x + y + 1 }
-        }
-        _ => 0,
     }
 }

@@ -8,12 +8,14 @@ use std::alloc::AllocError;
 
 /// The steps that fork a child, and those that begin a part of a sweep.
 impl<'p> State<'p> {
-    ghost use Rattle.std.specs.Prelude.{◌≡◌, ◌+◌, ◌<◌, ◌^◌, ◌∷◌, ◌++◌, [], IfOk, OnOk, OnErr};
+    ghost use Rattle.std.specs.Prelude.{true, ◌≡◌, ◌≤◌, ◌+◌, ◌<◌, ◌^◌, ◌∷◌, ◌++◌, [], IfOk, OnOk, OnErr};
     ghost use Rattle.arachne_lang.specs.Effects.{tabulated};
     ghost use Rattle.arachne_machine.specs.declared.line.Ran.TheVariants as ways;
     ghost use Rattle.arachne_machine.specs.declared.frame.Frame.TheVariants as frames;
     ghost use Rattle.arachne_machine.specs.declared.frame.Control.TheVariants as control;
     ghost use Rattle.arachne_machine.specs.declared.state.Progress.TheVariants as progress;
+    ghost use Rattle.arachne_machine.specs.Sound.{IsSoundState};
+    ghost use Rattle.arachne_machine.specs.Runs.{Comes};
     ghost use Rattle.arachne_machine.specs.Steps.{CountsFork, HasLine, IsSame, IsSpawned};
 
     /// A new child, whose number is the fork's. The thread goes on with what it does meanwhile.
@@ -39,17 +41,16 @@ impl<'p> State<'p> {
         )
     }
 
-    /// A fork whose child will run here. The thread goes on with what it does meanwhile.
+    /// A fork whose child will run here.
     #[inline(always)]
     pub fn fork_here(
         &mut self,
         child: &'p Expr,
         during: &'p Expr,
         after: &'p Expr,
-    ) -> Result<Progress<'p>, AllocError>
+    ) -> Result<(), AllocError>
         requires number { self.old.level.forks + 1 < 2 ^ 64 }
         ensures counts { OnOk result (CountsFork self.old self.new (frames.JoinHere self.old.level.forks child.entry after.entry) self.old.control) }
-        ensures progress { IfOk result (λ made. made ≡ progress.Begin during.entry) }
         ensures err { OnErr result (IsSame self.old self.new) }
     {
         let number = self.level.forks;
@@ -60,7 +61,7 @@ impl<'p> State<'p> {
         };
         self.frames.push(frame)?;
         self.level.forks += 1;
-        Ok(Progress::Begin(during))
+        Ok(())
     }
 
     /// A new child that begins like this, the thread's new frame, and what it does next.
@@ -102,53 +103,33 @@ impl<'p> State<'p> {
         left: &mut u32,
         spares: &mut Spares<'p>,
         places: &mut P,
-    ) -> Result<Progress<'p>, AllocError> {
-        let mut part = stretch;
-        let most = part.grain.max(1);
-        let mut count = part.end.saturating_sub(part.first);
-        while count > most {
-            let middle = part.first + count / 2;
-            if places.is_any(Class::Normal) {
-                let child = self.halve(part, middle, spares)?;
-                return Ok(Progress::Forks(Class::Normal, child));
-            }
-            self.halve_here(part, middle)?;
-            part.first = middle;
-            count = part.end.saturating_sub(middle);
-            self.control = Control::Cover(part);
-            if *left == 0 {
+    ) -> Result<Progress<'p>, AllocError>
+        requires covers { self.old.control ≡ control.Cover stretch }
+        requires sound { IsSoundState self.old }
+        ensures ok { IfOk result (λ progress. Comes (P.gives_all ≡ true) left.old left.new self.old progress self.new) }
+        ensures fewer { left.new ≤ left.old }
+        ensures err { OnErr result (IsSame self.old self.new) }
+    {
+        let count = stretch.end.saturating_sub(stretch.first);
+        if count > stretch.grain.max(1) {
+            let middle = stretch.first + count / 2;
+            if !places.is_any(Class::Normal) {
+                self.halve_here(stretch, middle)?;
                 return Ok(Progress::Goes);
             }
-            *left -= 1;
+            let child = self.halve(stretch, middle, spares)?;
+            return Ok(Progress::Forks(Class::Normal, child));
         }
         self.reserve_turn()?;
-        Ok(self.begin_part(part, count, left))
-    }
-
-    /// Begins a part of so many numbers that is not split. There is room.
-    #[inline(always)]
-    fn begin_part(&mut self, part: Stretch<'p>, count: u64, left: &mut u32) -> Progress<'p> {
-        let Stretch {
-            reduction,
-            cost,
-            first,
-            end,
-            body,
-            ..
-        } = part;
-        let mut value = reduction.unit();
-        if cost > 0 && count > 0 && u64::from(*left) > count.saturating_mul(u64::from(cost)) {
-            self.environment.push_reserved(first);
-            let at = self.environment.len() - 1;
-            for turn in 0..count {
-                self.environment[at] = first + turn;
-                value = reduction.operation().apply(value, self.pure(body));
-            }
-            self.environment.truncate(at);
-            *left -= cost * (count as u32);
-            return self.result(value, left);
-        }
-        self.turn_sweep(reduction, first, end, body, value, left)
+        let unit = stretch.reduction.unit();
+        Ok(self.turn_sweep(
+            stretch.reduction,
+            stretch.first,
+            stretch.end,
+            stretch.body,
+            unit,
+            left,
+        ))
     }
 
     /// A new child for what is left of this middle. The thread goes on with what is right of it.
@@ -179,20 +160,26 @@ impl<'p> State<'p> {
         self.spawn(Control::Cover(left), frame, Control::Halved(right), spares)
     }
 
-    /// A split whose left half will run here, as a child.
+    /// A split whose left half will run here, as a child. The thread goes on with what is right of the middle.
     #[inline(always)]
     fn halve_here(&mut self, stretch: Stretch<'p>, middle: u64) -> Result<(), AllocError>
         requires number { self.old.level.forks + 1 < 2 ^ 64 }
-        ensures counts { OnOk result (CountsFork self.old self.new (frames.MergeHere self.old.level.forks (record stretch.entry { end = middle })) self.old.control) }
+        ensures counts { OnOk result (CountsFork self.old self.new (frames.MergeHere self.old.level.forks (record stretch.entry { end = middle }))
+            (control.Cover (record stretch.entry { first = middle }))) }
         ensures err { OnErr result (IsSame self.old self.new) }
     {
         let left = Stretch {
             end: middle,
             ..stretch
         };
+        let right = Stretch {
+            first: middle,
+            ..stretch
+        };
         let number = self.level.forks;
         self.frames.push(Frame::MergeHere { number, left })?;
         self.level.forks += 1;
+        self.control = Control::Cover(right);
         Ok(())
     }
 }

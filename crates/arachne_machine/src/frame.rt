@@ -5,8 +5,6 @@ use arachne_lang::{Expr, Operation, Reduction};
 #[derive(Clone, Copy)]
 pub struct Stretch<'p> {
     pub reduction: Reduction,
-    /// How many steps the body takes, where that is the same for all numbers; else 0.
-    pub cost: u32,
     pub grain: u64,
     pub first: u64,
     pub end: u64,
@@ -108,7 +106,6 @@ pub enum Frame<'p> {
         next: u64,
         end: u64,
         body: &'p Expr,
-        cost: u32,
     },
     /// The value is a sweep's first number; then come its end and its body.
     SweepTo(Reduction, u64, &'p Expr, &'p Expr),

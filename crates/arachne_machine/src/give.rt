@@ -1,5 +1,4 @@
 //! Hands a value on from frame to frame.
-use crate::begin::cost_of;
 use crate::frame::{Control, Frame, Stretch};
 use crate::placing::Placing;
 use crate::state::{Progress, State};
@@ -8,10 +7,18 @@ use std::alloc::AllocError;
 
 /// How a value is handed on.
 impl<'p> State<'p> {
-    ghost use Rattle.std.specs.Prelude.{◌≡◌, ◌+◌, ◌≤◌, vec_len, vec_capacity, OnOk, OnErr, IsErr};
+    ghost use Rattle.std.specs.Prelude.{true, ◌≡◌, ◌+◌, ◌<◌, ◌≤◌, ◌++◌, ◌∷◌, [], length, slice_index, vec_len, vec_capacity, IfOk, IsErr, OnOk, OnErr};
+    ghost use Rattle.arachne_lang.specs.Program.{source_of};
+    ghost use Rattle.arachne_lang.specs.Value.{array_at, with_newest};
+    ghost use Rattle.arachne_machine.specs.declared.state.State.{State as Whole};
+    ghost use Rattle.arachne_machine.specs.declared.frame.Frame.TheVariants as frames;
     ghost use Rattle.arachne_machine.specs.declared.frame.Control.TheVariants as control;
-    ghost use Rattle.arachne_machine.specs.Steps.{IsSame, Turns};
-    ghost use Rattle.arachne_machine.specs.Runs.{HandsResult};
+    ghost use Rattle.arachne_machine.specs.Ending.{without_newest};
+    ghost use Rattle.arachne_machine.specs.Strands.{Strand};
+    ghost use Rattle.arachne_machine.specs.Sound.{IsSoundState};
+    ghost use Rattle.arachne_machine.specs.Steps.{Changes, HasLine, HasRoom, OnStops, IsPauseOrRange, IsOfRange, IsPopped, IsSame, IsWithin, LeavesOthers, OnValue, Pushes, Reaches, Turns, giving, top};
+    ghost use Rattle.arachne_machine.specs.Runs.{Comes, FoldsOn, HandsResult, IsOneStep, IsPoppedIn, RunsWithin, SweepsOn, giving_in, seen_in};
+    ghost use Rattle.arachne_machine.specs.declared.state.Progress.TheVariants as ways;
 
     /// Hands a value on from frame to frame, and from a child that ran here to its parent, until one of them says what comes
     /// next, or none is left. Where memory is refused the value is still to be handed on.
@@ -21,29 +28,51 @@ impl<'p> State<'p> {
         mut value: u64,
         left: &mut u32,
         places: &mut P,
-    ) -> Result<Progress<'p>, AllocError> {
+    ) -> Result<Progress<'p>, AllocError>
+        requires sound { IsSoundState (giving_in self.old value) }
+        ensures ok { IfOk result (λ progress. Comes (P.gives_all ≡ true) left.old left.new (giving_in self.old value) progress self.new) }
+        ensures handed { IfOk result (λ progress. OnValue progress ⊥) }
+        ensures fewer { left.new ≤ left.old }
+        ensures err { OnErr result (RunsWithin (P.gives_all ≡ true) left.old (giving_in self.old value) self.new) }
+    {
         if self.environment.try_reserve(2).is_err() {
             return self.refused(value);
         }
         loop {
-            while self.frames.len() > self.level.start {
-                let Some(frame) = self.frames.pop() else {
-                    unreachable!()
-                };
-                match self.hand(frame, value, left, places)? {
-                    Progress::Value(next) => value = next,
-                    other => return Ok(other),
-                }
-            }
-            if self.parents.is_empty() {
-                self.control = Control::Ended(value);
-                return Ok(Progress::Stops);
-            }
-            match self.join_here(value, left)? {
+            match self.hand_newest(value, left, places)? {
                 Progress::Value(next) => value = next,
-                other => return Ok(other),
+                progress => return Ok(progress),
             }
         }
+    }
+
+    /// Hands a value to the newest frame of the innermost thread. Where it has none it has ended, and its parent goes on.
+    #[inline(always)]
+    fn hand_newest<P: Placing>(
+        &mut self,
+        value: u64,
+        left: &mut u32,
+        places: &mut P,
+    ) -> Result<Progress<'p>, AllocError>
+        requires sound { IsSoundState (giving_in self.old value) }
+        requires environment { vec_len self.old.environment + 2 ≤ vec_capacity self.old.environment }
+        ensures ok { IfOk result (λ progress. Comes (P.gives_all ≡ true) left.old left.new (giving_in self.old value) progress self.new) }
+        ensures fewer { left.new ≤ left.old }
+        ensures room { IfOk result (λ progress. OnValue progress (vec_len self.new.environment + 2 ≤ vec_capacity self.new.environment)) }
+        ensures nearer { IfOk result (λ progress. OnValue progress (vec_len self.new.frames + vec_len self.new.parents < vec_len self.old.frames + vec_len self.old.parents)) }
+        ensures err { OnErr result (IsSame (giving_in self.old value) self.new) }
+    {
+        if self.frames.len() > self.level.start {
+            let Some(frame) = self.frames.pop() else {
+                unreachable!()
+            };
+            return self.hand(frame, value, left, places);
+        }
+        if self.parents.is_empty() {
+            self.control = Control::Ended(value);
+            return Ok(Progress::Stops);
+        }
+        self.join_here(value, left)
     }
 
     /// Memory was refused: the value is still to be handed on.
@@ -67,7 +96,7 @@ impl<'p> State<'p> {
         self.frames.try_reserve(1)
     }
 
-    /// Hands a value to this frame, which was the newest.
+    /// Hands a value to this frame, which was the newest. Where memory is refused it is that again.
     #[inline(always)]
     fn hand<P: Placing>(
         &mut self,
@@ -75,28 +104,19 @@ impl<'p> State<'p> {
         value: u64,
         left: &mut u32,
         places: &mut P,
-    ) -> Result<Progress<'p>, AllocError> {
+    ) -> Result<Progress<'p>, AllocError>
+        requires start { self.old.level.start ≤ length self.old.frames.items }
+        requires line { HasLine self.old }
+        requires environment { vec_len self.old.environment + 2 ≤ vec_capacity self.old.environment }
+        requires frames { vec_len self.old.frames + 1 ≤ vec_capacity self.old.frames }
+        ensures made { (before : Whole) → IsPoppedIn frame.entry before (giving_in self.old value) → IsSoundState before → IfOk result (λ progress. Comes (P.gives_all ≡ true) left.old left.new before progress self.new) }
+        ensures fewer { left.new ≤ left.old }
+        ensures room { IfOk result (λ progress. OnValue progress (vec_len self.new.environment + 2 ≤ vec_capacity self.new.environment)) }
+        ensures frames { IfOk result (λ progress. OnValue progress (vec_len self.new.frames ≤ vec_len self.old.frames)) }
+        ensures parents { IfOk result (λ progress. OnValue progress (vec_len self.new.parents ≤ vec_len self.old.parents)) }
+        ensures err { OnErr result (Changes self.old self.new self.old.environment.items (self.old.frames.items ++ frame.entry ∷ []) (control.Give value)) }
+    {
         match frame {
-            Frame::Index(array) => Ok(Progress::Value(self.item(array, value))),
-            Frame::Apply(operation, first) => Ok(Progress::Value(operation.apply(first, value))),
-            Frame::Restore(length) => {
-                self.environment.truncate(length);
-                Ok(Progress::Value(value))
-            }
-            Frame::Right(operation, right) => Ok(self.go_on(Frame::Apply(operation, value), right)),
-            Frame::Branch(first, second) => {
-                Ok(Progress::Begin(if value == 0 { second } else { first }))
-            }
-            Frame::Extend(body) => Ok(self.extend(value, body)),
-            Frame::FoldTurn {
-                next,
-                end,
-                body,
-                cost,
-            } => {
-                self.drop_newest(2);
-                Ok(self.turn_fold(next, end, body, cost, value, left))
-            }
             Frame::JoinHere {
                 number,
                 child,
@@ -108,8 +128,8 @@ impl<'p> State<'p> {
                     after,
                 };
                 if self.begin_here(number, awaits, places).is_err() {
-                    self.frames.push_reserved(frame);
-                    return self.refused(value);
+                    self.stand_before(frame, value);
+                    return Err(AllocError);
                 }
                 Ok(Progress::Begin(child))
             }
@@ -120,18 +140,87 @@ impl<'p> State<'p> {
                     reduction: half.reduction,
                 };
                 if self.begin_here(number, awaits, places).is_err() {
-                    self.frames.push_reserved(frame);
-                    return self.refused(value);
+                    self.stand_before(frame, value);
+                    return Err(AllocError);
                 }
                 self.control = Control::Cover(half);
                 Ok(Progress::Goes)
             }
-            _ => Ok(self.hand_on(frame, value, left)),
+            _ => Ok(self.hand_within(frame, value, left)),
         }
     }
 
-    /// The same for a frame at which the thread pauses, or one of a fold or a sweep.
-    fn hand_on(&mut self, frame: Frame<'p>, value: u64, left: &mut u32) -> Progress<'p> {
+    /// It stands before the step in which this value was handed to this frame.
+    #[cold]
+    #[inline(never)]
+    fn stand_before(&mut self, frame: Frame<'p>, value: u64)
+        requires { vec_len self.old.frames + 1 ≤ vec_capacity self.old.frames }
+        ensures { Changes self.old self.new self.old.environment.items (self.old.frames.items ++ frame.entry ∷ []) (control.Give value) }
+    {
+        self.frames.push_reserved(frame);
+        self.control = Control::Give(value);
+    }
+
+    /// The same for a frame that begins no child.
+    #[inline(always)]
+    fn hand_within(&mut self, frame: Frame<'p>, value: u64, left: &mut u32) -> Progress<'p>
+        requires within { IsWithin frame }
+        requires start { self.old.level.start ≤ length self.old.frames.items }
+        requires environment { vec_len self.old.environment + 2 ≤ vec_capacity self.old.environment }
+        requires frames { vec_len self.old.frames + 1 ≤ vec_capacity self.old.frames }
+        ensures made { (before : Strand) → IsPopped frame.entry before (giving (top self.old) value) → Reaches left.old left.new before result (top self.new) }
+        ensures leaves { LeavesOthers self.old self.new }
+        ensures stops { OnStops result (HasRoom self.new) }
+        ensures fewer { left.new ≤ left.old }
+        ensures room { OnValue result (vec_len self.new.environment + 2 ≤ vec_capacity self.new.environment) }
+        ensures frames { OnValue result (vec_len self.new.frames ≤ vec_len self.old.frames) }
+    {
+        match frame {
+            Frame::Index(array) => Progress::Value(self.item(array, value)),
+            Frame::Apply(operation, first) => Progress::Value(operation.apply(first, value)),
+            Frame::Restore(length) => {
+                self.environment.truncate(length);
+                Progress::Value(value)
+            }
+            Frame::Right(operation, right) => self.go_on(Frame::Apply(operation, value), right),
+            Frame::Branch(first, second) => {
+                let next = if value == 0 { second } else { first };
+                Progress::Begin(next)
+            }
+            Frame::Extend(body) => self.extend(value, body),
+            Frame::FoldTurn { next, end, body } => {
+                self.drop_newest(2);
+                self.turn_fold(next, end, body, value, left)
+            }
+            Frame::SweepTurn {
+                reduction,
+                next,
+                end,
+                so_far,
+                body,
+            } => {
+                self.drop_newest(1);
+                let value = reduction.operation().apply(so_far, value);
+                self.turn_sweep(reduction, next, end, body, value, left)
+            }
+            _ => self.hand_on(frame, value, left),
+        }
+    }
+
+    /// The same for a frame at which the thread pauses, or the beginning of a fold or a sweep.
+    #[inline(always)]
+    fn hand_on(&mut self, frame: Frame<'p>, value: u64, left: &mut u32) -> Progress<'p>
+        requires later { IsPauseOrRange frame }
+        requires start { self.old.level.start ≤ length self.old.frames.items }
+        requires environment { vec_len self.old.environment + 2 ≤ vec_capacity self.old.environment }
+        requires frames { vec_len self.old.frames + 1 ≤ vec_capacity self.old.frames }
+        ensures made { (before : Strand) → IsPopped frame.entry before (giving (top self.old) value) → Reaches left.old left.new before result (top self.new) }
+        ensures leaves { LeavesOthers self.old self.new }
+        ensures stops { OnStops result (HasRoom self.new) }
+        ensures fewer { left.new ≤ left.old }
+        ensures room { OnValue result (vec_len self.new.environment + 2 ≤ vec_capacity self.new.environment) }
+        ensures frames { OnValue result (vec_len self.new.frames ≤ vec_len self.old.frames) }
+    {
         match frame {
             Frame::Amount(ledger, body) => {
                 self.control = Control::Tallies {
@@ -165,28 +254,32 @@ impl<'p> State<'p> {
         }
     }
 
-    /// The same for a frame of a fold or a sweep.
-    fn hand_to_range(&mut self, frame: Frame<'p>, value: u64, left: &mut u32) -> Progress<'p> {
+    /// The same for the beginning of a fold or a sweep.
+    #[inline(always)]
+    fn hand_to_range(&mut self, frame: Frame<'p>, value: u64, left: &mut u32) -> Progress<'p>
+        requires range { IsOfRange frame }
+        requires start { self.old.level.start ≤ length self.old.frames.items }
+        requires environment { vec_len self.old.environment + 2 ≤ vec_capacity self.old.environment }
+        requires frames { vec_len self.old.frames + 1 ≤ vec_capacity self.old.frames }
+        ensures made { (before : Strand) → IsPopped frame.entry before (giving (top self.old) value) → Reaches left.old left.new before result (top self.new) }
+        ensures leaves { LeavesOthers self.old self.new }
+        ensures stops { OnStops result (HasRoom self.new) }
+        ensures fewer { left.new ≤ left.old }
+        ensures room { OnValue result (vec_len self.new.environment + 2 ≤ vec_capacity self.new.environment) }
+        ensures frames { OnValue result (vec_len self.new.frames ≤ vec_len self.old.frames) }
+    {
         match frame {
             Frame::FoldTo(to, first, body) => self.go_on(Frame::FoldFirst(value, first, body), to),
             Frame::FoldFirst(from, first, body) => {
                 self.go_on(Frame::FoldStart(from, value, body), first)
             }
-            Frame::FoldStart(from, to, body) => {
-                let cost = if to.saturating_sub(from) >= 2 {
-                    cost_of(body)
-                } else {
-                    0
-                };
-                self.turn_fold(from, to, body, cost, value, left)
-            }
+            Frame::FoldStart(from, to, body) => self.turn_fold(from, to, body, value, left),
             Frame::SweepTo(reduction, grain, to, body) => {
                 self.go_on(Frame::SweepStart(reduction, grain, value, body), to)
             }
             Frame::SweepStart(reduction, grain, first, body) => {
                 self.control = Control::Cover(Stretch {
                     reduction,
-                    cost: cost_of(body),
                     grain,
                     first,
                     end: value,
@@ -194,47 +287,71 @@ impl<'p> State<'p> {
                 });
                 Progress::Goes
             }
-            Frame::SweepTurn {
-                reduction,
-                next,
-                end,
-                so_far,
-                body,
-            } => {
-                self.drop_newest(1);
-                let value = reduction.operation().apply(so_far, value);
-                self.turn_sweep(reduction, next, end, body, value, left)
-            }
             _ => unreachable!(),
         }
     }
 
     /// Begins an expression after a frame was taken away; this frame says what comes after it.
     #[inline(always)]
-    fn go_on(&mut self, frame: Frame<'p>, part: &'p Expr) -> Progress<'p> {
+    fn go_on(&mut self, frame: Frame<'p>, part: &'p Expr) -> Progress<'p>
+        requires { vec_len self.old.frames + 1 ≤ vec_capacity self.old.frames }
+        ensures begins { result ≡ ways.Begin part.entry }
+        ensures same { Pushes self.old self.new frame.entry }
+    {
         self.frames.push_reserved(frame);
         Progress::Begin(part)
     }
 
     /// Begins an expression with a newest variable.
     #[inline(always)]
-    fn extend(&mut self, value: u64, body: &'p Expr) -> Progress<'p> {
+    fn extend(&mut self, value: u64, body: &'p Expr) -> Progress<'p>
+        requires environment { vec_len self.old.environment + 1 ≤ vec_capacity self.old.environment }
+        requires frames { vec_len self.old.frames + 1 ≤ vec_capacity self.old.frames }
+        ensures begins { result ≡ ways.Begin body.entry }
+        ensures same { Changes self.old self.new (with_newest self.old.environment.items value)
+            (self.old.frames.items ++ frames.Restore (length self.old.environment.items) ∷ []) self.old.control }
+    {
         let length = self.environment.len();
         self.environment.push_reserved(value);
         self.frames.push_reserved(Frame::Restore(length));
         Progress::Begin(body)
     }
 
+    /// What a fold, a part of a sweep or two halves come to, which is handed on by a step of its own: at once where one is left.
+    #[inline(always)]
+    pub fn hand_result(&mut self, value: u64, left: &mut u32) -> Progress<'p>
+        ensures same { Changes self.old (seen_in result self.new) self.old.environment.items self.old.frames.items (control.Give value) }
+        ensures step { IsOneStep left.old left.new result self.new }
+        ensures hands { HandsResult self.old value left.old result left.new self.new }
+        ensures fewer { left.new ≤ left.old }
+        ensures room { OnValue result (self.new ≡ self.old) }
+    {
+        if *left == 0 {
+            self.control = Control::Give(value);
+            return Progress::Goes;
+        }
+        *left -= 1;
+        Progress::Value(value)
+    }
+
     /// Drops so many of the newest variables.
     #[inline(always)]
-    fn drop_newest(&mut self, count: usize) {
+    fn drop_newest(&mut self, count: usize)
+        requires environment { vec_len self.old.environment + 2 ≤ vec_capacity self.old.environment }
+        requires frames { vec_len self.old.frames + 1 ≤ vec_capacity self.old.frames }
+        ensures same { Changes self.old self.new (without_newest count self.old.environment.items) self.old.frames.items self.old.control }
+        ensures environment { vec_len self.new.environment + 2 ≤ vec_capacity self.new.environment }
+        ensures frames { vec_len self.new.frames + 1 ≤ vec_capacity self.new.frames }
+    {
         let length = self.environment.len().saturating_sub(count);
         self.environment.truncate(length);
     }
 
     /// An item of an array, 0 outside it.
     #[inline(always)]
-    pub fn item(&self, array: u64, index: u64) -> u64 {
+    fn item(&self, array: u64, index: u64) -> u64
+        ensures { result ≡ slice_index (array_at (source_of self.now.program.now).arrays array) index }
+    {
         match self.program.arrays.get(array as usize) {
             Some(items) => match items.get(index as usize) {
                 Some(item) => *item,
@@ -244,19 +361,6 @@ impl<'p> State<'p> {
         }
     }
 
-    /// What a fold, a part of a sweep or two halves come to, which is handed on in a step of its own.
-    #[inline(always)]
-    pub fn result(&mut self, value: u64, left: &mut u32) -> Progress<'p>
-        ensures { HandsResult self.old value left.old result left.new self.new }
-    {
-        if *left > 0 {
-            *left -= 1;
-            return Progress::Value(value);
-        }
-        self.control = Control::Give(value);
-        Progress::Goes
-    }
-
     /// A fold that has this value so far goes on from a number to below an end.
     #[inline(always)]
     fn turn_fold(
@@ -264,42 +368,27 @@ impl<'p> State<'p> {
         next: u64,
         end: u64,
         body: &'p Expr,
-        cost: u32,
         so_far: u64,
         left: &mut u32,
-    ) -> Progress<'p> {
+    ) -> Progress<'p>
+        requires environment { vec_len self.old.environment + 2 ≤ vec_capacity self.old.environment }
+        requires frames { vec_len self.old.frames + 1 ≤ vec_capacity self.old.frames }
+        ensures turns { FoldsOn self.old (seen_in result self.new) next end body.entry so_far }
+        ensures step { IsOneStep left.old left.new result self.new }
+        ensures fewer { left.new ≤ left.old }
+        ensures room { OnValue result (self.new ≡ self.old) }
+    {
         if next >= end {
-            return self.result(so_far, left);
+            return self.hand_result(so_far, left);
         }
-        let mut next = next;
-        let mut so_far = so_far;
         self.environment.push_reserved(next);
         self.environment.push_reserved(so_far);
-        if cost > 0 && *left > cost {
-            let turns = (end - next).min(u64::from((*left - 1) / cost));
-            let at = self.environment.len() - 2;
-            for turn in 0..turns {
-                self.environment[at] = next + turn;
-                self.environment[at + 1] = so_far;
-                so_far = self.pure(body);
-            }
-            *left -= cost * (turns as u32);
-            next += turns;
-            if next >= end {
-                self.drop_newest(2);
-                return self.result(so_far, left);
-            }
-            self.environment[at] = next;
-            self.environment[at + 1] = so_far;
-        }
         let turn = Frame::FoldTurn {
             next: next + 1,
             end,
             body,
-            cost,
         };
-        self.frames.push_reserved(turn);
-        Progress::Begin(body)
+        self.go_on(turn, body)
     }
 
     /// A sweep that has this value so far goes on from a number to below an end.
@@ -312,9 +401,16 @@ impl<'p> State<'p> {
         body: &'p Expr,
         so_far: u64,
         left: &mut u32,
-    ) -> Progress<'p> {
+    ) -> Progress<'p>
+        requires environment { vec_len self.old.environment + 2 ≤ vec_capacity self.old.environment }
+        requires frames { vec_len self.old.frames + 1 ≤ vec_capacity self.old.frames }
+        ensures turns { SweepsOn self.old (seen_in result self.new) reduction next end body.entry so_far }
+        ensures step { IsOneStep left.old left.new result self.new }
+        ensures fewer { left.new ≤ left.old }
+        ensures room { OnValue result (self.new ≡ self.old) }
+    {
         if end <= next {
-            return self.result(so_far, left);
+            return self.hand_result(so_far, left);
         }
         self.environment.push_reserved(next);
         let turn = Frame::SweepTurn {
@@ -324,7 +420,6 @@ impl<'p> State<'p> {
             so_far,
             body,
         };
-        self.frames.push_reserved(turn);
-        Progress::Begin(body)
+        self.go_on(turn, body)
     }
 }

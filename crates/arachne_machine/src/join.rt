@@ -3,6 +3,8 @@ use crate::frame::{Control, Frame};
 use crate::level::{Level, Parent};
 use crate::line::{Ran, ThreadLine};
 use crate::lines::Lines;
+use crate::outcome::Outcome;
+use crate::pause::NotJoined;
 use crate::placing::Placing;
 use crate::state::{Progress, State};
 use crate::tables::{add_each, zeros};
@@ -12,13 +14,14 @@ use std::mem::{replace, swap};
 
 /// How children begin in their parent's place, and how they are joined.
 impl<'p> State<'p> {
-    ghost use Rattle.std.specs.Prelude.{◌≡◌, ◌+◌, ◌≤◌, ◌∷◌, ◌++◌, ◌↔◌, [], length, vec_len, vec_capacity, Some, IsTrue, IfOk, OnOk, OnErr};
+    ghost use Rattle.std.specs.Prelude.{◌≡◌, ◌≢◌, ◌+◌, ◌≤◌, ◌<◌, ◌∷◌, ◌++◌, ◌↔◌, [], length, vec_len, vec_capacity, Some, IsTrue, IfOk, IfErr, OnOk, OnErr};
     ghost use Rattle.arachne_machine.specs.declared.frame.Frame.TheVariants as frames;
     ghost use Rattle.arachne_machine.specs.declared.frame.Control.TheVariants as control;
-    ghost use Rattle.arachne_machine.specs.Steps.{Changes, HasLine, IsSame, pending_of, suspended, top};
+    ghost use Rattle.arachne_machine.specs.Steps.{Changes, HasLine, HasRoom, IsSame, OnValue, pending_of, suspended, top};
     ghost use Rattle.arachne_machine.specs.Suspended.{awaited};
     ghost use Rattle.arachne_machine.specs.declared.pause.Pending.TheVariants as pause;
-    ghost use Rattle.arachne_machine.specs.Runs.{BeginsHere, Descends, HasParent, ResumesParent};
+    ghost use Rattle.arachne_machine.specs.Runs.{BeginsHere, Descends, HasParent, JoinsOutcome, KeepsRest, LooksSame, ResumesAs, ResumesParent, StandsBefore, TakesIn};
+    ghost use Rattle.arachne_machine.specs.Advance.{IsForeign, handed_back};
 
     /// Whether the innermost thread awaits the child of this name.
     pub fn awaits(&self, name: &Name) -> bool
@@ -46,6 +49,7 @@ impl<'p> State<'p> {
         requires { HasLine self.old }
         ensures ok { OnOk result (BeginsHere self.old self.new number awaits.entry self.old.control) }
         ensures err { OnErr result (IsSame self.old self.new) }
+        ensures frames { OnErr result (self.new.frames ≡ self.old.frames) }
     {
         self.parents.try_reserve(1)?;
         let name = self.running_name().child(self.alloc, number)?;
@@ -66,7 +70,8 @@ impl<'p> State<'p> {
     #[inline(always)]
     fn descend(&mut self, awaits: Control<'p>, place: usize, forks: u64)
         requires { vec_len self.old.parents + 1 ≤ vec_capacity self.old.parents }
-        ensures { Descends self.old self.new awaits.entry place forks }
+        ensures descends { Descends self.old self.new awaits.entry place forks }
+        ensures frames { self.new.frames ≡ self.old.frames }
     {
         self.parents.push_reserved(Parent {
             level: self.level,
@@ -81,14 +86,23 @@ impl<'p> State<'p> {
 
     /// The child that is awaited, in whose place no other is, goes on here. Where memory is refused nothing has changed but
     /// room.
-    pub fn take_in(&mut self, child: &mut State<'p>) -> Result<(), AllocError> {
+    pub fn take_in(&mut self, child: &mut State<'p>) -> Result<(), AllocError>
+        requires { length child.old.sums.items ≡ length self.old.sums.items }
+        ensures ok { OnOk result (TakesIn self.old child.old self.new) }
+        ensures err { OnErr result (IsSame self.old self.new) }
+        ensures childs { OnErr result (LooksSame child.old child.new) }
+        ensures room { OnErr result (HasRoom self.old → HasRoom self.new) }
+    {
         self.parents.try_reserve(1)?;
         self.frames.try_reserve(child.frames.len())?;
         let place = self.lines.len();
+        let ran = child.own.label.ran;
+        child.own.label.ran = Ran::InPlace;
         let below = replace(&mut child.lines, Lines::new(self.alloc));
         if let Err((own, below)) = self.lines.append(child.take_line(), below) {
             child.lines = below;
             child.put_back_line(own);
+            child.own.label.ran = ran;
             return Err(AllocError);
         }
         add_each(&mut self.sums, &child.sums);
@@ -106,6 +120,9 @@ impl<'p> State<'p> {
         requires parent { HasParent self.old }
         requires room { vec_len self.old.environment + 2 ≤ vec_capacity self.old.environment }
         ensures ok { IfOk result (λ progress. ResumesParent self.old value left.old progress left.new self.new) }
+        ensures fewer { left.new ≤ left.old }
+        ensures room { IfOk result (λ progress. OnValue progress (vec_len self.new.environment + 2 ≤ vec_capacity self.new.environment)) }
+        ensures nearer { IfOk result (λ progress. OnValue progress (vec_len self.new.frames + vec_len self.new.parents < vec_len self.old.frames + vec_len self.old.parents)) }
         ensures err { OnErr result (Changes self.old self.new self.old.environment.items self.old.frames.items (control.Give value)) }
     {
         if self.frames.try_reserve(1).is_err() {
@@ -124,7 +141,7 @@ impl<'p> State<'p> {
                 right,
                 reduction,
                 ..
-            } => Ok(self.result(reduction.operation().apply(value, right), left)),
+            } => Ok(self.hand_result(reduction.operation().apply(value, right), left)),
             _ => unreachable!(),
         }
     }
@@ -143,10 +160,53 @@ impl<'p> State<'p> {
         self.frames.push_reserved(Frame::Restore(length));
     }
 
-    /// Joins the child that is awaited, which ended with this value and these sums. There is room.
+    /// Joins this outcome, where it is that of the child that is awaited. Where it answers an error nothing has changed but
+    /// room, and the outcome comes back.
+    pub fn join(&mut self, outcome: Outcome<'p>) -> Result<(), NotJoined<'p>>
+        requires joins { pending_of self.old.control ≡ Some pause.Joins }
+        requires line { HasLine self.old }
+        requires sums { length outcome.sums ≡ length self.old.sums.items }
+        ensures ok { OnOk result (JoinsOutcome self.old outcome.entry self.new) }
+        ensures foreign { IsForeign result ↔ (awaited (suspended (top self.old)) ≢ Some outcome.entry.name) }
+        ensures err { OnErr result (IsSame self.old self.new) }
+        ensures handed_back { IfErr result (λ e. handed_back e ≡ outcome.entry) }
+    {
+        if !self.awaits(&outcome.own.name) {
+            return Err(NotJoined::Foreign(outcome));
+        }
+        if self.reserve_turn().is_err() {
+            return Err(NotJoined::Memory(outcome));
+        }
+        let Outcome {
+            program,
+            value,
+            sums,
+            own,
+            below,
+        } = outcome;
+        if let Err((own, below)) = self.lines.append(own, below) {
+            return Err(NotJoined::Memory(Outcome {
+                program,
+                value,
+                sums,
+                own,
+                below,
+            }));
+        }
+        add_each(&mut self.sums, &sums);
+        self.resume_joined(value);
+        Ok(())
+    }
+
+    /// Goes on once the child that is awaited was joined, which ended with this value. There is room.
     #[inline(always)]
-    pub fn join_with_room(&mut self, value: u64, sums: &[u64]) {
-        add_each(&mut self.sums, sums);
+    fn resume_joined(&mut self, value: u64)
+        requires joins { pending_of self.old.control ≡ Some pause.Joins }
+        requires environment { vec_len self.old.environment + 2 ≤ vec_capacity self.old.environment }
+        requires frames { vec_len self.old.frames + 1 ≤ vec_capacity self.old.frames }
+        ensures resumes { ResumesAs self.old.control self.old.environment.items self.old.frames.items value self.new }
+        ensures rest { KeepsRest self.old self.new }
+    {
         match self.control {
             Control::Awaits { during, after, .. } => {
                 self.bind_joined(value, during);
@@ -164,7 +224,11 @@ impl<'p> State<'p> {
     }
 
     /// It stands before the step in which it came to await a child.
-    pub fn stand_before_join(&mut self) {
+    pub fn stand_before_join(&mut self)
+        requires joins { pending_of self.old.control ≡ Some pause.Joins }
+        requires room { HasRoom self.old }
+        ensures { StandsBefore self.old.control self.old self.new }
+    {
         match self.control {
             Control::Awaits {
                 number,

@@ -13,6 +13,7 @@ mod line;
 mod lines;
 mod outcome;
 mod pause;
+mod placed;
 mod placing;
 mod spares;
 mod state;

@@ -73,11 +73,12 @@ pub enum Progress<'p> {
 }
 
 impl<'p> State<'p> {
-    ghost use Rattle.std.specs.Prelude.{◌≡◌, ◌∷◌, ◌<◌, [], length, IfOk, OnOk, None, Some};
+    ghost use Rattle.std.specs.Prelude.{true, ◌≡◌, ◌≤◌, ◌-◌, ◌∷◌, ◌<◌, [], length, IfOk, OnOk, OnErr, None, Some};
     ghost use Rattle.arachne_lang.specs.Effects.{tabulated};
     ghost use Rattle.arachne_machine.specs.Sound.{IsSoundState};
     ghost use Rattle.arachne_machine.specs.Strands.{owned_of, own_line};
-    ghost use Rattle.arachne_machine.specs.Steps.{pending_of, top, HasLine, IsRenewed};
+    ghost use Rattle.arachne_machine.specs.Steps.{pending_of, top, HasLine, IsLeftOver, IsRenewed, IsSame, OnValue};
+    ghost use Rattle.arachne_machine.specs.Runs.{Advances, Comes, RunsWithin, current_in};
     ghost use Rattle.arachne_machine.specs.declared.line.Ran.TheVariants as ways;
     ghost use Rattle.arachne_machine.specs.declared.pause.Pending.TheVariants as pause;
     ghost use Rattle.arachne_machine.specs.declared.frame.Control.TheVariants as control;
@@ -161,7 +162,12 @@ impl<'p> State<'p> {
         left: &mut u32,
         spares: &mut Spares<'p>,
         places: &mut P,
-    ) -> Result<Option<(Class, Box<State<'p>>)>, AllocError> {
+    ) -> Result<Option<(Class, Box<State<'p>>)>, AllocError>
+        requires running { pending_of self.old.control ≡ None }
+        requires sound { IsSoundState self.old }
+        ensures ok { IfOk result (λ forked. Advances (P.gives_all ≡ true) left.old left.new self.old forked (pending_of self.new.control) self.new) }
+        ensures err { OnErr result (RunsWithin (P.gives_all ≡ true) (left.old - 1) self.old self.new) }
+    {
         let mut rest = *left;
         let mut begins = self.beginning();
         while rest > 0 {
@@ -188,7 +194,10 @@ impl<'p> State<'p> {
 
     /// The expression that is begun next, where one is.
     #[inline(always)]
-    fn beginning(&self) -> Option<&'p Expr> {
+    fn beginning(&self) -> Option<&'p Expr>
+        ensures current { current_in result self.now ≡ self.now }
+        ensures left_over { result ≡ None → pending_of self.now.control ≡ None → IsLeftOver self.now.control }
+    {
         match self.control {
             Control::Begin(expr) => Some(expr),
             _ => None,
@@ -197,7 +206,9 @@ impl<'p> State<'p> {
 
     /// Writes down that this expression is begun next, where one is.
     #[inline(always)]
-    fn settle(&mut self, begins: Option<&'p Expr>) {
+    fn settle(&mut self, begins: Option<&'p Expr>)
+        ensures { self.new ≡ current_in begins.entry self.old }
+    {
         if let Some(expr) = begins {
             self.control = Control::Begin(expr);
         }
@@ -212,18 +223,42 @@ impl<'p> State<'p> {
         left: &mut u32,
         spares: &mut Spares<'p>,
         places: &mut P,
-    ) -> Result<Progress<'p>, AllocError> {
-        let begun = match begins {
-            Some(expr) => self.begin(expr, left, spares, places),
-            None => self.resume(left, spares, places),
-        };
-        match begun {
+    ) -> Result<Progress<'p>, AllocError>
+        requires left_over { begins ≡ None → IsLeftOver self.old.control }
+        requires sound { IsSoundState (current_in begins self.old) }
+        ensures ok { IfOk result (λ progress. Comes (P.gives_all ≡ true) left.old left.new (current_in begins.entry self.old) progress self.new) }
+        ensures handed { IfOk result (λ progress. OnValue progress ⊥) }
+        ensures fewer { left.new ≤ left.old }
+        ensures err { OnErr result (RunsWithin (P.gives_all ≡ true) left.old (current_in begins.entry self.old) self.new) }
+    {
+        match self.begin_next(begins, left, spares, places) {
             Ok(Progress::Value(value)) => self.give(value, left, places),
             Ok(progress) => Ok(progress),
             Err(refused) => {
                 self.settle(begins);
                 Err(refused)
             }
+        }
+    }
+
+    /// Begins this expression, or else a part of a sweep, or takes a value that was left over.
+    #[inline(always)]
+    fn begin_next<P: Placing>(
+        &mut self,
+        begins: Option<&'p Expr>,
+        left: &mut u32,
+        spares: &mut Spares<'p>,
+        places: &mut P,
+    ) -> Result<Progress<'p>, AllocError>
+        requires left_over { begins ≡ None → IsLeftOver self.old.control }
+        requires sound { IsSoundState (current_in begins self.old) }
+        ensures ok { IfOk result (λ progress. Comes (P.gives_all ≡ true) left.old left.new (current_in begins.entry self.old) progress self.new) }
+        ensures fewer { left.new ≤ left.old }
+        ensures err { OnErr result (IsSame self.old self.new) }
+    {
+        match begins {
+            Some(expr) => self.begin(expr, left, spares, places),
+            None => self.resume(left, spares, places),
         }
     }
 
@@ -234,7 +269,13 @@ impl<'p> State<'p> {
         left: &mut u32,
         spares: &mut Spares<'p>,
         places: &mut P,
-    ) -> Result<Progress<'p>, AllocError> {
+    ) -> Result<Progress<'p>, AllocError>
+        requires left_over { IsLeftOver self.old.control }
+        requires sound { IsSoundState self.old }
+        ensures ok { IfOk result (λ progress. Comes (P.gives_all ≡ true) left.old left.new self.old progress self.new) }
+        ensures fewer { left.new ≤ left.old }
+        ensures err { OnErr result (IsSame self.old self.new) }
+    {
         match self.control {
             Control::Give(value) => Ok(Progress::Value(value)),
             Control::Cover(stretch) => self.cover(stretch, left, spares, places),

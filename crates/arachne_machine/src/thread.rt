@@ -1,8 +1,8 @@
 //! A thread with those that run in its place, as callers advance, answer and join it.
-ghost use Rattle.std.specs.Prelude.{◌≡◌, ◌≢◌, ◌↔◌, ◌≤◌, ◌+◌, ◌-◌, ℕ, ◌∷◌, [], ◌++◌, true, None, Some, IfOk, OnOk, IfErr, OnErr, IsTrue};
+ghost use Rattle.std.specs.Prelude.{◌≡◌, ◌≢◌, ◌↔◌, ◌≤◌, ◌+◌, ◌-◌, ℕ, ◌∷◌, [], ◌++◌, true, None, Some, IfOk, IfSome, OnOk, IfErr, OnErr, IsTrue};
 ghost use Rattle.arachne_lang.specs.Effects.{tabulated};
 ghost use Rattle.arachne_machine.specs.Suspended.{IsAnswered, IsAsk, IsFree, IsFresh, IsNext, IsTally, Joined, SameThread, added, awaited, own_line_of, raised};
-ghost use Rattle.arachne_machine.specs.Advance.{AdvancedAlone, AwaitsAt, Moves, PlacesNone, RefusedAlone, IsForeign, IsNotAwaited, IsSpentAt, PausesAt, child_back, handed_back};
+ghost use Rattle.arachne_machine.specs.Advance.{AdvancedAlone, AwaitsAt, Moves, PlacesNone, RefusedAlone, IsForeign, IsNotAwaited, IsSpentAt, PausesAt, child_back, handed_back, pause_seen};
 ghost use Rattle.arachne_machine.specs.Nested.{AwaitsElsewhere, FallsBy, IsAlone, IsChildOf, IsNested, IsPlacing, MayBePlaced, Nested, PlacesAtFork, SameWhole, alone, begun_in, pending_in, spilled_of, whole, with_tag, work_in};
 ghost use Rattle.arachne_machine.specs.Faultless.{PausesWithin};
 ghost use Rattle.arachne_machine.specs.Kept.{IsSoundChild, nested};
@@ -166,42 +166,10 @@ impl<'p> Thread<'p> {
         ensures err_alone { OnErr result (IsAlone self.old → (whole self.new).forks ≡ (whole self.old).forks → RefusedAlone left.old self.old self.new) }
         ensures err_everywhere { P.gives_all ≡ true → OnErr result (IsAlone self.old → (whole self.new).forks ≡ (whole self.old).forks) }
     {
-        while *left > 0 {
-            if let Some((class, child)) = self.state.advance(left, spares, places)? {
-                return Ok(Pause::Forks(class, thread_of(child)));
-            }
-            match self.state.pending() {
-                None => return Ok(Pause::Budget),
-                Some(Pending::Joins) if !self.placed.is_empty() => {
-                    if !self.take_up(spares)? {
-                        return Ok(Pause::Joins);
-                    }
-                }
-                Some(pending) => return Ok(pause_at(pending)),
-            }
-        }
-        Ok(Pause::Budget)
-    }
-
-    /// Where the innermost thread awaits the newest child that was placed here, that one goes on in its place. Where memory is
-    /// refused it stands before the step in which it came to await it.
-    #[cold]
-    #[inline(never)]
-    fn take_up(&mut self, spares: &mut Spares<'p>) -> Result<bool, AllocError> {
-        let Some(mut child) = self.placed.pop() else {
-            return Ok(false);
-        };
-        if !self.state.awaits(&child.own.name) {
-            self.placed.push_reserved(child);
-            return Ok(false);
-        }
-        if self.state.take_in(&mut child).is_err() {
-            self.placed.push_reserved(child);
-            self.state.stand_before_join();
-            return Err(AllocError);
-        }
-        spares.keep(child);
-        Ok(true)
+        let forked = self
+            .state
+            .advance_with(&mut self.placed, left, spares, places)?;
+        Ok(pause_of(forked, self.state.pending()))
     }
 
     /// Answers a fork once the child was given away. It takes no memory.
@@ -246,7 +214,16 @@ impl<'p> Thread<'p> {
 
     /// Answers a fork with its child, which runs in this thread's place once it is awaited. Where memory is
     /// refused nothing has changed, and the child comes back.
-    fn place_forked(&mut self, child: Thread<'p>) -> Result<(), Thread<'p>> {
+    fn place_forked(&mut self, child: Thread<'p>) -> Result<(), Thread<'p>>
+        requires pending { pending_in self.old ≡ Some pause.Forks }
+        requires child { MayBePlaced self.old child }
+        ensures whole { SameWhole self.old self.new }
+        ensures ok { OnOk result (PlacesAtFork self.old child.entry self.new) }
+        ensures pending { OnOk result (pending_in self.new ≡ None) }
+        ensures work { OnOk result (work_in self.new ≡ work_in self.old + work_in child.entry) }
+        ensures err { OnErr result (self.new ≡ self.old) }
+        ensures handed_back { IfErr result (λ back. back ≡ child.entry) }
+    {
         if self.placed.try_reserve(1).is_err() {
             return Err(child);
         }
@@ -259,15 +236,20 @@ impl<'p> Thread<'p> {
 
     /// The child that is awaited goes on in this thread's place. Where it answers an error nothing has changed, and the
     /// child comes back.
-    fn begin_awaited(&mut self, child: Thread<'p>) -> Result<(), NotPlaced<'p>> {
-        if !self.state.awaits(child.name()) {
+    fn begin_awaited(&mut self, child: Thread<'p>) -> Result<(), NotPlaced<'p>>
+        requires pending { pending_in self.old ≡ Some pause.Joins }
+        requires child { MayBePlaced self.old child }
+        ensures whole { SameWhole self.old self.new }
+        ensures ok { OnOk result (self.new ≡ begun_in self.old child.entry) }
+        ensures foreign { IsNotAwaited result ↔ (awaited self.old.running ≢ Some (whole child.entry).name) }
+        ensures err { OnErr result (self.new ≡ self.old) }
+        ensures handed_back { IfErr result (λ e. child_back e ≡ child.entry) }
+    {
+        if !self.state.awaits(&child.state.own.name) {
             return Err(NotPlaced::Foreign(child));
         }
         let mut child = child;
-        let ran = child.state.own.label.ran;
-        child.state.own.label.ran = Ran::InPlace;
         if self.state.take_in(&mut child.state).is_err() {
-            child.state.own.label.ran = ran;
             return Err(NotPlaced::Memory(child));
         }
         Ok(())
@@ -334,30 +316,8 @@ impl<'p> Thread<'p> {
         ensures err { OnErr result (self.new ≡ self.old) }
         ensures handed_back { IfErr result (λ e. handed_back e ≡ outcome.entry) }
     {
-        if !self.state.awaits(&outcome.own.name) {
-            return Err(NotJoined::Foreign(outcome));
-        }
-        if self.state.reserve_turn().is_err() {
-            return Err(NotJoined::Memory(outcome));
-        }
-        let Outcome {
-            program,
-            value,
-            sums,
-            own,
-            below,
-        } = outcome;
-        if let Err((own, below)) = self.state.lines.append(own, below) {
-            return Err(NotJoined::Memory(Outcome {
-                program,
-                value,
-                sums,
-                own,
-                below,
-            }));
-        }
-        self.state.join_with_room(value, &sums);
-        Ok(())
+        let _ = &outcome.value;
+        self.state.join(outcome)
     }
 
     /// The outcome of a thread that has ended. It takes no memory.
@@ -399,14 +359,21 @@ fn thread_of<'p>(state: Box<State<'p>>) -> Thread<'p>
     }
 }
 
-/// What callers see of a pause for which no child is given.
-fn pause_at<'p>(pending: Pending) -> Pause<'p> {
+/// What callers see of a pause, by the child that was forked or what is not answered.
+#[inline(always)]
+fn pause_of<'p>(forked: Option<(Class, Box<State<'p>>)>, pending: Option<Pending>) -> Pause<'p>
+    requires { IfSome forked (λ f. IsSoundChild f.1.value) }
+    ensures { result ≡ pause_seen forked.entry pending }
+{
+    if let Some((class, child)) = forked {
+        return Pause::Forks(class, thread_of(child));
+    }
     match pending {
-        Pending::Forks => Pause::Budget,
-        Pending::Joins => Pause::Joins,
-        Pending::Asks(lock) => Pause::Asks(lock),
-        Pending::Frees(lock) => Pause::Frees(lock),
-        Pending::Tallies(ledger, amount) => Pause::Tallies(ledger, amount),
-        Pending::Ended => Pause::Ended,
+        None | Some(Pending::Forks) => Pause::Budget,
+        Some(Pending::Joins) => Pause::Joins,
+        Some(Pending::Asks(lock)) => Pause::Asks(lock),
+        Some(Pending::Frees(lock)) => Pause::Frees(lock),
+        Some(Pending::Tallies(ledger, amount)) => Pause::Tallies(ledger, amount),
+        Some(Pending::Ended) => Pause::Ended,
     }
 }

@@ -1,11 +1,13 @@
-use Rattle.std.proofs.Common.{◌≡◌, [], None}
-use Rattle.arachne_machine.specs.Ending.{locks_of}
-use Rattle.arachne_machine.specs.Steps.{Goes, pending_of}
+use Rattle.std.proofs.Common.{true, ◌≡◌, None}
+use Rattle.arachne_machine.specs.Runs.{RunsOn, current_in}
+use Rattle.arachne_machine.specs.Steps.{IsLeftOver}
 use Rattle.arachne_machine.proofs.state.State.advance.Given as goal
 
-abbrev pub invariant-loop-counter : goal.invariant-loop-counter
-invariant-loop-counter l = record {
-  goes : Goes l.counter [] l.initial.self l.self;
-  locks : locks_of l.self ≡ locks_of l.initial.self;
-  running : pending_of l.self.control ≡ None;
+abbrev pub invariant-loop-rest : goal.invariant-loop-rest
+invariant-loop-rest g l = record {
+  makes : RunsOn (g.P.Placing.gives_all ≡ true) l.initial.rest l.rest 0 l.initial.self (current_in l.begins l.self);
+  left_over : l.begins ≡ None → IsLeftOver l.self.control;
 }
+
+abbrev pub decreases-loop-rest : goal.decreases-loop-rest
+decreases-loop-rest g l = l.rest

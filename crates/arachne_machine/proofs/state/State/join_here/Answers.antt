@@ -43,5 +43,5 @@ returns-in-AwaitsHalf-clause-ok c =
       frames_are = c.try_reserve.ensures.items ∙ sym (append-nil c.args.self.now.frames.items);
       control_is = refl;
     } in
-    resumes_half c.args.self.now mid c.result.new.self c.args.value c.args.left.now c.result.new.left c.in-AwaitsHalf.number c.in-AwaitsHalf.right c.in-AwaitsHalf.reduction
-    c.result.result j c.in-AwaitsHalf.is refl (subst (λ x. HandsResult mid x c.args.left.now c.result.result c.result.new.left c.result.new.self) is c.result.ensures)
+    resumes_half c.args.self.now mid c.hand_result.new.self c.args.value c.args.left.now c.hand_result.new.left c.in-AwaitsHalf.number c.in-AwaitsHalf.right c.in-AwaitsHalf.reduction
+    c.hand_result.result j c.in-AwaitsHalf.is refl (subst (λ x. HandsResult mid x c.args.left.now c.hand_result.result c.hand_result.new.left c.hand_result.new.self) is c.hand_result.ensures.hands)

@@ -1,6 +1,4 @@
-use Rattle.std.proofs.Common.{◌≡◌, None, List, ap, sym, ◌∙◌, subst}
-use Rattle.std.specs.Global.{Box}
-use Rattle.arachne_machine.specs.declared.state.State.{State}
+use Rattle.std.proofs.Common.{ap, ◌∙◌, subst}
 use Rattle.arachne_machine.specs.Kept.{nested}
 use Rattle.arachne_machine.specs.Nested.{Nested, SameWhole, pending_in, work_in}
 use Rattle.arachne_machine.specs.Runs.{after_fork}

@@ -1,9 +1,6 @@
-use Rattle.std.proofs.Common.{◌≡◌, None, List, ap, sym, ◌∙◌, subst}
-use Rattle.std.specs.Global.{Box}
-use Rattle.arachne_machine.specs.declared.state.State.{State}
+use Rattle.std.proofs.Common.{ap, sym, ◌∙◌, subst}
 use Rattle.arachne_machine.specs.Kept.{nested}
-use Rattle.arachne_machine.specs.Nested.{Nested, SameWhole, pending_in, work_in}
-use Rattle.arachne_machine.specs.Runs.{after_fork}
+use Rattle.arachne_machine.specs.Nested.{Nested, SameWhole, work_in}
 use Rattle.arachne_machine.specs.Steps.{Turns, suspended, top}
 use Rattle.arachne_machine.specs.Suspended.{IsAnswered, SameThread}
 use Rattle.arachne_machine.specs.declared.frame.Control.TheVariants.{Give}

@@ -1,0 +1,91 @@
+//! Children that were handed back to run in their parent's place, and have not begun there.
+use crate::frame::Control;
+use crate::placing::Placing;
+use crate::spares::Spares;
+use crate::state::State;
+use arachne_lang::Class;
+use std::alloc::AllocError;
+
+/// How a thread goes on with the children that were handed back to it, the newest of which is the last.
+impl<'p> State<'p> {
+    ghost use Rattle.std.specs.Prelude.{◌≡◌, ◌≤◌, ◌-◌, None, Some, true, All, length, IfOk, OnErr};
+    ghost use Rattle.arachne_machine.specs.declared.pause.Pending.TheVariants as pause;
+    ghost use Rattle.arachne_machine.specs.Steps.{HasLine, HasRoom, pending_of};
+    ghost use Rattle.arachne_machine.specs.Kept.{AdvancesWith, IsKept, StandsBack, TakesUp, WentWithin};
+
+    /// Goes on for at most as many steps as are left, until it pauses. Where the innermost thread comes to await the newest of
+    /// these children, that one goes on in its place. Gives the child where it pauses for a fork. Where memory is refused it
+    /// stands before the refused step.
+    pub fn advance_with<P: Placing>(
+        &mut self,
+        placed: &mut Vec<Box<State<'p>>>,
+        left: &mut u32,
+        spares: &mut Spares<'p>,
+        places: &mut P,
+    ) -> Result<Option<(Class, Box<State<'p>>)>, AllocError>
+        requires kept { IsKept self.old placed.old.items }
+        requires running { pending_of self.old.control ≡ None }
+        ensures ok { IfOk result (λ forked. AdvancesWith (P.gives_all ≡ true) left.old left.new self.old placed.old.items forked (pending_of self.new.control) self.new placed.new.items) }
+        ensures err { OnErr result (WentWithin (P.gives_all ≡ true) (left.old - 1) self.old placed.old.items self.new placed.new.items) }
+    {
+        while *left > 0 {
+            if let Some(forked) = self.advance(left, spares, places)? {
+                return Ok(Some(forked));
+            }
+            if !self.take_up(placed, spares)? {
+                return Ok(None);
+            }
+        }
+        Ok(None)
+    }
+
+    /// Where the innermost thread awaits the newest of these children, that one goes on in its place.
+    #[inline(always)]
+    fn take_up(
+        &mut self,
+        placed: &mut Vec<Box<State<'p>>>,
+        spares: &mut Spares<'p>,
+    ) -> Result<bool, AllocError>
+        requires line { HasLine self.old }
+        requires room { pending_of self.old.control ≡ Some pause.Joins → HasRoom self.old }
+        requires sums { All (λ child. length child.value.sums.items ≡ length self.old.sums.items) placed.old.items }
+        ensures ok { IfOk result (λ taken. TakesUp taken self.old placed.old.items self.new placed.new.items) }
+        ensures err { OnErr result (StandsBack self.old placed.old.items self.new placed.new.items) }
+    {
+        match self.control {
+            Control::Awaits { .. } | Control::AwaitsHalf { .. } => self.take_newest(placed, spares),
+            _ => Ok(false),
+        }
+    }
+
+    /// The same for a thread that awaits a child. Where memory is refused it stands before the step in which it came to await it.
+    #[cold]
+    #[inline(never)]
+    fn take_newest(
+        &mut self,
+        placed: &mut Vec<Box<State<'p>>>,
+        spares: &mut Spares<'p>,
+    ) -> Result<bool, AllocError>
+        requires joins { pending_of self.old.control ≡ Some pause.Joins }
+        requires line { HasLine self.old }
+        requires room { HasRoom self.old }
+        requires sums { All (λ child. length child.value.sums.items ≡ length self.old.sums.items) placed.old.items }
+        ensures ok { IfOk result (λ taken. TakesUp taken self.old placed.old.items self.new placed.new.items) }
+        ensures err { OnErr result (StandsBack self.old placed.old.items self.new placed.new.items) }
+    {
+        let Some(mut child) = placed.pop() else {
+            return Ok(false);
+        };
+        if !self.awaits(&child.own.name) {
+            placed.push_reserved(child);
+            return Ok(false);
+        }
+        if self.take_in(&mut child).is_err() {
+            placed.push_reserved(child);
+            self.stand_before_join();
+            return Err(AllocError);
+        }
+        spares.keep(child);
+        Ok(true)
+    }
+}
