@@ -95,7 +95,10 @@ impl<'a, H: Wait, T: RunJob, C: Contexts<T>, R: Rng + Drop, G: Gate> Worker<'a, 
     pub(crate) fn tell(&mut self)
         ensures { (self.new.desk ≡ self.old.desk) × (self.new.locks ≡ self.old.locks) × (self.new.sums ≡ self.old.sums) }
     {
-        while let Some(post) = self.agenda.take_newest() {
+        for _ in 0..policy::MOST_KEPT_BACK {
+            let Some(post) = self.agenda.take_newest() else {
+                break;
+            };
             self.shared.signals().hint(post.place);
         }
     }
