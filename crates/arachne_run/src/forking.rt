@@ -1,7 +1,7 @@
 //! How a fork is answered: its child is posted at a place, waits for one, or runs in its parent's.
 //!
 //! It may touch the table through the seat that it is given, and the queue of those that wait.
-ghost use Rattle.std.specs.Prelude.{◌≡◌, ◌<◌, [], ◌∷◌, IfOk, MatchOption, OnOk, map};
+ghost use Rattle.std.specs.Prelude.{◌≡◌, ◌<◌, ◌≤◌, [], ◌∷◌, IfOk, MatchOption, OnOk, map};
 ghost use Rattle.arachne_arbiter.specs.Placed.{GetsPlace};
 ghost use Rattle.arachne_contexts.specs.Out.{Claim as a_claim, HasOut};
 ghost use Rattle.arachne_spill.specs.Views.{IsPassOf};
@@ -14,7 +14,7 @@ use crate::machine::Machine;
 use crate::policy;
 use crate::queue::Post;
 use crate::shared::Shared;
-use crate::slice::RunJob;
+use crate::slice::{RunJob, Slice};
 use crate::tags::Tags;
 use arachne_contexts::{Claimed, Contexts, Held, Identified, Placed, Seats, Tagged};
 use arachne_core::OccWord;
@@ -76,17 +76,55 @@ impl<'a, H: Wait, T: Tagged, C: Contexts<T>, R: Rng> Placing for Openings<'a, H,
     }
 }
 
+/// The thread in hand goes on for at most as many steps as are left, and its fork, if it comes to one, is answered.
+pub(crate) fn go_on<H: Wait, T: RunJob, C: Contexts<T>, R: Rng>(
+    rt: &H,
+    alloc: Global,
+    machine: &Machine<C, T::Ticket>,
+    seat: &mut C::Seat,
+    pass: &mut SpillPass<T::Ticket>,
+    held: &mut Held<T, C::Hold>,
+    openings: &mut Openings<'_, H, T, C, R>,
+    spares: &mut T::Spares,
+    left: &mut u32,
+) -> Result<Stop, WorkerFault>
+    requires seat { C.sits machine.now.table seat.old }
+    requires out { C.has machine.now.table seat.old (thread_in T.tag_of held.old ∷ []) }
+    requires pass { IsPassOf machine.now.tickets pass.old }
+    requires set_up { IsSetUp C.core_count C.slot_count machine.now }
+    requires some { 1 ≤ left.old }
+    ensures seat { C.sits machine.now.table seat.new }
+    ensures out { OnOk result (C.has machine.now.table seat.new (thread_in T.tag_of held.new ∷ [])) }
+    ensures pass { IsPassOf machine.now.tickets pass.new }
+{
+    match held.value.slice(left, spares, openings)? {
+        Slice::Goes => Ok(Stop::Goes),
+        Slice::Forks(class, child) => {
+            let tag = openings.tags.take(&machine.shared);
+            let fork = Fork { class, child, tag };
+            let chooser = &mut openings.chooser;
+            answer_fork::<H, T, C, R>(rt, alloc, machine, seat, pass, held, fork, chooser, spares)
+        }
+        Slice::Blocks => Ok(Stop::Blocks),
+        Slice::Asks(lock) => Ok(Stop::Asks(lock)),
+        Slice::Awaits(lock) => Ok(Stop::Awaits(lock)),
+        Slice::Frees(lock) => Ok(Stop::Frees(lock)),
+        Slice::Tallies(ledger, amount) => Ok(Stop::Tallies(ledger, amount)),
+        Slice::Ends => Ok(Stop::Ends),
+    }
+}
+
 /// A child that is forked, and the tag that it gets.
 #[derive(Drop)]
-pub(crate) struct Fork<Child> {
-    pub(crate) class: Class,
-    pub(crate) child: Child,
-    pub(crate) tag: u64,
+struct Fork<Child> {
+    class: Class,
+    child: Child,
+    tag: u64,
 }
 
 /// Answers a fork of the thread in hand: the child gets a place on a core that has one for a thread of its class. Else a normal one
 /// waits, if there is room in the queue, and another one runs in place.
-pub(crate) fn answer_fork<H: Wait, T: RunJob, C: Contexts<T>, R: Rng>(
+fn answer_fork<H: Wait, T: RunJob, C: Contexts<T>, R: Rng>(
     rt: &H,
     alloc: Global,
     machine: &Machine<C, T::Ticket>,

@@ -7,10 +7,10 @@ ghost use Rattle.std.specs.Prelude.{◌≡◌, ◌≤◌};
 use crate::claims::Claims;
 use crate::desk::{Grip, Stop, Tended};
 use crate::fault::WorkerFault;
-use crate::forking::{Fork, Openings, answer_fork, free_place, post_waiting};
+use crate::forking::{Openings, free_place, go_on, post_waiting};
 use crate::machine::Machine;
 use crate::policy;
-use crate::slice::{RunJob, Slice};
+use crate::slice::RunJob;
 use arachne_arbiter::{Arbiter, Cores};
 use arachne_contexts::{Claimed, Contexts, Held, Moved, Placed, Rested, Taken, Woken};
 use arachne_core::{MarkWord, OccWord, Place, Rest, SLOTS, ThreadId};
@@ -98,44 +98,30 @@ impl<'a, H: Wait, T: RunJob, C: Contexts<T>, R: Rng + Drop> Seat<'a, H, T, C, R>
         requires { 1 ≤ left.old }
         ensures { self.new ≡ self.old }
     {
-        let machine = self.machine;
-        let Some(held) = &mut self.held else {
-            return Err(WorkerFault::Token);
-        };
         if self.is_broken {
             return Err(WorkerFault::Token);
         }
         let Some(mut openings) = self.openings.take() else {
             return Err(WorkerFault::Token);
         };
-        let stop = match held.value.slice(left, &mut self.spares, &mut openings)? {
-            Slice::Goes => Stop::Goes,
-            Slice::Forks(class, child) => {
-                let tag = openings.tags.take(&machine.shared);
-                let fork = Fork { class, child, tag };
-                self.is_broken = true;
-                let stop = answer_fork::<H, T, C, R>(
-                    self.rt,
-                    self.alloc,
-                    machine,
-                    &mut self.seat,
-                    &mut self.pass,
-                    held,
-                    fork,
-                    &mut openings.chooser,
-                    &mut self.spares,
-                )?;
-                self.is_broken = false;
-                stop
-            }
-            Slice::Blocks => Stop::Blocks,
-            Slice::Asks(lock) => Stop::Asks(lock),
-            Slice::Awaits(lock) => Stop::Awaits(lock),
-            Slice::Frees(lock) => Stop::Frees(lock),
-            Slice::Tallies(ledger, amount) => Stop::Tallies(ledger, amount),
-            Slice::Ends => Stop::Ends,
+        let Some(mut held) = self.held.take() else {
+            return Err(WorkerFault::Token);
         };
+        self.is_broken = true;
+        let stop = go_on::<H, T, C, R>(
+            self.rt,
+            self.alloc,
+            self.machine,
+            &mut self.seat,
+            &mut self.pass,
+            &mut held,
+            &mut openings,
+            &mut self.spares,
+            left,
+        )?;
+        self.held = Some(held);
         self.openings = Some(openings);
+        self.is_broken = false;
         Ok(stop)
     }
 
