@@ -4,11 +4,21 @@ use Rattle.arachne_contexts.specs.Out.{Out, Claim, Thread}
 use Rattle.arachne_contexts.specs.declared.held.Held.{Held}
 use Rattle.arachne_ledger.specs.Views.{IsShareOf}
 use Rattle.arachne_sleep.specs.SleepLocks.{AreSeatsOf}
-use Rattle.arachne_spill.specs.Views.{IsPassOf}
+use Rattle.arachne_spill.specs.Views.{IsPassOf, QueueView}
 use Rattle.arachne_arbiter.specs.Orders.{Progress}
 use Rattle.arachne_core.specs.declared.layout.TheConstants.{CORES, SLOTS}
 use Rattle.arachne_run.specs.declared.machine.Machine.{Machine}
 use Rattle.arachne_run.specs.declared.tokens.Tokens.{Tokens}
+
+-- what a worker's seat is a seat at: the table, the queue of tickets, and how many cores and orders there are
+pub record Ground (Table : Type 0) : Type 0 where
+  pub table : Table
+  pub tickets : QueueView
+  pub cores : ℕ
+  pub orders : ℕ
+
+abbrev pub ground_of : {Table Ticket : Type 0} → Machine Table Ticket → Ground Table
+ground_of machine = record { table = machine.table; tickets = machine.tickets; cores = machine.cores; orders = machine.orders }
 
 -- the arbiter, if there is one, has as many orders as the machine, for its cores
 abbrev pub IsArbiterOf : {Table Ticket : Type 0} → Machine Table Ticket → Option Progress → Type 0

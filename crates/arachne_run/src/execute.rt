@@ -1,15 +1,21 @@
 //! A slice of a thread, the answers to what it asks for, and its end.
-use crate::desk::{Desk, Stop};
+ghost use Rattle.std.specs.Prelude.{◌≡◌};
+
+use crate::desk::Stop;
 use crate::fault::WorkerFault;
 use crate::gate::Gate;
 use crate::locks::Locks;
 use crate::policy;
 use crate::queue::Agenda;
+use crate::seat::Seat;
 use crate::shared::Shared;
+use crate::slice::RunJob;
 use crate::sums::Sums;
 use crate::wake::Cause;
+use arachne_contexts::Contexts;
 use arachne_core::{Place, Rest};
 use arachne_sleep::Who;
+use rand_core::Rng;
 use std::sync::Wait;
 
 /// How a slice ends.
@@ -25,14 +31,14 @@ pub(crate) enum SliceEnd {
 
 /// The worker of one core.
 #[derive(Drop)]
-pub(crate) struct Worker<'a, H, D, G> {
+pub(crate) struct Worker<'a, H, T: RunJob, C: Contexts<T>, R, G> {
     pub(crate) rt: &'a H,
     pub(crate) gate: &'a G,
     pub(crate) shared: &'a Shared,
     pub(crate) core: u8,
     pub(crate) slots: u8,
     pub(crate) quantum: u32,
-    pub(crate) desk: D,
+    pub(crate) desk: Seat<'a, H, T, C, R>,
     pub(crate) locks: Locks<'a>,
     pub(crate) sums: Sums<'a>,
     pub(crate) agenda: Agenda,
@@ -40,10 +46,12 @@ pub(crate) struct Worker<'a, H, D, G> {
     pub(crate) slices: u64,
 }
 
-impl<'a, H: Wait, D: Desk, G: Gate> Worker<'a, H, D, G> {
+impl<'a, H: Wait, T: RunJob, C: Contexts<T>, R: Rng + Drop, G: Gate> Worker<'a, H, T, C, R, G> {
     /// The thread in hand, which was at this index, has a slice, and more as long as nothing else is to go on. Then it rests, or
     /// has ended.
-    pub(crate) fn turn(&mut self, index: u8) -> Result<(), WorkerFault> {
+    pub(crate) fn turn(&mut self, index: u8) -> Result<(), WorkerFault>
+        ensures { (self.new.desk ≡ self.old.desk) × (self.new.locks ≡ self.old.locks) × (self.new.sums ≡ self.old.sums) }
+    {
         for _ in 0..policy::MOST_ALONE {
             let end = self.slice()?;
             if end == SliceEnd::Ended {
@@ -62,7 +70,9 @@ impl<'a, H: Wait, D: Desk, G: Gate> Worker<'a, H, D, G> {
 
     /// Whether the thread in hand has another slice at once: no other is known to be ready, no ticket could be taken, and the
     /// workers go on.
-    fn goes_on(&mut self) -> bool {
+    fn goes_on(&mut self) -> bool
+        ensures { (self.new.desk ≡ self.old.desk) × (self.new.locks ≡ self.old.locks) × (self.new.sums ≡ self.old.sums) }
+    {
         if self.agenda.is_any()
             || self.shared.is_stopped()
             || self.shared.signals().is_any(self.core)
@@ -77,7 +87,9 @@ impl<'a, H: Wait, D: Desk, G: Gate> Worker<'a, H, D, G> {
     }
 
     /// One slice of the thread in hand: it goes on for at most a quantum of steps, and what it asks for meanwhile is answered.
-    fn slice(&mut self) -> Result<SliceEnd, WorkerFault> {
+    fn slice(&mut self) -> Result<SliceEnd, WorkerFault>
+        ensures { (self.new.desk ≡ self.old.desk) × (self.new.locks ≡ self.old.locks) × (self.new.sums ≡ self.old.sums) }
+    {
         self.gate.slice(self.core, self.slices);
         self.slices = self.slices.saturating_add(1);
         let end = self.spend_quantum();
@@ -87,7 +99,9 @@ impl<'a, H: Wait, D: Desk, G: Gate> Worker<'a, H, D, G> {
     }
 
     /// The steps of a slice. Where the quantum is used up, all that the worker posted is told of.
-    fn spend_quantum(&mut self) -> Result<SliceEnd, WorkerFault> {
+    fn spend_quantum(&mut self) -> Result<SliceEnd, WorkerFault>
+        ensures { (self.new.desk ≡ self.old.desk) × (self.new.locks ≡ self.old.locks) × (self.new.sums ≡ self.old.sums) }
+    {
         self.agenda.begin_slice();
         let mut left = self.quantum;
         for _ in 0..self.quantum {
@@ -117,7 +131,9 @@ impl<'a, H: Wait, D: Desk, G: Gate> Worker<'a, H, D, G> {
     }
 
     /// Does what the thread in hand asks for, which had so many steps left. How many it has then; none where it waits.
-    fn serve(&mut self, stop: Stop, left: u32) -> Result<Option<u32>, WorkerFault> {
+    fn serve(&mut self, stop: Stop, left: u32) -> Result<Option<u32>, WorkerFault>
+        ensures { (self.new.desk ≡ self.old.desk) × (self.new.locks ≡ self.old.locks) × (self.new.sums ≡ self.old.sums) }
+    {
         let who = self.who();
         match stop {
             Stop::Posted(post) => {
@@ -125,17 +141,17 @@ impl<'a, H: Wait, D: Desk, G: Gate> Worker<'a, H, D, G> {
                 return Ok(Some(left));
             }
             Stop::Asks(lock) => {
-                if !self.locks.ask(self.rt, lock, who)? {
+                if !self.ask(lock, who)? {
                     return Ok(None);
                 }
             }
             Stop::Awaits(lock) => {
-                if !self.locks.check(self.rt, lock, who)? {
+                if !self.check(lock, who)? {
                     return Ok(None);
                 }
             }
             Stop::Frees(lock) => {
-                if let Some(next) = self.locks.free(self.rt, lock, who)? {
+                if let Some(next) = self.free(lock, who)? {
                     self.wake(next, Cause::HoldsLock);
                 }
             }
@@ -158,7 +174,9 @@ impl<'a, H: Wait, D: Desk, G: Gate> Worker<'a, H, D, G> {
 
     /// Ends the thread in hand, and wakes its parent. With the root all workers stop. Then places of the core are kept or given
     /// back.
-    fn end(&mut self) -> Result<(), WorkerFault> {
+    fn end(&mut self) -> Result<(), WorkerFault>
+        ensures { (self.new.desk ≡ self.old.desk) × (self.new.locks ≡ self.old.locks) × (self.new.sums ≡ self.old.sums) }
+    {
         let before = self.desk.look();
         match self.desk.end()? {
             Some(parent) => self.wake(parent, Cause::ChildEnded),
@@ -168,7 +186,9 @@ impl<'a, H: Wait, D: Desk, G: Gate> Worker<'a, H, D, G> {
     }
 
     /// The worker that has the arbiter applies the orders that are due, and moves threads away from a closed core.
-    pub(crate) fn tend(&mut self) {
+    pub(crate) fn tend(&mut self)
+        ensures { (self.new.desk ≡ self.old.desk) × (self.new.locks ≡ self.old.locks) × (self.new.sums ≡ self.old.sums) }
+    {
         let tended = self.desk.tend();
         if let Some(applied) = tended.applied {
             self.gate.applied(applied);

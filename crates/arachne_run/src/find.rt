@@ -1,18 +1,25 @@
 //! What a worker does next: a scan of what may be ready, a ticket, a look at all, and else it waits.
-use crate::desk::{Desk, Grip};
+ghost use Rattle.std.specs.Prelude.{◌≡◌};
+
+use crate::desk::Grip;
 use crate::execute::Worker;
 use crate::fault::WorkerFault;
 use crate::gate::Gate;
 use crate::policy;
+use crate::slice::RunJob;
+use arachne_contexts::Contexts;
 use arachne_core::SLOTS;
+use rand_core::Rng;
 use std::hint::spin_loop;
 use std::sync::Wait;
 use std::thread;
 use std::time::Duration;
 
-impl<'a, H: Wait, D: Desk, G: Gate> Worker<'a, H, D, G> {
+impl<'a, H: Wait, T: RunJob, C: Contexts<T>, R: Rng + Drop, G: Gate> Worker<'a, H, T, C, R, G> {
     /// Runs threads until all workers stop, and gives back the places that it keeps.
-    pub(crate) fn work(&mut self) -> Result<(), WorkerFault> {
+    pub(crate) fn work(&mut self) -> Result<(), WorkerFault>
+        ensures { (self.new.desk ≡ self.old.desk) × (self.new.locks ≡ self.old.locks) × (self.new.sums ≡ self.old.sums) }
+    {
         // How many rounds in turn have found nothing.
         let mut idle: u32 = 0;
         for _ in self.rt.forever() {
@@ -32,7 +39,9 @@ impl<'a, H: Wait, D: Desk, G: Gate> Worker<'a, H, D, G> {
     }
 
     /// Runs each thread that may be ready as far as is known, once, and then takes a ticket. Whether there was anything.
-    fn scan(&mut self) -> Result<bool, WorkerFault> {
+    fn scan(&mut self) -> Result<bool, WorkerFault>
+        ensures { (self.new.desk ≡ self.old.desk) × (self.new.locks ≡ self.old.locks) × (self.new.sums ≡ self.old.sums) }
+    {
         let mut indexes = self.shared.signals().take(self.core);
         if self.agenda.is_look_due() {
             indexes |= self.desk.look().mask();
@@ -44,7 +53,9 @@ impl<'a, H: Wait, D: Desk, G: Gate> Worker<'a, H, D, G> {
 
     /// The same for all that is occupied, and parks where the core is closed and nothing is on it. Before it sleeps the places
     /// that it keeps are given back, and all that it has posted is told of.
-    fn scan_all(&mut self, idle: u32) -> Result<bool, WorkerFault> {
+    fn scan_all(&mut self, idle: u32) -> Result<bool, WorkerFault>
+        ensures { (self.new.desk ≡ self.old.desk) × (self.new.locks ≡ self.old.locks) × (self.new.sums ≡ self.old.sums) }
+    {
         if idle > policy::LAST_YIELD {
             self.desk.give_all_back()?;
         }
@@ -62,7 +73,9 @@ impl<'a, H: Wait, D: Desk, G: Gate> Worker<'a, H, D, G> {
     }
 
     /// Runs each thread that is ready at the indexes of the scan, upwards, unless all workers stop. Whether there was one.
-    fn run_each(&mut self) -> Result<bool, WorkerFault> {
+    fn run_each(&mut self) -> Result<bool, WorkerFault>
+        ensures { (self.new.desk ≡ self.old.desk) × (self.new.locks ≡ self.old.locks) × (self.new.sums ≡ self.old.sums) }
+    {
         let mut found = false;
         for _ in 0..SLOTS {
             if self.shared.is_stopped() {
@@ -81,7 +94,9 @@ impl<'a, H: Wait, D: Desk, G: Gate> Worker<'a, H, D, G> {
 
     /// Runs the thread at an index of the core for a turn, if it is ready, and then each that is to go on before all others.
     /// Whether there was one that was ready.
-    fn run_at(&mut self, index: u8) -> Result<bool, WorkerFault> {
+    fn run_at(&mut self, index: u8) -> Result<bool, WorkerFault>
+        ensures { (self.new.desk ≡ self.old.desk) × (self.new.locks ≡ self.old.locks) × (self.new.sums ≡ self.old.sums) }
+    {
         let mut index = index;
         let mut found = false;
         for _ in 0..policy::MOST_IN_TURN {
@@ -104,7 +119,9 @@ impl<'a, H: Wait, D: Desk, G: Gate> Worker<'a, H, D, G> {
     }
 
     /// Takes a ticket, if a place of the core is free or kept for its child. Whether there was one.
-    fn take_ticket(&mut self) -> Result<bool, WorkerFault> {
+    fn take_ticket(&mut self) -> Result<bool, WorkerFault>
+        ensures { (self.new.desk ≡ self.old.desk) × (self.new.locks ≡ self.old.locks) × (self.new.sums ≡ self.old.sums) }
+    {
         if !self.desk.has_tickets() {
             return Ok(false);
         }

@@ -1,12 +1,12 @@
 //! What a context holds in a run: a thread of the program.
-ghost use Rattle.std.specs.Prelude.{◌≡◌, ◌≤◌, false, true, [], IfOk, OnOk, None, Some};
+ghost use Rattle.std.specs.Prelude.{◌≡◌, ◌≤◌, false, true, [], IfErr, IfOk, OnOk, None, Some};
 ghost use Rattle.arachne_lang.specs.Program.{source_of};
 ghost use Rattle.arachne_lang.specs.Checked.{IsChecked};
 ghost use Rattle.arachne_machine.specs.Nested.{IsPlacing, MayBePlaced};
 ghost use Rattle.arachne_machine.specs.Suspended.{awaited};
 ghost use Rattle.arachne_machine.specs.declared.pause.Pending.TheVariants as pause;
 ghost use Rattle.arachne_run.specs.Threads.{IsForking, IsGoing, IsAwaiting, name_of, pause_of, program_of, running_tag_of, tag_of};
-ghost use Rattle.arachne_run.specs.Cells.{IsFoundOf, IsOf, IsFor};
+ghost use Rattle.arachne_run.specs.Cells.{IsFoundFor, IsFoundOf, IsOf, IsFor};
 ghost use Rattle.arachne_run.specs.Ends.{awaited_at};
 ghost use Rattle.arachne_run.specs.Slices.{IsLeft, UsesSteps};
 
@@ -329,24 +329,32 @@ impl<'p> Job<'p> {
         let Some(awaited) = self.awaited.pop() else {
             return Err(WorkerFault::Foreign);
         };
-        match awaited {
-            Awaited::Block(receiver) => match receiver.fetch() {
-                Ok((outcome, cell)) => {
-                    spares.cells.give(cell);
-                    Ok(Found::Outcome(outcome))
-                }
-                Err(receiver) => {
-                    self.awaited.push_reserved(Awaited::Block(receiver));
-                    Ok(Found::Nothing)
-                }
-            },
-            Awaited::Own(cell) => match cell.find() {
-                Found::Nothing => {
-                    self.awaited.push_reserved(Awaited::Own(cell));
-                    Ok(Found::Nothing)
-                }
-                found => Ok(found),
-            },
+        match look_at(awaited, spares) {
+            Ok(found) => Ok(found),
+            Err(awaited) => {
+                self.awaited.push_reserved(awaited);
+                Ok(Found::Nothing)
+            }
         }
+    }
+}
+
+/// What is in a cell, which is used up then. Where there is nothing the end comes back.
+fn look_at<'p>(awaited: Awaited<'p>, spares: &mut Spares<'p>) -> Result<Found<'p>, Awaited<'p>>
+    ensures found { IfOk result (λ found. IsFoundFor (awaited_at awaited) found) }
+    ensures same { IfErr result (λ back. awaited_at back ≡ awaited_at awaited) }
+{
+    match awaited {
+        Awaited::Block(receiver) => match receiver.fetch() {
+            Ok((outcome, cell)) => {
+                spares.cells.give(cell);
+                Ok(Found::Outcome(outcome))
+            }
+            Err(receiver) => Err(Awaited::Block(receiver)),
+        },
+        Awaited::Own(cell) => match cell.find() {
+            Found::Nothing => Err(Awaited::Own(cell)),
+            found => Ok(found),
+        },
     }
 }

@@ -17,7 +17,7 @@ use arachne_lang::Program;
 use arachne_ledger::Ledgers;
 use arachne_policy::CoreOrder;
 use arachne_sleep::{LockEvent, SleepLocks};
-use arachne_spill::SpillQueue;
+use arachne_spill::{CAPACITY, SpillQueue};
 use std::alloc::{AllocError, Global};
 use std::marker::PhantomData;
 use std::sync::Wait;
@@ -149,7 +149,11 @@ impl<C: Seats + Drop, K: Tagged + Drop> Machine<C, K> {
         };
         let applied = arbiter.applied();
         let mut pass = tokens.pass;
-        while self.tickets.pop(rt, &mut pass).is_some() {}
+        for _ in 0..CAPACITY {
+            if self.tickets.pop(rt, &mut pass).is_none() {
+                break;
+            }
+        }
         let is_all = self.table.is_whole(&tokens.seat) && self.table.out(&tokens.seat) == 0;
         if !is_all
             || !tokens.share.is_whole()

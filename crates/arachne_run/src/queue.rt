@@ -2,6 +2,8 @@
 //! cores.
 //!
 //! Plain data: it touches no word that another worker sees.
+ghost use Rattle.std.specs.Prelude.{◌≤◌};
+
 use crate::policy;
 use crate::signals::bit_of;
 use arachne_core::{Place, SLOTS, ThreadId};
@@ -139,7 +141,9 @@ impl Agenda {
     }
 
     /// After how many steps at most the worker is to tell of what is kept back.
-    pub(crate) fn most_steps(&self) -> u32 {
+    pub(crate) fn most_steps(&self) -> u32
+        ensures { 1 ≤ result }
+    {
         self.patience.max(1)
     }
 

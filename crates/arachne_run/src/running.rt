@@ -70,7 +70,9 @@ pub fn run<
         setup.orders,
         program,
     )?;
-    let tokens = work_all::<H, T, C, R, G>(rt, alloc, &machine, gate, root, choosers, tokens);
+    let tokens = work_all::<H, T, T::Ticket, C, R, G>(
+        rt, alloc, &machine, gate, root, choosers, tokens,
+    );
     let remains = machine.close::<H, T>(rt, alloc, tokens)?;
     let Ok((outcome, _)) = receiver.fetch() else {
         return Err(RunFault::Foreign);

@@ -2,25 +2,25 @@
 //!
 //! It alone calls the table. Its type keeps the bookkeeping: the thread in hand is out with one seat, the places that are kept
 //! with the other, and nothing else is out between two calls.
+ghost use Rattle.std.specs.Prelude.{◌≡◌, ◌≤◌};
+
 use crate::claims::Claims;
-use crate::desk::{Desk, Grip, Stop, Tended};
+use crate::desk::{Grip, Stop, Tended};
 use crate::fault::WorkerFault;
-use crate::forking::{Fork, Openings, OpeningsOf, answer_fork};
+use crate::forking::{Openings, free_place, go_on, post_waiting};
 use crate::machine::Machine;
 use crate::policy;
-use crate::slice::{RunJob, Slice};
-use crate::tables::{free_place, post_waiting, tend};
-use crate::tags::Tags;
-use arachne_arbiter::Arbiter;
+use crate::slice::RunJob;
+use arachne_arbiter::{Arbiter, Cores};
 use arachne_contexts::{Claimed, Contexts, Held, Moved, Placed, Rested, Taken, Woken};
-use arachne_core::{MarkWord, OccWord, Place, Rest, ThreadId};
+use arachne_core::{MarkWord, OccWord, Place, Rest, SLOTS, ThreadId};
 use arachne_spill::SpillPass;
 use rand_core::Rng;
 use std::alloc::Global;
 use std::marker::{Model, PhantomData};
 use std::sync::Wait;
 
-/// What a worker has at the table. Contracts see nothing of it: its invariant says what is out with its seats.
+/// What a worker has at the table. Contracts see what it is a seat at: its invariant says what is out with it.
 #[derive(Drop)]
 pub(crate) struct Seat<'a, H, T: RunJob, C: Contexts<T>, R> {
     pub(crate) rt: &'a H,
@@ -37,10 +37,8 @@ pub(crate) struct Seat<'a, H, T: RunJob, C: Contexts<T>, R> {
     pub(crate) kept: Claims<C::Claim>,
     pub(crate) pass: SpillPass<T::Ticket>,
     pub(crate) arbiter: Option<Arbiter>,
-    /// The core's chooser.
-    pub(crate) chooser: R,
-    /// The tags for threads that are forked here.
-    pub(crate) tags: Tags,
+    /// What threads are told at their forks. It is here unless a thread goes on.
+    pub(crate) openings: Option<Openings<'a, H, T, C, R>>,
     /// What is kept of ended threads for those that begin.
     pub(crate) spares: T::Spares,
 }
@@ -49,11 +47,11 @@ impl<'a, H, T: RunJob, C: Contexts<T>, R> Model for Seat<'a, H, T, C, R> {
     ghost use Rattle.std.specs.Prelude.{◌≡◌, ◌<◌, false, map};
     ghost use Rattle.arachne_contexts.specs.Out.{Claim as a_claim};
     ghost use Rattle.arachne_spill.specs.Views.{IsPassOf};
-    ghost use Rattle.arachne_run.specs.Tokens.{in_hand, IsArbiterOf, IsSetUp};
+    ghost use Rattle.arachne_run.specs.Tokens.{ground_of, in_hand, Ground, IsArbiterOf, IsSetUp};
 
-    ghost Value = { Unit {0} };
+    ghost Value = { Ground C };
 
-    ghost view = { λ s. tt };
+    ghost view = { λ s. ground_of s.machine.now };
 
     ghost invariant = { λ s. IsSetUp C.core_count C.slot_count s.machine.now × (s.core < s.machine.now.cores)
         × C.sits s.machine.now.table s.seat × C.sits s.machine.now.table s.spare
@@ -62,8 +60,11 @@ impl<'a, H, T: RunJob, C: Contexts<T>, R> Model for Seat<'a, H, T, C, R> {
         × IsPassOf s.machine.now.tickets s.pass × IsArbiterOf s.machine.now s.arbiter };
 }
 
-impl<'a, H: Wait, T: RunJob, C: Contexts<T>, R: Rng> Desk for Seat<'a, H, T, C, R> {
-    fn take(&mut self, index: u8) -> Grip {
+impl<'a, H: Wait, T: RunJob, C: Contexts<T>, R: Rng + Drop> Seat<'a, H, T, C, R> {
+    /// Takes the thread at an index of the core in hand, if it is ready and none is.
+    pub(crate) fn take(&mut self, index: u8) -> Grip
+        ensures { self.new ≡ self.old }
+    {
         if index >= self.machine.slots || self.held.is_some() || self.is_broken {
             return Grip::None;
         }
@@ -78,7 +79,8 @@ impl<'a, H: Wait, T: RunJob, C: Contexts<T>, R: Rng> Desk for Seat<'a, H, T, C, 
         }
     }
 
-    fn in_hand(&self) -> (ThreadId, u64) {
+    /// The id of the thread in hand, and the tag of the one that goes on next in its place. Without one both are 0.
+    pub(crate) fn in_hand(&self) -> (ThreadId, u64) {
         match &self.held {
             Some(held) => (held.id(), held.value.running_tag()),
             None => {
@@ -91,64 +93,52 @@ impl<'a, H: Wait, T: RunJob, C: Contexts<T>, R: Rng> Desk for Seat<'a, H, T, C, 
         }
     }
 
-    fn advance(&mut self, left: &mut u32) -> Result<Stop, WorkerFault> {
-        let machine = self.machine;
-        let Some(held) = &mut self.held else {
-            return Err(WorkerFault::Token);
-        };
+    /// The thread in hand goes on for at most as many steps as are left, and its forks are answered.
+    pub(crate) fn advance(&mut self, left: &mut u32) -> Result<Stop, WorkerFault>
+        requires { 1 ≤ left.old }
+        ensures { self.new ≡ self.old }
+    {
         if self.is_broken {
             return Err(WorkerFault::Token);
         }
-        let mut openings: OpeningsOf<'_, '_, '_, H, T, C, R> = OpeningsOf {
-            openings: Openings {
-                rt: self.rt,
-                table: &machine.table,
-                cores: machine.cores,
-                slots: machine.slots,
-                shared: &machine.shared,
-                chooser: &mut self.chooser,
-                tags: &mut self.tags,
-            },
-            of: PhantomData,
+        let Some(mut openings) = self.openings.take() else {
+            return Err(WorkerFault::Token);
         };
-        let stop = match held.value.slice(left, &mut self.spares, &mut openings)? {
-            Slice::Goes => Stop::Goes,
-            Slice::Forks(class, child) => {
-                let tag = self.tags.take(&machine.shared);
-                let fork = Fork { class, child, tag };
-                self.is_broken = true;
-                let stop = answer_fork::<H, T, C, R>(
-                    self.rt,
-                    self.alloc,
-                    machine,
-                    &mut self.seat,
-                    &mut self.pass,
-                    held,
-                    fork,
-                    &mut self.chooser,
-                    &mut self.spares,
-                )?;
-                self.is_broken = false;
-                stop
-            }
-            Slice::Blocks => Stop::Blocks,
-            Slice::Asks(lock) => Stop::Asks(lock),
-            Slice::Awaits(lock) => Stop::Awaits(lock),
-            Slice::Frees(lock) => Stop::Frees(lock),
-            Slice::Tallies(ledger, amount) => Stop::Tallies(ledger, amount),
-            Slice::Ends => Stop::Ends,
+        let Some(mut held) = self.held.take() else {
+            return Err(WorkerFault::Token);
         };
+        self.is_broken = true;
+        let stop = go_on::<H, T, C, R>(
+            self.rt,
+            self.alloc,
+            self.machine,
+            &mut self.seat,
+            &mut self.pass,
+            &mut held,
+            &mut openings,
+            &mut self.spares,
+            left,
+        )?;
+        self.held = Some(held);
+        self.openings = Some(openings);
+        self.is_broken = false;
         Ok(stop)
     }
 
-    fn answer(&mut self) -> Result<(), WorkerFault> {
+    /// What the thread in hand asks for is done.
+    pub(crate) fn answer(&mut self) -> Result<(), WorkerFault>
+        ensures { self.new ≡ self.old }
+    {
         match &mut self.held {
             Some(held) => held.value.answer(),
             None => Err(WorkerFault::Token),
         }
     }
 
-    fn rest(&mut self) -> Result<Rest, WorkerFault> {
+    /// Puts the thread in hand back, as ready or blocked by its pause. How it rests then: one that was woken meanwhile is ready.
+    pub(crate) fn rest(&mut self) -> Result<Rest, WorkerFault>
+        ensures { self.new ≡ self.old }
+    {
         if self.is_broken {
             return Err(WorkerFault::Token);
         }
@@ -170,7 +160,10 @@ impl<'a, H: Wait, T: RunJob, C: Contexts<T>, R: Rng> Desk for Seat<'a, H, T, C, 
         }
     }
 
-    fn end(&mut self) -> Result<Option<ThreadId>, WorkerFault> {
+    /// Ends the thread in hand, which leaves its outcome for its parent. The parent's id; the root has none.
+    pub(crate) fn end(&mut self) -> Result<Option<ThreadId>, WorkerFault>
+        ensures { self.new ≡ self.old }
+    {
         if self.is_broken {
             return Err(WorkerFault::Token);
         }
@@ -187,7 +180,10 @@ impl<'a, H: Wait, T: RunJob, C: Contexts<T>, R: Rng> Desk for Seat<'a, H, T, C, 
         }
     }
 
-    fn settle_places(&mut self, before: OccWord) -> Result<(), WorkerFault> {
+    /// Keeps the place that a thread has left or gives all back that are kept, by what the core was before and is now.
+    pub(crate) fn settle_places(&mut self, before: OccWord) -> Result<(), WorkerFault>
+        ensures { self.new ≡ self.old }
+    {
         if !self.machine.may_keep || self.is_broken {
             return Ok(());
         }
@@ -210,25 +206,45 @@ impl<'a, H: Wait, T: RunJob, C: Contexts<T>, R: Rng> Desk for Seat<'a, H, T, C, 
         Ok(())
     }
 
-    fn kept(&self) -> usize {
+    /// How many places are kept.
+    pub(crate) fn kept(&self) -> usize {
         self.kept.count()
     }
 
-    fn give_all_back(&mut self) -> Result<(), WorkerFault> {
+    /// Gives back the newest place that is kept. Whether there was one.
+    pub(crate) fn give_one_back(&mut self) -> Result<bool, WorkerFault>
+        ensures { self.new ≡ self.old }
+    {
         if self.is_broken {
             return Err(WorkerFault::Token);
         }
+        let Some(claim) = self.kept.take() else {
+            return Ok(false);
+        };
         let table = &self.machine.table;
-        while let Some(claim) = self.kept.take() {
-            if table.give_back(self.rt, &mut self.spare, claim).is_err() {
-                self.is_broken = true;
-                return Err(WorkerFault::Token);
+        if table.give_back(self.rt, &mut self.spare, claim).is_err() {
+            self.is_broken = true;
+            return Err(WorkerFault::Token);
+        }
+        Ok(true)
+    }
+
+    /// Gives back all places that are kept.
+    pub(crate) fn give_all_back(&mut self) -> Result<(), WorkerFault>
+        ensures { self.new ≡ self.old }
+    {
+        for _ in 0..SLOTS {
+            if !self.give_one_back()? {
+                break;
             }
         }
         Ok(())
     }
 
-    fn look(&mut self) -> OccWord {
+    /// What is on the core.
+    pub(crate) fn look(&mut self) -> OccWord
+        ensures { self.new ≡ self.old }
+    {
         let table = &self.machine.table;
         let word = table.look(self.rt, &mut self.seat, self.core);
         match OccWord::from_word(word) {
@@ -237,7 +253,10 @@ impl<'a, H: Wait, T: RunJob, C: Contexts<T>, R: Rng> Desk for Seat<'a, H, T, C, 
         }
     }
 
-    fn mark_of(&mut self, context: u32) -> Option<MarkWord> {
+    /// What is marked of a context. None where there is no such context.
+    pub(crate) fn mark_of(&mut self, context: u32) -> Option<MarkWord>
+        ensures { self.new ≡ self.old }
+    {
         if context >= u32::from(self.machine.cores) * u32::from(self.machine.slots) {
             return None;
         }
@@ -246,19 +265,18 @@ impl<'a, H: Wait, T: RunJob, C: Contexts<T>, R: Rng> Desk for Seat<'a, H, T, C, 
         MarkWord::from_word(word)
     }
 
-    fn wake(&mut self, id: ThreadId) -> bool {
+    /// Tries once to wake the thread of an id.
+    pub(crate) fn wake(&mut self, id: ThreadId) -> Woken
+        ensures { self.new ≡ self.old }
+    {
         let table = &self.machine.table;
-        for _ in self.rt.forever() {
-            match table.wake(self.rt, &mut self.seat, id) {
-                Woken::Lost(_) => {}
-                Woken::Woken => return true,
-                Woken::Already(_) | Woken::Gone => return false,
-            }
-        }
-        unreachable!()
+        table.wake(self.rt, &mut self.seat, id)
     }
 
-    fn pull(&mut self, place: Place) -> bool {
+    /// Moves the thread at a place of another core to this one. Whether it was moved.
+    pub(crate) fn pull(&mut self, place: Place) -> bool
+        ensures { self.new ≡ self.old }
+    {
         if place.core == self.core
             || place.core >= self.machine.cores
             || place.index >= self.machine.slots
@@ -272,11 +290,18 @@ impl<'a, H: Wait, T: RunJob, C: Contexts<T>, R: Rng> Desk for Seat<'a, H, T, C, 
         )
     }
 
-    fn has_tickets(&mut self) -> bool {
+    /// Whether a ticket lies in the queue.
+    pub(crate) fn has_tickets(&mut self) -> bool
+        ensures { self.new ≡ self.old }
+    {
         self.machine.shared.signals().waiting() > 0
     }
 
-    fn take_ticket(&mut self) -> Result<(bool, Option<u8>), WorkerFault> {
+    /// Takes a ticket from the queue, and posts its child on the core if that waits still and there is a place. Whether there
+    /// was a ticket, and the index of the child.
+    pub(crate) fn take_ticket(&mut self) -> Result<(bool, Option<u8>), WorkerFault>
+        ensures { self.new ≡ self.old }
+    {
         if self.is_broken {
             return Err(WorkerFault::Token);
         }
@@ -289,25 +314,23 @@ impl<'a, H: Wait, T: RunJob, C: Contexts<T>, R: Rng> Desk for Seat<'a, H, T, C, 
         }
         self.is_broken = true;
         let (rt, machine) = (self.rt, self.machine);
-        let Some(claim) = free_place::<H, T, C>(
-            rt,
-            machine,
-            &mut self.spare,
-            &mut self.kept,
-            self.core,
-        )?
-        else {
+        let (spare, kept) = (&mut self.spare, &mut self.kept);
+        let Some(claim) = free_place::<H, T, C>(rt, machine, spare, kept, self.core)? else {
             self.is_broken = false;
             return Ok((true, None));
         };
         let index = claim.place().index;
         let job = T::of_ticket(self.alloc, ticket, &mut self.spares);
         let posted = post_waiting::<H, T, C>(rt, machine, &mut self.spare, claim, job)?;
+        let index = if posted { Some(index) } else { None };
         self.is_broken = false;
-        Ok((true, if posted { Some(index) } else { None }))
+        Ok((true, index))
     }
 
-    fn tend(&mut self) -> Tended {
+    /// Applies the orders that are due, and moves threads away from a closed core, if this worker is to.
+    pub(crate) fn tend(&mut self) -> Tended
+        ensures { self.new ≡ self.old }
+    {
         let Some(arbiter) = &mut self.arbiter else {
             return Tended {
                 applied: None,
@@ -315,7 +338,16 @@ impl<'a, H: Wait, T: RunJob, C: Contexts<T>, R: Rng> Desk for Seat<'a, H, T, C, 
             };
         };
         let before = arbiter.applied();
-        let receivers = tend::<H, T, C>(self.rt, self.machine, &mut self.seat, arbiter);
+        let machine = self.machine;
+        let cores: Cores<'_, H, T, C> = Cores {
+            rt: self.rt,
+            table: &machine.table,
+            count: machine.cores,
+            slots: machine.slots,
+            of: PhantomData,
+        };
+        let signals = machine.shared.signals();
+        let receivers = arbiter.tend(&cores, &mut self.seat, signals.parking(), signals.slices());
         let after = arbiter.applied();
         Tended {
             applied: if after != before { Some(after) } else { None },
@@ -323,14 +355,18 @@ impl<'a, H: Wait, T: RunJob, C: Contexts<T>, R: Rng> Desk for Seat<'a, H, T, C, 
         }
     }
 
-    fn has_orders_left(&self) -> bool {
+    /// Whether this worker is to apply orders and some are left.
+    pub(crate) fn has_orders_left(&self) -> bool {
         match &self.arbiter {
             Some(arbiter) => arbiter.applied() < self.machine.orders,
             None => false,
         }
     }
 
-    fn park(&mut self) -> bool {
+    /// Parks while the core is closed and nothing is left on it. Whether it was.
+    pub(crate) fn park(&mut self) -> bool
+        ensures { self.new ≡ self.old }
+    {
         let table = &self.machine.table;
         let drained = table.is_drained(self.rt, &mut self.seat, self.core);
         if drained {

@@ -6,14 +6,15 @@ ghost use Rattle.arachne_run.specs.Tokens.{AreIdle, IsSetUp};
 use crate::claims::Claims;
 use crate::execute::Worker;
 use crate::fault::WorkerFault;
+use crate::forking::Openings;
 use crate::gate::Gate;
 use crate::locks::Locks;
 use crate::machine::Machine;
 use crate::queue::Agenda;
+use crate::rooting::post_root;
 use crate::seat::Seat;
 use crate::slice::RunJob;
 use crate::sums::Sums;
-use crate::tables::post_root;
 use crate::tags::Tags;
 use crate::tokens::Tokens;
 use arachne_contexts::{Contexts, Seats, Tagged};
@@ -48,19 +49,20 @@ impl<C: Seats, K: Tagged + Drop> Promise<Option<Tokens<C::Seat, K>>> for Returns
 /// Has all cores work until they are stopped, each with its chooser. The last chooser is that of core 0.
 pub(crate) fn work_all<
     H: Threads + Wait + Sync,
-    T: RunJob + Send,
+    T: RunJob<Ticket = K> + Send,
+    K: Tagged + Drop + Send,
     C: Contexts<T> + Sync,
     R: Rng + Drop + Send,
     G: Gate + Sync,
 >(
     rt: &H,
     alloc: Global,
-    machine: &Machine<C, T::Ticket>,
+    machine: &Machine<C, K>,
     gate: &G,
     root: T,
     choosers: Vec<R>,
-    tokens: Tokens<C::Seat, T::Ticket>,
-) -> Option<Tokens<C::Seat, T::Ticket>>
+    tokens: Tokens<C::Seat, K>,
+) -> Option<Tokens<C::Seat, K>>
     requires tokens { AreIdle C.sits C.idle machine.now tokens }
     requires set_up { IsSetUp C.core_count C.slot_count machine.now }
     ensures { IfSome result (AreIdle C.sits C.idle machine.now) }
@@ -68,7 +70,7 @@ pub(crate) fn work_all<
     thread::scope(
         thread::scope_env(),
         rt,
-        |scope| -> Option<Tokens<C::Seat, T::Ticket>>
+        |scope| -> Option<Tokens<C::Seat, K>>
             requires { IsSync H.row × AreIdle C.sits C.idle machine.now tokens × IsSetUp C.core_count C.slot_count machine.now }
             ensures { IfSome result (AreIdle C.sits C.idle machine.entry.now) }
         {
@@ -86,13 +88,12 @@ pub(crate) fn work_all<
                 };
                 let started = scope.spawn_with(
                     Returns::to(machine),
-                    move || -> Option<Tokens<C::Seat, T::Ticket>>
+                    move || -> Option<Tokens<C::Seat, K>>
                         requires { AreIdle C.sits C.idle machine.now theirs × IsSetUp C.core_count C.slot_count machine.now × (core < machine.now.cores) }
                         ensures { IfSome result (AreIdle C.sits C.idle machine.entry.now) }
                     {
-                        let _ = of;
-                        work_on::<H, T, C, R, G>(
-                            rt, alloc, machine, gate, core, chooser, theirs, None,
+                        work_on::<H, T, K, C, R, G>(
+                            rt, alloc, machine, gate, core, chooser, theirs, None, of,
                         )
                     },
                 );
@@ -103,7 +104,7 @@ pub(crate) fn work_all<
                 others.push_reserved(other);
             }
             let mut all = match own {
-                Some(chooser) => work_on::<H, T, C, R, G>(
+                Some(chooser) => work_on::<H, T, K, C, R, G>(
                     rt,
                     alloc,
                     machine,
@@ -112,6 +113,7 @@ pub(crate) fn work_all<
                     chooser,
                     tokens,
                     Some(root),
+                    of,
                 ),
                 None => {
                     machine.shared.fail(rt, WorkerFault::KernelThread);
@@ -119,7 +121,7 @@ pub(crate) fn work_all<
                 }
             };
             for other in others {
-                all = joined::<H, C, T::Ticket>(rt, machine, all, other.join(rt));
+                all = joined::<H, C, K>(rt, machine, all, other.join(rt));
             }
             all
         },
@@ -177,21 +179,30 @@ fn joined<H: Wait, C: Seats, K: Tagged + Drop>(
 
 /// Works on one core until all stop, where there is a root from it on. The tokens, unless something is out with them after a
 /// fault.
-fn work_on<H: Wait, T: RunJob, C: Contexts<T>, R: Rng + Drop, G: Gate>(
+fn work_on<
+    H: Wait,
+    T: RunJob<Ticket = K>,
+    K: Tagged + Drop + Send,
+    C: Contexts<T>,
+    R: Rng + Drop,
+    G: Gate,
+>(
     rt: &H,
     alloc: Global,
-    machine: &Machine<C, T::Ticket>,
+    machine: &Machine<C, K>,
     gate: &G,
     core: u8,
     chooser: R,
-    tokens: Tokens<C::Seat, T::Ticket>,
+    tokens: Tokens<C::Seat, K>,
     root: Option<T>,
-) -> Option<Tokens<C::Seat, T::Ticket>>
+    of: PhantomData<(T, R)>,
+) -> Option<Tokens<C::Seat, K>>
     requires tokens { AreIdle C.sits C.idle machine.now tokens }
     requires set_up { IsSetUp C.core_count C.slot_count machine.now }
     requires core { core < machine.now.cores }
     ensures { IfSome result (AreIdle C.sits C.idle machine.now) }
 {
+    let _ = of;
     let Tokens {
         seat,
         share,
@@ -222,11 +233,19 @@ fn work_on<H: Wait, T: RunJob, C: Contexts<T>, R: Rng + Drop, G: Gate>(
         kept: Claims::new(alloc),
         pass,
         arbiter,
-        chooser,
-        tags: Tags::new(),
+        openings: Some(Openings {
+            rt,
+            table: &machine.table,
+            cores: machine.cores,
+            slots: machine.slots,
+            shared: &machine.shared,
+            chooser,
+            tags: Tags::new(),
+            of: PhantomData,
+        }),
         spares: T::spares(alloc),
     };
-    let mut worker = Worker {
+    let mut worker: Worker<'_, H, T, C, R, G> = Worker {
         rt,
         gate,
         shared: &machine.shared,
