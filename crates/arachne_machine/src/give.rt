@@ -20,8 +20,8 @@ impl<'p> State<'p> {
     ghost use Rattle.arachne_machine.specs.Runs.{Comes, FoldsOn, HandsResult, IsOneStep, IsPoppedIn, RunsWithin, SweepsOn, giving_in, seen_in};
     ghost use Rattle.arachne_machine.specs.declared.state.Progress.TheVariants as ways;
 
-    /// Hands a value on from frame to frame, and from a child that ran here to its parent, until one of them says what comes
-    /// next, or none is left. Where memory is refused the value is still to be handed on.
+    /// Hands a value on from frame to frame, and from a child that ran here to its parent, until one of them says what
+    /// comes next, or none is left. Where memory is refused the value is still to be handed on.
     #[inline(always)]
     pub fn give<P: Placing>(
         &mut self,
@@ -46,7 +46,8 @@ impl<'p> State<'p> {
         }
     }
 
-    /// Hands a value to the newest frame of the innermost thread. Where it has none it has ended, and its parent goes on.
+    /// Hands a value to the newest frame of the innermost thread. Where it has none it has ended, and its parent goes
+    /// on.
     #[inline(always)]
     fn hand_newest<P: Placing>(
         &mut self,
@@ -317,7 +318,8 @@ impl<'p> State<'p> {
         Progress::Begin(body)
     }
 
-    /// What a fold, a part of a sweep or two halves come to, which is handed on by a step of its own: at once where one is left.
+    /// What a fold, a part of a sweep or two halves come to, which is handed on by a step of its own: at once where one
+    /// is left.
     #[inline(always)]
     pub fn hand_result(&mut self, value: u64, left: &mut u32) -> Progress<'p>
         ensures same { Changes self.old (seen_in result self.new) self.old.environment.items self.old.frames.items (control.Give value) }
@@ -349,7 +351,7 @@ impl<'p> State<'p> {
 
     /// An item of an array, 0 outside it.
     #[inline(always)]
-    fn item(&self, array: u64, index: u64) -> u64
+    pub fn item(&self, array: u64, index: u64) -> u64
         ensures { result ≡ slice_index (array_at (source_of self.now.program.now).arrays array) index }
     {
         match self.program.arrays.get(array as usize) {

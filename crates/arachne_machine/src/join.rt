@@ -37,8 +37,8 @@ impl<'p> State<'p> {
         }
     }
 
-    /// The child of this number begins here, and the innermost thread awaits it. Where memory is refused nothing has changed
-    /// but room.
+    /// The child of this number begins here, and the innermost thread awaits it. Where memory is refused nothing has
+    /// changed but room.
     #[inline(always)]
     pub fn begin_here<P: Placing>(
         &mut self,
@@ -65,8 +65,8 @@ impl<'p> State<'p> {
         Ok(())
     }
 
-    /// The innermost thread waits, and one whose line is at this place, and that has forked so many, goes on here. There is
-    /// room.
+    /// The innermost thread waits, and one whose line is at this place, and that has forked so many, goes on here.
+    /// There is room.
     #[inline(always)]
     fn descend(&mut self, awaits: Control<'p>, place: usize, forks: u64)
         requires { vec_len self.old.parents + 1 ≤ vec_capacity self.old.parents }
@@ -84,8 +84,8 @@ impl<'p> State<'p> {
         };
     }
 
-    /// The child that is awaited, in whose place no other is, goes on here. Where memory is refused nothing has changed but
-    /// room.
+    /// The child that is awaited, in whose place no other is, goes on here. Where memory is refused nothing has changed
+    /// but room.
     pub fn take_in(&mut self, child: &mut State<'p>) -> Result<(), AllocError>
         requires { length child.old.sums.items ≡ length self.old.sums.items }
         ensures ok { OnOk result (TakesIn self.old child.old self.new) }
@@ -113,8 +113,8 @@ impl<'p> State<'p> {
         Ok(())
     }
 
-    /// The child that ran here has ended with this value: its parent joins it, and goes on. Where memory is refused the value is
-    /// still to be handed on.
+    /// The child that ran here has ended with this value: its parent joins it, and goes on. Where memory is refused the
+    /// value is still to be handed on.
     #[inline(always)]
     pub fn join_here(&mut self, value: u64, left: &mut u32) -> Result<Progress<'p>, AllocError>
         requires parent { HasParent self.old }
@@ -160,8 +160,8 @@ impl<'p> State<'p> {
         self.frames.push_reserved(Frame::Restore(length));
     }
 
-    /// Joins this outcome, where it is that of the child that is awaited. Where it answers an error nothing has changed but
-    /// room, and the outcome comes back.
+    /// Joins this outcome, where it is that of the child that is awaited. Where it answers an error nothing has changed
+    /// but room, and the outcome comes back.
     pub fn join(&mut self, outcome: Outcome<'p>) -> Result<(), NotJoined<'p>>
         requires joins { pending_of self.old.control ≡ Some pause.Joins }
         requires line { HasLine self.old }

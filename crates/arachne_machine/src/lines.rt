@@ -96,7 +96,8 @@ impl Lines {
         }
     }
 
-    /// This line, and behind it those below it. Where memory is refused nothing has changed but room, and they come back.
+    /// This line, and behind it those below it. Where memory is refused nothing has changed but room, and they come
+    /// back.
     pub fn append(&mut self, own: ThreadLine, below: Lines) -> Result<(), (ThreadLine, Lines)>
         ensures lines { OnOk result (self.new ≡ self.old ++ own ∷ below) }
         ensures few { OnOk result (length self.new < 2 ^ 63) }

@@ -13,9 +13,9 @@ impl<'p> State<'p> {
     ghost use Rattle.arachne_machine.specs.Steps.{HasLine, HasRoom, pending_of};
     ghost use Rattle.arachne_machine.specs.Kept.{AdvancesWith, IsKept, StandsBack, TakesUp, WentWithin};
 
-    /// Goes on for at most as many steps as are left, until it pauses. Where the innermost thread comes to await the newest of
-    /// these children, that one goes on in its place. Gives the child where it pauses for a fork. Where memory is refused it
-    /// stands before the refused step.
+    /// Goes on for at most as many steps as are left, until it pauses. Where the innermost thread comes to await the
+    /// newest of these children, that one goes on in its place. Gives the child where it pauses for a fork. Where
+    /// memory is refused it stands before the refused step.
     pub fn advance_with<P: Placing>(
         &mut self,
         placed: &mut Vec<Box<State<'p>>>,
@@ -58,7 +58,8 @@ impl<'p> State<'p> {
         }
     }
 
-    /// The same for a thread that awaits a child. Where memory is refused it stands before the step in which it came to await it.
+    /// The same for a thread that awaits a child. Where memory is refused it stands before the step in which it came to
+    /// await it.
     #[cold]
     #[inline(never)]
     fn take_newest(

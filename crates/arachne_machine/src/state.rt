@@ -42,7 +42,8 @@ pub struct State<'p> {
     pub alloc: Global,
     /// The outermost thread's.
     pub own: Own,
-    /// The lines below the outermost thread, in order: those of threads that were joined, and of those that run here, each at its place.
+    /// The lines below the outermost thread, in order: those of threads that were joined, and of those that run here,
+    /// each at its place.
     pub lines: Lines,
     /// For each ledger the sum of what all of them have tallied, modulo 2^64.
     pub sums: Vec<u64>,
@@ -155,8 +156,8 @@ impl<'p> State<'p> {
         Ok(())
     }
 
-    /// Goes on for at most as many steps as are left, until it pauses. Then fewer are left. Gives the child where it pauses for
-    /// a fork. Where memory is refused it stands before the refused step.
+    /// Goes on for at most as many steps as are left, until it pauses. Then fewer are left. Gives the child where it
+    /// pauses for a fork. Where memory is refused it stands before the refused step.
     pub fn advance<P: Placing>(
         &mut self,
         left: &mut u32,
@@ -214,8 +215,9 @@ impl<'p> State<'p> {
         }
     }
 
-    /// A step, and with it further ones of those that are left, which need nothing but what is known then. It begins this expression,
-    /// or else a part of a sweep, or takes a value that was left over; and hands on the value that is known at once.
+    /// A step, and with it further ones of those that are left, which need nothing but what is known then. It begins
+    /// this expression, or else a part of a sweep, or takes a value that was left over; and hands on the value that is
+    /// known at once.
     #[inline(always)]
     fn make<P: Placing>(
         &mut self,

@@ -124,8 +124,8 @@ impl<'p> Thread<'p> {
         self.state.pending()
     }
 
-    /// Goes on for at most so many steps, each beginning of a node being a step of its own. Each fork is a pause. Where memory
-    /// is refused the thread stands before the refused step, and the same call goes on from there.
+    /// Goes on for at most so many steps, each beginning of a node being a step of its own. Each fork is a pause. Where
+    /// memory is refused the thread stands before the refused step, and the same call goes on from there.
     pub fn advance(&mut self, budget: u32) -> Result<Pause<'p>, AllocError>
         requires not_paused { pending_in self.old ≡ None }
         requires some { 1 ≤ budget }
@@ -144,8 +144,8 @@ impl<'p> Thread<'p> {
     }
 
     /// The same, for at most as many steps as are left. Then fewer are: none at `Budget`, and at least one fewer at
-    /// another pause. A fork for whose child there is no place is no pause: the child runs in this thread's place, once it is
-    /// awaited. Another child begins with what ended threads have left.
+    /// another pause. A fork for whose child there is no place is no pause: the child runs in this thread's place, once
+    /// it is awaited. Another child begins with what ended threads have left.
     pub fn advance_within<P: Placing>(
         &mut self,
         left: &mut u32,
@@ -188,8 +188,8 @@ impl<'p> Thread<'p> {
     }
 
     /// Answers a fork with its child, which runs in this thread's place once it is awaited; or answers a join with the
-    /// child that is awaited, which runs in its place at once. Where it answers an error nothing has changed, and the child
-    /// comes back.
+    /// child that is awaited, which runs in its place at once. Where it answers an error nothing has changed, and the
+    /// child comes back.
     pub fn in_place(&mut self, child: Thread<'p>) -> Result<(), NotPlaced<'p>>
         requires pending { IsPlacing (pending_in self.old) }
         requires child { MayBePlaced self.old child }
