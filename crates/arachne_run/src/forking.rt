@@ -77,6 +77,7 @@ impl<'a, H: Wait, T: Tagged, C: Contexts<T>, R: Rng> Placing for Openings<'a, H,
 }
 
 /// The thread in hand goes on for at most as many steps as are left, and its fork, if it comes to one, is answered.
+#[inline(always)]
 pub(crate) fn go_on<H: Wait, T: RunJob, C: Contexts<T>, R: Rng>(
     rt: &H,
     alloc: Global,
@@ -124,6 +125,7 @@ struct Fork<Child> {
 
 /// Answers a fork of the thread in hand: the child gets a place on a core that has one for a thread of its class. Else a normal one
 /// waits, if there is room in the queue, and another one runs in place.
+#[inline(always)]
 fn answer_fork<H: Wait, T: RunJob, C: Contexts<T>, R: Rng>(
     rt: &H,
     alloc: Global,
@@ -155,6 +157,7 @@ fn answer_fork<H: Wait, T: RunJob, C: Contexts<T>, R: Rng>(
 
 /// A place for a thread that is forked. A normal one gets it on the core with fewer threads of two that are drawn, else on another
 /// core that has one; an exclusive one on an empty core.
+#[inline(always)]
 fn claim<H: Wait, T: RunJob, C: Contexts<T>, R: Rng>(
     rt: &H,
     machine: &Machine<C, T::Ticket>,
@@ -176,6 +179,7 @@ fn claim<H: Wait, T: RunJob, C: Contexts<T>, R: Rng>(
 }
 
 /// The child that the thread in hand forks becomes a thread at the claimed place.
+#[inline(always)]
 fn post_child<H: Wait, T: RunJob, C: Contexts<T>>(
     rt: &H,
     alloc: Global,
@@ -203,6 +207,7 @@ fn post_child<H: Wait, T: RunJob, C: Contexts<T>>(
 }
 
 /// The child that the thread in hand forks waits for a place, or runs in place.
+#[inline(always)]
 fn put_aside<H: Wait, T: RunJob, C: Contexts<T>>(
     rt: &H,
     alloc: Global,

@@ -341,8 +341,8 @@ impl<'p> Job<'p> {
 
 /// What is in a cell, which is used up then. Where there is nothing the end comes back.
 fn look_at<'p>(awaited: Awaited<'p>, spares: &mut Spares<'p>) -> Result<Found<'p>, Awaited<'p>>
-    ensures found { IfOk result (λ found. IsFoundFor (awaited_at awaited) found) }
-    ensures same { IfErr result (λ back. awaited_at back ≡ awaited_at awaited) }
+    ensures found { IfOk result (λ found. IsFoundFor (awaited_at awaited.entry) found) }
+    ensures same { IfErr result (λ back. awaited_at back ≡ awaited_at awaited.entry) }
 {
     match awaited {
         Awaited::Block(receiver) => match receiver.fetch() {

@@ -155,11 +155,10 @@ impl<C: Seats + Drop, K: Tagged + Drop> Machine<C, K> {
             }
         }
         let is_all = self.table.is_whole(&tokens.seat) && self.table.out(&tokens.seat) == 0;
-        if !is_all
-            || !tokens.share.is_whole()
-            || !self.locks.are_whole(&tokens.lock_seats)
-            || !self.tickets.is_whole(&pass)
-        {
+        if !is_all || !tokens.share.is_whole() || !self.locks.are_whole(&tokens.lock_seats) {
+            return Err(WorkerFault::Token);
+        }
+        if !self.tickets.is_whole(&pass) {
             return Err(WorkerFault::Token);
         }
         let Ok(rest) = self.table.close(rt, alloc, tokens.seat) else {

@@ -62,6 +62,7 @@ impl<'a, H, T: RunJob, C: Contexts<T>, R> Model for Seat<'a, H, T, C, R> {
 
 impl<'a, H: Wait, T: RunJob, C: Contexts<T>, R: Rng + Drop> Seat<'a, H, T, C, R> {
     /// Takes the thread at an index of the core in hand, if it is ready and none is.
+    #[inline(always)]
     pub(crate) fn take(&mut self, index: u8) -> Grip
         ensures { self.new ≡ self.old }
     {
@@ -94,6 +95,7 @@ impl<'a, H: Wait, T: RunJob, C: Contexts<T>, R: Rng + Drop> Seat<'a, H, T, C, R>
     }
 
     /// The thread in hand goes on for at most as many steps as are left, and its forks are answered.
+    #[inline(always)]
     pub(crate) fn advance(&mut self, left: &mut u32) -> Result<Stop, WorkerFault>
         requires { 1 ≤ left.old }
         ensures { self.new ≡ self.old }
@@ -136,6 +138,7 @@ impl<'a, H: Wait, T: RunJob, C: Contexts<T>, R: Rng + Drop> Seat<'a, H, T, C, R>
     }
 
     /// Puts the thread in hand back, as ready or blocked by its pause. How it rests then: one that was woken meanwhile is ready.
+    #[inline(always)]
     pub(crate) fn rest(&mut self) -> Result<Rest, WorkerFault>
         ensures { self.new ≡ self.old }
     {
@@ -161,6 +164,7 @@ impl<'a, H: Wait, T: RunJob, C: Contexts<T>, R: Rng + Drop> Seat<'a, H, T, C, R>
     }
 
     /// Ends the thread in hand, which leaves its outcome for its parent. The parent's id; the root has none.
+    #[inline(always)]
     pub(crate) fn end(&mut self) -> Result<Option<ThreadId>, WorkerFault>
         ensures { self.new ≡ self.old }
     {
@@ -242,6 +246,7 @@ impl<'a, H: Wait, T: RunJob, C: Contexts<T>, R: Rng + Drop> Seat<'a, H, T, C, R>
     }
 
     /// What is on the core.
+    #[inline(always)]
     pub(crate) fn look(&mut self) -> OccWord
         ensures { self.new ≡ self.old }
     {
