@@ -3,6 +3,7 @@ ghost use Rattle.std.specs.Prelude.{◌≡◌, ◌≤◌, All, IfOk, IfSome, len
 ghost use Rattle.arachne_policy.specs.Orders.{AreInOrder};
 ghost use Rattle.arachne_sleep.specs.History.{IsSound};
 ghost use Rattle.arachne_sleep.specs.OneHolder.{HasOneHolderAtATime};
+ghost use Rattle.arachne_spill.specs.Views.{IsPassOf};
 ghost use Rattle.arachne_run.specs.Tokens.{AreIdle, IsSetUp};
 
 use crate::classes::has_exclusive;
@@ -17,7 +18,7 @@ use arachne_lang::Program;
 use arachne_ledger::Ledgers;
 use arachne_policy::CoreOrder;
 use arachne_sleep::{LockEvent, SleepLocks};
-use arachne_spill::{CAPACITY, SpillQueue};
+use arachne_spill::{CAPACITY, SpillPass, SpillQueue};
 use std::alloc::{AllocError, Global};
 use std::marker::PhantomData;
 use std::sync::Wait;
@@ -148,17 +149,11 @@ impl<C: Seats + Drop, K: Tagged + Drop> Machine<C, K> {
             return Err(WorkerFault::Token);
         };
         let applied = arbiter.applied();
-        let mut pass = tokens.pass;
-        for _ in 0..CAPACITY {
-            if self.tickets.pop(rt, &mut pass).is_none() {
-                break;
-            }
+        if !are_tickets_back::<H, K>(rt, &self.tickets, tokens.pass) {
+            return Err(WorkerFault::Token);
         }
         let is_all = self.table.is_whole(&tokens.seat) && self.table.out(&tokens.seat) == 0;
         if !is_all || !tokens.share.is_whole() || !self.locks.are_whole(&tokens.lock_seats) {
-            return Err(WorkerFault::Token);
-        }
-        if !self.tickets.is_whole(&pass) {
             return Err(WorkerFault::Token);
         }
         let Ok(rest) = self.table.close(rt, alloc, tokens.seat) else {
@@ -179,4 +174,21 @@ impl<C: Seats + Drop, K: Tagged + Drop> Machine<C, K> {
             applied,
         })
     }
+}
+
+/// Empties the queue of tickets. Whether all of its passes are back.
+fn are_tickets_back<H: Wait, K: Tagged + Drop>(
+    rt: &H,
+    tickets: &SpillQueue<K>,
+    pass: SpillPass<K>,
+) -> bool
+    requires { IsPassOf tickets.now pass }
+{
+    let mut pass = pass;
+    for _ in 0..CAPACITY {
+        if tickets.pop(rt, &mut pass).is_none() {
+            break;
+        }
+    }
+    tickets.is_whole(&pass)
 }
