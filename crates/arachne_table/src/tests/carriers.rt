@@ -1,14 +1,35 @@
-//! Three seats of a table behind a lock, none of which may spend what another has claimed.
+//! Four seats of a table behind a lock, none of which may spend what another has claimed.
 ghost use Rattle.std.specs.Prelude.{◌<◌, IfSome, [], ◌∷◌};
 ghost use Rattle.arachne_contexts.specs.Out.{Claim as a_claim};
 ghost use Rattle.arachne_locked.specs.Seats.{HasCounted};
 
 use super::Job;
 use crate::{Claimed, Contexts, LockedClaim, LockedContexts, LockedSeat, Seats};
+use std::alloc::Global;
 use std::sync::Wait;
 use std::test::Fail;
 
 type Locked = LockedContexts<Job>;
+
+/// Two of four seats.
+#[derive(Clone, Copy, Debug)]
+enum Pair {
+    FirstAndSecond,
+    FirstAndThird,
+    FirstAndFourth,
+    SecondAndThird,
+    SecondAndFourth,
+    ThirdAndFourth,
+}
+
+const PAIRS: &[Pair] = &[
+    Pair::FirstAndSecond,
+    Pair::FirstAndThird,
+    Pair::FirstAndFourth,
+    Pair::SecondAndThird,
+    Pair::SecondAndFourth,
+    Pair::ThirdAndFourth,
+];
 
 /// Claims a place on core 0.
 fn claimed<C: Contexts<Job>, R: Wait>(rt: &R, table: &C, seat: &mut C::Seat) -> Option<C::Claim>
@@ -34,42 +55,39 @@ fn refused<R: Wait>(
     table.give_back(rt, seat, claim).err()
 }
 
-/// Splits a seat in three.
-fn parted<R: Wait>(rt: &R, table: &Locked, seat: LockedSeat) -> (LockedSeat, LockedSeat, LockedSeat)
+/// Splits a seat in two, then the second of them, and then the first once more. Two of these four seats.
+fn parted<R: Wait>(rt: &R, table: &Locked, seat: LockedSeat, pair: Pair) -> (LockedSeat, LockedSeat)
     requires { HasCounted seat 0 }
-    ensures first { HasCounted result.0 0 }
-    ensures second { HasCounted result.1 0 }
-    ensures third { HasCounted result.2 0 }
+    ensures one { HasCounted result.0 0 }
+    ensures other { HasCounted result.1 0 }
 {
     let (first, second) = table.split(rt, seat);
     let (second, third) = table.split(rt, second);
-    (first, second, third)
-}
-
-/// Whether two seats that have a claim out are refused that of the first.
-fn are_refused<R: Wait>(
-    rt: &R,
-    table: &Locked,
-    second: &mut LockedSeat,
-    third: &mut LockedSeat,
-    claim: LockedClaim,
-) -> bool
-    requires second { HasCounted second.old 1 }
-    requires third { HasCounted third.old 1 }
-{
-    match refused(rt, table, second, claim) {
-        Some(claim) => refused(rt, table, third, claim).is_some(),
-        None => false,
+    let (first, fourth) = table.split(rt, first);
+    match pair {
+        Pair::FirstAndSecond => (first, second),
+        Pair::FirstAndThird => (first, third),
+        Pair::FirstAndFourth => (first, fourth),
+        Pair::SecondAndThird => (second, third),
+        Pair::SecondAndFourth => (second, fourth),
+        Pair::ThirdAndFourth => (third, fourth),
     }
 }
 
+/// Whether the one of two seats that have a claim out can't give back that of the other.
+fn is_refused<R: Wait>(rt: &R, alloc: Global, pair: Pair) -> Result<bool, Fail> {
+    let (table, seat) = Locked::new(alloc, 1, 2, 0)?;
+    let (mut one, mut other) = parted(rt, &table, seat, pair);
+    let claim = claimed(rt, &table, &mut one).ok_or("no place")?;
+    claimed(rt, &table, &mut other).ok_or("no place")?;
+    Ok(refused(rt, &table, &mut other, claim).is_some())
+}
+
 #[test]
-fn no_seat_of_three_spends_what_another_has(rt: HostRuntime) -> Result<(), Fail> {
-    let (table, seat) = Locked::new(rt.alloc(), 1, 3, 0)?;
-    let (mut first, mut second, mut third) = parted(&rt, &table, seat);
-    let claim = claimed(&rt, &table, &mut first).ok_or("no place")?;
-    claimed(&rt, &table, &mut second).ok_or("no place")?;
-    claimed(&rt, &table, &mut third).ok_or("no place")?;
-    assert!(rt; are_refused(&rt, &table, &mut second, &mut third, claim));
+fn no_seat_of_four_spends_what_another_has(rt: HostRuntime) -> Result<(), Fail> {
+    for &pair in PAIRS {
+        let refused = is_refused(&rt, rt.alloc(), pair)?;
+        assert!(rt; refused, "{pair:?}");
+    }
     Ok(())
 }
