@@ -94,7 +94,7 @@ impl<'a, H: Wait, T: RunJob, C: Contexts<T>, R: Rng + Drop, G: Gate> Worker<'a, 
         self.slices = self.slices.saturating_add(1);
         let end = self.spend_quantum();
         self.gate.slice_ended(self.core);
-        self.shared.signals().slices().count(self.core);
+        self.shared.signals().count_slice(self.core);
         end
     }
 

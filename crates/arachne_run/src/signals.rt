@@ -84,6 +84,13 @@ impl Signals {
         &self.slices
     }
 
+    /// A slice has ended on a core. Called by the core's kernel thread alone.
+    pub(crate) fn count_slice(&self, core: u8) {
+        if usize::from(core) < self.words.len() {
+            self.slices.count(core);
+        }
+    }
+
     /// About how many tickets lie in the queue.
     pub(crate) fn waiting(&self) -> u64 {
         // A ticket may be taken before it is counted: then the count is below 0 for a moment.
