@@ -1,6 +1,8 @@
 -- Which of a run's values may cross threads.
+use denote.Enum.Declared as enum
+use denote.Enum.Enum.{Enum}
 use denote.Ref.{NamedLft}
-use denote.Param.Send.{IsSend, IsSync, sendable}
+use denote.Param.Send.{IsSend, IsSync, sendable, recorded_send, enum_send}
 use Rattle.std.proofs.Crossing as std
 use Rattle.arachne_core.proofs.thread_id.ThreadId.TheSendSync as id
 use Rattle.arachne_join.proofs.Crossing.{sender_send, receiver_send, unused_send}
@@ -28,7 +30,8 @@ waiting_send : (κ : NamedLft) → IsSend (waiting.the_row κ)
 waiting_send κ = search (sendable, std.crosses, thread_field_send, id.the_field_send) depth 30
 
 left_send : (κ : NamedLft) → IsSend (left.the_row κ)
-left_send κ = search (sendable, std.crosses, waiting_send, outcome_send) depth 30
+left_send κ = recorded_send (Enum (enum.shape (left.the_type κ))) ((left.the_type κ).D) ((left.the_type κ).to) ((left.the_type κ).to_one)
+    (enum_send (enum.shape (left.the_type κ)) ((search (sendable, std.crosses, waiting_send) depth 20, tt), ((search (sendable, std.crosses, outcome_send) depth 20, tt), tt)))
 
 wait_cell_send : (κ : NamedLft) → IsSend (wait_cell.the_row κ)
 wait_cell_send κ = search (sendable, std.crosses, cell.the_send, cell.the_sync, left_send, wanted_send, wanted_sync) depth 30

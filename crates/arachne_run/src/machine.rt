@@ -3,6 +3,7 @@ ghost use Rattle.std.specs.Prelude.{◌≡◌, ◌≤◌, All, IfOk, IfSome, len
 ghost use Rattle.arachne_policy.specs.Orders.{AreInOrder};
 ghost use Rattle.arachne_sleep.specs.History.{IsSound};
 ghost use Rattle.arachne_sleep.specs.OneHolder.{HasOneHolderAtATime};
+ghost use Rattle.arachne_sleep.specs.SleepLocks.{AreSeatsOf};
 ghost use Rattle.arachne_spill.specs.Views.{IsPassOf};
 ghost use Rattle.arachne_run.specs.Tokens.{AreIdle, IsSetUp};
 
@@ -17,7 +18,7 @@ use arachne_core::{CORES, SLOTS};
 use arachne_lang::Program;
 use arachne_ledger::Ledgers;
 use arachne_policy::CoreOrder;
-use arachne_sleep::{LockEvent, SleepLocks};
+use arachne_sleep::{LockEvent, LockSeats, SleepLocks};
 use arachne_spill::{CAPACITY, SpillPass, SpillQueue};
 use std::alloc::{AllocError, Global};
 use std::marker::PhantomData;
@@ -153,9 +154,10 @@ impl<C: Seats + Drop, K: Tagged + Drop> Machine<C, K> {
             return Err(WorkerFault::Token);
         }
         let is_all = self.table.is_whole(&tokens.seat) && self.table.out(&tokens.seat) == 0;
-        if !is_all || !tokens.share.is_whole() || !self.locks.are_whole(&tokens.lock_seats) {
+        if !is_all || !tokens.share.is_whole() {
             return Err(WorkerFault::Token);
         }
+        let histories = closed_locks(alloc, self.locks, tokens.lock_seats)?;
         let Ok(rest) = self.table.close(rt, alloc, tokens.seat) else {
             return Err(WorkerFault::Memory);
         };
@@ -165,14 +167,31 @@ impl<C: Seats + Drop, K: Tagged + Drop> Machine<C, K> {
         let Ok(words) = self.ledgers.close(alloc, tokens.share) else {
             return Err(WorkerFault::Memory);
         };
-        let Ok(histories) = self.locks.close(alloc, tokens.lock_seats) else {
-            return Err(WorkerFault::Memory);
-        };
         Ok(Remains {
             words,
             histories,
             applied,
         })
+    }
+}
+
+/// The history of each lock, in their order, if all of their seats are back.
+fn closed_locks(
+    alloc: Global,
+    locks: SleepLocks,
+    seats: LockSeats,
+) -> Result<Vec<Vec<LockEvent>>, WorkerFault>
+    requires { AreSeatsOf locks seats }
+    ensures count { IfOk result (λ histories. length histories.items ≡ length locks) }
+    ensures sound { IfOk result (λ histories. All (λ history. IsSound history.items) histories.items) }
+    ensures one_holder { IfOk result (λ histories. All (λ history. HasOneHolderAtATime history.items) histories.items) }
+{
+    if !locks.are_whole(&seats) {
+        return Err(WorkerFault::Token);
+    }
+    match locks.close(alloc, seats) {
+        Ok(histories) => Ok(histories),
+        Err(_) => Err(WorkerFault::Memory),
     }
 }
 

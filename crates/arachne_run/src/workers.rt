@@ -278,7 +278,8 @@ fn work_on<
         arbiter,
         ..
     } = desk;
-    if is_broken || held.is_some() || kept.count() > 0 {
+    let mut kept = kept;
+    if is_broken || held.is_some() || kept.take().is_some() {
         machine.shared.fail(rt, WorkerFault::Token);
         return None;
     }

@@ -5,7 +5,7 @@ use Rattle.arachne_run.proofs.workers.fn.work_all.scope.Goals as goal
 pub loop-core-preserved : goal.loop-core-preserved
 loop-core-preserved g c =
     let was = c.loop-core.invariant.1 in
-    let kept : c.in-Ok.other.promise.machine.value ≡ c.captures.machine.now = search rules in
+    let kept : c.in-Ok.other.promise.machine.value ≡ c.captures.machine.now = search (c.in-Ok.ensures.ok, c.to.ensures) in
     let all = All-push (λ h. h.promise.machine.value ≡ c.captures.machine.now) _ c.in-Ok.other was kept in
     let b = c.push_reserved.ensures.items in
     let d = c.part_off-rest.ensures.same in
