@@ -26,7 +26,7 @@ wanted_send = search (sendable, std.crosses) depth 30
 pub wanted_sync : IsSync wanted.the_row
 wanted_sync = search (sendable, std.crosses) depth 30
 
-waiting_send : (κ : NamedLft) → IsSend (waiting.the_row κ)
+waiting_send : (κ : NamedLft) → IsSend (waiting.the_field κ).row
 waiting_send κ = search (sendable, std.crosses, thread_field_send, id.the_field_send) depth 30
 
 left_send : (κ : NamedLft) → IsSend (left.the_row κ)
@@ -42,7 +42,7 @@ ticket_send κ = search (sendable, std.crosses, cell.the_send, cell.the_sync, le
 spilled_end_send : (κ : NamedLft) → IsSend (spilled_end.the_row κ)
 spilled_end_send κ = search (sendable, std.crosses, cell.the_send, cell.the_sync, sending_end.the_send, left_send, wanted_send, wanted_sync) depth 30
 
-end_send : (κ : NamedLft) → IsSend (end.the_row κ)
+end_send : (κ : NamedLft) → IsSend (end.the_field κ).row
 end_send κ = search (sendable, std.crosses, sender_send, outcome_send, spilled_end_send) depth 30
 
 awaited_send : (κ : NamedLft) → IsSend (awaited.the_row κ)
