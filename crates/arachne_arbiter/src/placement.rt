@@ -30,7 +30,7 @@ impl<'a, H: Wait, T: Tagged, C: Contexts<T>> Cores<'a, H, T, C> {
     {
         let word = chooser.next_u64();
         // No core has a place for most forks of a large program. These keep nothing of what they look at.
-        if !self.is_any_free(seat) {
+        if !self.is_any_free() {
             return Ok(None);
         }
         let mut occupancies = [OccWord::empty(); CORES as usize];
@@ -61,15 +61,14 @@ impl<'a, H: Wait, T: Tagged, C: Contexts<T>> Cores<'a, H, T, C> {
         Ok(None)
     }
 
-    /// Whether a core has a place for a thread that shares it. The first that has one is the last that is looked at.
-    fn is_any_free(&self, seat: &mut C::Seat) -> bool
-        requires { C.sits self.now.table.now seat.old }
-        ensures seat { C.sits self.now.table.now seat.new }
-        ensures weight { C.weight seat.new ≡ C.weight seat.old }
-        ensures out { KeepsOut (C.has self.now.table.now) seat.old seat.new }
-    {
+    /// Whether a core seems to have a place for a thread that shares it. The first that has one is the last that is looked at, and
+    /// with no seat: the claim decides.
+    pub fn is_any_free(&self) -> bool {
         for core in 0..self.count {
-            if has_place(self.look(seat, core), self.slots) {
+            let seen = OccWord::from_word(self.table.glance(self.rt, core));
+            if let Some(occupancy) = seen
+                && has_place(occupancy, self.slots)
+            {
                 return true;
             }
         }

@@ -15,7 +15,7 @@ use Rattle.arachne_machine.specs.declared.frame.Frame.{Frame}
 use Rattle.arachne_machine.specs.declared.frame.Frame.TheVariants.{Index, Right, Apply, Branch, Extend, Amount, Release, FoldTo, SweepTo}
 use Rattle.arachne_machine.specs.declared.frame.Control.{Control}
 use Rattle.arachne_machine.specs.declared.frame.Control.TheVariants.{Begin, Give, Asks}
-use Rattle.arachne_machine.specs.declared.state.State.{State}
+use Rattle.arachne_machine.specs.Strands.{Strand}
 use Rattle.arachne_machine.specs.Work.{work_of}
 use Rattle.arachne_machine.specs.Trace.{with_steps, trace_of}
 use Rattle.arachne_machine.specs.Trace as event
@@ -30,7 +30,7 @@ use Rattle.arachne_machine.proofs.Accounts.{after-nothing, after-sequence}
 use Rattle.arachne_machine.proofs.Faultlessness.{no_faults-append, unless_none, or_else_none, less}
 use Rattle.arachne_machine.proofs.Frames.{with_steps-add}
 use Rattle.arachne_machine.proofs.Purity.{leaf_pure, leaf_work, pure_effects, pure_trace}
-use Rattle.arachne_machine.proofs.Outlooks.{StepOutlook, Step, steps_by, as_it_is, framed_as, alone}
+use Rattle.arachne_machine.proofs.Outlooks.{StepOutlook, Step, steps_by, as_it_is, framed_as, alone, none_here, none_kept, nothing_first}
 
 -- An expression of this tree comes to the same in so many steps, by these frames and this to do next.
 pub record Opens (steps : ℕ) (source : Source) (name : List ℕ) (tree : Tree) (env : List ℕ) (k' : Control) (gs' : List Frame) : Type 0 where
@@ -52,34 +52,35 @@ opened steps source name expr env k' gs' o = record {
 }
 
 -- so it goes in a thread
-pub begins_by : (steps : ℕ) (old new : State) (expr : Bor Expr) (tree : Tree) (k' : Control) (gs' : List Frame) → old.control ≡ Begin expr → tree_of expr.now ≡ tree →
-    Becomes old new old.environment.items (old.frames.items ++ gs') k' →
+pub begins_by : (steps : ℕ) (old new : Strand) (expr : Bor Expr) (tree : Tree) (k' : Control) (gs' : List Frame) → old.control ≡ Begin expr → tree_of expr.now ≡ tree →
+    Becomes old new old.environment (old.frames ++ gs') k' →
     ((fs : List Frame) → frames_left k' fs ≡ fs) →
     fork_awaited k' ++ forks_of gs' ≡ [] →
-    Opens steps (source_of old.program.now) old.own.name tree old.environment.items k' gs' → Step steps (Begin expr) k' old.frames.items [] gs' old new
+    Opens steps (source_of old.program.now) old.own.name tree old.environment k' gs' → Step steps (Begin expr) k' old.frames [] gs' old new
 begins_by steps old new expr tree k' gs' begins is_tree b left forks o =
     let source = source_of old.program.now in
     let name = old.own.name in
-    let fs = old.frames.items in
-    let env = old.environment.items in
+    let fs = old.frames in
+    let env = old.environment in
     let same = subst (λ t. Opens steps source name t env k' gs') (sym is_tree) o in
     steps_by steps old old new (Begin expr) k' fs [] gs' env env
     (framed_as old old env (fs ++ []) (fs ++ []) old.control (Begin expr) (alone old old env old.control (as_it_is old)) refl begins)
-    b refl (left (fs ++ gs')) forks (opened steps source name expr env k' gs' same)
+    b refl (left (fs ++ gs')) forks (none_here gs' (nothing_first (fork_awaited k') (forks_of gs') forks).1) (λ h. none_kept source name k' gs' env forks)
+    (opened steps source name expr env k' gs' same)
 
-pub goes_to_value : (steps : ℕ) (old new : State) (expr : Bor Expr) (tree : Tree) (v : ℕ) → old.control ≡ Begin expr → tree_of expr.now ≡ tree →
-    Becomes old new old.environment.items old.frames.items (Give v) →
-    Opens steps (source_of old.program.now) old.own.name tree old.environment.items (Give v) [] → AfterSteps steps old None new
+pub goes_to_value : (steps : ℕ) (old new : Strand) (expr : Bor Expr) (tree : Tree) (v : ℕ) → old.control ≡ Begin expr → tree_of expr.now ≡ tree →
+    Becomes old new old.environment old.frames (Give v) →
+    Opens steps (source_of old.program.now) old.own.name tree old.environment (Give v) [] → AfterSteps steps old None new
 goes_to_value steps old new expr tree v begins is_tree b o =
-    let s = begins_by steps old new expr tree (Give v) [] begins is_tree (alone old new old.environment.items (Give v) b) (λ fs. refl) refl o in
+    let s = begins_by steps old new expr tree (Give v) [] begins is_tree (alone old new old.environment (Give v) b) (λ fs. refl) refl o in
     (s.goes, s.pending, s.locks ∙ sym s.old_locks)
 
-pub goes_to_part : (steps : ℕ) (old new : State) (expr part : Bor Expr) (tree : Tree) (f : Frame) → old.control ≡ Begin expr → tree_of expr.now ≡ tree →
-    Becomes old new old.environment.items (old.frames.items ++ f ∷ []) (Begin part) → forks_of (f ∷ []) ≡ [] → releases (f ∷ []) ≡ [] →
-    Opens steps (source_of old.program.now) old.own.name tree old.environment.items (Begin part) (f ∷ []) → AfterSteps steps old None new
+pub goes_to_part : (steps : ℕ) (old new : Strand) (expr part : Bor Expr) (tree : Tree) (f : Frame) → old.control ≡ Begin expr → tree_of expr.now ≡ tree →
+    Becomes old new old.environment (old.frames ++ f ∷ []) (Begin part) → forks_of (f ∷ []) ≡ [] → releases (f ∷ []) ≡ [] →
+    Opens steps (source_of old.program.now) old.own.name tree old.environment (Begin part) (f ∷ []) → AfterSteps steps old None new
 goes_to_part steps old new expr part tree f begins is_tree b forks locks o =
     let s = begins_by steps old new expr tree (Begin part) (f ∷ []) begins is_tree b (λ fs. refl) forks o in
-    (s.goes, s.pending, s.locks ∙ ap (λ l. l ++ releases old.frames.items) locks ∙ sym s.old_locks)
+    (s.goes, s.pending, s.locks ∙ ap (λ l. l ++ releases old.frames) locks ∙ sym s.old_locks)
 
 pub open_number : (source : Source) (name : List ℕ) (env : List ℕ) (n : ℕ) → Opens 0 source name (Number n) env (Give n) []
 open_number source name env n = record { ending = refl; account = λ a. sym (after-nothing name a); work = omega arith; trace = refl; faultless = λ held h. (tt, tt) }
@@ -245,29 +246,29 @@ open_sweep source name env reduction grain from to body =
     }
 
 -- An operation is begun with its left side, which is a leaf, and with both.
-pub begins_right : (old new : State) (expr first second : Bor Expr) (operation : Operation) (x : ℕ) → old.control ≡ Begin expr →
+pub begins_right : (old new : Strand) (expr first second : Bor Expr) (operation : Operation) (x : ℕ) → old.control ≡ Begin expr →
     tree_of expr.now ≡ Binary operation (tree_of first.now) (tree_of second.now) → IsLeaf (tree_of first.now) →
-    x ≡ value_of (source_of old.program.now).arrays (tree_of first.now) old.environment.items →
-    Becomes old new old.environment.items (old.frames.items ++ Apply operation x ∷ []) (Begin second) → AfterSteps 2 old None new
+    x ≡ value_of (source_of old.program.now).arrays (tree_of first.now) old.environment →
+    Becomes old new old.environment (old.frames ++ Apply operation x ∷ []) (Begin second) → AfterSteps 2 old None new
 begins_right old new expr first second operation x begins is_tree leaf is b =
     let source = source_of old.program.now in
-    let env = old.environment.items in
-    let fs = old.frames.items in
+    let env = old.environment in
+    let fs = old.frames in
     let v = value_of source.arrays (tree_of first.now) env in
     goes_to_part 2 old new expr second (Binary operation (tree_of first.now) (tree_of second.now)) (Apply operation v) begins is_tree
     (framed_as old new env (fs ++ Apply operation x ∷ []) (fs ++ Apply operation v ∷ []) (Begin second) (Begin second) b (ap (λ n. fs ++ Apply operation n ∷ []) is) refl) refl refl
     (open_right source old.own.name env operation first second leaf)
 
-pub begins_both : (old new : State) (expr first second : Bor Expr) (operation : Operation) (x y v : ℕ) → old.control ≡ Begin expr →
+pub begins_both : (old new : Strand) (expr first second : Bor Expr) (operation : Operation) (x y v : ℕ) → old.control ≡ Begin expr →
     tree_of expr.now ≡ Binary operation (tree_of first.now) (tree_of second.now) → IsLeaf (tree_of first.now) → IsLeaf (tree_of second.now) →
-    x ≡ value_of (source_of old.program.now).arrays (tree_of first.now) old.environment.items →
-    y ≡ value_of (source_of old.program.now).arrays (tree_of second.now) old.environment.items → v ≡ apply operation x y →
-    Becomes old new old.environment.items old.frames.items (Give v) → AfterSteps 2 old None new
+    x ≡ value_of (source_of old.program.now).arrays (tree_of first.now) old.environment →
+    y ≡ value_of (source_of old.program.now).arrays (tree_of second.now) old.environment → v ≡ apply operation x y →
+    Becomes old new old.environment old.frames (Give v) → AfterSteps 2 old None new
 begins_both old new expr first second operation x y v begins is_tree one two is also made b =
     let source = source_of old.program.now in
     let A = source.arrays in
-    let env = old.environment.items in
-    let fs = old.frames.items in
+    let env = old.environment in
+    let fs = old.frames in
     let a = tree_of first.now in
     let c = tree_of second.now in
     let whole : v ≡ value_of A (Binary operation a c) env = made ∙ ap (λ n. apply operation n y) is ∙ ap (λ n. apply operation (value_of A a env) n) also in

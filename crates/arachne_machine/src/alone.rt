@@ -8,6 +8,7 @@ ghost use Rattle.arachne_machine.specs.Alone.{Rests, key, turns_left};
 use crate::line::ThreadLine;
 use crate::outcome::Outcome;
 use crate::pause::{NotJoined, Pause};
+use crate::placing::Everywhere;
 use crate::spares::Spares;
 use crate::thread::Thread;
 use arachne_lang::{Line, Meaning, Program, Sequence};
@@ -45,7 +46,7 @@ fn take_turn<'p>(
     ensures falls { OnOk result (sum_by turns_left threads.new.items < sum_by turns_left threads.old.items + turns_left thread.entry) }
 {
     let mut left = budget;
-    match thread.advance_within(&mut left, spares)? {
+    match thread.advance_within(&mut left, spares, &mut Everywhere)? {
         Pause::Budget => threads.push(thread)?,
         Pause::Forks(_, child) => {
             thread.forked();

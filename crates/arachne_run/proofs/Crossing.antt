@@ -1,12 +1,23 @@
 -- Which of a run's values may cross threads.
+use denote.Enum.Declared as enum
+use denote.Enum.Enum.{Enum}
 use denote.Ref.{NamedLft}
-use denote.Param.Send.{IsSend, IsSync, sendable}
+use denote.Param.Send.{IsSend, IsSync, sendable, recorded_send, enum_send}
 use Rattle.std.proofs.Crossing as std
 use Rattle.arachne_core.proofs.thread_id.ThreadId.TheSendSync as id
 use Rattle.arachne_join.proofs.Crossing.{sender_send, receiver_send, unused_send}
 use Rattle.arachne_machine.proofs.Crossing.{thread_field_send, outcome_send, spares_field_send}
+use Rattle.arachne_join.proofs.cell.JoinCell.TheSendSync as cell
+use Rattle.arachne_join.proofs.sending_end.SendingEnd.TheSendSync as sending_end
+use Rattle.arachne_run.specs.contracts.ends.Awaited as awaited
+use Rattle.arachne_run.specs.contracts.ends.End as end
 use Rattle.arachne_run.specs.contracts.job.Job as job
+use Rattle.arachne_run.specs.contracts.left.Left as left
+use Rattle.arachne_run.specs.contracts.left.Waiting as waiting
 use Rattle.arachne_run.specs.contracts.spares.Spares as spares
+use Rattle.arachne_run.specs.contracts.waiting.SpilledEnd as spilled_end
+use Rattle.arachne_run.specs.contracts.waiting.Ticket as ticket
+use Rattle.arachne_run.specs.contracts.waiting.WaitCell as wait_cell
 use Rattle.arachne_run.specs.contracts.wanted.Wanted as wanted
 
 pub wanted_send : IsSend wanted.the_row
@@ -15,8 +26,30 @@ wanted_send = search (sendable, std.crosses) depth 30
 pub wanted_sync : IsSync wanted.the_row
 wanted_sync = search (sendable, std.crosses) depth 30
 
+waiting_send : (κ : NamedLft) → IsSend (waiting.the_field κ).row
+waiting_send κ = search (sendable, std.crosses, thread_field_send, id.the_field_send) depth 30
+
+left_send : (κ : NamedLft) → IsSend (left.the_row κ)
+left_send κ = recorded_send (Enum (enum.shape (left.the_type κ))) ((left.the_type κ).D) ((left.the_type κ).to) ((left.the_type κ).to_one)
+    (enum_send (enum.shape (left.the_type κ)) ((search (sendable, std.crosses, waiting_send) depth 20, tt), ((search (sendable, std.crosses, outcome_send) depth 20, tt), tt)))
+
+wait_cell_send : (κ : NamedLft) → IsSend (wait_cell.the_row κ)
+wait_cell_send κ = search (sendable, std.crosses, cell.the_send, cell.the_sync, left_send, wanted_send, wanted_sync) depth 30
+
+pub ticket_send : (κ : NamedLft) → IsSend (ticket.the_row κ)
+ticket_send κ = search (sendable, std.crosses, cell.the_send, cell.the_sync, left_send, wanted_send, wanted_sync) depth 30
+
+spilled_end_send : (κ : NamedLft) → IsSend (spilled_end.the_row κ)
+spilled_end_send κ = search (sendable, std.crosses, cell.the_send, cell.the_sync, sending_end.the_send, left_send, wanted_send, wanted_sync) depth 30
+
+end_send : (κ : NamedLft) → IsSend (end.the_field κ).row
+end_send κ = search (sendable, std.crosses, sender_send, outcome_send, spilled_end_send) depth 30
+
+awaited_send : (κ : NamedLft) → IsSend (awaited.the_row κ)
+awaited_send κ = search (sendable, std.crosses, receiver_send, outcome_send, wait_cell_send) depth 30
+
 pub job_send : (κ : NamedLft) → IsSend (job.the_row κ)
-job_send κ = search (sendable, std.crosses, thread_field_send, sender_send, receiver_send, outcome_send, id.the_field_send) depth 30
+job_send κ = search (sendable, std.crosses, thread_field_send, end_send, awaited_send, id.the_field_send) depth 30
 
 pub spares_send : (κ : NamedLft) → IsSend (spares.the_row κ)
-spares_send κ = search (sendable, std.crosses, spares_field_send, unused_send, receiver_send, outcome_send) depth 30
+spares_send κ = search (sendable, std.crosses, spares_field_send, unused_send, awaited_send, outcome_send) depth 30

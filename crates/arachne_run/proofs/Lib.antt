@@ -1,3 +1,4 @@
 pub mod Crossing
 pub mod Granting
 pub mod Marking
+mod Awaiting

@@ -1,5 +1,6 @@
 pub mod Threads
 pub mod Cells
+pub mod Ends
 pub mod Slices
 pub mod Reports
 pub mod Setups

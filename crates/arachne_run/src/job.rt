@@ -1,19 +1,26 @@
 //! What a context holds in a run: a thread of the program.
-ghost use Rattle.std.specs.Prelude.{◌≡◌, ◌≤◌, false, true, [], All, IfOk, IfSome, None, Some};
+ghost use Rattle.std.specs.Prelude.{◌≡◌, ◌≤◌, false, true, [], IfErr, IfOk, OnOk, None, Some};
 ghost use Rattle.arachne_lang.specs.Program.{source_of};
 ghost use Rattle.arachne_lang.specs.Checked.{IsChecked};
-ghost use Rattle.arachne_run.specs.Threads.{IsForking, IsGoing, IsAwaiting, pause_of, program_of, running_tag_of, tag_of};
-ghost use Rattle.arachne_run.specs.Cells.{IsOf, IsFor};
+ghost use Rattle.arachne_machine.specs.Nested.{IsPlacing, MayBePlaced};
+ghost use Rattle.arachne_machine.specs.Suspended.{awaited};
+ghost use Rattle.arachne_machine.specs.declared.pause.Pending.TheVariants as pause;
+ghost use Rattle.arachne_run.specs.Threads.{IsForking, IsGoing, IsAwaiting, name_of, pause_of, program_of, running_tag_of, tag_of};
+ghost use Rattle.arachne_run.specs.Cells.{IsFoundFor, IsFoundOf, IsOf, IsFor};
+ghost use Rattle.arachne_run.specs.Ends.{awaited_at};
 ghost use Rattle.arachne_run.specs.Slices.{IsLeft, UsesSteps};
 
+use crate::ends::{Awaited, End};
 use crate::fault::WorkerFault;
+use crate::left::{Found, Waiting};
 use crate::slice::{JobOf, RunJob, Slice};
 use crate::spares::Spares;
-use crate::wanted::{OutcomeReceiver, OutcomeSender, Wanted};
+use crate::waiting::{Ticket, WaitCell};
+use crate::wanted::{OutcomeReceiver, Wanted};
 use arachne_contexts::Tagged;
-use arachne_core::ThreadId;
+use arachne_core::{Rest, ThreadId};
 use arachne_lang::Program;
-use arachne_machine::{NotJoined, NotPlaced, Outcome, Pause, Pending, Thread};
+use arachne_machine::{NotJoined, NotPlaced, Outcome, Pause, Pending, Placing, Thread};
 use std::alloc::{AllocError, Global};
 use std::marker::Model;
 use std::snapshot::Snapshot;
@@ -25,15 +32,16 @@ use std::snapshot::Snapshot;
 #[derive(Drop)]
 pub struct Job<'p> {
     thread: Thread<'p>,
-    end: OutcomeSender<'p>,
-    awaited: Vec<OutcomeReceiver<'p>>,
+    end: End<'p>,
+    awaited: Vec<Awaited<'p>>,
     parent: Option<ThreadId>,
 }
 
 impl<'p> Model for Job<'p> {
-    ghost use Rattle.std.specs.Prelude.{◌≡◌, All};
+    ghost use Rattle.std.specs.Prelude.{All};
     ghost use Rattle.arachne_run.specs.Threads.{Posted, program_of};
     ghost use Rattle.arachne_run.specs.Cells.{IsOf, IsFor};
+    ghost use Rattle.arachne_run.specs.Ends.{awaited_at, left_at};
 
     ghost Value = { Posted };
 
@@ -44,7 +52,7 @@ impl<'p> Model for Job<'p> {
 
     ghost view = { λ j. record { thread = j.thread; parent = j.parent } };
 
-    ghost invariant = { λ j. IsFor j.thread j.end.key × All (λ receiver. IsOf (program_of j.thread) receiver.opening.key) j.awaited.items };
+    ghost invariant = { λ j. IsFor j.thread (left_at j.end) × All (λ awaited. IsOf (program_of j.thread) (awaited_at awaited)) j.awaited.items };
 }
 
 impl<'p> Tagged for Job<'p> {
@@ -57,6 +65,8 @@ impl<'p> Tagged for Job<'p> {
 
 impl<'p> RunJob for Job<'p> {
     type Child = Thread<'p>;
+
+    type Ticket = Ticket<'p>;
 
     type Spares = Spares<'p>;
 
@@ -76,10 +86,19 @@ impl<'p> RunJob for Job<'p> {
         self.thread.running_tag()
     }
 
-    fn slice(
+    fn rest(&self) -> Option<Rest> {
+        match self.thread.pending() {
+            None => Some(Rest::Ready),
+            Some(Pending::Joins | Pending::Asks(_)) => Some(Rest::Blocked),
+            _ => None,
+        }
+    }
+
+    fn slice<P: Placing>(
         &mut self,
         left: &mut u32,
         spares: &mut Spares<'p>,
+        places: &mut P,
     ) -> Result<Slice<Thread<'p>>, WorkerFault> {
         match self.thread.pending() {
             None => {}
@@ -91,7 +110,7 @@ impl<'p> RunJob for Job<'p> {
             Some(Pending::Asks(lock)) => return Ok(Slice::Awaits(lock)),
             _ => return Err(WorkerFault::Foreign),
         }
-        self.advance(left, spares)
+        self.advance(left, spares, places)
     }
 
     fn fork_off(
@@ -105,40 +124,81 @@ impl<'p> RunJob for Job<'p> {
         let mut child = child;
         child.set_tag(tag);
         let (job, receiver) = Job::of(alloc, child, Some(me), spares)?;
-        self.expect(receiver)?;
+        self.expect(Awaited::Block(receiver))?;
         self.thread.forked();
         Ok(job)
     }
 
-    fn fork_in_place(&mut self, child: Thread<'p>, tag: u64) -> Result<(), WorkerFault> {
+    fn put_aside(
+        &mut self,
+        alloc: Global,
+        me: ThreadId,
+        child: Thread<'p>,
+        tag: u64,
+        waits: bool,
+    ) -> Result<Option<Ticket<'p>>, WorkerFault> {
         let mut child = child;
         child.set_tag(tag);
-        match self.thread.in_place(child) {
-            Ok(()) => Ok(()),
-            Err(NotPlaced::Memory(_)) => Err(WorkerFault::Memory),
-            Err(NotPlaced::Foreign(_)) => Err(WorkerFault::Foreign),
+        if !waits {
+            self.place(child)?;
+            return Ok(None);
+        }
+        match WaitCell::wait(alloc, child, me) {
+            Ok((cell, ticket)) => {
+                self.expect(Awaited::Own(cell))?;
+                self.thread.forked();
+                Ok(Some(ticket))
+            }
+            Err(child) => {
+                self.place(child)?;
+                Ok(None)
+            }
         }
     }
 
-    fn answer(&mut self) {
+    fn still_waits(ticket: &Ticket<'p>) -> bool {
+        ticket.still_waits()
+    }
+
+    fn of_ticket(alloc: Global, ticket: Ticket<'p>, spares: &mut Spares<'p>) -> Option<Job<'p>> {
+        let (waiting, end) = ticket.take()?;
+        let Waiting { mut thread, parent } = waiting;
+        thread.set_spilled();
+        Some(Job {
+            thread,
+            end: End::Own(end),
+            awaited: spares.take_awaited(alloc),
+            parent: Some(parent),
+        })
+    }
+
+    fn answer(&mut self) -> Result<(), WorkerFault> {
         match self.thread.pending() {
             Some(Pending::Asks(_)) => self.thread.granted(),
             Some(Pending::Frees(_)) => self.thread.freed(),
             Some(Pending::Tallies(_, _)) => self.thread.tallied(),
-            _ => unreachable!(),
+            _ => return Err(WorkerFault::Foreign),
         }
+        Ok(())
     }
 
-    fn leave(self, spares: &mut Spares<'p>) -> Option<ThreadId> {
+    fn leave(self, spares: &mut Spares<'p>) -> Result<Option<ThreadId>, WorkerFault> {
         let Job {
             thread,
             end,
             awaited,
             parent,
         } = self;
+        if thread.pending() != Some(Pending::Ended) {
+            return Err(WorkerFault::Foreign);
+        }
         spares.keep_awaited(awaited);
-        end.leave(thread.finish_into(&mut spares.threads));
-        parent
+        let outcome = thread.finish_into(&mut spares.threads);
+        match end {
+            End::Block(end) => end.leave(outcome),
+            End::Own(end) => end.leave(outcome),
+        }
+        Ok(parent)
     }
 }
 
@@ -171,7 +231,7 @@ impl<'p> Job<'p> {
         let (receiver, end) = spares.cells.open(alloc, &wanted)?;
         let job = Job {
             thread,
-            end,
+            end: End::Block(end),
             awaited: spares.take_awaited(alloc),
             parent,
         };
@@ -179,10 +239,11 @@ impl<'p> Job<'p> {
     }
 
     /// Goes on for at most as many steps as are left.
-    fn advance(
+    fn advance<P: Placing>(
         &mut self,
         left: &mut u32,
         spares: &mut Spares<'p>,
+        places: &mut P,
     ) -> Result<Slice<Thread<'p>>, WorkerFault>
         requires some { 1 ≤ left.old }
         requires going { IsGoing self.old.thread }
@@ -191,7 +252,10 @@ impl<'p> Job<'p> {
         ensures left { IfOk result (λ slice. IsLeft (λ j child. IsForking j.thread child) (λ j. pause_of j.thread) slice self.new) }
         ensures steps { IfOk result (λ slice. UsesSteps slice left.old left.new) }
     {
-        match self.thread.advance_within(left, &mut spares.threads)? {
+        match self
+            .thread
+            .advance_within(left, &mut spares.threads, places)?
+        {
             Pause::Budget => Ok(Slice::Goes),
             Pause::Forks(class, child) => Ok(Slice::Forks(class, child)),
             Pause::Joins => {
@@ -208,18 +272,34 @@ impl<'p> Job<'p> {
         }
     }
 
+    /// The child runs in this thread's place once it is awaited, or at once where it is.
+    fn place(&mut self, child: Thread<'p>) -> Result<(), WorkerFault>
+        requires pending { IsPlacing (pause_of self.old.thread) }
+        requires child { MayBePlaced self.old.thread child }
+        requires forked { pause_of self.old.thread ≡ Some pause.Forks → awaited self.old.thread.running ≡ Some (name_of child) }
+        ensures tag { tag_of self.new.thread ≡ tag_of self.old.thread }
+        ensures parent { self.new.parent ≡ self.old.parent }
+        ensures answered { OnOk result (pause_of self.new.thread ≡ None) }
+    {
+        match self.thread.in_place(child) {
+            Ok(()) => Ok(()),
+            Err(NotPlaced::Memory(_)) => Err(WorkerFault::Memory),
+            Err(NotPlaced::Foreign(_)) => Err(WorkerFault::Foreign),
+        }
+    }
+
     /// Expects the outcome of a child.
-    fn expect(&mut self, receiver: OutcomeReceiver<'p>) -> Result<(), WorkerFault>
-        requires { IsOf (program_of self.old.thread) receiver.opening.key }
+    fn expect(&mut self, awaited: Awaited<'p>) -> Result<(), WorkerFault>
+        requires { IsOf (program_of self.old.thread) (awaited_at awaited) }
         ensures { self.new ≡ self.old }
     {
-        match self.awaited.push(receiver) {
+        match self.awaited.push(awaited) {
             Ok(()) => Ok(()),
             Err(_) => Err(WorkerFault::Memory),
         }
     }
 
-    /// Joins the child that it awaits, if that has ended.
+    /// Joins the child that it awaits, if that has ended, and runs it in place, if it waits still. Whether it goes on.
     fn join(&mut self, spares: &mut Spares<'p>) -> Result<bool, WorkerFault>
         requires { IsAwaiting self.old.thread }
         ensures tag { tag_of self.new.thread ≡ tag_of self.old.thread }
@@ -227,33 +307,54 @@ impl<'p> Job<'p> {
         ensures joined { IfOk result (λ joined. joined ≡ true → IsGoing self.new.thread) }
         ensures awaits { IfOk result (λ joined. joined ≡ false → IsAwaiting self.new.thread) }
     {
-        let Some(outcome) = self.fetch(spares)? else {
-            return Ok(false);
-        };
-        match self.thread.joined(outcome) {
-            Ok(()) => Ok(true),
-            Err(NotJoined::Memory(_)) => Err(WorkerFault::Memory),
-            Err(NotJoined::Foreign(_)) => Err(WorkerFault::Foreign),
+        match self.find(spares)? {
+            Found::Outcome(outcome) => match self.thread.joined(outcome) {
+                Ok(()) => Ok(true),
+                Err(NotJoined::Memory(_)) => Err(WorkerFault::Memory),
+                Err(NotJoined::Foreign(_)) => Err(WorkerFault::Foreign),
+            },
+            Found::Child(child) => {
+                self.place(child)?;
+                Ok(true)
+            }
+            Found::Nothing => Ok(false),
         }
     }
 
-    /// The outcome of the child that it awaits, if that has ended.
-    fn fetch(&mut self, spares: &mut Spares<'p>) -> Result<Option<Outcome<'p>>, WorkerFault>
+    /// What is in the cell of the child that it awaits. Where that is something, the cell is used up.
+    fn find(&mut self, spares: &mut Spares<'p>) -> Result<Found<'p>, WorkerFault>
         ensures same { self.new ≡ self.old }
-        ensures program { IfOk result (λ found. IfSome found (λ outcome. source_of outcome.program ≡ source_of (program_of self.old.thread))) }
+        ensures found { IfOk result (IsFoundOf (program_of self.old.thread)) }
     {
-        let Some(receiver) = self.awaited.pop() else {
+        let Some(awaited) = self.awaited.pop() else {
             return Err(WorkerFault::Foreign);
         };
-        match receiver.fetch() {
-            Ok((outcome, cell)) => {
-                spares.cells.give(cell);
-                Ok(Some(outcome))
-            }
-            Err(receiver) => {
-                self.awaited.push_reserved(receiver);
-                Ok(None)
+        match look_at(awaited, spares) {
+            Ok(found) => Ok(found),
+            Err(awaited) => {
+                self.awaited.push_reserved(awaited);
+                Ok(Found::Nothing)
             }
         }
+    }
+}
+
+/// What is in a cell, which is used up then. Where there is nothing the end comes back.
+fn look_at<'p>(awaited: Awaited<'p>, spares: &mut Spares<'p>) -> Result<Found<'p>, Awaited<'p>>
+    ensures found { IfOk result (λ found. IsFoundFor (awaited_at awaited.entry) found) }
+    ensures same { IfErr result (λ back. awaited_at back ≡ awaited_at awaited.entry) }
+{
+    match awaited {
+        Awaited::Block(receiver) => match receiver.fetch() {
+            Ok((outcome, cell)) => {
+                spares.cells.give(cell);
+                Ok(Found::Outcome(outcome))
+            }
+            Err(receiver) => Err(Awaited::Block(receiver)),
+        },
+        Awaited::Own(cell) => match cell.find() {
+            Found::Nothing => Err(Awaited::Own(cell)),
+            found => Ok(found),
+        },
     }
 }

@@ -12,13 +12,13 @@ ghost use Rattle.arachne_run.specs.Reports.{histories_in, meaning_in, tags_of};
 ghost use Rattle.arachne_run.specs.Setups.{IsFirstOrderFault, IsSetupFault, is_of_setup, refusal_of};
 ghost use Rattle.arachne_run.specs.declared.fault.RunFault.{RunFault};
 
-use crate::crew::work_all;
 use crate::fault::RunFault;
 use crate::gate::Gate;
 use crate::machine::Machine;
 use crate::report::Report;
 use crate::setup::Setup;
 use crate::slice::JobOf;
+use crate::workers::work_all;
 use arachne_contexts::Contexts;
 use arachne_lang::Program;
 use rand_core::Rng;
@@ -62,7 +62,7 @@ pub fn run<
     let mut choosers = choosers;
     choosers.reverse();
     let (root, receiver) = T::begin(alloc, program, &mut T::spares(alloc))?;
-    let (machine, tokens) = Machine::<C>::new(
+    let (machine, tokens) = Machine::<C, T::Ticket>::new(
         alloc,
         setup.cores as u8,
         setup.slots as u8,
@@ -70,7 +70,9 @@ pub fn run<
         setup.orders,
         program,
     )?;
-    let tokens = work_all::<H, T, C, R, G>(rt, alloc, &machine, gate, root, choosers, tokens);
+    let tokens = work_all::<H, T, T::Ticket, C, R, G>(
+        rt, alloc, &machine, gate, root, choosers, tokens,
+    );
     let remains = machine.close::<H, T>(rt, alloc, tokens)?;
     let Ok((outcome, _)) = receiver.fetch() else {
         return Err(RunFault::Foreign);

@@ -1,24 +1,24 @@
-//! What a worker does with a job: it runs a slice, and answers what the slice asks for.
-ghost use Rattle.std.specs.Prelude.{◌≡◌, ◌≤◌, [], IfOk, OnOk};
+//! What a worker does with a job: it runs a part of a slice, and answers what that asks for.
+ghost use Rattle.std.specs.Prelude.{◌≡◌, ◌≤◌, [], IfOk, IfSome, OnOk};
 ghost use Rattle.arachne_lang.specs.Program.{source_of};
 ghost use Rattle.arachne_lang.specs.Checked.{IsChecked};
 ghost use Rattle.std.specs.Prelude.{ℕ, Option, None, Some};
 ghost use Rattle.arachne_core.specs.declared.thread_id.ThreadId.{ThreadId};
 ghost use Rattle.arachne_machine.specs.declared.pause.Pending.{Pending};
-ghost use Rattle.arachne_machine.specs.declared.pause.Pending.TheVariants as pause;
-ghost use Rattle.arachne_run.specs.Slices.{IsLeft, IsRequest, UsesSteps};
+ghost use Rattle.arachne_run.specs.Slices.{IsLeft, MayRest, UsesSteps};
 
 use crate::fault::WorkerFault;
 use crate::wanted::OutcomeReceiver;
 use arachne_contexts::Tagged;
-use arachne_core::ThreadId;
+use arachne_core::{Rest, ThreadId};
 use arachne_lang::{Class, Program};
+use arachne_machine::Placing;
 use std::alloc::{AllocError, Global};
 
-/// Where a slice stops.
+/// Where a job stops.
 #[derive(Drop)]
 pub enum Slice<Child> {
-    /// The job goes on.
+    /// It goes on.
     Goes,
     /// It forks this child, and goes on once it is answered.
     Forks(Class, Child),
@@ -40,6 +40,9 @@ pub enum Slice<Child> {
 pub trait RunJob: Tagged + Drop {
     /// A thread that was forked and has no place yet.
     type Child: Drop + Send;
+
+    /// What stands for a child that waits for a place.
+    type Ticket: Tagged + Drop + Send;
 
     /// What a worker keeps of ended threads for those that begin.
     type Spares: Drop + Send;
@@ -63,11 +66,17 @@ pub trait RunJob: Tagged + Drop {
     fn running_tag(&self) -> u64
         ensures { result ≡ running_tag_of self.now };
 
-    /// Goes on for at most as many steps as are left, of which fewer are left then. A thread that waits makes none.
-    fn slice(
+    /// How it rests: ready where its pause was answered, blocked where it waits. None where it can't rest.
+    fn rest(&self) -> Option<Rest>
+        ensures { IfSome result (λ rest. MayRest rest (pause_of self.now)) };
+
+    /// Goes on for at most as many steps as are left, of which fewer are left then. A thread that waits makes none. A child
+    /// for which there is no place runs in this job's.
+    fn slice<P: Placing>(
         &mut self,
         left: &mut u32,
         spares: &mut Self::Spares,
+        places: &mut P,
     ) -> Result<Slice<Self::Child>, WorkerFault>
         requires { 1 ≤ left.old }
         ensures tag { Self.tag_of self.new ≡ Self.tag_of self.old }
@@ -91,24 +100,37 @@ pub trait RunJob: Tagged + Drop {
         ensures childs_parent { IfOk result (λ job. parent_of job ≡ Some me) }
         ensures answered { OnOk result (pause_of self.new ≡ None) };
 
-    /// The child will run in this job's place, once it is awaited.
-    fn fork_in_place(&mut self, child: Self::Child, tag: u64) -> Result<(), WorkerFault>
+    /// The child waits with this tag for a place, or until this job, which runs under this id, awaits it. The ticket for it;
+    /// none where it is not to wait or memory is refused, and the child runs in this job's place.
+    fn put_aside(
+        &mut self,
+        alloc: Global,
+        me: ThreadId,
+        child: Self::Child,
+        tag: u64,
+        waits: bool,
+    ) -> Result<Option<Self::Ticket>, WorkerFault>
         requires { forks self.old child }
+        ensures tag { Self.tag_of self.new ≡ Self.tag_of self.old }
+        ensures parent { parent_of self.new ≡ parent_of self.old }
+        ensures answered { OnOk result (pause_of self.new ≡ None) }
+        ensures ticket { IfOk result (λ made. IfSome made (λ ticket. Self.Ticket.tag_of ticket ≡ tag)) };
+
+    /// Whether a ticket's child waits still. Nothing is taken.
+    fn still_waits(ticket: &Self::Ticket) -> bool;
+
+    /// The job of a ticket's child, if that waits still.
+    fn of_ticket(alloc: Global, ticket: Self::Ticket, spares: &mut Self::Spares) -> Option<Self>;
+
+    /// What it asks for is done: it holds the lock that it asked for, the lock is free, or the amount was added.
+    fn answer(&mut self) -> Result<(), WorkerFault>
         ensures tag { Self.tag_of self.new ≡ Self.tag_of self.old }
         ensures parent { parent_of self.new ≡ parent_of self.old }
         ensures answered { OnOk result (pause_of self.new ≡ None) };
 
-    /// What it asks for is done: it holds the lock that it asked for, the lock is free, or the amount was added.
-    fn answer(&mut self)
-        requires { IsRequest (pause_of self.old) }
-        ensures tag { Self.tag_of self.new ≡ Self.tag_of self.old }
-        ensures parent { parent_of self.new ≡ parent_of self.old }
-        ensures answered { pause_of self.new ≡ None };
-
     /// Leaves the outcome for its parent, which is to be woken; the root has none.
-    fn leave(self, spares: &mut Self::Spares) -> Option<ThreadId>
-        requires { pause_of self ≡ Some pause.Ended }
-        ensures { result ≡ parent_of self };
+    fn leave(self, spares: &mut Self::Spares) -> Result<Option<ThreadId>, WorkerFault>
+        ensures { IfOk result (λ parent. parent ≡ parent_of self) };
 }
 
 /// The jobs of a program's threads.

@@ -1,7 +1,8 @@
 //! What a worker keeps of ended threads for those that begin.
 ghost use Rattle.std.specs.Prelude.{◌≡◌, []};
 
-use crate::wanted::{OutcomeReceiver, Wanted};
+use crate::ends::Awaited;
+use crate::wanted::Wanted;
 use arachne_join::SpareCells;
 use arachne_machine::{Outcome, Spares as SpareThreads};
 use std::alloc::Global;
@@ -15,7 +16,7 @@ const MOST_LISTS: usize = 64;
 pub struct Spares<'p> {
     pub(crate) threads: SpareThreads<'p>,
     pub(crate) cells: SpareCells<Outcome<'p>, Wanted>,
-    awaited: Vec<Vec<OutcomeReceiver<'p>>>,
+    awaited: Vec<Vec<Awaited<'p>>>,
 }
 
 impl<'p> Spares<'p> {
@@ -29,7 +30,7 @@ impl<'p> Spares<'p> {
     }
 
     /// A list for the receivers that a thread awaits, which is empty.
-    pub(crate) fn take_awaited(&mut self, alloc: Global) -> Vec<OutcomeReceiver<'p>>
+    pub(crate) fn take_awaited(&mut self, alloc: Global) -> Vec<Awaited<'p>>
         ensures { result.items ≡ [] }
     {
         match self.awaited.pop() {
@@ -39,7 +40,7 @@ impl<'p> Spares<'p> {
     }
 
     /// Keeps the list of a thread that has ended, if it has room and there are not too many.
-    pub(crate) fn keep_awaited(&mut self, list: Vec<OutcomeReceiver<'p>>) {
+    pub(crate) fn keep_awaited(&mut self, list: Vec<Awaited<'p>>) {
         if list.capacity() > 0 && self.awaited.len() < MOST_LISTS {
             let _ = self.awaited.push(emptied(list));
         }
@@ -47,7 +48,7 @@ impl<'p> Spares<'p> {
 }
 
 /// The list with nothing in it.
-fn emptied<'p>(list: Vec<OutcomeReceiver<'p>>) -> Vec<OutcomeReceiver<'p>>
+fn emptied<'p>(list: Vec<Awaited<'p>>) -> Vec<Awaited<'p>>
     ensures { result.items ≡ [] }
 {
     let mut list = list;

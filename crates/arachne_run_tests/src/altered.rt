@@ -24,11 +24,13 @@ enum Alteration {
     RefusesMemory,
     /// A claim on another core than 0 finds it full.
     IsFull,
+    /// Each seat has something out.
+    HasOut,
 }
 
 /// A table behind a lock that hands on all calls, or all but one. A run makes its table itself, so the number of cores says
 /// which: of 5 cores it hands back each thread that is to be finished, of 6 it refuses memory to a claim on a core that is in
-/// use, of 7 all cores but 0 are full, and of any other number it answers nothing by itself.
+/// use, of 7 all cores but 0 are full, of 8 each seat has something out, and of any other number it answers nothing by itself.
 #[derive(Drop)]
 pub struct Altered<T: Tagged> {
     inner: LockedContexts<T>,
@@ -59,6 +61,7 @@ impl<T: Tagged + Drop> Seats for Altered<T> {
             5 => Alteration::HandsBack,
             6 => Alteration::RefusesMemory,
             7 => Alteration::IsFull,
+            8 => Alteration::HasOut,
             _ => Alteration::None,
         };
         Ok((Altered { inner, alteration }, seat))
@@ -77,7 +80,10 @@ impl<T: Tagged + Drop> Seats for Altered<T> {
     }
 
     fn out(&self, seat: &LockedSeat) -> u32 {
-        self.inner.out(seat)
+        match self.alteration {
+            Alteration::HasOut => 1,
+            _ => self.inner.out(seat),
+        }
     }
 }
 
@@ -87,6 +93,10 @@ impl<T: Tagged + Drop> Contexts<T> for Altered<T> {
     type Hold = LockedHold;
 
     ghost has = { λ table seat outs. CountsOut seat outs };
+
+    fn glance<R: Wait>(&self, rt: &R, core: u8) -> u64 {
+        self.inner.glance(rt, core)
+    }
 
     fn look<R: Wait>(&self, rt: &R, seat: &mut LockedSeat, core: u8) -> u64 {
         self.inner.look(rt, seat, core)

@@ -7,9 +7,6 @@ use std::thread::yield_now;
 /// How often a gate looks whether the other core has come before it gives up.
 const POLLS: u32 = 100_000_000;
 
-/// The slice of core 0 that core 1 waits for, and that waits for core 1.
-const MEETING: u64 = 500;
-
 /// What a gate does.
 #[derive(Clone, Copy)]
 pub enum Watching {
@@ -17,8 +14,10 @@ pub enum Watching {
     Nothing,
     /// It notes which cores have entered a slice, and how many slices were entered.
     Cores,
-    /// It holds core 1's slice 0 until core 0 has entered slice 500, and that until core 1 has entered slice 0.
-    Meeting,
+    /// It holds core 1's slice 0 until core 0 has entered this slice, and that until core 1 has entered slice 0.
+    Meeting(u64),
+    /// It holds core 1's slice 0 until core 0 has entered this slice. No order may be applied before.
+    Holding(u64),
     /// It holds core 1's slice 0 until core 0 has entered so many slices.
     Lead(u64),
 }
@@ -51,7 +50,8 @@ impl Watch {
     /// Whether all came that a core was held up for, and no core has given up.
     pub fn is_over(&self) -> bool {
         let (zero, one) = match self.watching {
-            Watching::Meeting => (1, 1),
+            Watching::Meeting(_) => (1, 1),
+            Watching::Holding(_) => (1, 1),
             Watching::Lead(wanted) => (wanted, 0),
             _ => (0, 0),
         };
@@ -85,11 +85,14 @@ impl Gate for Watch {
     fn slice(&self, core: u8, nth: u64) {
         match (self.watching, core, nth) {
             (Watching::Cores, _, _) => self.note(core),
-            (Watching::Meeting, 0, MEETING) => {
+            (Watching::Meeting(meeting), 0, nth) if nth == meeting => {
                 self.zero.store(1, Ordering::SeqCst);
                 self.wait(&self.one, 1);
             }
-            (Watching::Meeting, 1, 0) => {
+            (Watching::Holding(wanted), 0, nth) if nth == wanted => {
+                self.zero.store(1, Ordering::SeqCst);
+            }
+            (Watching::Meeting(_) | Watching::Holding(_), 1, 0) => {
                 self.one.store(1, Ordering::SeqCst);
                 self.wait(&self.zero, 1);
             }
@@ -98,6 +101,14 @@ impl Gate for Watch {
             }
             (Watching::Lead(wanted), 1, 0) => self.wait(&self.zero, wanted),
             _ => {}
+        }
+    }
+
+    fn applied(&self, _orders: usize) {
+        if let Watching::Holding(_) = self.watching
+            && self.zero.load(Ordering::SeqCst) == 0
+        {
+            self.failed.store(1, Ordering::SeqCst);
         }
     }
 }

@@ -21,6 +21,7 @@ mod facts;
 mod loads;
 mod locks;
 mod orders;
+mod places;
 mod programs;
 mod reports;
 mod rows;

@@ -4,6 +4,7 @@ use super::rows::{MACHINES, Row, rows_hold};
 use super::{FORMS, Source};
 use crate::choosers::{SPREAD, ZEROS};
 use crate::gates::Watching;
+use arachne_core::SLOTS;
 use arachne_run::Report;
 use arachne_sleep::{LockEvent, Who};
 use std::alloc::Global;
@@ -78,6 +79,7 @@ const ROWS: &[Row] = &[
             expr: "(sweep add 1 (num 0) (num 8) (hold 0 (tally 0 (num 5) (num 1))))",
         },
         forms: FORMS,
+        slots: SLOTS,
         machines: MACHINES,
         draws: SPREAD,
         orders: &[],
@@ -100,6 +102,7 @@ const ROWS: &[Row] = &[
             expr: "(hold 0 (num 1))",
         },
         forms: FORMS,
+        slots: SLOTS,
         machines: &[(1, 1, 1), (1, 100, 1)],
         draws: ZEROS,
         orders: &[],
@@ -123,6 +126,7 @@ const ROWS: &[Row] = &[
             expr: "(fork n (let (fold (num 0) (num 100) (num 0) (var 1)) (hold 0 (num 1))) (hold 0 (fold (num 0) (num 10000) (num 0) (var 1))) (num 2))",
         },
         forms: FORMS,
+        slots: SLOTS,
         machines: MACHINES,
         draws: ZEROS,
         orders: &[],

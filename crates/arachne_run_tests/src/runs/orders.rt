@@ -7,6 +7,7 @@ use super::rows::{Row, row_holds, rows_hold};
 use super::{FORMS, Source};
 use crate::choosers::{CORE_ONE, CORE_THREE, SPREAD, ZEROS};
 use crate::gates::Watching;
+use arachne_core::SLOTS;
 use arachne_policy::{CoreOrder, OrderKind};
 use std::alloc::{AllocError, Global};
 use std::test::Fail;
@@ -57,6 +58,7 @@ const COMING_AND_GOING: Row = Row {
     shows: "cores come and go",
     source: MANY,
     forms: FORMS,
+    slots: SLOTS,
     machines: &[(4, 1, 4)],
     draws: SPREAD,
     orders: &[],
@@ -140,6 +142,7 @@ const ROWS: &[Row] = &[
         shows: "an exclusive child among those that wait is joined in turn",
         source: WAITING,
         forms: FORMS,
+        slots: SLOTS,
         machines: &[(3, 1, 3)],
         draws: SPREAD,
         orders: &[
@@ -175,6 +178,7 @@ const ROWS: &[Row] = &[
         shows: "orders are counted",
         source: SWEEP,
         forms: FORMS,
+        slots: SLOTS,
         machines: &[(4, 1, 4)],
         draws: SPREAD,
         orders: &[
@@ -203,6 +207,7 @@ const ROWS: &[Row] = &[
         shows: "orders are counted",
         source: SWEEP,
         forms: FORMS,
+        slots: SLOTS,
         machines: &[(4, 1, 4)],
         draws: SPREAD,
         orders: &[
@@ -237,6 +242,7 @@ const ROWS: &[Row] = &[
         shows: "a closed core gets no thread",
         source: FORK,
         forms: FORMS,
+        slots: SLOTS,
         machines: &[(4, 1, 4), (4, 100, 4)],
         draws: CORE_THREE,
         orders: &[CoreOrder {
@@ -254,6 +260,7 @@ const ROWS: &[Row] = &[
         shows: "a granted core gets threads again",
         source: LATE,
         forms: FORMS,
+        slots: SLOTS,
         machines: &[(4, 1, 4)],
         draws: CORE_THREE,
         orders: &[
@@ -279,6 +286,7 @@ const ROWS: &[Row] = &[
         shows: "a closed core is drained",
         source: COUNTING,
         forms: FORMS,
+        slots: SLOTS,
         machines: &[(2, 1, 2)],
         draws: CORE_ONE,
         orders: &[CoreOrder {
@@ -295,6 +303,7 @@ const ROWS: &[Row] = &[
         shows: "a closed core is drained",
         source: COUNTING,
         forms: FORMS,
+        slots: SLOTS,
         machines: &[(2, 100, 2)],
         draws: CORE_ONE,
         orders: &[CoreOrder {
@@ -312,6 +321,7 @@ const ROWS: &[Row] = &[
         shows: "a thread that has a core alone stays",
         source: ALONE,
         forms: FORMS,
+        slots: SLOTS,
         machines: &[(2, 1, 2)],
         draws: ZEROS,
         orders: &[CoreOrder {
@@ -319,7 +329,7 @@ const ROWS: &[Row] = &[
             kind: OrderKind::Release,
             core: 1,
         }],
-        watching: Watching::Meeting,
+        watching: Watching::Meeting(500),
         facts: &[
             (Fact::Value, 1),
             (Fact::Applied, 1),
