@@ -42,6 +42,7 @@ impl<'a, H: Wait, T: RunJob, C: Contexts<T>, R: Rng + Drop, G: Gate> Worker<'a, 
     fn scan(&mut self) -> Result<bool, WorkerFault>
         ensures { (self.new.desk ≡ self.old.desk) × (self.new.locks ≡ self.old.locks) × (self.new.sums ≡ self.old.sums) }
     {
+        self.desk.thin_out()?;
         let mut indexes = self.shared.signals().take(self.core);
         if self.agenda.is_look_due() {
             indexes |= self.desk.look().mask();
@@ -93,13 +94,16 @@ impl<'a, H: Wait, T: RunJob, C: Contexts<T>, R: Rng + Drop, G: Gate> Worker<'a, 
     }
 
     /// Runs the thread at an index of the core for a turn, if it is ready, and then each that is to go on before all others.
-    /// Whether there was one that was ready.
+    /// None begins once all workers stop. Whether there was one that was ready.
     fn run_at(&mut self, index: u8) -> Result<bool, WorkerFault>
         ensures { (self.new.desk ≡ self.old.desk) × (self.new.locks ≡ self.old.locks) × (self.new.sums ≡ self.old.sums) }
     {
         let mut index = index;
         let mut found = false;
         for _ in 0..policy::MOST_IN_TURN {
+            if self.shared.is_stopped() {
+                break;
+            }
             self.tend();
             match self.desk.take(index) {
                 Grip::Taken => {

@@ -234,7 +234,7 @@ fn put_aside<H: Wait, T: RunJob, C: Contexts<T>>(
     Ok(Stop::Goes)
 }
 
-/// A place of the core: the newest that is kept, else one that is free.
+/// A place of the core: the newest that is kept, else one that is free. Tries again where another took the place meanwhile.
 pub(crate) fn free_place<H: Wait, T: RunJob, C: Contexts<T>>(
     rt: &H,
     machine: &Machine<C, T::Ticket>,
@@ -252,11 +252,15 @@ pub(crate) fn free_place<H: Wait, T: RunJob, C: Contexts<T>>(
     if let Some(claim) = kept.take() {
         return Ok(Some(claim));
     }
-    match machine.table.claim(rt, spare, core) {
-        Ok(Claimed::Place(claim)) => Ok(Some(claim)),
-        Ok(_) => Ok(None),
-        Err(_) => Err(WorkerFault::Memory),
+    for _ in rt.forever() {
+        match machine.table.claim(rt, spare, core) {
+            Ok(Claimed::Place(claim)) => return Ok(Some(claim)),
+            Ok(Claimed::Full(_) | Claimed::Closed(_)) => return Ok(None),
+            Ok(Claimed::Lost(_)) => {}
+            Err(_) => return Err(WorkerFault::Memory),
+        }
     }
+    unreachable!()
 }
 
 /// Posts a child that has waited at a place, or gives that back where the child is gone meanwhile. Whether it was posted.

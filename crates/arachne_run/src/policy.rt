@@ -45,10 +45,10 @@ pub(crate) fn keeps_place(before: OccWord, slots: u8) -> bool {
     before.count() >= slots && !before.is_closed() && !before.is_exclusive()
 }
 
-/// Whether so many places that are kept are given back, all of them: fewer than half of the core's places have threads.
+/// Whether so many places that are kept are given back, all of them: half of the core's places have no thread.
 pub(crate) fn gives_back(now: OccWord, kept: usize, slots: u8) -> bool {
     let threads = usize::from(now.count()).saturating_sub(kept);
-    threads * 2 < usize::from(slots)
+    threads * 2 <= usize::from(slots)
 }
 
 /// Whether a ticket may be taken on a core that looks so: it is open, no thread has it alone, and a place is free or kept.

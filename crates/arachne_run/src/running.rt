@@ -17,7 +17,7 @@ use crate::gate::Gate;
 use crate::machine::Machine;
 use crate::report::Report;
 use crate::setup::Setup;
-use crate::slice::JobOf;
+use crate::slice::{JobOf, RunSpares};
 use crate::workers::work_all;
 use arachne_contexts::Contexts;
 use arachne_lang::Program;
@@ -61,7 +61,7 @@ pub fn run<
     setup.check(choosers.len())?;
     let mut choosers = choosers;
     choosers.reverse();
-    let (root, receiver) = T::begin(alloc, program, &mut T::spares(alloc))?;
+    let (root, receiver) = T::begin(alloc, program, &mut T::Spares::none(alloc))?;
     let (machine, tokens) = Machine::<C, T::Ticket>::new(
         alloc,
         setup.cores as u8,

@@ -2,6 +2,7 @@
 ghost use Rattle.std.specs.Prelude.{◌≡◌, []};
 
 use crate::ends::Awaited;
+use crate::slice::RunSpares;
 use crate::wanted::Wanted;
 use arachne_join::SpareCells;
 use arachne_machine::{Outcome, Spares as SpareThreads};
@@ -19,16 +20,17 @@ pub struct Spares<'p> {
     awaited: Vec<Vec<Awaited<'p>>>,
 }
 
-impl<'p> Spares<'p> {
-    /// Nothing yet. It takes no memory.
-    pub(crate) fn new(alloc: Global) -> Spares<'p> {
+impl<'p> RunSpares for Spares<'p> {
+    fn none(alloc: Global) -> Spares<'p> {
         Spares {
             threads: SpareThreads::new(alloc),
             cells: SpareCells::new(alloc),
             awaited: Vec::new(alloc),
         }
     }
+}
 
+impl<'p> Spares<'p> {
     /// A list for the receivers that a thread awaits, which is empty.
     pub(crate) fn take_awaited(&mut self, alloc: Global) -> Vec<Awaited<'p>>
         ensures { result.items ≡ [] }
