@@ -26,8 +26,9 @@ use std::alloc::Global;
 use std::sync::Wait;
 use std::thread::Threads;
 
-/// Runs a program on one kernel thread for each core, over a table of the type `C`. Each core draws from its own chooser.
-/// The orders take cores back and grant them again while it runs; those that are not reached before its end are not applied.
+/// Runs a program on one kernel thread for each core, over a table of the type `C`. Each core draws from its own
+/// chooser. The orders take cores back and grant them again while it runs; those that are not reached before its end
+/// are not applied.
 ///
 /// The program is unchanged. After an error nothing of the run is left.
 pub fn run<

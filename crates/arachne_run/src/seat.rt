@@ -1,7 +1,7 @@
 //! A worker's seats at the table, and what is out with them.
 //!
-//! It alone calls the table. Its type keeps the bookkeeping: the thread in hand is out with one seat, the places that are kept
-//! with the other, and nothing else is out between two calls.
+//! It alone calls the table. Its type keeps the bookkeeping: the thread in hand is out with one seat, the places that
+//! are kept with the other, and nothing else is out between two calls.
 ghost use Rattle.std.specs.Prelude.{◌≡◌, ◌≤◌};
 
 use crate::claims::Claims;
@@ -136,7 +136,8 @@ impl<'a, H: Wait, T: RunJob, C: Contexts<T>, R: Rng + Drop> Seat<'a, H, T, C, R>
         }
     }
 
-    /// Puts the thread in hand back, as ready or blocked by its pause. How it rests then: one that was woken meanwhile is ready.
+    /// Puts the thread in hand back, as ready or blocked by its pause. How it rests then: one that was woken meanwhile
+    /// is ready.
     #[inline(always)]
     pub(crate) fn rest(&mut self) -> Result<Rest, WorkerFault>
         ensures { self.new ≡ self.old }
@@ -183,7 +184,8 @@ impl<'a, H: Wait, T: RunJob, C: Contexts<T>, R: Rng + Drop> Seat<'a, H, T, C, R>
         }
     }
 
-    /// Keeps the place that a thread has left, if the core was full before. Then what is kept is given back, if that is due.
+    /// Keeps the place that a thread has left, if the core was full before. Then what is kept is given back, if that is
+    /// due.
     pub(crate) fn settle_places(&mut self, before: OccWord) -> Result<(), WorkerFault>
         ensures { self.new ≡ self.old }
     {
@@ -309,8 +311,8 @@ impl<'a, H: Wait, T: RunJob, C: Contexts<T>, R: Rng + Drop> Seat<'a, H, T, C, R>
         self.machine.shared.signals().waiting() > 0
     }
 
-    /// Takes a ticket from the queue, and posts its child on the core if that waits still and there is a place. Whether there
-    /// was a ticket, and the index of the child.
+    /// Takes a ticket from the queue, and posts its child on the core if that waits still and there is a place. Whether
+    /// there was a ticket, and the index of the child.
     pub(crate) fn take_ticket(&mut self) -> Result<(bool, Option<u8>), WorkerFault>
         ensures { self.new ≡ self.old }
     {

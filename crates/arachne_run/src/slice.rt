@@ -56,8 +56,8 @@ pub trait RunThread: Tagged + Drop {
     fn rest(&self) -> Option<Rest>
         ensures { IfSome result (λ rest. MayRest rest (pause_of self.now)) };
 
-    /// What it asks for is done: it holds the lock that it asked for, the lock is free, or the amount was added. `Foreign` where
-    /// it asks for nothing.
+    /// What it asks for is done: it holds the lock that it asked for, the lock is free, or the amount was added.
+    /// `Foreign` where it asks for nothing.
     fn answer(&mut self) -> Result<(), WorkerFault>
         ensures tag { Self.tag_of self.new ≡ Self.tag_of self.old }
         ensures parent { parent_of self.new ≡ parent_of self.old }
@@ -91,8 +91,8 @@ pub trait RunJob: RunThread {
     /// The job forks this child, and is not answered.
     ghost forks: { Self → Self.Child → Type 0 };
 
-    /// Goes on for at most as many steps as are left, of which fewer are left then. A thread that waits makes none. A child
-    /// for which there is no place runs in this job's.
+    /// Goes on for at most as many steps as are left, of which fewer are left then. A thread that waits makes none. A
+    /// child for which there is no place runs in this job's.
     fn slice<P: Placing>(
         &mut self,
         left: &mut u32,
@@ -121,8 +121,8 @@ pub trait RunJob: RunThread {
         ensures childs_parent { IfOk result (λ job. Self.parent_of job ≡ Some me) }
         ensures answered { OnOk result (Self.pause_of self.new ≡ None) };
 
-    /// The child waits with this tag for a place, or until this job, which runs under this id, awaits it. The ticket for it;
-    /// none where it is not to wait or memory is refused, and the child runs in this job's place.
+    /// The child waits with this tag for a place, or until this job, which runs under this id, awaits it. The ticket
+    /// for it; none where it is not to wait or memory is refused, and the child runs in this job's place.
     fn put_aside(
         &mut self,
         alloc: Global,

@@ -11,8 +11,8 @@ use std::alloc::Global;
 /// How many lists of receivers are kept at most.
 const MOST_LISTS: usize = 64;
 
-/// The memory of threads that have ended, the join cells that nobody uses, and lists for the receivers that a thread awaits.
-/// Each worker has its own, so that most forks take memory for a name alone.
+/// The memory of threads that have ended, the join cells that nobody uses, and lists for the receivers that a thread
+/// awaits. Each worker has its own, so that most forks take memory for a name alone.
 #[derive(Drop)]
 pub struct Spares<'p> {
     pub(crate) threads: SpareThreads<'p>,

@@ -128,8 +128,8 @@ pub(crate) fn work_all<
     )
 }
 
-/// The tokens and the chooser of one worker more, for which there is room among the others then. Where they can't be had
-/// that is recorded.
+/// The tokens and the chooser of one worker more, for which there is room among the others then. Where they can't be
+/// had that is recorded.
 fn part_off<H: Wait, C: Seats, K: Tagged + Drop, R: Drop, W>(
     rt: &H,
     alloc: Global,
@@ -177,8 +177,8 @@ fn joined<H: Wait, C: Seats, K: Tagged + Drop>(
     Some(own.join::<H, C>(rt, machine, others))
 }
 
-/// Works on one core until all stop, where there is a root from it on. The tokens, unless something is out with them after a
-/// fault.
+/// Works on one core until all stop, where there is a root from it on. The tokens, unless something is out with them
+/// after a fault.
 fn work_on<
     H: Wait,
     T: RunJob<Ticket = K>,
