@@ -10,10 +10,10 @@ use crate::fault::WorkerFault;
 use crate::forking::{Openings, free_place, go_on, post_waiting};
 use crate::machine::Machine;
 use crate::policy;
-use crate::slice::{RunJob, RunThread, RunTicket};
 use arachne_arbiter::{Arbiter, Cores};
 use arachne_contexts::{Claimed, Contexts, Held, Moved, Placed, Rested, Taken, Woken};
 use arachne_core::{MarkWord, OccWord, Place, Rest, SLOTS, ThreadId};
+use arachne_jobs::{RunJob, RunThread, RunTicket};
 use arachne_spill::SpillPass;
 use rand_core::Rng;
 use std::alloc::Global;
@@ -131,7 +131,7 @@ impl<'a, H: Wait, T: RunJob, C: Contexts<T>, R: Rng + Drop> Seat<'a, H, T, C, R>
         ensures { self.new ≡ self.old }
     {
         match &mut self.held {
-            Some(held) => held.value.answer(),
+            Some(held) => Ok(held.value.answer()?),
             None => Err(WorkerFault::Token),
         }
     }
@@ -176,7 +176,7 @@ impl<'a, H: Wait, T: RunJob, C: Contexts<T>, R: Rng + Drop> Seat<'a, H, T, C, R>
         };
         let table = &self.machine.table;
         match table.finish(self.rt, &mut self.seat, held) {
-            Ok(job) => job.leave(&mut self.spares),
+            Ok(job) => Ok(job.leave(&mut self.spares)?),
             Err(held) => {
                 self.held = Some(held);
                 Err(WorkerFault::Token)
