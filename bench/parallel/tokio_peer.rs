@@ -109,11 +109,7 @@ impl Thread {
                 let index = self.plain(index);
                 self.item(*array, index)
             }
-            Expr::Binary(operation, a, b) => {
-                let a = self.plain(a);
-                let b = self.plain(b);
-                operation.apply(a, b)
-            }
+            Expr::Binary(operation, a, b) => operation.apply(self.plain(a), self.plain(b)),
             Expr::If(condition, first, second) => {
                 let chosen = if self.plain(condition) != 0 { first } else { second };
                 self.plain(chosen)
@@ -150,21 +146,15 @@ impl Thread {
     }
 
     async fn value(&mut self, node: &'static Node) -> u64 {
-        if !node.waits {
-            return self.plain(node.expr);
-        }
         let parts = &node.parts;
         match node.expr {
+            _ if !node.waits => self.plain(node.expr),
             Expr::Num(_) | Expr::Var(_) | Expr::Len(_) => unreachable!(),
             Expr::Item(array, _) => {
                 let index = self.part(&parts[0]).await;
                 self.item(*array, index)
             }
-            Expr::Binary(operation, ..) => {
-                let a = self.part(&parts[0]).await;
-                let b = self.part(&parts[1]).await;
-                operation.apply(a, b)
-            }
+            Expr::Binary(operation, ..) => operation.apply(self.part(&parts[0]).await, self.part(&parts[1]).await),
             Expr::If(..) => {
                 let chosen = if self.part(&parts[0]).await != 0 { 1 } else { 2 };
                 self.part(&parts[chosen]).await
@@ -192,15 +182,18 @@ impl Thread {
         }
     }
 
-    /// The value of a part. Memory of its own is taken only where it waits for more than a lock.
+    /// The value of a part. A future of its own is made only where it forks or has to wait for a lock.
     async fn part(&mut self, node: &'static Node) -> u64 {
         if !node.waits {
             return self.plain(node.expr);
         }
-        match node.expr {
-            Expr::Hold(lock, body) => self.hold(*lock, body).await,
-            _ => self.boxed(node).await,
+        if let Expr::Hold(lock, body) = node.expr {
+            if let Ok(_held) = self.shared.locks[*lock as usize].try_lock() {
+                self.holds[*lock as usize] += 1;
+                return self.plain(body);
+            }
         }
+        self.boxed(node).await
     }
 
     fn boxed(&mut self, node: &'static Node) -> Pin<Box<dyn Future<Output = u64> + Send + '_>> {
@@ -266,7 +259,7 @@ impl Thread {
 }
 
 /// The value, and the lines of all threads in order. The root is a task too, so that a kernel thread of the runtime
-/// evaluates it.
+/// evaluates it and not the one that waits here.
 async fn run(program: &'static Program) -> (u64, Vec<Line>) {
     let shared = Box::leak(Box::new(Shared {
         program,
