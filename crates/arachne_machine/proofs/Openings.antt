@@ -259,12 +259,14 @@ begins_right old new expr first second operation x begins is_tree leaf is b =
     (framed_as old new env (fs ++ Apply operation x ∷ []) (fs ++ Apply operation v ∷ []) (Begin second) (Begin second) b (ap (λ n. fs ++ Apply operation n ∷ []) is) refl) refl refl
     (open_right source old.own.name env operation first second leaf)
 
-pub begins_both : (old new : Strand) (expr first second : Bor Expr) (operation : Operation) (x y v : ℕ) → old.control ≡ Begin expr →
-    tree_of expr.now ≡ Binary operation (tree_of first.now) (tree_of second.now) → IsLeaf (tree_of first.now) → IsLeaf (tree_of second.now) →
+-- A pure operation is worth its value, in as many steps as its sides take.
+pub begins_pure : (steps : ℕ) (old new : Strand) (expr first second : Bor Expr) (operation : Operation) (x y v : ℕ) → old.control ≡ Begin expr →
+    tree_of expr.now ≡ Binary operation (tree_of first.now) (tree_of second.now) → IsPure (tree_of first.now) → IsPure (tree_of second.now) →
     x ≡ value_of (source_of old.program.now).arrays (tree_of first.now) old.environment →
     y ≡ value_of (source_of old.program.now).arrays (tree_of second.now) old.environment → v ≡ apply operation x y →
-    Becomes old new old.environment old.frames (Give v) → AfterSteps 2 old None new
-begins_both old new expr first second operation x y v begins is_tree one two is also made b =
+    steps ≡ work_of (source_of old.program.now).arrays (tree_of first.now) old.environment + work_of (source_of old.program.now).arrays (tree_of second.now) old.environment →
+    Becomes old new old.environment old.frames (Give v) → AfterSteps steps old None new
+begins_pure steps old new expr first second operation x y v begins is_tree one two is also made counted b =
     let source = source_of old.program.now in
     let A = source.arrays in
     let env = old.environment in
@@ -272,6 +274,16 @@ begins_both old new expr first second operation x y v begins is_tree one two is 
     let a = tree_of first.now in
     let c = tree_of second.now in
     let whole : v ≡ value_of A (Binary operation a c) env = made ∙ ap (λ n. apply operation n y) is ∙ ap (λ n. apply operation (value_of A a env) n) also in
-    goes_to_value 2 old new expr (Binary operation a c) (value_of A (Binary operation a c) env) begins is_tree
+    goes_to_value steps old new expr (Binary operation a c) (value_of A (Binary operation a c) env) begins is_tree
     (framed_as old new env fs fs (Give v) (Give (value_of A (Binary operation a c) env)) b refl (ap Give whole))
-    (open_pure source old.own.name env (Binary operation a c) 2 (leaf_pure a one, leaf_pure c two) (omega (arith, leaf_work A a env one, leaf_work A c env two)))
+    (open_pure source old.own.name env (Binary operation a c) steps (one, two) (omega (arith, counted)))
+
+pub begins_both : (old new : Strand) (expr first second : Bor Expr) (operation : Operation) (x y v : ℕ) → old.control ≡ Begin expr →
+    tree_of expr.now ≡ Binary operation (tree_of first.now) (tree_of second.now) → IsLeaf (tree_of first.now) → IsLeaf (tree_of second.now) →
+    x ≡ value_of (source_of old.program.now).arrays (tree_of first.now) old.environment →
+    y ≡ value_of (source_of old.program.now).arrays (tree_of second.now) old.environment → v ≡ apply operation x y →
+    Becomes old new old.environment old.frames (Give v) → AfterSteps 2 old None new
+begins_both old new expr first second operation x y v begins is_tree one two is also made b =
+    let A = (source_of old.program.now).arrays in
+    begins_pure 2 old new expr first second operation x y v begins is_tree (leaf_pure (tree_of first.now) one) (leaf_pure (tree_of second.now) two) is also made
+    (omega (arith, leaf_work A (tree_of first.now) old.environment one, leaf_work A (tree_of second.now) old.environment two)) b

@@ -351,7 +351,7 @@ impl<'p> State<'p> {
 
     /// An item of an array, 0 outside it.
     #[inline(always)]
-    fn item(&self, array: u64, index: u64) -> u64
+    pub fn item(&self, array: u64, index: u64) -> u64
         ensures { result ≡ slice_index (array_at (source_of self.now.program.now).arrays array) index }
     {
         match self.program.arrays.get(array as usize) {

@@ -19,8 +19,8 @@ use Rattle.arachne_machine.proofs.Lasting.{ask_is_no_join, leaves_from, no_stop}
 use Rattle.arachne_machine.proofs.state.State.begin.Goals.{in-Item+in_ok-part-in-Item, in-If+in_ok-part-in-If, in-Let+in_ok-part-in-Let, in-Tally+in_ok-part-in-Tally, in-Fold+in_ok-part-in-Fold, in-Sweep+in_ok-part-in-Sweep}
 use Rattle.arachne_machine.proofs.state.State.begin.Goals as goal
 
-pub operate-requires : goal.operate-requires
-operate-requires g c = record { start = start_in (beginning_in c.args.self.now c.args.expr) c.requires.sound }
+pub compute-requires : goal.compute-requires
+compute-requires g c = record { start = start_in (beginning_in c.args.self.now c.args.expr) c.requires.sound }
 
 pub fork_here-requires : goal.fork_here-requires
 fork_here-requires g c = record { number = number_fits (beginning_in c.args.self.now c.args.expr) c.requires.sound refl (omega (arith, c.args.self.now.frames.ok.0, c.args.self.now.frames.ok.1, c.args.self.now.frames.small)) }
@@ -108,8 +108,8 @@ returns-in-Binary-clause-ok g c =
     let t = c.args.self.now in
     let e = c.args.expr in
     let s = c.requires.sound in
-    let new = c.operate.new.self in
-    ok_both c.operate.result _ _ _ c.operate.ensures.leaves (c.operate.ensures.ok e (rw (c.deref-in-Binary.ensures, c.deref-in-Binary-2.ensures) (ap tree_of c.in-Binary.is)))
+    let new = c.compute.new.self in
+    ok_both c.compute.result _ _ _ c.compute.ensures.leaves (c.compute.ensures.ok e (rw (c.deref-in-Binary.ensures, c.deref-in-Binary-2.ensures) (ap tree_of c.in-Binary.is)))
     (λ p leaves r. comes_of _ _ _ (beginning_in t e) p new s refl (leaves_from t new e leaves.0) (no_stop p _ leaves.1) r)
 
 pub returns-clause-ok : goal.returns-clause-ok
