@@ -1,5 +1,6 @@
 //! The steps that begin an expression.
 use crate::frame::{Control, Frame};
+use crate::lookup::{length_in, variable_in};
 use crate::placing::Placing;
 use crate::spares::Spares;
 use crate::state::{Progress, State};
@@ -8,16 +9,15 @@ use std::alloc::AllocError;
 
 /// How an expression is begun.
 impl<'p> State<'p> {
-    ghost use Rattle.std.specs.Prelude.{true, ◌≡◌, ◌≤◌, ◌+◌, ◌∷◌, ◌++◌, [], length, slice_index, IfOk, IfSome, OnOk, OnErr};
+    ghost use Rattle.std.specs.Prelude.{true, ◌≡◌, ◌≤◌, ◌∷◌, ◌++◌, [], length, slice_index, IfOk, IfSome, OnOk, OnErr};
     ghost use Rattle.std.specs.Borrow.{Bor};
     ghost use Rattle.arachne_lang.specs.declared.program.Expr.{Expr as Expression};
     ghost use Rattle.arachne_lang.specs.Tree.{Binary};
     ghost use Rattle.arachne_lang.specs.Program.{source_of, tree_of};
-    ghost use Rattle.arachne_lang.specs.Value.{apply, array_at, value_of};
+    ghost use Rattle.arachne_lang.specs.Value.{array_at, value_of};
     ghost use Rattle.arachne_machine.specs.declared.frame.Frame.TheVariants as frames;
     ghost use Rattle.arachne_machine.specs.declared.frame.Control.TheVariants as control;
-    ghost use Rattle.arachne_machine.specs.Pure.{IsLeaf, IsPure};
-    ghost use Rattle.arachne_machine.specs.Work.{work_of};
+    ghost use Rattle.arachne_machine.specs.Pure.{IsLeaf};
     ghost use Rattle.arachne_machine.specs.Sound.{IsSoundState};
     ghost use Rattle.arachne_machine.specs.Steps.{beginning, Changes, IsSame, LeavesOthers, OnStops, Pushes, Reaches, top};
     ghost use Rattle.arachne_machine.specs.Runs.{beginning_in, Comes};
@@ -38,11 +38,11 @@ impl<'p> State<'p> {
     {
         let part = match expr {
             Expr::Num(number) => return Ok(Progress::Value(*number)),
-            Expr::Var(variable) => return Ok(Progress::Value(self.variable(*variable))),
-            Expr::Len(array) => return Ok(Progress::Value(self.length(*array))),
+            Expr::Var(variable) => return Ok(Progress::Value(variable_in(self.environment.as_slice(), *variable))),
+            Expr::Len(array) => return Ok(Progress::Value(length_in(self.program, *array))),
             Expr::Item(array, index) => self.enter(Frame::Index(*array), index)?,
             Expr::Binary(operation, first, second) => {
-                return self.compute(*operation, first, second, left);
+                return self.operate(*operation, first, second, left);
             }
             Expr::If(condition, first, second) => self.enter(
                 Frame::Branch(first, second),
@@ -69,53 +69,6 @@ impl<'p> State<'p> {
             }
         };
         Ok(Progress::Begin(part))
-    }
-
-    /// Begins an operation. As the body of a turn it is worth its value at once, where it is pure and as many steps are left.
-    #[inline(always)]
-    fn compute(
-        &mut self,
-        operation: Operation,
-        first: &'p Expr,
-        second: &'p Expr,
-        left: &mut u32,
-    ) -> Result<Progress<'p>, AllocError>
-        requires start { self.old.level.start ≤ length self.old.frames.items }
-        ensures ok { (expr : Bor Expression) → tree_of expr.now ≡ Binary operation (tree_of first.now) (tree_of second.now) →
-            IfOk result (λ progress. Reaches left.old left.new (beginning (top self.old) expr) progress (top self.new)) }
-        ensures leaves { IfOk result (λ progress. LeavesOthers self.old self.new × OnStops progress ⊥) }
-        ensures fewer { left.new ≤ left.old }
-        ensures err { OnErr result (IsSame self.old self.new) }
-    {
-        if let Some((value, rest)) = self.at_once(operation, first, second, *left) {
-            *left = rest;
-            return Ok(Progress::Value(value));
-        }
-        self.operate(operation, first, second, left)
-    }
-
-    /// The value of an operation that is the body of a turn, and how many of these steps are then left.
-    #[inline(always)]
-    fn at_once(
-        &self,
-        operation: Operation,
-        first: &Expr,
-        second: &Expr,
-        left: u32,
-    ) -> Option<(u64, u32)>
-        ensures pure { IfSome result (λ r. IsPure (tree_of first.now) × IsPure (tree_of second.now)) }
-        ensures value { IfSome result (λ r. r.0 ≡ apply operation (value_of (source_of self.now.program.now).arrays (tree_of first.now) self.now.environment.items)
-            (value_of (source_of self.now.program.now).arrays (tree_of second.now) self.now.environment.items)) }
-        ensures steps { IfSome result (λ r. r.1 + (work_of (source_of self.now.program.now).arrays (tree_of first.now) self.now.environment.items
-            + work_of (source_of self.now.program.now).arrays (tree_of second.now) self.now.environment.items) ≡ left) }
-    {
-        if left < 2 || !self.is_at_turn() {
-            return None;
-        }
-        let mut rest = left - 2;
-        let x = self.pure(first, &mut rest)?;
-        let y = self.pure(second, &mut rest)?;
-        Some((operation.apply(x, y), rest))
     }
 
     /// Begins an operation. Sides that are numbers or variables are begun with it, each by a step, where two are left.
@@ -149,48 +102,6 @@ impl<'p> State<'p> {
         Ok(Progress::Begin(part))
     }
 
-    /// Whether what is begun is the body of a turn of a fold or a sweep.
-    #[inline(always)]
-    fn is_at_turn(&self) -> bool {
-        match self.frames.last() {
-            Some(Frame::FoldTurn { .. } | Frame::SweepTurn { .. }) => true,
-            _ => false,
-        }
-    }
-
-    /// The value of an expression of numbers, variables, lengths, items and operations, where so many more steps are left
-    /// beside its own.
-    fn pure(&self, expr: &Expr, left: &mut u32) -> Option<u64>
-        ensures fewer { left.new ≤ left.old }
-        ensures pure { IfSome result (λ _. IsPure (tree_of expr.now)) }
-        ensures value { IfSome result (λ value. value ≡ value_of (source_of self.now.program.now).arrays (tree_of expr.now) self.now.environment.items) }
-        ensures steps { IfSome result (λ _. left.new + work_of (source_of self.now.program.now).arrays (tree_of expr.now) self.now.environment.items ≡ left.old + 1) }
-    {
-        match expr {
-            Expr::Num(number) => Some(*number),
-            Expr::Var(variable) => Some(self.variable(*variable)),
-            Expr::Len(array) => Some(self.length(*array)),
-            Expr::Item(array, index) => {
-                if *left == 0 {
-                    return None;
-                }
-                *left -= 1;
-                let index = self.pure(index, left)?;
-                Some(self.item(*array, index))
-            }
-            Expr::Binary(operation, first, second) => {
-                if *left < 2 {
-                    return None;
-                }
-                *left -= 2;
-                let x = self.pure(first, left)?;
-                let y = self.pure(second, left)?;
-                Some(operation.apply(x, y))
-            }
-            _ => None,
-        }
-    }
-
     /// The value of a number or a variable.
     #[inline(always)]
     fn leaf(&self, expr: &Expr) -> Option<u64>
@@ -199,7 +110,7 @@ impl<'p> State<'p> {
     {
         match expr {
             Expr::Num(number) => Some(*number),
-            Expr::Var(variable) => Some(self.variable(*variable)),
+            Expr::Var(variable) => Some(variable_in(self.environment.as_slice(), *variable)),
             _ => None,
         }
     }
@@ -224,27 +135,5 @@ impl<'p> State<'p> {
         self.frames.push(Frame::Release(lock))?;
         self.control = Control::Asks { lock, body };
         Ok(())
-    }
-
-    /// The value of a variable.
-    #[inline(always)]
-    fn variable(&self, variable: u64) -> u64
-        ensures { result ≡ slice_index self.now.environment.items variable }
-    {
-        match self.environment.get(variable as usize) {
-            Some(value) => *value,
-            None => 0,
-        }
-    }
-
-    /// How many items an array has.
-    #[inline(always)]
-    fn length(&self, array: u64) -> u64
-        ensures { result ≡ length (array_at (source_of self.now.program.now).arrays array) }
-    {
-        match self.program.arrays.get(array as usize) {
-            Some(items) => items.len() as u64,
-            None => 0,
-        }
     }
 }

@@ -19,8 +19,8 @@ use Rattle.arachne_machine.proofs.Lasting.{ask_is_no_join, leaves_from, no_stop}
 use Rattle.arachne_machine.proofs.state.State.begin.Goals.{in-Item+in_ok-part-in-Item, in-If+in_ok-part-in-If, in-Let+in_ok-part-in-Let, in-Tally+in_ok-part-in-Tally, in-Fold+in_ok-part-in-Fold, in-Sweep+in_ok-part-in-Sweep}
 use Rattle.arachne_machine.proofs.state.State.begin.Goals as goal
 
-pub compute-requires : goal.compute-requires
-compute-requires g c = record { start = start_in (beginning_in c.args.self.now c.args.expr) c.requires.sound }
+pub operate-requires : goal.operate-requires
+operate-requires g c = record { start = start_in (beginning_in c.args.self.now c.args.expr) c.requires.sound }
 
 pub fork_here-requires : goal.fork_here-requires
 fork_here-requires g c = record { number = number_fits (beginning_in c.args.self.now c.args.expr) c.requires.sound refl (omega (arith, c.args.self.now.frames.ok.0, c.args.self.now.frames.ok.1, c.args.self.now.frames.small)) }
@@ -46,23 +46,23 @@ pub returns-in-Var-clause-ok : goal.returns-in-Var-clause-ok
 returns-in-Var-clause-ok g c =
     let t = c.args.self.now in
     let e = c.args.expr in
-    let v = c.variable.result in
+    let v = c.variable_in.result in
     let s = c.requires.sound in
     comes_of _ _ _ (beginning_in t e) (way.Value v) t s refl (leaves_begun t e s) tt
     (reaches_value _ v (beginning (top t) e) (top t)
     (goes_to_value 0 (beginning (top t) e) (giving (top t) v) e (Variable c.in-Var.variable) (slice_index t.environment.items c.in-Var.variable) refl (ap tree_of c.in-Var.is)
-    (as_beginning (top t) (giving (top t) v) e _ _ _ (given (top t) _ _ (ap Give c.variable.ensures))) (open_variable (source_of t.program.now) (top t).own.name t.environment.items c.in-Var.variable)))
+    (as_beginning (top t) (giving (top t) v) e _ _ _ (given (top t) _ _ (ap Give c.variable_in.ensures))) (open_variable (source_of t.program.now) (top t).own.name t.environment.items c.in-Var.variable)))
 
 pub returns-in-Len-clause-ok : goal.returns-in-Len-clause-ok
 returns-in-Len-clause-ok g c =
     let t = c.args.self.now in
     let e = c.args.expr in
-    let v = c.length.result in
+    let v = c.length_in.result in
     let s = c.requires.sound in
     comes_of _ _ _ (beginning_in t e) (way.Value v) t s refl (leaves_begun t e s) tt
     (reaches_value _ v (beginning (top t) e) (top t)
     (goes_to_value 0 (beginning (top t) e) (giving (top t) v) e (Length c.in-Len.array) _ refl (ap tree_of c.in-Len.is)
-    (as_beginning (top t) (giving (top t) v) e _ _ _ (given (top t) _ _ (ap Give c.length.ensures))) (open_length (source_of t.program.now) (top t).own.name t.environment.items c.in-Len.array)))
+    (as_beginning (top t) (giving (top t) v) e _ _ _ (given (top t) _ _ (ap Give c.length_in.ensures))) (open_length (source_of t.program.now) (top t).own.name t.environment.items c.in-Len.array)))
 
 pub returns-in-Hold-clause-ok : goal.returns-in-Hold-clause-ok
 returns-in-Hold-clause-ok g c =
@@ -108,8 +108,8 @@ returns-in-Binary-clause-ok g c =
     let t = c.args.self.now in
     let e = c.args.expr in
     let s = c.requires.sound in
-    let new = c.compute.new.self in
-    ok_both c.compute.result _ _ _ c.compute.ensures.leaves (c.compute.ensures.ok e (rw (c.deref-in-Binary.ensures, c.deref-in-Binary-2.ensures) (ap tree_of c.in-Binary.is)))
+    let new = c.operate.new.self in
+    ok_both c.operate.result _ _ _ c.operate.ensures.leaves (c.operate.ensures.ok e (rw (c.deref-in-Binary.ensures, c.deref-in-Binary-2.ensures) (ap tree_of c.in-Binary.is)))
     (λ p leaves r. comes_of _ _ _ (beginning_in t e) p new s refl (leaves_from t new e leaves.0) (no_stop p _ leaves.1) r)
 
 pub returns-clause-ok : goal.returns-clause-ok
