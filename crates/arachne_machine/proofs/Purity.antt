@@ -61,29 +61,33 @@ worth_item source env array i value had rest left index one w is = record {
   steps = omega (arith, w.steps, one);
 }
 
-pub worth_binary : (source : Source) (env : List ℕ) (operation : Operation) (a b : Tree) (x y value had rest mid left : ℕ) → rest + 2 ≡ had →
-    IsWorth source a env x rest mid → IsWorth source b env y mid left → value ≡ apply operation x y → IsWorth source (Binary operation a b) env value had left
-worth_binary source env operation a b x y value had rest mid left two v w is = record {
-  pure = binary_pure source env operation a b v.pure w.pure;
-  value_is = is ∙ ap (λ n. apply operation n y) v.value_is ∙ ap (λ n. apply operation (value_of source.arrays a env) n) w.value_is;
-  steps = omega (arith, v.steps, w.steps, two);
-}
+pub worth_binary : (source : Source) (env env' : List ℕ) (t : Tree) (operation : Operation) (a b : Tree) (x y value had rest mid left : ℕ) →
+    t ≡ Binary operation a b → rest + 2 ≡ had → env' ≡ env → IsWorth source a env x rest mid → IsWorth source b env' y mid left → value ≡ apply operation x y →
+    IsWorth source t env value had left
+worth_binary source env env' t operation a b x y value had rest mid left is_tree two same v w' is =
+    let w = subst (λ e. IsWorth source b e y mid left) same w' in
+    subst (λ u. IsWorth source u env value had left) (sym is_tree) (record {
+      pure = binary_pure source env operation a b v.pure w.pure;
+      value_is = is ∙ ap (λ n. apply operation n y) v.value_is ∙ ap (λ n. apply operation (value_of source.arrays a env) n) w.value_is;
+      steps = omega (arith, v.steps, w.steps, two);
+    })
 
 of_chosen : {X : Type 0} (f : Tree → X) (c : Bool) (s t : Tree) → f (if c then s else t) ≡ (if c then f s else f t)
 of_chosen f true s t = refl
 of_chosen f false s t = refl
 
 -- A choice is worth what its part is worth that is chosen.
-pub worth_choice : (source : Source) (env : List ℕ) (condition first second : Tree) (c : Bool) (x value had rest mid left : ℕ) → rest + 2 ≡ had →
-    IsWorth source condition env x rest mid → (x == 0) ≡ c → IsWorth source (if c then second else first) env value mid left →
-    IsWorth source (Choose condition first second) env value had left
-worth_choice source env condition first second c x value had rest mid left two v is w =
+pub worth_choice : (source : Source) (env env' : List ℕ) (t condition first second : Tree) (c : Bool) (x value had rest mid left : ℕ) →
+    t ≡ Choose condition first second → rest + 2 ≡ had → env' ≡ env → IsWorth source condition env x rest mid → (x == 0) ≡ c →
+    IsWorth source (if c then second else first) env' value mid left → IsWorth source t env value had left
+worth_choice source env env' t condition first second c x value had rest mid left is_tree two same v is w' =
+    let w = subst (λ e. IsWorth source (if c then second else first) e value mid left) same w' in
     let A = source.arrays in
     let chosen = value_of A condition env == 0 in
     let e : chosen ≡ c = ap (λ n. n == 0) (sym v.value_is) ∙ is in
     let work : (if chosen then work_of A second env else work_of A first env) ≡ work_of A (if c then second else first) env =
     ap (λ b. if b then work_of A second env else work_of A first env) e ∙ sym (of_chosen (λ t. work_of A t env) c second first) in
-    record {
+    subst (λ u. IsWorth source u env value had left) (sym is_tree) (record {
       pure = record {
         effects = both_nothing (effects_of A source.locks condition env) (if chosen then effects_of A source.locks second env else effects_of A source.locks first env)
             v.pure.effects
@@ -96,19 +100,20 @@ worth_choice source env condition first second c x value had rest mid left two v
       };
       value_is = w.value_is ∙ of_chosen (λ t. value_of A t env) c second first ∙ sym (ap (λ b. if b then value_of A second env else value_of A first env) e);
       steps = omega (arith, v.steps, w.steps, two, work);
-    }
+    })
 
-pub worth_binding : (source : Source) (env : List ℕ) (bound body : Tree) (x value had rest mid left : ℕ) → rest + 2 ≡ had →
-    IsWorth source bound env x rest mid → IsWorth source body (with_newest env x) value mid left → IsWorth source (Bind bound body) env value had left
-worth_binding source env bound body x value had rest mid left two v w' =
+pub worth_binding : (source : Source) (env env' : List ℕ) (t bound body : Tree) (x value had rest mid left : ℕ) →
+    t ≡ Bind bound body → rest + 2 ≡ had → env' ≡ env → IsWorth source bound env x rest mid → IsWorth source body (with_newest env' x) value mid left →
+    IsWorth source t env value had left
+worth_binding source env env' t bound body x value had rest mid left is_tree two same v w' =
     let A = source.arrays in
     let env' = with_newest env (value_of A bound env) in
-    let w = subst (λ n. IsWorth source body (with_newest env n) value mid left) v.value_is w' in
-    record {
+    let w = subst (λ n. IsWorth source body (with_newest env n) value mid left) v.value_is (subst (λ e. IsWorth source body (with_newest e x) value mid left) same w') in
+    subst (λ u. IsWorth source u env value had left) (sym is_tree) (record {
       pure = record {
         effects = both_nothing (effects_of A source.locks bound env) (effects_of A source.locks body env') v.pure.effects w.pure.effects;
         trace = steps_both (trace_of A bound env) (trace_of A body env') (work_of A bound env) (work_of A body env') v.pure.trace w.pure.trace;
       };
       value_is = w.value_is;
       steps = omega (arith, v.steps, w.steps, two);
-    }
+    })

@@ -1,8 +1,9 @@
 -- Turns that are made at once.
-use Rattle.std.proofs.Common.{◌≡◌, ◌≤◌, ◌<◌, ℕ, ◌+◌, ◌-◌, [], ◌∷◌, ◌++◌, length, None, refl, ap, sym, subst, ◌∙◌, arith, absurd}
+use Rattle.std.proofs.Common.{◌≡◌, ◌≤◌, ◌<◌, ℕ, ◌+◌, ◌-◌, List, [], ◌∷◌, ◌++◌, length, None, refl, ap, sym, subst, ◌∙◌, arith}
 use Rattle.std.specs.Borrow.{Bor}
 use Rattle.arachne_lang.specs.declared.program.Expr.{Expr}
 use Rattle.arachne_lang.specs.declared.program.Reduction.{Reduction}
+use Rattle.arachne_lang.specs.Tree.{Source, Tree}
 use Rattle.arachne_lang.specs.Program.{source_of, tree_of}
 use Rattle.arachne_lang.specs.Value.{Environment, apply, operation_of, with_newest}
 use Rattle.arachne_machine.specs.declared.frame.Frame.{Frame}
@@ -14,14 +15,14 @@ use Rattle.arachne_machine.specs.declared.state.Progress.TheVariants as part
 use Rattle.arachne_machine.specs.Pure.{IsWorth}
 use Rattle.arachne_machine.specs.Strands.{Strand}
 use Rattle.arachne_machine.specs.Work.{work_of}
-use Rattle.arachne_machine.specs.Steps.{AfterSteps, ComesToFold, ComesToSweep, IsUnchanged, Makes, OnStops, Reaches, TurnsFold, TurnsSweep, giving, top}
+use Rattle.arachne_machine.specs.Steps.{AfterSteps, ComesToFold, ComesToSweep, IsSame, IsUnchanged, Makes, OnStops, Reaches, TurnsFold, TurnsSweep, giving, top}
 use Rattle.arachne_machine.specs.Runs.{IsOneStep, seen_in}
 use Rattle.arachne_machine.proofs.Handings.{hand_fold_turn, hand_sweep_turn, without-one, without-two}
 use Rattle.arachne_machine.proofs.Openings.{Opens, goes_to_value, open_pure}
 use Rattle.arachne_machine.proofs.Soundness.{goes_on}
 
 after_steps : (m n k : ℕ) (a b c : Strand) → k ≡ m + n → AfterSteps m a None b → AfterSteps n b None c → AfterSteps k a None c
-after_steps m n k a b c is p q = (goes_on m n k a b c p.0 q.0 is, q.1.0, q.1.1 ∙ p.1.1)
+after_steps m n k a b c is p q = (goes_on m n k a b c p.0 q.0 is, q.1, q.2 ∙ p.2)
 
 -- one step that was not counted among those that are left
 pub makes_once : (had : ℕ) (a b : Strand) → AfterSteps 1 a None b → Makes had had 1 a b
@@ -47,18 +48,36 @@ body_is_worth begun body value had left begins le w =
     (record { program = refl; own = refl; below = refl; forks = refl; environment_is = refl; frames_are = refl; control_is = refl })
     (subst (λ v. Opens (had - left) source name tree env (Give v) []) (sym w.value_is) (open_pure source name env tree (had - left) w.pure (omega (arith, w.steps, le))))
 
+pub worth_same : (source source' : Source) (t t' : Tree) (env env' : List ℕ) (value had left : ℕ) → source ≡ source' → t ≡ t' → env ≡ env' →
+    IsWorth source t env value had left → IsWorth source' t' env' value had left
+worth_same source source' t t' env env' value had left p q r w =
+    subst (λ e. IsWorth source' t' e value had left) r (subst (λ u. IsWorth source' u env value had left) q (subst (λ s. IsWorth s t env value had left) p w))
+
+pub same_then : (a b c : State) → IsSame a b → IsSame b c → IsSame a c
+same_then a b c p q = record {
+  program = q.program ∙ p.program;
+  own = q.own ∙ p.own;
+  lines = q.lines ∙ p.lines;
+  sums = q.sums ∙ p.sums;
+  parents = q.parents ∙ p.parents;
+  level = q.level ∙ p.level;
+  environment_is = q.environment_is ∙ p.environment_is;
+  frames_are = q.frames_are ∙ p.frames_are;
+  control_is = q.control_is ∙ p.control_is;
+}
+
 -- Folds.
-in_fold : Strand → ℕ → ℕ → Bor Expr → ℕ → Strand
+abbrev in_fold : Strand → ℕ → ℕ → Bor Expr → ℕ → Strand
 in_fold t next end body so_far = record t {
   environment = with_newest (with_newest t.environment next) so_far;
   frames = t.frames ++ FoldTurn (next + 1) end body ∷ [];
   control = Begin body;
 }
 
-pub fold_goes_on : (before t : Strand) (had left rest next end so_far value : ℕ) (body : Bor Expr) → next < end → 1 ≤ left → rest + 1 ≤ left →
+pub fold_goes_on : (before t : Strand) (had left rest next end so_far value : ℕ) (body : Bor Expr) → next < end → rest + 1 ≤ left →
     IsWorth (source_of t.program.now) (tree_of body.now) (with_newest (with_newest t.environment next) so_far) value (left - 1) rest →
     ComesToFold before t had left next end body so_far → ComesToFold before t had rest (next + 1) end body value
-fold_goes_on before t had left rest next end so_far value body lt some le w comes on turns =
+fold_goes_on before t had left rest next end so_far value body lt le w comes on turns =
     let begun = in_fold t next end body so_far in
     let given = giving begun value in
     makes_more had left rest (left - rest) before begun on
@@ -100,17 +119,17 @@ fold_of_same t u on next end so_far body same turns = record {
 }
 
 -- Sweeps.
-in_sweep : Strand → Reduction → ℕ → ℕ → Bor Expr → ℕ → Strand
+abbrev in_sweep : Strand → Reduction → ℕ → ℕ → Bor Expr → ℕ → Strand
 in_sweep t reduction next end body so_far = record t {
   environment = with_newest t.environment next;
   frames = t.frames ++ SweepTurn reduction (next + 1) end so_far body ∷ [];
   control = Begin body;
 }
 
-pub sweep_goes_on : (before t : Strand) (had left rest : ℕ) (reduction : Reduction) (next end so_far value reduced : ℕ) (body : Bor Expr) → next < end → 1 ≤ left → rest + 1 ≤ left →
+pub sweep_goes_on : (before t : Strand) (had left rest : ℕ) (reduction : Reduction) (next end so_far value reduced : ℕ) (body : Bor Expr) → next < end → rest + 1 ≤ left →
     IsWorth (source_of t.program.now) (tree_of body.now) (with_newest t.environment next) value (left - 1) rest → reduced ≡ apply (operation_of reduction) so_far value →
     ComesToSweep before t had left reduction next end body so_far → ComesToSweep before t had rest reduction (next + 1) end body reduced
-sweep_goes_on before t had left rest reduction next end so_far value reduced body lt some le w is comes on turns =
+sweep_goes_on before t had left rest reduction next end so_far value reduced body lt le w is comes on turns =
     let begun = in_sweep t reduction next end body so_far in
     let given = giving begun value in
     makes_more had left rest (left - rest) before begun on

@@ -38,7 +38,10 @@ impl<'p> State<'p> {
     {
         let part = match expr {
             Expr::Num(number) => return Ok(Progress::Value(*number)),
-            Expr::Var(variable) => return Ok(Progress::Value(variable_in(self.environment.as_slice(), *variable))),
+            Expr::Var(variable) => return Ok(Progress::Value(variable_in(
+                self.environment.as_slice(),
+                *variable,
+            ))),
             Expr::Len(array) => return Ok(Progress::Value(length_in(self.program, *array))),
             Expr::Item(array, index) => self.enter(Frame::Index(*array), index)?,
             Expr::Binary(operation, first, second) => {

@@ -6,7 +6,7 @@ use arachne_lang::{Expr, Reduction};
 
 /// How folds and sweeps go on.
 impl<'p> State<'p> {
-    ghost use Rattle.std.specs.Prelude.{◌≡◌, ◌×◌, ◌+◌, ◌-◌, ◌<◌, ◌≤◌, ◌++◌, ◌∷◌, [], length, vec_len, vec_capacity, MatchOption};
+    ghost use Rattle.std.specs.Prelude.{◌≡◌, ◌+◌, ◌-◌, ◌<◌, ◌≤◌, ◌++◌, ◌∷◌, [], length, vec_len, vec_capacity, MatchOption};
     ghost use Rattle.arachne_lang.specs.Program.{source_of, tree_of};
     ghost use Rattle.arachne_lang.specs.Value.{with_newest};
     ghost use Rattle.arachne_machine.specs.declared.frame.Frame.TheVariants as frames;
@@ -74,13 +74,7 @@ impl<'p> State<'p> {
 
     /// What the body of a turn of a fold is worth, where so many steps are left.
     #[inline(always)]
-    fn fold_value(
-        &mut self,
-        next: u64,
-        so_far: u64,
-        body: &'p Expr,
-        left: &mut u32,
-    ) -> Option<u64>
+    fn fold_value(&mut self, next: u64, so_far: u64, body: &'p Expr, left: &mut u32) -> Option<u64>
         requires environment { vec_len self.old.environment + 2 ≤ vec_capacity self.old.environment }
         requires frames { vec_len self.old.frames + 1 ≤ vec_capacity self.old.frames }
         ensures same { IsSame self.old self.new }

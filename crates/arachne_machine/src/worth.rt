@@ -50,9 +50,11 @@ pub fn value_at_once(
             *left -= 2;
             let choice = value_at_once(program, environment, condition, left)?;
             if choice == 0 {
-                return value_at_once(program, environment, second, left);
+                let value = value_at_once(program, environment, second, left)?;
+                return Some(value);
             }
-            value_at_once(program, environment, first, left)
+            let value = value_at_once(program, environment, first, left)?;
+            Some(value)
         }
         Expr::Let(bound, body) => {
             if *left < 2 {
@@ -60,7 +62,8 @@ pub fn value_at_once(
             }
             *left -= 2;
             let newest = value_at_once(program, environment, bound, left)?;
-            bound_at_once(program, environment, newest, body, left)
+            let value = bound_at_once(program, environment, newest, body, left)?;
+            Some(value)
         }
         _ => None,
     }
