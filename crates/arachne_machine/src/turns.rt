@@ -1,7 +1,7 @@
 //! Turns of folds and sweeps. Those whose body is worth its value are made at once.
 use crate::frame::Frame;
 use crate::state::{Progress, State};
-use crate::worth::value_at_once;
+use crate::worth::body_at_once;
 use arachne_lang::{Expr, Reduction};
 
 /// How folds and sweeps go on.
@@ -84,18 +84,12 @@ impl<'p> State<'p> {
         ensures frames { vec_len self.new.frames + 1 ≤ vec_capacity self.new.frames }
         ensures few { vec_len self.new.frames ≡ vec_len self.old.frames }
     {
-        if *left == 0 {
-            return None;
-        }
-        let mut rest = *left - 1;
         let count = self.environment.len();
         self.environment.push_reserved(next);
         self.environment.push_reserved(so_far);
-        let worth = value_at_once(self.program, &mut self.environment, body, &mut rest);
+        let value = body_at_once(self.program, &mut self.environment, body, left);
         self.environment.truncate(count);
-        let value = worth?;
-        *left = rest;
-        Some(value)
+        value
     }
 
     /// The turn of a fold that is begun, or its end.
@@ -197,17 +191,11 @@ impl<'p> State<'p> {
         ensures frames { vec_len self.new.frames + 1 ≤ vec_capacity self.new.frames }
         ensures few { vec_len self.new.frames ≡ vec_len self.old.frames }
     {
-        if *left == 0 {
-            return None;
-        }
-        let mut rest = *left - 1;
         let count = self.environment.len();
         self.environment.push_reserved(next);
-        let worth = value_at_once(self.program, &mut self.environment, body, &mut rest);
+        let value = body_at_once(self.program, &mut self.environment, body, left);
         self.environment.truncate(count);
-        let value = worth?;
-        *left = rest;
-        Some(value)
+        value
     }
 
     /// The turn of a sweep that is begun, or its end.

@@ -1,5 +1,5 @@
 //! What expressions without effects are worth, by plain recursion, as far as steps are left.
-ghost use Rattle.std.specs.Prelude.{◌≡◌, ◌≤◌, vec_len, vec_capacity, IfSome};
+ghost use Rattle.std.specs.Prelude.{◌≡◌, ◌≤◌, ◌+◌, ◌-◌, vec_len, vec_capacity, IfSome, MatchOption};
 ghost use Rattle.arachne_lang.specs.Program.{source_of, tree_of};
 ghost use Rattle.arachne_lang.specs.Value.{with_newest};
 ghost use Rattle.arachne_machine.specs.Pure.{IsWorth};
@@ -7,10 +7,33 @@ ghost use Rattle.arachne_machine.specs.Pure.{IsWorth};
 use crate::lookup::{item_in, length_in, variable_in};
 use arachne_lang::{Expr, Program};
 
+/// What the body of a turn is worth, where so many steps are left. Each of its steps is counted.
+#[inline(always)]
+pub fn body_at_once(
+    program: &Program,
+    environment: &mut Vec<u64>,
+    body: &Expr,
+    left: &mut u32,
+) -> Option<u64>
+    ensures items { environment.new.items ≡ environment.old.items }
+    ensures len { vec_len environment.new ≡ vec_len environment.old }
+    ensures room { vec_capacity environment.old ≤ vec_capacity environment.new }
+    ensures worth { MatchOption result (left.new ≡ left.old) (λ value. (left.new + 1 ≤ left.old)
+        × IsWorth (source_of program.now) (tree_of body.now) environment.old.items value (left.old - 1) left.new) }
+{
+    if *left == 0 {
+        return None;
+    }
+    let mut rest = *left - 1;
+    let value = value_at_once(program, environment, body, &mut rest)?;
+    *left = rest;
+    Some(value)
+}
+
 /// The value of an expression of numbers, variables, lengths, items, operations, choices and bindings, where so many
 /// more steps are left beside its own. The environment is as before.
 #[cycle(recursion)]
-pub fn value_at_once(
+fn value_at_once(
     program: &Program,
     environment: &mut Vec<u64>,
     expr: &Expr,

@@ -51,7 +51,7 @@ returns-in-Var-clause-ok g c =
     comes_of _ _ _ (beginning_in t e) (way.Value v) t s refl (leaves_begun t e s) tt
     (reaches_value _ v (beginning (top t) e) (top t)
     (goes_to_value 0 (beginning (top t) e) (giving (top t) v) e (Variable c.in-Var.variable) (slice_index t.environment.items c.in-Var.variable) refl (ap tree_of c.in-Var.is)
-    (as_beginning (top t) (giving (top t) v) e _ _ _ (given (top t) _ _ (ap Give c.variable_in.ensures))) (open_variable (source_of t.program.now) (top t).own.name t.environment.items c.in-Var.variable)))
+    (as_beginning (top t) (giving (top t) v) e _ _ _ (given (top t) _ _ (ap Give (c.variable_in.ensures ∙ ap (λ l. slice_index l c.in-Var.variable) c.as_slice.ensures.value)))) (open_variable (source_of t.program.now) (top t).own.name t.environment.items c.in-Var.variable)))
 
 pub returns-in-Len-clause-ok : goal.returns-in-Len-clause-ok
 returns-in-Len-clause-ok g c =
