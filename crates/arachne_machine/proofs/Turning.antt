@@ -1,12 +1,11 @@
 -- Turns that are made at once.
-use Rattle.std.proofs.Common.{◌≡◌, ◌≤◌, ◌<◌, ℕ, ◌+◌, ◌-◌, List, [], ◌∷◌, ◌++◌, length, None, refl, ap, sym, subst, ◌∙◌, arith}
+use Rattle.std.proofs.Common.{◌≡◌, ◌≤◌, ◌<◌, ℕ, ◌+◌, ◌-◌, List, [], ◌∷◌, ◌++◌, None, refl, ap, sym, subst, ◌∙◌, arith}
 use Rattle.std.specs.Borrow.{Bor}
 use Rattle.arachne_lang.specs.declared.program.Expr.{Expr}
 use Rattle.arachne_lang.specs.declared.program.Reduction.{Reduction}
 use Rattle.arachne_lang.specs.Tree.{Source, Tree}
 use Rattle.arachne_lang.specs.Program.{source_of, tree_of}
-use Rattle.arachne_lang.specs.Value.{Environment, apply, operation_of, with_newest}
-use Rattle.arachne_machine.specs.declared.frame.Frame.{Frame}
+use Rattle.arachne_lang.specs.Value.{apply, operation_of, with_newest}
 use Rattle.arachne_machine.specs.declared.frame.Frame.TheVariants.{FoldTurn, SweepTurn}
 use Rattle.arachne_machine.specs.declared.frame.Control.TheVariants.{Begin, Give}
 use Rattle.arachne_machine.specs.declared.state.State.{State}
@@ -14,8 +13,7 @@ use Rattle.arachne_machine.specs.declared.state.Progress.{Progress}
 use Rattle.arachne_machine.specs.declared.state.Progress.TheVariants as part
 use Rattle.arachne_machine.specs.Pure.{IsWorth}
 use Rattle.arachne_machine.specs.Strands.{Strand}
-use Rattle.arachne_machine.specs.Work.{work_of}
-use Rattle.arachne_machine.specs.Steps.{AfterSteps, ComesToFold, ComesToSweep, IsSame, IsUnchanged, Makes, OnStops, Reaches, TurnsFold, TurnsSweep, giving, top}
+use Rattle.arachne_machine.specs.Steps.{AfterSteps, ComesToFold, ComesToSweep, IsSame, IsUnchanged, Makes, Reaches, TurnsFold, TurnsSweep, giving, top}
 use Rattle.arachne_machine.specs.Runs.{IsOneStep, seen_in}
 use Rattle.arachne_machine.proofs.Handings.{hand_fold_turn, hand_sweep_turn, without-one, without-two}
 use Rattle.arachne_machine.proofs.Openings.{Opens, goes_to_value, open_pure}

@@ -1,5 +1,5 @@
 -- An expression is evaluated after the helper that takes it, and its parts after it.
-use Rattle.std.proofs.Common.{ℕ, ◌+◌, ◌*◌}
+use Rattle.std.proofs.Common.{◌+◌, ◌*◌}
 use Rattle.arachne_lang.specs.Program.{tree_of}
 use Rattle.arachne_lang.specs.Text.{nesting}
 use Rattle.arachne_machine.proofs.worth.+recursion.Given as goal

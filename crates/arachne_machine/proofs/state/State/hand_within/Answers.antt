@@ -1,4 +1,4 @@
-use Rattle.std.proofs.Common.{◌≤◌, length, true, false, refl, ap, ◌∙◌, subst}
+use Rattle.std.proofs.Common.{true, false, refl, ap, ◌∙◌, subst}
 use Rattle.arachne_lang.specs.Value.{apply}
 use Rattle.arachne_machine.specs.Steps.{IsPopped, beginning, giving, top}
 use Rattle.arachne_machine.proofs.Outlooks.{as_giving, begins_with, given_from}
