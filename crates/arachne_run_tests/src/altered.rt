@@ -9,6 +9,7 @@ use arachne_core::{Place, Rest, ThreadId};
 use arachne_locked::{LockedClaim, LockedContexts, LockedHold, LockedSeat};
 use std::alloc::{AllocError, Global};
 use std::sync::Wait;
+use std::sync::atomic::{AtomicU64, Ordering};
 
 /// The word of an open core that is full.
 const FULL: u64 = 0x38FF_FFFF_FFFF_FFFF;
@@ -26,15 +27,20 @@ enum Alteration {
     IsFull,
     /// Each seat has something out.
     HasOut,
+    /// Every other claim is lost, the first one too.
+    Loses,
 }
 
-/// A table behind a lock that hands on all calls, or all but one. A run makes its table itself, so the number of cores says
-/// which: of 5 cores it hands back each thread that is to be finished, of 6 it refuses memory to a claim on a core that is in
-/// use, of 7 all cores but 0 are full, of 8 each seat has something out, and of any other number it answers nothing by itself.
+/// A table behind a lock that hands on all calls, or all but one. A run makes its table itself, so the numbers of cores and of
+/// places say which: of 5 cores it hands back each thread that is to be finished, of 6 it refuses memory to a claim on a core
+/// that is in use, of 7 all cores but 0 are full, of 8 each seat has something out, of any other number of 5 places every other
+/// claim is lost, and else it answers nothing by itself.
 #[derive(Drop)]
 pub struct Altered<T: Tagged> {
     inner: LockedContexts<T>,
     alteration: Alteration,
+    /// How many claims there were that may be lost.
+    claims: AtomicU64,
 }
 
 impl<T: Tagged + Drop> Seats for Altered<T> {
@@ -57,14 +63,20 @@ impl<T: Tagged + Drop> Seats for Altered<T> {
         first_generation: u64,
     ) -> Result<(Altered<T>, LockedSeat), AllocError> {
         let (inner, seat) = LockedContexts::new(alloc, cores, slots, first_generation)?;
-        let alteration = match cores {
-            5 => Alteration::HandsBack,
-            6 => Alteration::RefusesMemory,
-            7 => Alteration::IsFull,
-            8 => Alteration::HasOut,
+        let alteration = match (cores, slots) {
+            (5, _) => Alteration::HandsBack,
+            (6, _) => Alteration::RefusesMemory,
+            (7, _) => Alteration::IsFull,
+            (8, _) => Alteration::HasOut,
+            (_, 5) => Alteration::Loses,
             _ => Alteration::None,
         };
-        Ok((Altered { inner, alteration }, seat))
+        let altered = Altered {
+            inner,
+            alteration,
+            claims: AtomicU64::new(0),
+        };
+        Ok((altered, seat))
     }
 
     fn split<R: Wait>(&self, rt: &R, seat: LockedSeat) -> (LockedSeat, LockedSeat) {
@@ -118,6 +130,9 @@ impl<T: Tagged + Drop> Contexts<T> for Altered<T> {
                 Ok(Claimed::Full(FULL))
             }
             Alteration::RefusesMemory if self.inner.look(rt, seat, core) != 0 => Err(AllocError),
+            Alteration::Loses if self.claims.fetch_add(1, Ordering::SeqCst) % 2 == 0 => {
+                Ok(Claimed::Lost(self.inner.look(rt, seat, core)))
+            }
             _ => self.inner.claim(rt, seat, core),
         }
     }
@@ -220,10 +235,21 @@ impl<T: Tagged + Drop> Contexts<T> for Altered<T> {
         alloc: Global,
         seat: LockedSeat,
     ) -> Result<Vec<(ThreadId, T)>, (Altered<T>, LockedSeat)> {
-        let Altered { inner, alteration } = self;
+        let Altered {
+            inner,
+            alteration,
+            claims,
+        } = self;
         match inner.close(rt, alloc, seat) {
             Ok(rest) => Ok(rest),
-            Err((inner, seat)) => Err((Altered { inner, alteration }, seat)),
+            Err((inner, seat)) => {
+                let altered = Altered {
+                    inner,
+                    alteration,
+                    claims,
+                };
+                Err((altered, seat))
+            }
         }
     }
 

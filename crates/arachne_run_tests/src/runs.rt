@@ -25,7 +25,9 @@ mod places;
 mod programs;
 mod reports;
 mod rows;
+mod slices;
 mod tables;
+mod tickets;
 
 /// A form of context table.
 #[derive(Clone, Copy)]

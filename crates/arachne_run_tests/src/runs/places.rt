@@ -3,11 +3,10 @@ use super::cores::ALONE;
 use super::facts::{Fact, Telling};
 use super::reports::{CHAIN, MANY};
 use super::rows::{Row, row_holds, rows_hold};
-use super::{FORMS, Form, Machine, Source};
+use super::{FORMS, Machine, Source};
 use crate::choosers::{CORE_ONE, SPREAD, ZEROS};
 use crate::gates::Watching;
 use arachne_core::SLOTS;
-use arachne_policy::{CoreOrder, OrderKind};
 use std::test::Fail;
 
 /// One core, at each quantum.
@@ -38,7 +37,7 @@ const THEN_ALONE: Source = Source {
 };
 
 /// Two threads that count.
-const BESIDE: Source = Source {
+pub(super) const BESIDE: Source = Source {
     ledgers: 0,
     locks: 0,
     forks: 0,
@@ -160,7 +159,7 @@ const ROWS: &[Row] = &[
         machines: &[(2, 1, 2), (2, 7, 2), (2, 100, 2), (2, 10_000, 2)],
         draws: CORE_ONE,
         orders: &[],
-        watching: Watching::Meeting(3),
+        watching: Watching::Meeting(3, 0),
         facts: &[(Fact::Value, 0), (Fact::Slot, 2), (Fact::IsOver, 1)],
         telling: Telling::Nothing,
         told: "",
@@ -173,26 +172,8 @@ const ROWS: &[Row] = &[
         machines: &[(2, 1, 2)],
         draws: ZEROS,
         orders: &[],
-        watching: Watching::Meeting(500),
+        watching: Watching::Meeting(500, 0),
         facts: &[(Fact::Value, 1), (Fact::Slot, 2), (Fact::IsOver, 1)],
-        telling: Telling::Nothing,
-        told: "",
-    },
-    // Core 1's first slice is in progress until core 0 has entered its slice 400. By then 400 have ended.
-    Row {
-        shows: "a slice counts once it has ended",
-        source: BESIDE,
-        forms: FORMS,
-        slots: SLOTS,
-        machines: &[(2, 1, 2), (2, 7, 2), (2, 100, 2)],
-        draws: CORE_ONE,
-        orders: &[CoreOrder {
-            after: 401,
-            kind: OrderKind::Release,
-            core: 1,
-        }],
-        watching: Watching::Holding(400),
-        facts: &[(Fact::Value, 0), (Fact::Applied, 1), (Fact::IsOver, 1)],
         telling: Telling::Nothing,
         told: "",
     },
@@ -223,7 +204,9 @@ fn a_core_that_is_left_is_free_at_once(rt: HostRuntime) -> Result<(), Fail> {
     let alloc = rt.alloc();
     for _ in 0..75 {
         for &machine in ALONE_AFTER_ANOTHER.machines {
-            row_holds(&rt, alloc, &ALONE_AFTER_ANOTHER, Form::Words, machine, &[])?;
+            for &form in FORMS {
+                row_holds(&rt, alloc, &ALONE_AFTER_ANOTHER, form, machine, &[])?;
+            }
         }
     }
     Ok(())
