@@ -10,6 +10,9 @@ const POLLS: u32 = 20_000_000;
 /// How often a gate looks before it lets a core go on that it gave time for what can't be seen.
 const PAUSE: u32 = 20_000;
 
+/// How often it looks whether the run has stopped.
+const STOPS: u32 = 2_000_000;
+
 /// What a gate does.
 #[derive(Clone, Copy)]
 pub enum Watching {
@@ -28,8 +31,8 @@ pub enum Watching {
     /// It gives core 1 time to park before core 0's slice of the first number, and holds that of the second until core 1 has entered
     /// slice 0.
     Granting(u64, u64),
-    /// It holds core 2's slice 0 until core 1 has entered this slice, and that until the run is stopped, which a core that was
-    /// parked tells. Then core 1 may enter no slice.
+    /// It gives a core time to park before core 0's slice 0. It holds core 2's slice 0 until core 1 has entered this slice, and
+    /// that until the run is stopped, which the parked core tells. Then core 1 may enter no slice.
     Stopping(u64),
 }
 
@@ -87,6 +90,11 @@ impl Watch {
         }
     }
 
+    /// Gives a kernel thread whose core is closed time to park.
+    fn pause(&self) {
+        let _ = comes(&self.one, 1, PAUSE);
+    }
+
     /// The slice of this number of core 0.
     fn enter_zero(&self, nth: u64) {
         match self.watching {
@@ -99,9 +107,8 @@ impl Watch {
             Watching::Lead(_) => {
                 self.zero.fetch_add(1, Ordering::SeqCst);
             }
-            Watching::Granting(pause, _) if nth == pause => {
-                let _ = comes(&self.one, 1, PAUSE);
-            }
+            Watching::Granting(pause, _) if nth == pause => self.pause(),
+            Watching::Stopping(_) if nth == 0 => self.pause(),
             Watching::Granting(_, wanted) if nth == wanted => {
                 self.zero.store(1, Ordering::SeqCst);
                 self.wait(&self.one, 1);
@@ -126,7 +133,7 @@ impl Watch {
             Watching::Stopping(wanted) if nth == wanted => {
                 self.one.store(1, Ordering::SeqCst);
                 // Where no core was parked the run has stopped when this is given up.
-                let _ = comes(&self.zero, 1, 10 * PAUSE);
+                let _ = comes(&self.zero, 1, STOPS);
             }
             Watching::Stopping(wanted) if nth > wanted => self.failed.store(1, Ordering::SeqCst),
             _ => {}
@@ -151,10 +158,7 @@ impl Gate for Watch {
             (Watching::Cores, _) => self.note(core),
             (_, 0) => self.enter_zero(nth),
             (_, 1) => self.enter_one(nth),
-            (Watching::Stopping(_), 2) if nth == 0 => {
-                self.wait(&self.one, 1);
-                let _ = comes(&self.zero, 1, PAUSE);
-            }
+            (Watching::Stopping(_), 2) if nth == 0 => self.wait(&self.one, 1),
             _ => {}
         }
     }

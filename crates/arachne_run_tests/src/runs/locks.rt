@@ -79,7 +79,19 @@ pub(super) fn events_of(alloc: Global, report: &Report) -> Result<String, Fail> 
     Ok(text)
 }
 
-/// One core to 16, by each quantum.
+/// One core to 16, by each quantum but the longest.
+const SHORT: &[Machine] = &[
+    (1, 1, 1),
+    (1, 7, 1),
+    (1, 100, 1),
+    (2, 1, 2),
+    (2, 7, 2),
+    (2, 100, 2),
+    (4, 1, 4),
+    (16, 100, 16),
+];
+
+/// One core and two, by each quantum.
 const QUANTA: &[Machine] = &[
     (1, 1, 1),
     (1, 7, 1),
@@ -89,8 +101,6 @@ const QUANTA: &[Machine] = &[
     (2, 7, 2),
     (2, 100, 2),
     (2, 10_000, 2),
-    (4, 1, 4),
-    (16, 100, 16),
 ];
 
 const ROWS: &[Row] = &[
@@ -152,7 +162,25 @@ const ROWS: &[Row] = &[
         },
         forms: FORMS,
         slots: SLOTS,
-        machines: QUANTA,
+        machines: SHORT,
+        draws: ZEROS,
+        orders: &[],
+        watching: Watching::Nothing,
+        facts: &[(Fact::Value, 2)],
+        telling: Telling::Events,
+        told: "ask 0 0 0\ngrant 0 0 0\nask 1 1 0\nfree 0 0 0\ngrant 1 1 0\nfree 1 1 0\n",
+    },
+    Row {
+        shows: "a thread that waits is next",
+        source: Source {
+            ledgers: 0,
+            locks: 1,
+            forks: 0,
+            expr: "(fork n (let (fold (num 0) (num 100) (num 0) (var 1)) (hold 0 (num 1))) (hold 0 (fold (num 0) (num 30000) (num 0) (var 1))) (num 2))",
+        },
+        forms: FORMS,
+        slots: SLOTS,
+        machines: &[(1, 10_000, 1), (2, 10_000, 2)],
         draws: ZEROS,
         orders: &[],
         watching: Watching::Nothing,

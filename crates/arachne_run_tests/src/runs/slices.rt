@@ -88,7 +88,7 @@ const ROWS: &[Row] = &[
     Row {
         source: AT_ONCE,
         facts: &[
-            (Fact::Value, 405_452),
+            (Fact::Value, 2),
             (Fact::InPlace, 901),
             (Fact::Slices(20_000), 1),
         ],
@@ -98,7 +98,7 @@ const ROWS: &[Row] = &[
         source: AT_ONCE,
         machines: &[(1, 7, 1)],
         facts: &[
-            (Fact::Value, 405_452),
+            (Fact::Value, 2),
             (Fact::InPlace, 901),
             (Fact::Slices(20_000 / 7), 1),
         ],
@@ -108,7 +108,7 @@ const ROWS: &[Row] = &[
         source: AT_ONCE,
         machines: &[(1, 100, 1)],
         facts: &[
-            (Fact::Value, 405_452),
+            (Fact::Value, 2),
             (Fact::InPlace, 901),
             (Fact::Slices(200), 1),
         ],
@@ -117,11 +117,7 @@ const ROWS: &[Row] = &[
     Row {
         source: AT_ONCE,
         machines: &[(1, 10_000, 1)],
-        facts: &[
-            (Fact::Value, 405_452),
-            (Fact::InPlace, 901),
-            (Fact::Slices(3), 1),
-        ],
+        facts: &[(Fact::Value, 2), (Fact::InPlace, 901), (Fact::Slices(3), 1)],
         ..CHARGED
     },
     HELD_BACK,

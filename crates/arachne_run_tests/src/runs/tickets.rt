@@ -27,15 +27,15 @@ const WAITS: Row = Row {
     told: "slot spill slot ",
 };
 
-/// The root has four children for the places of its core that are left, and a fifth that waits for one. On a core of five places
-/// every other claim is lost.
+/// The root has four children for the places of its core that are left, and a fifth that waits for one. Where there are five
+/// places every other claim is lost.
 const LOST: Row = Row {
     shows: "a claim that is lost is tried again",
     source: Source {
         ledgers: 0,
         locks: 0,
         forks: 0,
-        expr: "(fork n (num 1) (fork n (num 2) (fork n (num 3) (fork n (num 4) (fork n (num 5) (fold (num 0) (num 50000) (num 0) (var 1)) (add (var 0) (var 1))) (add (var 0) (var 1))) (add (var 0) (var 1))) (add (var 0) (var 1))) (add (var 0) (var 1)))",
+        expr: "(fork n (fold (num 0) (num 1000) (num 1) (var 1)) (fork n (fold (num 0) (num 1000) (num 1) (var 1)) (fork n (fold (num 0) (num 1000) (num 1) (var 1)) (fork n (fold (num 0) (num 1000) (num 1) (var 1)) (fork n (fold (num 0) (num 1000) (num 1) (var 1)) (fold (num 0) (num 50000) (num 0) (var 1)) (add (var 0) (var 1))) (add (var 0) (var 1))) (add (var 0) (var 1))) (add (var 0) (var 1))) (add (var 0) (var 1)))",
     },
     forms: LOCKED,
     slots: 5,
@@ -43,7 +43,7 @@ const LOST: Row = Row {
     draws: ZEROS,
     orders: &[],
     watching: Watching::Nothing,
-    facts: &[(Fact::Value, 15)],
+    facts: &[(Fact::Value, 5)],
     telling: Telling::Ran,
     told: "slot spill slot slot slot slot ",
 };
