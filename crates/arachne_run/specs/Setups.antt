@@ -13,7 +13,8 @@ use Rattle.arachne_policy.specs.Orders.{IsFirstFault}
 abbrev pub is_within : ℕ → ℕ → ℕ → Bool
 is_within least most n = nat_le least n && nat_le n most
 
--- what is wrong with so many cores, this quantum, so many places a core and so many choosers: the first of these that is
+-- what is wrong with so many cores, this quantum, so many places a core and so many choosers: the first of these that
+-- is
 abbrev pub refusal_of : ℕ → ℕ → ℕ → ℕ → Option RunFault
 refusal_of cores quantum slots choosers =
     if is_within 1 CORES cores then

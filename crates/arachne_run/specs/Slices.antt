@@ -13,7 +13,8 @@ IsWait (Some pause.Joins) = Unit {0}
 IsWait (Some (pause.Asks lock)) = Unit {0}
 IsWait _ = ⊥
 
--- the pauses at which a job asks for something that is done for it: it holds a lock from then on, frees one, or adds to a ledger
+-- the pauses at which a job asks for something that is done for it: it holds a lock from then on, frees one, or adds to
+-- a ledger
 abbrev pub IsRequest : Option Pending → Type 0
 IsRequest (Some (pause.Asks lock)) = Unit {0}
 IsRequest (Some (pause.Frees lock)) = Unit {0}
@@ -25,7 +26,8 @@ abbrev pub MayRest : Rest → Option Pending → Type 0
 MayRest rest.Ready pending = pending ≡ None
 MayRest rest.Blocked pending = IsWait pending
 
--- of the steps that a job had, fewer are left, or as many where it awaits a child; one that still waits for a lock has made none
+-- of the steps that a job had, fewer are left, or as many where it awaits a child; one that still waits for a lock has
+-- made none
 abbrev pub UsesSteps : {Child : Type 0} → Slice Child → ℕ → ℕ → Type 0
 UsesSteps Blocks had left = left ≤ had
 UsesSteps (Awaits lock) had left = left ≡ had

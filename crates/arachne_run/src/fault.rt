@@ -35,7 +35,8 @@ pub enum RunFault {
     /// The word of a ledger is not the root's sum.
     #[error("a ledger's word is not the root's sum")]
     Ledgers,
-    /// The table didn't know a place or a thread that a worker had of it, or in the end a seat or a share was not whole.
+    /// The table didn't know a place or a thread that a worker had of it, or in the end a seat or a share was not
+    /// whole.
     #[error("the table knows no such token, or not all of a table came back")]
     Token,
     /// A kernel thread was refused.
@@ -56,7 +57,8 @@ pub enum WorkerFault {
     Threads,
     /// The word of a ledger is not the root's sum.
     Ledgers,
-    /// The table didn't know a place or a thread that a worker had of it, or in the end a seat or a share was not whole.
+    /// The table didn't know a place or a thread that a worker had of it, or in the end a seat or a share was not
+    /// whole.
     Token,
     /// A kernel thread was refused, or there was nothing for it to choose cores by.
     KernelThread,

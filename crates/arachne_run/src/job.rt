@@ -13,7 +13,7 @@ ghost use Rattle.arachne_run.specs.Slices.{IsLeft, UsesSteps};
 use crate::ends::{Awaited, End};
 use crate::fault::WorkerFault;
 use crate::left::{Found, Waiting};
-use crate::slice::{JobOf, RunJob, Slice};
+use crate::slice::{JobOf, RunJob, RunThread, Slice};
 use crate::spares::Spares;
 use crate::waiting::{Ticket, WaitCell};
 use crate::wanted::{OutcomeReceiver, Wanted};
@@ -63,24 +63,12 @@ impl<'p> Tagged for Job<'p> {
     }
 }
 
-impl<'p> RunJob for Job<'p> {
-    type Child = Thread<'p>;
-
-    type Ticket = Ticket<'p>;
-
-    type Spares = Spares<'p>;
-
+impl<'p> RunThread for Job<'p> {
     ghost running_tag_of = { λ j. running_tag_of j.thread };
 
     ghost parent_of = { λ j. j.parent };
 
     ghost pause_of = { λ j. pause_of j.thread };
-
-    ghost forks = { λ j child. IsForking j.thread child };
-
-    fn spares(alloc: Global) -> Spares<'p> {
-        Spares::new(alloc)
-    }
 
     fn running_tag(&self) -> u64 {
         self.thread.running_tag()
@@ -93,6 +81,26 @@ impl<'p> RunJob for Job<'p> {
             _ => None,
         }
     }
+
+    fn answer(&mut self) -> Result<(), WorkerFault> {
+        match self.thread.pending() {
+            Some(Pending::Asks(_)) => self.thread.granted(),
+            Some(Pending::Frees(_)) => self.thread.freed(),
+            Some(Pending::Tallies(_, _)) => self.thread.tallied(),
+            _ => return Err(WorkerFault::Foreign),
+        }
+        Ok(())
+    }
+}
+
+impl<'p> RunJob for Job<'p> {
+    type Child = Thread<'p>;
+
+    type Ticket = Ticket<'p>;
+
+    type Spares = Spares<'p>;
+
+    ghost forks = { λ j child. IsForking j.thread child };
 
     fn slice<P: Placing>(
         &mut self,
@@ -156,10 +164,6 @@ impl<'p> RunJob for Job<'p> {
         }
     }
 
-    fn still_waits(ticket: &Ticket<'p>) -> bool {
-        ticket.still_waits()
-    }
-
     fn of_ticket(alloc: Global, ticket: Ticket<'p>, spares: &mut Spares<'p>) -> Option<Job<'p>> {
         let (waiting, end) = ticket.take()?;
         let Waiting { mut thread, parent } = waiting;
@@ -170,16 +174,6 @@ impl<'p> RunJob for Job<'p> {
             awaited: spares.take_awaited(alloc),
             parent: Some(parent),
         })
-    }
-
-    fn answer(&mut self) -> Result<(), WorkerFault> {
-        match self.thread.pending() {
-            Some(Pending::Asks(_)) => self.thread.granted(),
-            Some(Pending::Frees(_)) => self.thread.freed(),
-            Some(Pending::Tallies(_, _)) => self.thread.tallied(),
-            _ => return Err(WorkerFault::Foreign),
-        }
-        Ok(())
     }
 
     fn leave(self, spares: &mut Spares<'p>) -> Result<Option<ThreadId>, WorkerFault> {

@@ -42,7 +42,7 @@ pub use job::Job;
 pub use report::Report;
 pub use running::run;
 pub use setup::Setup;
-pub use slice::{JobOf, RunJob, Slice};
+pub use slice::{JobOf, RunJob, RunSpares, RunThread, RunTicket, Slice};
 pub use spares::Spares;
 pub use waiting::Ticket;
 pub use wanted::{OutcomeReceiver, OutcomeSender, Wanted};

@@ -1,4 +1,5 @@
-//! What a worker does for the thread in hand at a sleep lock: it tries again where another kernel thread is at the lock.
+//! What a worker does for the thread in hand at a sleep lock: it tries again where another kernel thread is at the
+//! lock.
 ghost use Rattle.std.specs.Prelude.{◌≡◌};
 
 use crate::execute::Worker;

@@ -1,7 +1,7 @@
 //! A worker's seats at the table, and what is out with them.
 //!
-//! It alone calls the table. Its type keeps the bookkeeping: the thread in hand is out with one seat, the places that are kept
-//! with the other, and nothing else is out between two calls.
+//! It alone calls the table. Its type keeps the bookkeeping: the thread in hand is out with one seat, the places that
+//! are kept with the other, and nothing else is out between two calls.
 ghost use Rattle.std.specs.Prelude.{◌≡◌, ◌≤◌};
 
 use crate::claims::Claims;
@@ -10,7 +10,7 @@ use crate::fault::WorkerFault;
 use crate::forking::{Openings, free_place, go_on, post_waiting};
 use crate::machine::Machine;
 use crate::policy;
-use crate::slice::RunJob;
+use crate::slice::{RunJob, RunThread, RunTicket};
 use arachne_arbiter::{Arbiter, Cores};
 use arachne_contexts::{Claimed, Contexts, Held, Moved, Placed, Rested, Taken, Woken};
 use arachne_core::{MarkWord, OccWord, Place, Rest, SLOTS, ThreadId};
@@ -38,7 +38,7 @@ pub(crate) struct Seat<'a, H, T: RunJob, C: Contexts<T>, R> {
     pub(crate) pass: SpillPass<T::Ticket>,
     pub(crate) arbiter: Option<Arbiter>,
     /// What threads are told at their forks. It is here unless a thread goes on.
-    pub(crate) openings: Option<Openings<'a, H, T, C, R>>,
+    pub(crate) openings: Option<Box<Openings<'a, H, T, C, R>>>,
     /// What is kept of ended threads for those that begin.
     pub(crate) spares: T::Spares,
 }
@@ -106,7 +106,7 @@ impl<'a, H: Wait, T: RunJob, C: Contexts<T>, R: Rng + Drop> Seat<'a, H, T, C, R>
         let Some(mut openings) = self.openings.take() else {
             return Err(WorkerFault::Token);
         };
-        let Some(mut held) = self.held.take() else {
+        let Some(held) = &mut self.held else {
             return Err(WorkerFault::Token);
         };
         self.is_broken = true;
@@ -116,12 +116,11 @@ impl<'a, H: Wait, T: RunJob, C: Contexts<T>, R: Rng + Drop> Seat<'a, H, T, C, R>
             self.machine,
             &mut self.seat,
             &mut self.pass,
-            &mut held,
+            held,
             &mut openings,
             &mut self.spares,
             left,
         )?;
-        self.held = Some(held);
         self.openings = Some(openings);
         self.is_broken = false;
         Ok(stop)
@@ -137,7 +136,8 @@ impl<'a, H: Wait, T: RunJob, C: Contexts<T>, R: Rng + Drop> Seat<'a, H, T, C, R>
         }
     }
 
-    /// Puts the thread in hand back, as ready or blocked by its pause. How it rests then: one that was woken meanwhile is ready.
+    /// Puts the thread in hand back, as ready or blocked by its pause. How it rests then: one that was woken meanwhile
+    /// is ready.
     #[inline(always)]
     pub(crate) fn rest(&mut self) -> Result<Rest, WorkerFault>
         ensures { self.new ≡ self.old }
@@ -184,7 +184,8 @@ impl<'a, H: Wait, T: RunJob, C: Contexts<T>, R: Rng + Drop> Seat<'a, H, T, C, R>
         }
     }
 
-    /// Keeps the place that a thread has left or gives all back that are kept, by what the core was before and is now.
+    /// Keeps the place that a thread has left, if the core was full before. Then what is kept is given back, if that is
+    /// due.
     pub(crate) fn settle_places(&mut self, before: OccWord) -> Result<(), WorkerFault>
         ensures { self.new ≡ self.old }
     {
@@ -203,6 +204,14 @@ impl<'a, H: Wait, T: RunJob, C: Contexts<T>, R: Rng + Drop> Seat<'a, H, T, C, R>
             }
             self.is_broken = false;
         }
+        self.thin_out()
+    }
+
+    /// Gives back all places that are kept, if that is due by what is on the core.
+    #[inline(always)]
+    pub(crate) fn thin_out(&mut self) -> Result<(), WorkerFault>
+        ensures { self.new ≡ self.old }
+    {
         let kept = self.kept.count();
         if kept > 0 && policy::gives_back(self.look(), kept, self.machine.slots) {
             return self.give_all_back();
@@ -302,8 +311,8 @@ impl<'a, H: Wait, T: RunJob, C: Contexts<T>, R: Rng + Drop> Seat<'a, H, T, C, R>
         self.machine.shared.signals().waiting() > 0
     }
 
-    /// Takes a ticket from the queue, and posts its child on the core if that waits still and there is a place. Whether there
-    /// was a ticket, and the index of the child.
+    /// Takes a ticket from the queue, and posts its child on the core if that waits still and there is a place. Whether
+    /// there was a ticket, and the index of the child.
     pub(crate) fn take_ticket(&mut self) -> Result<(bool, Option<u8>), WorkerFault>
         ensures { self.new ≡ self.old }
     {
@@ -314,7 +323,7 @@ impl<'a, H: Wait, T: RunJob, C: Contexts<T>, R: Rng + Drop> Seat<'a, H, T, C, R>
             return Ok((false, None));
         };
         self.machine.shared.signals().ticket_went();
-        if !T::still_waits(&ticket) {
+        if !ticket.still_waits() {
             return Ok((true, None));
         }
         self.is_broken = true;
@@ -336,11 +345,15 @@ impl<'a, H: Wait, T: RunJob, C: Contexts<T>, R: Rng + Drop> Seat<'a, H, T, C, R>
     pub(crate) fn tend(&mut self) -> Tended
         ensures { self.new ≡ self.old }
     {
+        let nothing = Tended {
+            applied: None,
+            receivers: 0,
+        };
+        if self.machine.orders == 0 {
+            return nothing;
+        }
         let Some(arbiter) = &mut self.arbiter else {
-            return Tended {
-                applied: None,
-                receivers: 0,
-            };
+            return nothing;
         };
         let before = arbiter.applied();
         let machine = self.machine;

@@ -5,6 +5,7 @@ ghost use Rattle.arachne_run.specs.Cells.{HasNotBegun, IsFor, IsFoundFor, IsWant
 ghost use Rattle.arachne_run.specs.Threads.{tag_of};
 
 use crate::left::{Found, Left, Waiting};
+use crate::slice::RunTicket;
 use crate::wanted::Wanted;
 use arachne_contexts::Tagged;
 use arachne_core::ThreadId;
@@ -130,13 +131,14 @@ impl<'p> WaitCell<'p> {
     }
 }
 
-impl<'p> Ticket<'p> {
-    /// Whether the child waits still. Nothing is taken.
-    pub(crate) fn still_waits(&self) -> bool {
+impl<'p> RunTicket for Ticket<'p> {
+    fn still_waits(&self) -> bool {
         let (state, _) = self.cell.seen();
         state == CellState::Waiting
     }
+}
 
+impl<'p> Ticket<'p> {
     /// The child, if it waits still, with the end at which it leaves its outcome.
     pub(crate) fn take(self) -> Option<(Waiting<'p>, SpilledEnd<'p>)>
         ensures { IfSome result (λ taken. IsFor taken.0.thread taken.1 × HasNotBegun taken.0.thread) }
