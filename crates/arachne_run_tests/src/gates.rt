@@ -8,7 +8,7 @@ use std::thread::yield_now;
 const POLLS: u32 = 20_000_000;
 
 /// How often a gate looks before it lets a core go on that it gave time for what can't be seen.
-const PAUSE: u32 = 20_000;
+const PAUSE: u32 = 5_000;
 
 /// How often it looks whether the run has stopped.
 const STOPS: u32 = 2_000_000;

@@ -1,0 +1,140 @@
+//! A job whose thread ends before it awaits what it has forked, so that the table has a thread left in the end.
+ghost use Rattle.std.specs.Prelude.{◌≡◌, false, true, Some};
+ghost use Rattle.arachne_machine.specs.declared.pause.Pending.TheVariants as pause;
+
+use arachne_contexts::Tagged;
+use arachne_core::{Rest, ThreadId};
+use arachne_lang::Program;
+use arachne_machine::{Placing, Thread};
+use arachne_run::{
+    Job, JobOf, OutcomeReceiver, RunJob, RunThread, Slice, Spares, Ticket, WorkerFault,
+};
+use std::alloc::{AllocError, Global};
+
+/// A thread that ends in the slice behind its first fork.
+#[derive(Drop)]
+pub struct Hasty<'p> {
+    job: Job<'p>,
+    parent: Option<ThreadId>,
+    has_forked: bool,
+    has_ended: bool,
+}
+
+impl<'p> Tagged for Hasty<'p> {
+    ghost tag_of = { λ h. Job.tag_of h.job };
+
+    fn tag(&self) -> u64 {
+        self.job.tag()
+    }
+}
+
+impl<'p> RunThread for Hasty<'p> {
+    ghost running_tag_of = { λ h. Job.running_tag_of h.job };
+
+    ghost parent_of = { λ h. h.parent };
+
+    ghost pause_of = { λ h. if h.has_ended then Some pause.Ended else Job.pause_of h.job };
+
+    fn running_tag(&self) -> u64 {
+        self.job.running_tag()
+    }
+
+    fn rest(&self) -> Option<Rest> {
+        if self.has_ended {
+            return None;
+        }
+        self.job.rest()
+    }
+
+    fn answer(&mut self) -> Result<(), WorkerFault> {
+        if self.has_ended {
+            return Err(WorkerFault::Foreign);
+        }
+        self.job.answer()
+    }
+}
+
+impl<'p> RunJob for Hasty<'p> {
+    type Child = Thread<'p>;
+
+    type Ticket = Ticket<'p>;
+
+    type Spares = Spares<'p>;
+
+    ghost forks = { λ h child. (h.has_ended ≡ false) × Job.forks h.job child };
+
+    fn slice<P: Placing>(
+        &mut self,
+        left: &mut u32,
+        spares: &mut Spares<'p>,
+        places: &mut P,
+    ) -> Result<Slice<Thread<'p>>, WorkerFault> {
+        if self.has_forked || self.has_ended {
+            *left -= 1;
+            self.has_ended = true;
+            return Ok(Slice::Ends);
+        }
+        self.job.slice(left, spares, places)
+    }
+
+    fn fork_off(
+        &mut self,
+        alloc: Global,
+        me: ThreadId,
+        child: Thread<'p>,
+        tag: u64,
+        spares: &mut Spares<'p>,
+    ) -> Result<Hasty<'p>, WorkerFault> {
+        let job = self.job.fork_off(alloc, me, child, tag, spares)?;
+        self.has_forked = true;
+        Ok(Hasty {
+            job,
+            parent: Some(me),
+            has_forked: false,
+            has_ended: false,
+        })
+    }
+
+    fn put_aside(
+        &mut self,
+        alloc: Global,
+        me: ThreadId,
+        child: Thread<'p>,
+        tag: u64,
+        waits: bool,
+    ) -> Result<Option<Ticket<'p>>, WorkerFault> {
+        self.job.put_aside(alloc, me, child, tag, waits)
+    }
+
+    fn of_ticket(
+        _alloc: Global,
+        _ticket: Ticket<'p>,
+        _spares: &mut Spares<'p>,
+    ) -> Option<Hasty<'p>> {
+        None
+    }
+
+    fn leave(self, spares: &mut Spares<'p>) -> Result<Option<ThreadId>, WorkerFault> {
+        if !self.has_ended {
+            let _ = self.job.leave(spares)?;
+        }
+        Ok(self.parent)
+    }
+}
+
+impl<'p> JobOf<'p> for Hasty<'p> {
+    fn begin(
+        alloc: Global,
+        program: &'p Program,
+        spares: &mut Spares<'p>,
+    ) -> Result<(Hasty<'p>, OutcomeReceiver<'p>), AllocError> {
+        let (job, receiver) = Job::begin(alloc, program, spares)?;
+        let hasty = Hasty {
+            job,
+            parent: None,
+            has_forked: false,
+            has_ended: false,
+        };
+        Ok((hasty, receiver))
+    }
+}
