@@ -9,23 +9,23 @@ use arachne_core::SLOTS;
 use arachne_policy::{CoreOrder, OrderKind};
 use std::test::Fail;
 
-/// A child that counts to 20,000, for which there is no place: it waits until its parent awaits it.
+/// A child that counts to 5,000, for which there is no place: it waits until its parent awaits it.
 const TAKEN_BACK: Source = Source {
     ledgers: 0,
     locks: 0,
     forks: 0,
-    expr: "(fork n (fold (num 0) (num 20000) (num 0) (var 1)) (num 2) (add (var 0) (var 1)))",
+    expr: "(fork n (fold (num 0) (num 5000) (num 0) (var 1)) (num 2) (add (var 0) (var 1)))",
 };
 
-/// The same behind 900 others, so that there is no room to wait either.
+/// The same behind 299 others, so that there is no room to wait either.
 const AT_ONCE: Source = Source {
     ledgers: 0,
     locks: 0,
     forks: 0,
-    expr: "(let (sweep add 1 (num 0) (num 901) (var 0)) (fork n (fold (num 0) (num 20000) (num 0) (var 2)) (num 2) (add (var 1) (var 2))))",
+    expr: "(let (sweep add 1 (num 0) (num 300) (var 0)) (fork n (fold (num 0) (num 5000) (num 0) (var 2)) (num 2) (add (var 1) (var 2))))",
 };
 
-/// A child that counts to 20,000 and runs in its parent's place.
+/// A child that counts and runs in its parent's place.
 const CHARGED: Row = Row {
     shows: "the steps of a thread in place are charged to the slices",
     source: TAKEN_BACK,
@@ -38,19 +38,83 @@ const CHARGED: Row = Row {
     facts: &[
         (Fact::Value, 2),
         (Fact::InPlace, 1),
-        (Fact::Slices(20_000), 1),
+        (Fact::Slices(5000), 1),
     ],
     telling: Telling::Nothing,
     told: "",
 };
 
+/// The same of one for which there is no room to wait. The steps of the others are fewer than 5,000.
+const CHARGED_AT_ONCE: Row = Row {
+    source: AT_ONCE,
+    facts: &[
+        (Fact::Value, 2),
+        (Fact::InPlace, 300),
+        (Fact::Slices(5000), 1),
+    ],
+    ..CHARGED
+};
+
+const CHARGES: &[Row] = &[
+    CHARGED,
+    Row {
+        machines: &[(1, 7, 1)],
+        facts: &[(Fact::InPlace, 1), (Fact::Slices(5000 / 7), 1)],
+        ..CHARGED
+    },
+    Row {
+        machines: &[(1, 100, 1)],
+        facts: &[(Fact::InPlace, 1), (Fact::Slices(50), 1)],
+        ..CHARGED
+    },
+    Row {
+        source: Source {
+            expr: "(fork n (fold (num 0) (num 30000) (num 0) (var 1)) (num 2) (add (var 0) (var 1)))",
+            ..TAKEN_BACK
+        },
+        machines: &[(1, 10_000, 1)],
+        facts: &[(Fact::InPlace, 1), (Fact::Slices(4), 1)],
+        ..CHARGED
+    },
+    CHARGED_AT_ONCE,
+    Row {
+        machines: &[(1, 7, 1)],
+        facts: &[(Fact::InPlace, 300), (Fact::Slices(5000 / 7), 1)],
+        ..CHARGED_AT_ONCE
+    },
+    Row {
+        machines: &[(1, 100, 1)],
+        facts: &[(Fact::InPlace, 300), (Fact::Slices(50), 1)],
+        ..CHARGED_AT_ONCE
+    },
+    Row {
+        source: Source {
+            expr: "(let (sweep add 1 (num 0) (num 300) (var 0)) (fork n (fold (num 0) (num 30000) (num 0) (var 2)) (num 2) (add (var 1) (var 2))))",
+            ..AT_ONCE
+        },
+        machines: &[(1, 10_000, 1)],
+        facts: &[(Fact::InPlace, 300), (Fact::Slices(4), 1)],
+        ..CHARGED_AT_ONCE
+    },
+];
+
+#[test]
+fn steps_in_place_are_charged(rt: HostRuntime) -> Result<(), Fail> {
+    rows_hold(&rt, rt.alloc(), CHARGES)
+}
+
 /// Core 1's first slice doesn't end before core 0 has entered its slice 400. By then 400 have ended.
 const HELD_BACK: Row = Row {
     shows: "a slice counts once it has ended",
-    source: BESIDE,
+    source: Source {
+        ledgers: 0,
+        locks: 0,
+        forks: 0,
+        expr: "(fork n (fold (num 0) (num 5000) (num 0) (var 1)) (fold (num 0) (num 5000) (num 0) (var 1)) (add (var 0) (var 1)))",
+    },
     forms: FORMS,
     slots: SLOTS,
-    machines: &[(2, 1, 2), (2, 7, 2), (2, 100, 2)],
+    machines: &[(2, 1, 2), (2, 7, 2)],
     draws: CORE_ONE,
     orders: &[CoreOrder {
         after: 401,
@@ -63,65 +127,15 @@ const HELD_BACK: Row = Row {
     told: "",
 };
 
-const ROWS: &[Row] = &[
-    CHARGED,
-    Row {
-        machines: &[(1, 7, 1)],
-        facts: &[
-            (Fact::Value, 2),
-            (Fact::InPlace, 1),
-            (Fact::Slices(20_000 / 7), 1),
-        ],
-        ..CHARGED
-    },
-    Row {
-        machines: &[(1, 100, 1)],
-        facts: &[(Fact::Value, 2), (Fact::InPlace, 1), (Fact::Slices(200), 1)],
-        ..CHARGED
-    },
-    Row {
-        machines: &[(1, 10_000, 1)],
-        facts: &[(Fact::Value, 2), (Fact::InPlace, 1), (Fact::Slices(3), 1)],
-        ..CHARGED
-    },
-    // The steps of the 900 are fewer than 10,000.
-    Row {
-        source: AT_ONCE,
-        facts: &[
-            (Fact::Value, 2),
-            (Fact::InPlace, 901),
-            (Fact::Slices(20_000), 1),
-        ],
-        ..CHARGED
-    },
-    Row {
-        source: AT_ONCE,
-        machines: &[(1, 7, 1)],
-        facts: &[
-            (Fact::Value, 2),
-            (Fact::InPlace, 901),
-            (Fact::Slices(20_000 / 7), 1),
-        ],
-        ..CHARGED
-    },
-    Row {
-        source: AT_ONCE,
-        machines: &[(1, 100, 1)],
-        facts: &[
-            (Fact::Value, 2),
-            (Fact::InPlace, 901),
-            (Fact::Slices(200), 1),
-        ],
-        ..CHARGED
-    },
-    Row {
-        source: AT_ONCE,
-        machines: &[(1, 10_000, 1)],
-        facts: &[(Fact::Value, 2), (Fact::InPlace, 901), (Fact::Slices(3), 1)],
-        ..CHARGED
-    },
+const COUNTS: &[Row] = &[
     HELD_BACK,
     Row {
+        source: BESIDE,
+        machines: &[(2, 100, 2)],
+        ..HELD_BACK
+    },
+    Row {
+        source: BESIDE,
         machines: &[(2, 10_000, 2)],
         orders: &[CoreOrder {
             after: 4,
@@ -134,8 +148,8 @@ const ROWS: &[Row] = &[
 ];
 
 #[test]
-fn slices_are_what_their_steps_are(rt: HostRuntime) -> Result<(), Fail> {
-    rows_hold(&rt, rt.alloc(), ROWS)
+fn a_slice_counts_once_it_has_ended(rt: HostRuntime) -> Result<(), Fail> {
+    rows_hold(&rt, rt.alloc(), COUNTS)
 }
 
 /// Core 3 is closed, so that its kernel thread parks. Two threads are on core 1, and one that is to be alone on core 2. That
