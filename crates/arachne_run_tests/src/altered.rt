@@ -27,14 +27,14 @@ enum Alteration {
     IsFull,
     /// Each seat has something out.
     HasOut,
-    /// Every other claim is lost, the first one too.
+    /// Of three claims that follow one another the first two are lost.
     Loses,
 }
 
 /// A table behind a lock that hands on all calls, or all but one. A run makes its table itself, so the numbers of cores and of
 /// places say which: of 5 cores it hands back each thread that is to be finished, of 6 it refuses memory to a claim on a core
-/// that is in use, of 7 all cores but 0 are full, of 8 each seat has something out, of any other number of 5 places every other
-/// claim is lost, and else it answers nothing by itself.
+/// that is in use, of 7 all cores but 0 are full, of 8 each seat has something out, of any other number of 5 places two of three
+/// claims are lost, and else it answers nothing by itself.
 #[derive(Drop)]
 pub struct Altered<T: Tagged> {
     inner: LockedContexts<T>,
@@ -130,7 +130,7 @@ impl<T: Tagged + Drop> Contexts<T> for Altered<T> {
                 Ok(Claimed::Full(FULL))
             }
             Alteration::RefusesMemory if self.inner.look(rt, seat, core) != 0 => Err(AllocError),
-            Alteration::Loses if self.claims.fetch_add(1, Ordering::SeqCst) % 2 == 0 => {
+            Alteration::Loses if self.claims.fetch_add(1, Ordering::SeqCst) % 3 < 2 => {
                 Ok(Claimed::Lost(self.inner.look(rt, seat, core)))
             }
             _ => self.inner.claim(rt, seat, core),

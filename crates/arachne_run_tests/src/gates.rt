@@ -5,7 +5,7 @@ use std::sync::atomic::{AtomicU64, Ordering};
 use std::thread::yield_now;
 
 /// How often a gate looks whether the other core has come before it gives up.
-const POLLS: u32 = 20_000_000;
+const POLLS: u32 = 5_000_000;
 
 /// How often a gate looks before it lets a core go on that it gave time for what can't be seen.
 const PAUSE: u32 = 5_000;
@@ -32,7 +32,8 @@ pub enum Watching {
     /// slice 0.
     Granting(u64, u64),
     /// It gives a core time to park before core 0's slice 0. It holds core 2's slice 0 until core 1 has entered this slice, and
-    /// that until the run is stopped, which the parked core tells. Then core 1 may enter no slice.
+    /// that until the run is stopped, which the parked core tells. Then core 1 may enter no slice. Slices of core 1 before it
+    /// are held until core 0's slice 0 has ended.
     Stopping(u64),
 }
 
@@ -46,6 +47,8 @@ pub struct Watch {
     pub slices: AtomicU64,
     zero: AtomicU64,
     one: AtomicU64,
+    /// Core 0's first slice has ended.
+    ended: AtomicU64,
     failed: AtomicU64,
 }
 
@@ -57,6 +60,7 @@ impl Watch {
             slices: AtomicU64::new(0),
             zero: AtomicU64::new(0),
             one: AtomicU64::new(0),
+            ended: AtomicU64::new(0),
             failed: AtomicU64::new(0),
         }
     }
@@ -130,6 +134,7 @@ impl Watch {
                 self.one.store(1, Ordering::SeqCst);
             }
             Watching::Lead(wanted) if nth == 0 => self.wait(&self.zero, wanted),
+            Watching::Stopping(wanted) if nth < wanted => self.wait(&self.ended, 1),
             Watching::Stopping(wanted) if nth == wanted => {
                 self.one.store(1, Ordering::SeqCst);
                 // Where no core was parked the run has stopped when this is given up.
@@ -164,10 +169,10 @@ impl Gate for Watch {
     }
 
     fn slice_ended(&self, core: u8) {
-        if let Watching::Holding(_) = self.watching
-            && core == 1
-        {
-            self.wait(&self.zero, 1);
+        match (self.watching, core) {
+            (Watching::Holding(_), 1) => self.wait(&self.zero, 1),
+            (Watching::Stopping(_), 0) => self.ended.store(1, Ordering::SeqCst),
+            _ => {}
         }
     }
 

@@ -28,7 +28,7 @@ const WAITS: Row = Row {
 };
 
 /// The root has four children for the places of its core that are left, and a fifth that waits for one. Where there are five
-/// places every other claim is lost.
+/// places two of three claims are lost.
 const LOST: Row = Row {
     shows: "a claim that is lost is tried again",
     source: Source {
