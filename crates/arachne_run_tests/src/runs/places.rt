@@ -2,7 +2,7 @@
 use super::cores::ALONE;
 use super::facts::{Fact, Telling};
 use super::reports::{CHAIN, MANY};
-use super::rows::{Row, row_holds, rows_hold};
+use super::rows::{Row, rows_hold};
 use super::{FORMS, Machine, Source};
 use crate::choosers::{CORE_ONE, SPREAD, ZEROS};
 use crate::gates::Watching;
@@ -26,6 +26,29 @@ const AFTER_MANY: Source = Source {
     locks: 0,
     forks: 0,
     expr: "(let (sweep add 1 (num 0) (num 100) (var 0)) (fold (num 0) (num 1000) (num 0) (fork n (num 1) (num 1) (add (var 2) (var 3)))))",
+};
+
+/// 31 threads that wait for one another, of which the innermost has 9 that end soon, and then 24 that live at once.
+const NEVER_FULL: Source = Source {
+    ledgers: 0,
+    locks: 0,
+    forks: 30,
+    expr: "(let (sweep add 1 (num 0) (num 10) (var 0)) (sweep add 1 (num 0) (num 25) (fold (num 0) (num 300) (num 0) (num 0))))",
+};
+
+/// Of a core's 56 places 55 are taken at most.
+const ALL_PLACED: Row = Row {
+    shows: "no place is kept on a core that was never full",
+    source: NEVER_FULL,
+    forms: FORMS,
+    slots: SLOTS,
+    machines: &[(1, 1, 1), (1, 7, 1), (1, 100, 1)],
+    draws: ZEROS,
+    orders: &[],
+    watching: Watching::Nothing,
+    facts: &[(Fact::Value, 30), (Fact::Slot, 64)],
+    telling: Telling::Nothing,
+    told: "",
 };
 
 /// A normal thread, and once that has ended one that is to be alone.
@@ -150,6 +173,15 @@ const ROWS: &[Row] = &[
         telling: Telling::Nothing,
         told: "",
     },
+    ALL_PLACED,
+    Row {
+        source: Source {
+            expr: "(let (sweep add 1 (num 0) (num 10) (var 0)) (sweep add 1 (num 0) (num 25) (fold (num 0) (num 30000) (num 0) (num 0))))",
+            ..NEVER_FULL
+        },
+        machines: &[(1, 10_000, 1)],
+        ..ALL_PLACED
+    },
     // Each of the two waits for the other.
     Row {
         shows: "two long threads run side by side",
@@ -199,15 +231,16 @@ const ALONE_AFTER_ANOTHER: Row = Row {
     told: "",
 };
 
+/// The same on cores of one place, where each thread's core is full.
+const ALONE_AFTER_FULL: Row = Row {
+    slots: 1,
+    ..ALONE_AFTER_ANOTHER
+};
+
 #[test]
 fn a_core_that_is_left_is_free_at_once(rt: HostRuntime) -> Result<(), Fail> {
-    let alloc = rt.alloc();
     for _ in 0..75 {
-        for &machine in ALONE_AFTER_ANOTHER.machines {
-            for &form in FORMS {
-                row_holds(&rt, alloc, &ALONE_AFTER_ANOTHER, form, machine, &[])?;
-            }
-        }
+        rows_hold(&rt, rt.alloc(), &[ALONE_AFTER_ANOTHER, ALONE_AFTER_FULL])?;
     }
     Ok(())
 }
