@@ -5,6 +5,8 @@ use Rattle.arachne_run.specs.declared.fault.RunFault.{RunFault}
 use Rattle.arachne_run.specs.declared.fault.RunFault.TheVariants.{Cores, Quantum, Slots, Choosers, Orders, Memory, Foreign, Threads, Ledgers, Token, KernelThread}
 use Rattle.arachne_run.specs.declared.fault.WorkerFault.{WorkerFault}
 use Rattle.arachne_run.specs.declared.fault.WorkerFault.TheVariants as worker
+use Rattle.arachne_jobs.specs.declared.fault.JobFault.{JobFault}
+use Rattle.arachne_jobs.specs.declared.fault.JobFault.TheVariants as job
 use Rattle.arachne_policy.specs.declared.orders.CoreOrder.{CoreOrder}
 use Rattle.arachne_policy.specs.declared.orders.OrderFault.{OrderFault}
 use Rattle.arachne_policy.specs.Orders.{IsFirstFault}
@@ -53,3 +55,8 @@ as_run_fault worker.Threads = Threads
 as_run_fault worker.Ledgers = Ledgers
 as_run_fault worker.Token = Token
 as_run_fault worker.KernelThread = KernelThread
+
+-- what a worker stops for where a job can't go on
+abbrev pub as_worker_fault : JobFault → WorkerFault
+as_worker_fault job.Memory = worker.Memory
+as_worker_fault job.Foreign = worker.Foreign

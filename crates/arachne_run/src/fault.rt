@@ -1,4 +1,5 @@
 //! Why a run has no report.
+use arachne_jobs::JobFault;
 use arachne_policy::OrderFault;
 use std::alloc::AllocError;
 use thiserror::Error;
@@ -78,6 +79,20 @@ impl From<WorkerFault> for RunFault {
             WorkerFault::Ledgers => RunFault::Ledgers,
             WorkerFault::Token => RunFault::Token,
             WorkerFault::KernelThread => RunFault::KernelThread,
+        }
+    }
+}
+
+impl From<JobFault> for WorkerFault {
+    ghost use Rattle.std.specs.Prelude.{◌≡◌};
+    ghost use Rattle.arachne_run.specs.Setups.{as_worker_fault};
+
+    ghost from_gives = { λ fault e. e ≡ as_worker_fault fault };
+
+    fn from(fault: JobFault) -> WorkerFault {
+        match fault {
+            JobFault::Memory => WorkerFault::Memory,
+            JobFault::Foreign => WorkerFault::Foreign,
         }
     }
 }

@@ -14,10 +14,10 @@ use crate::machine::Machine;
 use crate::policy;
 use crate::queue::Post;
 use crate::shared::Shared;
-use crate::slice::{RunJob, Slice};
 use crate::tags::Tags;
 use arachne_contexts::{Claimed, Contexts, Held, Identified, Placed, Seats, Tagged};
 use arachne_core::OccWord;
+use arachne_jobs::{RunJob, Slice};
 use arachne_lang::Class;
 use arachne_machine::Placing;
 use arachne_spill::{CAPACITY, SpillPass};
@@ -41,6 +41,30 @@ pub(crate) struct Openings<'a, H, T, C: Seats, R> {
     /// What the table's contexts hold.
     pub(crate) of: PhantomData<T>,
     ghost counted: { C.core_count table.now ≡ cores },
+}
+
+impl<'a, H, T, C: Seats, R: Drop> Openings<'a, H, T, C, R> {
+    /// What threads are told at their forks, by this chooser. None where memory is refused.
+    pub(crate) fn boxed<K: Tagged + Drop>(
+        rt: &'a H,
+        alloc: Global,
+        machine: &'a Machine<C, K>,
+        chooser: R,
+    ) -> Option<Box<Openings<'a, H, T, C, R>>>
+        requires { IsSetUp C.core_count C.slot_count machine.now }
+    {
+        let openings = Openings {
+            rt,
+            table: &machine.table,
+            cores: machine.cores,
+            slots: machine.slots,
+            shared: &machine.shared,
+            chooser,
+            tags: Tags::new(),
+            of: PhantomData,
+        };
+        Box::new(alloc, openings).ok()
+    }
 }
 
 impl<'a, H: Wait, T: Tagged, C: Contexts<T>, R: Rng> Placing for Openings<'a, H, T, C, R> {

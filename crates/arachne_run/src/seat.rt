@@ -2,7 +2,9 @@
 //!
 //! It alone calls the table. Its type keeps the bookkeeping: the thread in hand is out with one seat, the places that
 //! are kept with the other, and nothing else is out between two calls.
-ghost use Rattle.std.specs.Prelude.{◌≡◌, ◌≤◌};
+ghost use Rattle.std.specs.Prelude.{◌≡◌, ◌<◌, ◌≤◌, []};
+ghost use Rattle.arachne_run.specs.Tokens.{IsArbiterOf, IsSetUp, ground_of};
+ghost use Rattle.arachne_spill.specs.Views.{IsPassOf};
 
 use crate::claims::Claims;
 use crate::desk::{Grip, Stop, Tended};
@@ -10,10 +12,10 @@ use crate::fault::WorkerFault;
 use crate::forking::{Openings, free_place, go_on, post_waiting};
 use crate::machine::Machine;
 use crate::policy;
-use crate::slice::{RunJob, RunThread, RunTicket};
 use arachne_arbiter::{Arbiter, Cores};
 use arachne_contexts::{Claimed, Contexts, Held, Moved, Placed, Rested, Taken, Woken};
 use arachne_core::{MarkWord, OccWord, Place, Rest, SLOTS, ThreadId};
+use arachne_jobs::{RunJob, RunSpares, RunThread, RunTicket};
 use arachne_spill::SpillPass;
 use rand_core::Rng;
 use std::alloc::Global;
@@ -61,6 +63,45 @@ impl<'a, H, T: RunJob, C: Contexts<T>, R> Model for Seat<'a, H, T, C, R> {
 }
 
 impl<'a, H: Wait, T: RunJob, C: Contexts<T>, R: Rng + Drop> Seat<'a, H, T, C, R> {
+    /// A worker's two seats, with which nothing is out, and what else it has of the machine.
+    pub(crate) fn new(
+        rt: &'a H,
+        alloc: Global,
+        machine: &'a Machine<C, T::Ticket>,
+        core: u8,
+        seat: C::Seat,
+        spare: C::Seat,
+        pass: SpillPass<T::Ticket>,
+        arbiter: Option<Arbiter>,
+        openings: Box<Openings<'a, H, T, C, R>>,
+    ) -> Seat<'a, H, T, C, R>
+        requires set_up { IsSetUp C.core_count C.slot_count machine.now }
+        requires core { core < machine.now.cores }
+        requires seat { C.sits machine.now.table seat }
+        requires nothing { C.has machine.now.table seat [] }
+        requires spare { C.sits machine.now.table spare }
+        requires nothing_spare { C.has machine.now.table spare [] }
+        requires pass { IsPassOf machine.now.tickets pass }
+        requires arbiter { IsArbiterOf machine.now arbiter }
+        ensures { result ≡ ground_of machine.now }
+    {
+        Seat {
+            rt,
+            alloc,
+            machine,
+            core,
+            is_broken: false,
+            seat,
+            held: None,
+            spare,
+            kept: Claims::new(alloc),
+            pass,
+            arbiter,
+            openings: Some(openings),
+            spares: T::Spares::none(alloc),
+        }
+    }
+
     /// Takes the thread at an index of the core in hand, if it is ready and none is.
     #[inline(always)]
     pub(crate) fn take(&mut self, index: u8) -> Grip
@@ -131,7 +172,7 @@ impl<'a, H: Wait, T: RunJob, C: Contexts<T>, R: Rng + Drop> Seat<'a, H, T, C, R>
         ensures { self.new ≡ self.old }
     {
         match &mut self.held {
-            Some(held) => held.value.answer(),
+            Some(held) => Ok(held.value.answer()?),
             None => Err(WorkerFault::Token),
         }
     }
@@ -176,7 +217,7 @@ impl<'a, H: Wait, T: RunJob, C: Contexts<T>, R: Rng + Drop> Seat<'a, H, T, C, R>
         };
         let table = &self.machine.table;
         match table.finish(self.rt, &mut self.seat, held) {
-            Ok(job) => job.leave(&mut self.spares),
+            Ok(job) => Ok(job.leave(&mut self.spares)?),
             Err(held) => {
                 self.held = Some(held);
                 Err(WorkerFault::Token)

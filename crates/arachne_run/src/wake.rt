@@ -5,9 +5,9 @@ use crate::execute::Worker;
 use crate::gate::Gate;
 use crate::policy;
 use crate::queue::Post;
-use crate::slice::RunJob;
 use arachne_contexts::{Contexts, Woken};
 use arachne_core::{Mark, Place, ThreadId};
+use arachne_jobs::RunJob;
 use rand_core::Rng;
 use std::sync::Wait;
 

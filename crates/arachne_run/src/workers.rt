@@ -3,7 +3,6 @@ ghost use Rattle.std.specs.Prelude.{◌≡◌, ◌<◌, ◌≤◌, IfSome, vec_c
 ghost use Rattle.std.specs.Thread.{IsSync};
 ghost use Rattle.arachne_run.specs.Tokens.{AreIdle, IsSetUp, ground_of};
 
-use crate::claims::Claims;
 use crate::execute::Worker;
 use crate::fault::WorkerFault;
 use crate::forking::Openings;
@@ -13,11 +12,10 @@ use crate::machine::Machine;
 use crate::queue::Agenda;
 use crate::rooting::post_root;
 use crate::seat::Seat;
-use crate::slice::{RunJob, RunSpares};
 use crate::sums::Sums;
-use crate::tags::Tags;
 use crate::tokens::Tokens;
 use arachne_contexts::{Contexts, Seats, Tagged};
+use arachne_jobs::RunJob;
 use rand_core::Rng;
 use std::alloc::Global;
 use std::marker::PhantomData;
@@ -203,43 +201,11 @@ fn work_on<
     ensures { IfSome result (AreIdle C.sits C.idle machine.now) }
 {
     let _ = of;
-    let Some(openings) = openings_at::<H, T, K, C, R>(rt, alloc, machine, chooser) else {
+    let Some(openings) = Openings::boxed(rt, alloc, machine, chooser) else {
         machine.shared.fail(rt, WorkerFault::Memory);
         return None;
     };
     work_with::<H, T, K, C, R, G>(rt, alloc, machine, gate, core, openings, tokens, root)
-}
-
-/// What threads of a core are told at their forks. None where memory is refused.
-fn openings_at<
-    'a,
-    H: Wait,
-    T: RunJob<Ticket = K>,
-    K: Tagged + Drop + Send,
-    C: Contexts<T>,
-    R: Rng + Drop,
->(
-    rt: &'a H,
-    alloc: Global,
-    machine: &'a Machine<C, K>,
-    chooser: R,
-) -> Option<Box<Openings<'a, H, T, C, R>>>
-    requires { IsSetUp C.core_count C.slot_count machine.now }
-{
-    let openings = Openings {
-        rt,
-        table: &machine.table,
-        cores: machine.cores,
-        slots: machine.slots,
-        shared: &machine.shared,
-        chooser,
-        tags: Tags::new(),
-        of: PhantomData,
-    };
-    match Box::new(alloc, openings) {
-        Ok(openings) => Some(openings),
-        Err(_) => None,
-    }
 }
 
 /// The same, with what threads of the core are told at their forks.
@@ -284,21 +250,9 @@ fn work_with<
             }
         }
     }
-    let desk: Seat<'_, H, T, C, R> = Seat {
-        rt,
-        alloc,
-        machine,
-        core,
-        is_broken: false,
-        seat,
-        held: None,
-        spare,
-        kept: Claims::new(alloc),
-        pass,
-        arbiter,
-        openings: Some(openings),
-        spares: T::Spares::none(alloc),
-    };
+    let desk = Seat::new(
+        rt, alloc, machine, core, seat, spare, pass, arbiter, openings,
+    );
     let mut worker: Worker<'_, H, T, C, R, G> = Worker {
         rt,
         gate,

@@ -6,9 +6,9 @@ ghost use Rattle.std.specs.Prelude.{ℕ, Option, None, Some};
 ghost use Rattle.arachne_core.specs.declared.thread_id.ThreadId.{ThreadId};
 ghost use Rattle.arachne_machine.specs.declared.pause.Pending.{Pending};
 ghost use Rattle.arachne_machine.specs.declared.pause.Pending.TheVariants as pause;
-ghost use Rattle.arachne_run.specs.Slices.{IsLeft, IsRequest, MayRest, UsesSteps};
+ghost use Rattle.arachne_jobs.specs.Slices.{IsLeft, IsRequest, MayRest, UsesSteps};
 
-use crate::fault::WorkerFault;
+use crate::fault::JobFault;
 use crate::wanted::OutcomeReceiver;
 use arachne_contexts::Tagged;
 use arachne_core::{Rest, ThreadId};
@@ -58,7 +58,7 @@ pub trait RunThread: Tagged + Drop {
 
     /// What it asks for is done: it holds the lock that it asked for, the lock is free, or the amount was added.
     /// `Foreign` where it asks for nothing.
-    fn answer(&mut self) -> Result<(), WorkerFault>
+    fn answer(&mut self) -> Result<(), JobFault>
         ensures tag { Self.tag_of self.new ≡ Self.tag_of self.old }
         ensures parent { parent_of self.new ≡ parent_of self.old }
         ensures asked { OnOk result (IsRequest (pause_of self.old)) }
@@ -98,7 +98,7 @@ pub trait RunJob: RunThread {
         left: &mut u32,
         spares: &mut Self::Spares,
         places: &mut P,
-    ) -> Result<Slice<Self::Child>, WorkerFault>
+    ) -> Result<Slice<Self::Child>, JobFault>
         requires { 1 ≤ left.old }
         ensures tag { Self.tag_of self.new ≡ Self.tag_of self.old }
         ensures steps { IfOk result (λ slice. UsesSteps slice left.old left.new) }
@@ -113,7 +113,7 @@ pub trait RunJob: RunThread {
         child: Self::Child,
         tag: u64,
         spares: &mut Self::Spares,
-    ) -> Result<Self, WorkerFault>
+    ) -> Result<Self, JobFault>
         requires { forks self.old child }
         ensures tag { Self.tag_of self.new ≡ Self.tag_of self.old }
         ensures parent { Self.parent_of self.new ≡ Self.parent_of self.old }
@@ -130,7 +130,7 @@ pub trait RunJob: RunThread {
         child: Self::Child,
         tag: u64,
         waits: bool,
-    ) -> Result<Option<Self::Ticket>, WorkerFault>
+    ) -> Result<Option<Self::Ticket>, JobFault>
         requires { forks self.old child }
         ensures tag { Self.tag_of self.new ≡ Self.tag_of self.old }
         ensures parent { Self.parent_of self.new ≡ Self.parent_of self.old }
@@ -141,7 +141,7 @@ pub trait RunJob: RunThread {
     fn of_ticket(alloc: Global, ticket: Self::Ticket, spares: &mut Self::Spares) -> Option<Self>;
 
     /// Leaves the outcome for its parent, which is to be woken; the root has none. `Foreign` where it has not ended.
-    fn leave(self, spares: &mut Self::Spares) -> Result<Option<ThreadId>, WorkerFault>
+    fn leave(self, spares: &mut Self::Spares) -> Result<Option<ThreadId>, JobFault>
         ensures ended { OnOk result (Self.pause_of self ≡ Some pause.Ended) }
         ensures parent { IfOk result (λ parent. parent ≡ Self.parent_of self) };
 }

@@ -1,8 +1,8 @@
 //! A child that waits in its join cell, for a place or for its parent.
 ghost use Rattle.std.specs.Prelude.{◌≡◌, IfOk, IfErr, IfSome};
 ghost use Rattle.std.specs.Arc.{arc_value};
-ghost use Rattle.arachne_run.specs.Cells.{HasNotBegun, IsFor, IsFoundFor, IsWanted};
-ghost use Rattle.arachne_run.specs.Threads.{tag_of};
+ghost use Rattle.arachne_jobs.specs.Cells.{HasNotBegun, IsFor, IsFoundFor, IsWanted};
+ghost use Rattle.arachne_jobs.specs.Threads.{tag_of};
 
 use crate::left::{Found, Left, Waiting};
 use crate::slice::RunTicket;
@@ -26,7 +26,7 @@ pub struct WaitCell<'p> {
 
 impl<'p> Model for WaitCell<'p> {
     ghost use Rattle.std.specs.Arc.{arc_value};
-    ghost use Rattle.arachne_run.specs.declared.wanted.Wanted.{Wanted};
+    ghost use Rattle.arachne_jobs.specs.declared.wanted.Wanted.{Wanted};
 
     ghost Value = { Wanted };
 
@@ -63,7 +63,7 @@ pub struct SpilledEnd<'p> {
 impl<'p> Model for SpilledEnd<'p> {
     ghost use Rattle.std.specs.Prelude.{◌≡◌};
     ghost use Rattle.std.specs.Arc.{arc_value};
-    ghost use Rattle.arachne_run.specs.declared.wanted.Wanted.{Wanted};
+    ghost use Rattle.arachne_jobs.specs.declared.wanted.Wanted.{Wanted};
 
     ghost Value = { Wanted };
 

@@ -4,8 +4,8 @@ use Rattle.arachne_core.specs.declared.state.Rest.{Rest}
 use Rattle.arachne_core.specs.declared.state.Rest.TheVariants as rest
 use Rattle.arachne_machine.specs.declared.pause.Pending.{Pending}
 use Rattle.arachne_machine.specs.declared.pause.Pending.TheVariants as pause
-use Rattle.arachne_run.specs.declared.slice.Slice.{Slice}
-use Rattle.arachne_run.specs.declared.slice.Slice.TheVariants.{Goes, Forks, Blocks, Asks, Awaits, Frees, Tallies, Ends}
+use Rattle.arachne_jobs.specs.declared.slice.Slice.{Slice}
+use Rattle.arachne_jobs.specs.declared.slice.Slice.TheVariants.{Goes, Forks, Blocks, Asks, Awaits, Frees, Tallies, Ends}
 
 -- the pauses at which a job waits for another: for the end of a child, or for a lock
 abbrev pub IsWait : Option Pending → Type 0
