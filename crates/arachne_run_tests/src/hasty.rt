@@ -4,11 +4,11 @@ ghost use Rattle.arachne_machine.specs.declared.pause.Pending.TheVariants as pau
 
 use arachne_contexts::Tagged;
 use arachne_core::{Rest, ThreadId};
+use arachne_jobs::{
+    Job, JobFault, JobOf, OutcomeReceiver, RunJob, RunThread, Slice, Spares, Ticket,
+};
 use arachne_lang::Program;
 use arachne_machine::{Placing, Thread};
-use arachne_run::{
-    Job, JobOf, OutcomeReceiver, RunJob, RunThread, Slice, Spares, Ticket, WorkerFault,
-};
 use std::alloc::{AllocError, Global};
 
 /// A thread that ends in the slice behind its first fork.
@@ -46,9 +46,9 @@ impl<'p> RunThread for Hasty<'p> {
         self.job.rest()
     }
 
-    fn answer(&mut self) -> Result<(), WorkerFault> {
+    fn answer(&mut self) -> Result<(), JobFault> {
         if self.has_ended {
-            return Err(WorkerFault::Foreign);
+            return Err(JobFault::Foreign);
         }
         self.job.answer()
     }
@@ -68,7 +68,7 @@ impl<'p> RunJob for Hasty<'p> {
         left: &mut u32,
         spares: &mut Spares<'p>,
         places: &mut P,
-    ) -> Result<Slice<Thread<'p>>, WorkerFault> {
+    ) -> Result<Slice<Thread<'p>>, JobFault> {
         if self.has_forked || self.has_ended {
             *left -= 1;
             self.has_ended = true;
@@ -84,7 +84,7 @@ impl<'p> RunJob for Hasty<'p> {
         child: Thread<'p>,
         tag: u64,
         spares: &mut Spares<'p>,
-    ) -> Result<Hasty<'p>, WorkerFault> {
+    ) -> Result<Hasty<'p>, JobFault> {
         let job = self.job.fork_off(alloc, me, child, tag, spares)?;
         self.has_forked = true;
         Ok(Hasty {
@@ -102,7 +102,7 @@ impl<'p> RunJob for Hasty<'p> {
         child: Thread<'p>,
         tag: u64,
         waits: bool,
-    ) -> Result<Option<Ticket<'p>>, WorkerFault> {
+    ) -> Result<Option<Ticket<'p>>, JobFault> {
         self.job.put_aside(alloc, me, child, tag, waits)
     }
 
@@ -114,7 +114,7 @@ impl<'p> RunJob for Hasty<'p> {
         None
     }
 
-    fn leave(self, spares: &mut Spares<'p>) -> Result<Option<ThreadId>, WorkerFault> {
+    fn leave(self, spares: &mut Spares<'p>) -> Result<Option<ThreadId>, JobFault> {
         if !self.has_ended {
             let _ = self.job.leave(spares)?;
         }
