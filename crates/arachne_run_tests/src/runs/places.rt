@@ -59,8 +59,16 @@ const THEN_ALONE: Source = Source {
     expr: "(fork n (num 1) (num 2) (fork x (num 3) (num 4) (add (var 2) (var 3))))",
 };
 
-/// Two threads that count.
+/// Two threads that count to 5,000.
 pub(super) const BESIDE: Source = Source {
+    ledgers: 0,
+    locks: 0,
+    forks: 0,
+    expr: "(fork n (fold (num 0) (num 5000) (num 0) (var 1)) (fold (num 0) (num 5000) (num 0) (var 1)) (add (var 0) (var 1)))",
+};
+
+/// Two threads that count to 50,000.
+pub(super) const BESIDE_LONG: Source = Source {
     ledgers: 0,
     locks: 0,
     forks: 0,
@@ -142,6 +150,14 @@ const ROWS: &[Row] = &[
         telling: Telling::Ran,
         told: "slot spill slot ",
     },
+];
+
+#[test]
+fn threads_get_places_as_they_come(rt: HostRuntime) -> Result<(), Fail> {
+    rows_hold(&rt, rt.alloc(), ROWS)
+}
+
+const KEPT: &[Row] = &[
     Row {
         shows: "where two threads live at most, each has a place",
         source: IN_TURN,
@@ -176,19 +192,40 @@ const ROWS: &[Row] = &[
     ALL_PLACED,
     Row {
         source: Source {
-            expr: "(let (sweep add 1 (num 0) (num 10) (var 0)) (sweep add 1 (num 0) (num 25) (fold (num 0) (num 30000) (num 0) (num 0))))",
+            expr: "(let (sweep add 1 (num 0) (num 10) (var 0)) (sweep add 1 (num 0) (num 25) (fold (num 0) (num 12000) (num 0) (num 0))))",
             ..NEVER_FULL
         },
         machines: &[(1, 10_000, 1)],
         ..ALL_PLACED
     },
+];
+
+#[test]
+fn places_are_kept_on_full_cores_alone(rt: HostRuntime) -> Result<(), Fail> {
+    rows_hold(&rt, rt.alloc(), KEPT)
+}
+
+const AT_ONCE: &[Row] = &[
     // Each of the two waits for the other.
     Row {
         shows: "two long threads run side by side",
         source: BESIDE,
         forms: FORMS,
         slots: SLOTS,
-        machines: &[(2, 1, 2), (2, 7, 2), (2, 100, 2), (2, 10_000, 2)],
+        machines: &[(2, 1, 2), (2, 7, 2), (2, 100, 2)],
+        draws: CORE_ONE,
+        orders: &[],
+        watching: Watching::Meeting(3, 0),
+        facts: &[(Fact::Value, 0), (Fact::Slot, 2), (Fact::IsOver, 1)],
+        telling: Telling::Nothing,
+        told: "",
+    },
+    Row {
+        shows: "two long threads run side by side",
+        source: BESIDE_LONG,
+        forms: FORMS,
+        slots: SLOTS,
+        machines: &[(2, 10_000, 2)],
         draws: CORE_ONE,
         orders: &[],
         watching: Watching::Meeting(3, 0),
@@ -212,8 +249,8 @@ const ROWS: &[Row] = &[
 ];
 
 #[test]
-fn threads_get_places_as_they_come(rt: HostRuntime) -> Result<(), Fail> {
-    rows_hold(&rt, rt.alloc(), ROWS)
+fn threads_run_side_by_side(rt: HostRuntime) -> Result<(), Fail> {
+    rows_hold(&rt, rt.alloc(), AT_ONCE)
 }
 
 /// A normal thread ends, and one that is to be alone begins.

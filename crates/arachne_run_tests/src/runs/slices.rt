@@ -1,6 +1,6 @@
 //! What a slice is: which steps are charged to it, when it counts, and that none begins once the run is stopped.
 use super::facts::{Fact, Telling};
-use super::places::BESIDE;
+use super::places::{BESIDE, BESIDE_LONG};
 use super::rows::{Row, rows_hold};
 use super::{FORMS, LOCKED, Source};
 use crate::choosers::{CORE_ONE, ZEROS};
@@ -106,12 +106,7 @@ fn steps_in_place_are_charged(rt: HostRuntime) -> Result<(), Fail> {
 /// Core 1's first slice doesn't end before core 0 has entered its slice 400. By then 400 have ended.
 const HELD_BACK: Row = Row {
     shows: "a slice counts once it has ended",
-    source: Source {
-        ledgers: 0,
-        locks: 0,
-        forks: 0,
-        expr: "(fork n (fold (num 0) (num 5000) (num 0) (var 1)) (fold (num 0) (num 5000) (num 0) (var 1)) (add (var 0) (var 1)))",
-    },
+    source: BESIDE,
     forms: FORMS,
     slots: SLOTS,
     machines: &[(2, 1, 2), (2, 7, 2)],
@@ -130,12 +125,12 @@ const HELD_BACK: Row = Row {
 const COUNTS: &[Row] = &[
     HELD_BACK,
     Row {
-        source: BESIDE,
+        source: BESIDE_LONG,
         machines: &[(2, 100, 2)],
         ..HELD_BACK
     },
     Row {
-        source: BESIDE,
+        source: BESIDE_LONG,
         machines: &[(2, 10_000, 2)],
         orders: &[CoreOrder {
             after: 4,
