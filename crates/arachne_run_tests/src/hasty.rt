@@ -1,6 +1,7 @@
 //! A job whose thread ends before it awaits what it has forked, so that the table has a thread left in the end.
 ghost use Rattle.std.specs.Prelude.{◌≡◌, false, true, Some};
 ghost use Rattle.arachne_machine.specs.declared.pause.Pending.TheVariants as pause;
+ghost use Rattle.arachne_jobs.specs.Threads.{IsForking, pause_of, running_tag_of, tag_of};
 
 use arachne_contexts::Tagged;
 use arachne_core::{Rest, ThreadId};
@@ -21,7 +22,7 @@ pub struct Hasty<'p> {
 }
 
 impl<'p> Tagged for Hasty<'p> {
-    ghost tag_of = { λ h. Job.tag_of h.job };
+    ghost tag_of = { λ h. tag_of h.job.thread };
 
     fn tag(&self) -> u64 {
         self.job.tag()
@@ -29,11 +30,11 @@ impl<'p> Tagged for Hasty<'p> {
 }
 
 impl<'p> RunThread for Hasty<'p> {
-    ghost running_tag_of = { λ h. Job.running_tag_of h.job };
+    ghost running_tag_of = { λ h. running_tag_of h.job.thread };
 
     ghost parent_of = { λ h. h.parent };
 
-    ghost pause_of = { λ h. if h.has_ended then Some pause.Ended else Job.pause_of h.job };
+    ghost pause_of = { λ h. if h.has_ended then Some pause.Ended else pause_of h.job.thread };
 
     fn running_tag(&self) -> u64 {
         self.job.running_tag()
@@ -61,7 +62,7 @@ impl<'p> RunJob for Hasty<'p> {
 
     type Spares = Spares<'p>;
 
-    ghost forks = { λ h child. (h.has_ended ≡ false) × Job.forks h.job child };
+    ghost forks = { λ h child. (h.has_ended ≡ false) × IsForking h.job.thread child };
 
     fn slice<P: Placing>(
         &mut self,
