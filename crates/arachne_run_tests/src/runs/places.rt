@@ -25,7 +25,7 @@ const AFTER_MANY: Source = Source {
     ledgers: 0,
     locks: 0,
     forks: 0,
-    expr: "(let (sweep add 1 (num 0) (num 100) (var 0)) (fold (num 0) (num 1000) (num 0) (fork n (num 1) (num 1) (add (var 2) (var 3)))))",
+    expr: "(let (sweep add 1 (num 0) (num 100) (fold (num 0) (num 30) (num 0) (num 0))) (fold (num 0) (num 1000) (num 0) (fork n (num 1) (num 1) (add (var 2) (var 3)))))",
 };
 
 /// 31 threads that wait for one another, of which the innermost has 9 that end soon, and then 24 that live at once.
