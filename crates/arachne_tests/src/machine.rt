@@ -8,8 +8,8 @@ mod ways;
 
 use arachne_lang::{Class, Meaning, Name, Program, TextFault, parse};
 use arachne_machine::{
-    NotJoined, NotPlaced, Outcome, OutcomeParts, Pause, Pending, Placing, Ran, Spares, Thread, ThreadLine,
-    run_alone,
+    NotJoined, NotPlaced, Outcome, OutcomeParts, Pause, Pending, Placing, Ran, Spares, Thread,
+    ThreadLine, run_alone,
 };
 use std::alloc::Global;
 use std::process::Abort;
