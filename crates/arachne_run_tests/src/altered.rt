@@ -10,13 +10,9 @@ use arachne_locked::{LockedClaim, LockedContexts, LockedHold, LockedSeat};
 use std::alloc::{AllocError, Global};
 use std::sync::Wait;
 use std::sync::atomic::{AtomicU64, Ordering};
-use std::thread::yield_now;
 
 /// The word of an open core that is full.
 const FULL: u64 = 0x38FF_FFFF_FFFF_FFFF;
-
-/// How often a kernel thread lets others go on in a move that takes long.
-const LONG: u32 = 20_000;
 
 /// What a table answers by itself.
 #[derive(Clone, Copy)]
@@ -33,8 +29,6 @@ enum Alteration {
     HasOut,
     /// Of three claims that follow one another the first two are lost.
     Loses,
-    /// A move has a place on its target for a long time before it is made.
-    MovesSlowly,
 }
 
 /// A table behind a lock that hands on all calls, or all but one. A run makes its table itself, so the numbers of cores and of
@@ -75,7 +69,6 @@ impl<T: Tagged + Drop> Seats for Altered<T> {
             (7, _) => Alteration::IsFull,
             (8, _) => Alteration::HasOut,
             (_, 5) => Alteration::Loses,
-            (_, 6) => Alteration::MovesSlowly,
             _ => Alteration::None,
         };
         let altered = Altered {
@@ -233,14 +226,6 @@ impl<T: Tagged + Drop> Contexts<T> for Altered<T> {
     }
 
     fn move_one<R: Wait>(&self, rt: &R, seat: &mut LockedSeat, place: Place, to: u8) -> Moved {
-        if let Alteration::MovesSlowly = self.alteration
-            && let Ok(Claimed::Place(claim)) = self.inner.claim(rt, seat, to)
-        {
-            for _ in 0..LONG {
-                yield_now();
-            }
-            let _ = self.inner.give_back(rt, seat, claim);
-        }
         self.inner.move_one(rt, seat, place, to)
     }
 

@@ -3,7 +3,7 @@ use super::cores::ALONE;
 use super::facts::{Fact, Telling};
 use super::reports::{CHAIN, MANY};
 use super::rows::{Row, rows_hold};
-use super::{FORMS, LOCKED, Machine, Source};
+use super::{FORMS, Machine, Source};
 use crate::choosers::{CORE_ONE, SPREAD, ZEROS};
 use crate::gates::Watching;
 use arachne_core::SLOTS;
@@ -267,26 +267,6 @@ const ALONE_AFTER_ANOTHER: Row = Row {
     telling: Telling::Nothing,
     told: "",
 };
-
-/// The same over a table whose moves take long, where the normal thread runs so long that its parent's kernel thread sleeps. Were
-/// the parent moved to the thread's core at its end, that core would have a place that is claimed for it.
-const ALONE_DESPITE_MOVES: Row = Row {
-    source: Source {
-        ledgers: 0,
-        locks: 0,
-        forks: 0,
-        expr: "(fork n (fold (num 0) (num 50000) (num 0) (var 1)) (num 2) (fork x (num 3) (num 4) (add (var 2) (var 3))))",
-    },
-    forms: LOCKED,
-    slots: 6,
-    draws: CORE_ONE,
-    ..ALONE_AFTER_ANOTHER
-};
-
-#[test]
-fn a_core_is_empty_while_nothing_is_moved_to_it(rt: HostRuntime) -> Result<(), Fail> {
-    rows_hold(&rt, rt.alloc(), &[ALONE_DESPITE_MOVES])
-}
 
 /// The same on cores of one place, where each thread's core is full.
 const ALONE_AFTER_FULL: Row = Row {
