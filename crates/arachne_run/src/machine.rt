@@ -9,7 +9,7 @@ ghost use Rattle.arachne_run.specs.Tokens.{AreIdle, IsSetUp};
 
 use crate::classes::has_exclusive;
 use crate::fault::WorkerFault;
-use crate::policy::may_keep_places;
+use crate::policy::{may_keep_places, may_pull_threads};
 use crate::shared::Shared;
 use crate::tokens::Tokens;
 use arachne_arbiter::{Arbiter, Cores};
@@ -41,6 +41,8 @@ pub(crate) struct Machine<C, K: Tagged + Drop> {
     pub(crate) orders: usize,
     /// Whether workers may keep places.
     pub(crate) may_keep: bool,
+    /// Whether workers may move threads to their own cores.
+    pub(crate) may_pull: bool,
 }
 
 /// What is left of a machine once all workers have ended.
@@ -93,6 +95,7 @@ impl<C: Seats + Drop, K: Tagged + Drop> Machine<C, K> {
         ensures locks { IfOk result (λ made. length made.0.locks ≡ program.now.locks) }
     {
         let count = orders.len();
+        let exclusive = has_exclusive(&program.root);
         let (table, seat) = C::new(alloc, cores, slots, 0)?;
         let (ledgers, share) = Ledgers::new(alloc, usize::from(program.ledgers))?;
         let (locks, lock_seats) = SleepLocks::new(alloc, program.locks)?;
@@ -108,11 +111,8 @@ impl<C: Seats + Drop, K: Tagged + Drop> Machine<C, K> {
             slots,
             quantum,
             orders: count,
-            may_keep: may_keep_places(
-                has_exclusive(&program.root),
-                count,
-                program.locks > 0 && cores > 1,
-            ),
+            may_keep: may_keep_places(exclusive, count, program.locks > 0 && cores > 1),
+            may_pull: may_pull_threads(exclusive),
         };
         let tokens = Tokens {
             seat,

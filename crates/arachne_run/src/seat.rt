@@ -328,11 +328,12 @@ impl<'a, H: Wait, T: RunJob, C: Contexts<T>, R: Rng + Drop> Seat<'a, H, T, C, R>
         table.wake(self.rt, &mut self.seat, id)
     }
 
-    /// Moves the thread at a place of another core to this one. Whether it was moved.
+    /// Moves the thread at a place of another core to this one, if workers may. Whether it was moved.
     pub(crate) fn pull(&mut self, place: Place) -> bool
         ensures { self.new ≡ self.old }
     {
-        if place.core == self.core
+        if !self.machine.may_pull
+            || place.core == self.core
             || place.core >= self.machine.cores
             || place.index >= self.machine.slots
         {
