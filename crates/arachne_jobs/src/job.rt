@@ -13,6 +13,7 @@ ghost use Rattle.arachne_jobs.specs.Slices.{IsLeft, UsesSteps};
 use crate::ends::{Awaited, End};
 use crate::fault::JobFault;
 use crate::left::{Found, Waiting};
+use crate::openings::Openings;
 use crate::slice::{JobOf, RunJob, RunThread, Slice};
 use crate::spares::Spares;
 use crate::waiting::{Ticket, WaitCell};
@@ -20,7 +21,7 @@ use crate::wanted::{OutcomeReceiver, Wanted};
 use arachne_contexts::Tagged;
 use arachne_core::{Rest, ThreadId};
 use arachne_lang::Program;
-use arachne_machine::{NotJoined, NotPlaced, Outcome, Pause, Pending, Placing, Thread};
+use arachne_machine::{NotJoined, NotPlaced, Outcome, Pause, Pending, Thread};
 use std::alloc::{AllocError, Global};
 use std::marker::Model;
 use std::snapshot::Snapshot;
@@ -102,11 +103,11 @@ impl<'p> RunJob for Job<'p> {
 
     ghost forks = { λ j child. IsForking j.thread child };
 
-    fn slice<P: Placing>(
+    fn slice(
         &mut self,
         left: &mut u32,
         spares: &mut Spares<'p>,
-        places: &mut P,
+        openings: &mut Openings<'_>,
     ) -> Result<Slice<Thread<'p>>, JobFault> {
         match self.thread.pending() {
             None => {}
@@ -118,7 +119,7 @@ impl<'p> RunJob for Job<'p> {
             Some(Pending::Asks(lock)) => return Ok(Slice::Awaits(lock)),
             _ => return Err(JobFault::Foreign),
         }
-        self.advance(left, spares, places)
+        self.advance(left, spares, openings)
     }
 
     fn fork_off(
@@ -233,11 +234,11 @@ impl<'p> Job<'p> {
     }
 
     /// Goes on for at most as many steps as are left.
-    fn advance<P: Placing>(
+    fn advance(
         &mut self,
         left: &mut u32,
         spares: &mut Spares<'p>,
-        places: &mut P,
+        openings: &mut Openings<'_>,
     ) -> Result<Slice<Thread<'p>>, JobFault>
         requires some { 1 ≤ left.old }
         requires going { IsGoing self.old.thread }
@@ -248,7 +249,7 @@ impl<'p> Job<'p> {
     {
         match self
             .thread
-            .advance_within(left, &mut spares.threads, places)?
+            .advance_within(left, &mut spares.threads, openings)?
         {
             Pause::Budget => Ok(Slice::Goes),
             Pause::Forks(class, child) => Ok(Slice::Forks(class, child)),

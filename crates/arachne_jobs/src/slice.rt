@@ -9,11 +9,11 @@ ghost use Rattle.arachne_machine.specs.declared.pause.Pending.TheVariants as pau
 ghost use Rattle.arachne_jobs.specs.Slices.{IsLeft, IsRequest, MayRest, UsesSteps};
 
 use crate::fault::JobFault;
+use crate::openings::Openings;
 use crate::wanted::OutcomeReceiver;
 use arachne_contexts::Tagged;
 use arachne_core::{Rest, ThreadId};
 use arachne_lang::{Class, Program};
-use arachne_machine::Placing;
 use std::alloc::{AllocError, Global};
 
 /// Where a job stops.
@@ -93,11 +93,11 @@ pub trait RunJob: RunThread {
 
     /// Goes on for at most as many steps as are left, of which fewer are left then. A thread that waits makes none. A
     /// child for which there is no place runs in this job's.
-    fn slice<P: Placing>(
+    fn slice(
         &mut self,
         left: &mut u32,
         spares: &mut Self::Spares,
-        places: &mut P,
+        openings: &mut Openings<'_>,
     ) -> Result<Slice<Self::Child>, JobFault>
         requires { 1 ≤ left.old }
         ensures tag { Self.tag_of self.new ≡ Self.tag_of self.old }

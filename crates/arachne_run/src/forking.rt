@@ -11,94 +11,15 @@ use crate::claims::Claims;
 use crate::desk::Stop;
 use crate::fault::WorkerFault;
 use crate::machine::Machine;
-use crate::policy;
 use crate::queue::Post;
-use crate::shared::Shared;
-use crate::tags::Tags;
-use arachne_contexts::{Claimed, Contexts, Held, Identified, Placed, Seats, Tagged};
-use arachne_core::OccWord;
-use arachne_jobs::{RunJob, Slice};
+use arachne_contexts::{Claimed, Contexts, Held, Identified, Placed};
+use arachne_jobs::{Openings, RunJob, Slice, Tags};
 use arachne_lang::Class;
-use arachne_machine::Placing;
-use arachne_spill::{CAPACITY, SpillPass};
+use arachne_spill::SpillPass;
 use rand_core::Rng;
 use std::alloc::Global;
-use std::marker::PhantomData;
+use std::mem::replace;
 use std::sync::Wait;
-
-/// What a thread is told at its forks. It owns all that it changes, since a thread may do with it what it likes.
-#[derive(Drop)]
-pub(crate) struct Openings<'a, H, T, C: Seats, R> {
-    pub(crate) rt: &'a H,
-    pub(crate) table: &'a C,
-    pub(crate) cores: u8,
-    pub(crate) slots: u8,
-    pub(crate) shared: &'a Shared,
-    /// The core's chooser.
-    pub(crate) chooser: R,
-    /// The tags for threads that are forked here.
-    pub(crate) tags: Tags,
-    /// What the table's contexts hold.
-    pub(crate) of: PhantomData<T>,
-    ghost counted: { C.core_count table.now ≡ cores },
-}
-
-impl<'a, H, T, C: Seats, R: Drop> Openings<'a, H, T, C, R> {
-    /// What threads are told at their forks, by this chooser. None where memory is refused.
-    pub(crate) fn boxed<K: Tagged + Drop>(
-        rt: &'a H,
-        alloc: Global,
-        machine: &'a Machine<C, K>,
-        chooser: R,
-    ) -> Option<Box<Openings<'a, H, T, C, R>>>
-        requires { IsSetUp C.core_count C.slot_count machine.now }
-    {
-        let openings = Openings {
-            rt,
-            table: &machine.table,
-            cores: machine.cores,
-            slots: machine.slots,
-            shared: &machine.shared,
-            chooser,
-            tags: Tags::new(),
-            of: PhantomData,
-        };
-        Box::new(alloc, openings).ok()
-    }
-}
-
-impl<'a, H: Wait, T: Tagged, C: Contexts<T>, R: Rng> Placing for Openings<'a, H, T, C, R> {
-    ghost use Rattle.std.specs.Prelude.{false};
-
-    ghost gives_all = { false };
-
-    /// Whether a child may get a place, or wait for one. Where it may not, the chooser's word for it is drawn here. The
-    /// looks are with no seat: the claim decides.
-    #[inline(always)]
-    fn is_any(&mut self, class: Class) -> bool {
-        if class == Class::Exclusive {
-            return true;
-        }
-        for core in 0..self.cores {
-            let seen = OccWord::from_word(self.table.glance(self.rt, core));
-            if let Some(seen) = seen
-                && policy::has_room(seen, self.slots)
-            {
-                return true;
-            }
-        }
-        if self.shared.signals().waiting() < CAPACITY as u64 {
-            return true;
-        }
-        let _ = self.chooser.next_u64();
-        false
-    }
-
-    #[inline(always)]
-    fn tag(&mut self) -> u64 {
-        self.tags.take(self.shared)
-    }
-}
 
 /// The thread in hand goes on for at most as many steps as are left, and its fork, if it comes to one, is answered.
 #[inline(always)]
@@ -109,7 +30,8 @@ pub(crate) fn go_on<H: Wait, T: RunJob, C: Contexts<T>, R: Rng>(
     seat: &mut C::Seat,
     pass: &mut SpillPass<T::Ticket>,
     held: &mut Held<T, C::Hold>,
-    openings: &mut Openings<'_, H, T, C, R>,
+    chooser: &mut R,
+    tags: &mut Tags,
     spares: &mut T::Spares,
     left: &mut u32,
 ) -> Result<Stop, WorkerFault>
@@ -122,12 +44,17 @@ pub(crate) fn go_on<H: Wait, T: RunJob, C: Contexts<T>, R: Rng>(
     ensures out { OnOk result (C.has machine.now.table seat.new (thread_in T.tag_of held.new ∷ [])) }
     ensures pass { IsPassOf machine.now.tickets pass.new }
 {
-    match held.value.slice(left, spares, openings)? {
+    let room = machine.shared.room();
+    let mut openings = Openings::new(room, replace(tags, Tags::new()));
+    let slice = held.value.slice(left, spares, &mut openings)?;
+    let (tags_left, draws) = openings.into_parts();
+    *tags = tags_left;
+    draw(chooser, draws);
+    match slice {
         Slice::Goes => Ok(Stop::Goes),
         Slice::Forks(class, child) => {
-            let tag = openings.tags.take(&machine.shared);
+            let tag = tags.take(room);
             let fork = Fork { class, child, tag };
-            let chooser = &mut openings.chooser;
             answer_fork::<H, T, C, R>(rt, alloc, machine, seat, pass, held, fork, chooser, spares)
         }
         Slice::Blocks => Ok(Stop::Blocks),
@@ -136,6 +63,13 @@ pub(crate) fn go_on<H: Wait, T: RunJob, C: Contexts<T>, R: Rng>(
         Slice::Frees(lock) => Ok(Stop::Frees(lock)),
         Slice::Tallies(ledger, amount) => Ok(Stop::Tallies(ledger, amount)),
         Slice::Ends => Ok(Stop::Ends),
+    }
+}
+
+/// Draws so many words from the chooser.
+fn draw<R: Rng>(chooser: &mut R, words: u64) {
+    for _ in 0..words {
+        let _ = chooser.next_u64();
     }
 }
 
@@ -199,6 +133,9 @@ fn claim<H: Wait, T: RunJob, C: Contexts<T>, R: Rng>(
         Class::Normal => cores.claim_normal(seat, chooser)?,
         Class::Exclusive => cores.claim_exclusive(seat)?,
     };
+    if place.is_some() {
+        machine.shared.room().place_was_claimed();
+    }
     Ok(place)
 }
 
@@ -252,7 +189,7 @@ fn put_aside<H: Wait, T: RunJob, C: Contexts<T>>(
     if let Some(ticket) = held.value.put_aside(alloc, me, child, tag, waits)? {
         // Where the queue was filled meanwhile, the child waits without a ticket, for its parent.
         if machine.tickets.push(rt, pass, ticket).is_ok() {
-            machine.shared.signals().ticket_came();
+            machine.shared.room().child_waits();
         }
     }
     Ok(Stop::Goes)
@@ -279,7 +216,10 @@ pub(crate) fn free_place<H: Wait, T: RunJob, C: Contexts<T>>(
     }
     for _ in rt.forever() {
         match machine.table.claim(rt, spare, core) {
-            Ok(Claimed::Place(claim)) => return Ok(Some(claim)),
+            Ok(Claimed::Place(claim)) => {
+                machine.shared.room().place_was_claimed();
+                return Ok(Some(claim));
+            }
             Ok(Claimed::Full(_) | Claimed::Closed(_)) => return Ok(None),
             Ok(Claimed::Lost(_)) => {}
             Err(_) => return Err(WorkerFault::Memory),
@@ -308,7 +248,10 @@ pub(crate) fn post_waiting<H: Wait, T: RunJob, C: Contexts<T>>(
             Err(_) => Err(WorkerFault::Token),
         },
         None => match machine.table.give_back(rt, spare, claim) {
-            Ok(()) => Ok(false),
+            Ok(()) => {
+                machine.shared.room().place_was_left();
+                Ok(false)
+            }
             Err(_) => Err(WorkerFault::Token),
         },
     }

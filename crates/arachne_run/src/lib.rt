@@ -23,7 +23,6 @@ mod setup;
 mod shared;
 mod signals;
 mod sums;
-mod tags;
 mod tokens;
 mod wake;
 mod workers;

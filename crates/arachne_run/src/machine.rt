@@ -106,7 +106,7 @@ impl<C: Seats + Drop, K: Tagged + Drop> Machine<C, K> {
             ledgers,
             locks,
             tickets,
-            shared: Shared::new(alloc, cores)?,
+            shared: Shared::new(alloc, cores, u64::from(cores) * u64::from(slots))?,
             cores,
             slots,
             quantum,

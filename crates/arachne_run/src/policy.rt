@@ -30,11 +30,6 @@ pub(crate) fn keeps_back(posted: u32) -> bool {
     posted >= TOLD_AT_ONCE
 }
 
-/// Whether a core that looks so has a place for a thread that shares it.
-pub(crate) fn has_room(now: OccWord, slots: u8) -> bool {
-    !now.is_closed() && !now.is_exclusive() && now.count() < slots
-}
-
 /// Whether places may be kept at all: not where a thread may want a whole core, nor where orders may close one, nor
 /// where a thread that holds a lock may be moved from one core to another.
 pub(crate) fn may_keep_places(has_exclusive: bool, orders: usize, moves_holders: bool) -> bool {

@@ -24,6 +24,7 @@ pub(crate) fn post_root<H: Wait, T: RunJob, C: Contexts<T>>(
     for _ in rt.forever() {
         match machine.table.claim(rt, seat, 0) {
             Ok(Claimed::Place(claim)) => {
+                machine.shared.room().place_was_claimed();
                 let place = claim.place();
                 return match machine.table.post(rt, seat, claim, root) {
                     Ok(_) => Ok(place.index),

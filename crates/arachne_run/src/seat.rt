@@ -9,13 +9,13 @@ ghost use Rattle.arachne_spill.specs.Views.{IsPassOf};
 use crate::claims::Claims;
 use crate::desk::{Grip, Stop, Tended};
 use crate::fault::WorkerFault;
-use crate::forking::{Openings, free_place, go_on, post_waiting};
+use crate::forking::{free_place, go_on, post_waiting};
 use crate::machine::Machine;
 use crate::policy;
 use arachne_arbiter::{Arbiter, Cores};
 use arachne_contexts::{Claimed, Contexts, Held, Moved, Placed, Rested, Taken, Woken};
 use arachne_core::{MarkWord, OccWord, Place, Rest, SLOTS, ThreadId};
-use arachne_jobs::{RunJob, RunSpares, RunThread, RunTicket};
+use arachne_jobs::{RunJob, RunSpares, RunThread, RunTicket, Tags};
 use arachne_spill::SpillPass;
 use rand_core::Rng;
 use std::alloc::Global;
@@ -39,8 +39,9 @@ pub(crate) struct Seat<'a, H, T: RunJob, C: Contexts<T>, R> {
     pub(crate) kept: Claims<C::Claim>,
     pub(crate) pass: SpillPass<T::Ticket>,
     pub(crate) arbiter: Option<Arbiter>,
-    /// What threads are told at their forks. It is here unless a thread goes on.
-    pub(crate) openings: Option<Box<Openings<'a, H, T, C, R>>>,
+    /// The core's chooser, and the tags for threads that are forked here.
+    pub(crate) chooser: R,
+    pub(crate) tags: Tags,
     /// What is kept of ended threads for those that begin.
     pub(crate) spares: T::Spares,
 }
@@ -73,7 +74,7 @@ impl<'a, H: Wait, T: RunJob, C: Contexts<T>, R: Rng + Drop> Seat<'a, H, T, C, R>
         spare: C::Seat,
         pass: SpillPass<T::Ticket>,
         arbiter: Option<Arbiter>,
-        openings: Box<Openings<'a, H, T, C, R>>,
+        chooser: R,
     ) -> Seat<'a, H, T, C, R>
         requires set_up { IsSetUp C.core_count C.slot_count machine.now }
         requires core { core < machine.now.cores }
@@ -97,7 +98,8 @@ impl<'a, H: Wait, T: RunJob, C: Contexts<T>, R: Rng + Drop> Seat<'a, H, T, C, R>
             kept: Claims::new(alloc),
             pass,
             arbiter,
-            openings: Some(openings),
+            chooser,
+            tags: Tags::new(),
             spares: T::Spares::none(alloc),
         }
     }
@@ -144,9 +146,6 @@ impl<'a, H: Wait, T: RunJob, C: Contexts<T>, R: Rng + Drop> Seat<'a, H, T, C, R>
         if self.is_broken {
             return Err(WorkerFault::Token);
         }
-        let Some(mut openings) = self.openings.take() else {
-            return Err(WorkerFault::Token);
-        };
         let Some(held) = &mut self.held else {
             return Err(WorkerFault::Token);
         };
@@ -158,11 +157,11 @@ impl<'a, H: Wait, T: RunJob, C: Contexts<T>, R: Rng + Drop> Seat<'a, H, T, C, R>
             &mut self.seat,
             &mut self.pass,
             held,
-            &mut openings,
+            &mut self.chooser,
+            &mut self.tags,
             &mut self.spares,
             left,
         )?;
-        self.openings = Some(openings);
         self.is_broken = false;
         Ok(stop)
     }
@@ -217,7 +216,10 @@ impl<'a, H: Wait, T: RunJob, C: Contexts<T>, R: Rng + Drop> Seat<'a, H, T, C, R>
         };
         let table = &self.machine.table;
         match table.finish(self.rt, &mut self.seat, held) {
-            Ok(job) => Ok(job.leave(&mut self.spares)?),
+            Ok(job) => {
+                self.machine.shared.room().place_was_left();
+                Ok(job.leave(&mut self.spares)?)
+            }
             Err(held) => {
                 self.held = Some(held);
                 Err(WorkerFault::Token)
@@ -237,11 +239,15 @@ impl<'a, H: Wait, T: RunJob, C: Contexts<T>, R: Rng + Drop> Seat<'a, H, T, C, R>
             let table = &self.machine.table;
             self.is_broken = true;
             let claimed = table.claim(self.rt, &mut self.spare, self.core);
-            if let Ok(Claimed::Place(claim)) = claimed
-                && let Err(claim) = self.kept.keep(claim)
-                && table.give_back(self.rt, &mut self.spare, claim).is_err()
-            {
-                return Err(WorkerFault::Token);
+            if let Ok(Claimed::Place(claim)) = claimed {
+                match self.kept.keep(claim) {
+                    Ok(()) => self.machine.shared.room().place_was_claimed(),
+                    Err(claim) => {
+                        if table.give_back(self.rt, &mut self.spare, claim).is_err() {
+                            return Err(WorkerFault::Token);
+                        }
+                    }
+                }
             }
             self.is_broken = false;
         }
@@ -280,6 +286,7 @@ impl<'a, H: Wait, T: RunJob, C: Contexts<T>, R: Rng + Drop> Seat<'a, H, T, C, R>
             self.is_broken = true;
             return Err(WorkerFault::Token);
         }
+        self.machine.shared.room().place_was_left();
         Ok(true)
     }
 
@@ -350,7 +357,7 @@ impl<'a, H: Wait, T: RunJob, C: Contexts<T>, R: Rng + Drop> Seat<'a, H, T, C, R>
     pub(crate) fn has_tickets(&mut self) -> bool
         ensures { self.new ≡ self.old }
     {
-        self.machine.shared.signals().waiting() > 0
+        self.machine.shared.room().is_any_waiting()
     }
 
     /// Takes a ticket from the queue, and posts its child on the core if that waits still and there is a place. Whether
@@ -364,7 +371,7 @@ impl<'a, H: Wait, T: RunJob, C: Contexts<T>, R: Rng + Drop> Seat<'a, H, T, C, R>
         let Some(ticket) = self.machine.tickets.pop(self.rt, &mut self.pass) else {
             return Ok((false, None));
         };
-        self.machine.shared.signals().ticket_went();
+        self.machine.shared.room().ticket_was_taken();
         if !ticket.still_waits() {
             return Ok((true, None));
         }

@@ -3,19 +3,20 @@ ghost use Rattle.std.specs.Prelude.{◌≡◌, IfOk};
 
 use crate::fault::WorkerFault;
 use crate::signals::Signals;
-use crossbeam_utils::CachePadded;
+use arachne_jobs::Room;
+use arachne_spill::CAPACITY;
 use std::alloc::{AllocError, Global};
 use std::marker::Model;
 use std::sync::atomic::{AtomicU64, Ordering};
 use std::sync::{Mutex, Wait};
 use std::time::Duration;
 
-/// The word that stops all workers, the next tag that is not drawn, the first fault, and what kernel threads tell one
-/// another. The tag has a cache line of its own.
+/// The word that stops all workers, what is looked at before each fork, the first fault, and what kernel threads tell one
+/// another.
 #[derive(Drop)]
 pub(crate) struct Shared {
     stop: AtomicU64,
-    next_tag: CachePadded<AtomicU64>,
+    room: Room,
     first_fault: Mutex<Option<WorkerFault>>,
     signals: Signals,
 }
@@ -30,14 +31,14 @@ impl Model for Shared {
 }
 
 impl Shared {
-    /// The root has the tag 0.
-    pub(crate) fn new(alloc: Global, cores: u8) -> Result<Shared, AllocError>
+    /// For so many cores, with so many places in all.
+    pub(crate) fn new(alloc: Global, cores: u8, places: u64) -> Result<Shared, AllocError>
         ensures { IfOk result (λ shared. shared ≡ cores) }
     {
         let signals = Signals::new(alloc, cores)?;
         Ok(Shared {
             stop: AtomicU64::new(0),
-            next_tag: CachePadded::new(AtomicU64::new(1)),
+            room: Room::new(places, CAPACITY as u64),
             first_fault: Mutex::new(None),
             signals,
         })
@@ -68,9 +69,9 @@ impl Shared {
         }
     }
 
-    /// The first of so many tags in a row that no other thread of the run has, as long as fewer than 2^64 are drawn.
-    pub(crate) fn next_tags(&self, count: u64) -> u64 {
-        self.next_tag.fetch_add(count, Ordering::SeqCst)
+    /// What is looked at before each fork.
+    pub(crate) fn room(&self) -> &Room {
+        &self.room
     }
 
     /// Stops all workers for a fault, which is recorded if it is the first.

@@ -33,8 +33,6 @@ pub(crate) fn bit_of(index: u8) -> u64 {
 #[derive(Drop)]
 pub(crate) struct Signals {
     words: Vec<CachePadded<AtomicU64>>,
-    /// How many tickets lie in the queue of children that wait, or a little more or less.
-    waiting: CachePadded<AtomicU64>,
     slices: SliceCounts,
     parking: Parking,
 }
@@ -64,7 +62,6 @@ impl Signals {
         let parking = Parking::new(alloc, cores)?;
         Ok(Signals {
             words,
-            waiting: CachePadded::new(AtomicU64::new(0)),
             slices,
             parking,
         })
@@ -89,23 +86,6 @@ impl Signals {
         if usize::from(core) < self.words.len() {
             self.slices.count(core);
         }
-    }
-
-    /// About how many tickets lie in the queue.
-    pub(crate) fn waiting(&self) -> u64 {
-        // A ticket may be taken before it is counted: then the count is below 0 for a moment.
-        let waiting = self.waiting.load(Ordering::SeqCst);
-        if waiting > u64::MAX / 2 { 0 } else { waiting }
-    }
-
-    /// A ticket was put into the queue.
-    pub(crate) fn ticket_came(&self) {
-        self.waiting.fetch_add(1, Ordering::SeqCst);
-    }
-
-    /// A ticket was taken out of the queue.
-    pub(crate) fn ticket_went(&self) {
-        self.waiting.fetch_sub(1, Ordering::SeqCst);
     }
 
     /// The thread at a place may be ready. The core's worker is woken if it sleeps.

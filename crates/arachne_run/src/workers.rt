@@ -5,7 +5,6 @@ ghost use Rattle.arachne_run.specs.Tokens.{AreIdle, IsSetUp, ground_of};
 
 use crate::execute::Worker;
 use crate::fault::WorkerFault;
-use crate::forking::Openings;
 use crate::gate::Gate;
 use crate::locks::Locks;
 use crate::machine::Machine;
@@ -201,37 +200,6 @@ fn work_on<
     ensures { IfSome result (AreIdle C.sits C.idle machine.now) }
 {
     let _ = of;
-    let Some(openings) = Openings::boxed(rt, alloc, machine, chooser) else {
-        machine.shared.fail(rt, WorkerFault::Memory);
-        return None;
-    };
-    work_with::<H, T, K, C, R, G>(rt, alloc, machine, gate, core, openings, tokens, root)
-}
-
-/// The same, with what threads of the core are told at their forks.
-fn work_with<
-    'a,
-    H: Wait,
-    T: RunJob<Ticket = K>,
-    K: Tagged + Drop + Send,
-    C: Contexts<T>,
-    R: Rng + Drop,
-    G: Gate,
->(
-    rt: &'a H,
-    alloc: Global,
-    machine: &'a Machine<C, K>,
-    gate: &'a G,
-    core: u8,
-    openings: Box<Openings<'a, H, T, C, R>>,
-    tokens: Tokens<C::Seat, K>,
-    root: Option<T>,
-) -> Option<Tokens<C::Seat, K>>
-    requires tokens { AreIdle C.sits C.idle machine.now tokens }
-    requires set_up { IsSetUp C.core_count C.slot_count machine.now }
-    requires core { core < machine.now.cores }
-    ensures { IfSome result (AreIdle C.sits C.idle machine.now) }
-{
     let Tokens {
         seat,
         share,
@@ -251,7 +219,7 @@ fn work_with<
         }
     }
     let desk = Seat::new(
-        rt, alloc, machine, core, seat, spare, pass, arbiter, openings,
+        rt, alloc, machine, core, seat, spare, pass, arbiter, chooser,
     );
     let mut worker: Worker<'_, H, T, C, R, G> = Worker {
         rt,
