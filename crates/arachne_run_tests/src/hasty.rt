@@ -6,10 +6,10 @@ ghost use Rattle.arachne_jobs.specs.Threads.{IsForking, pause_of, running_tag_of
 use arachne_contexts::Tagged;
 use arachne_core::{Rest, ThreadId};
 use arachne_jobs::{
-    Job, JobFault, JobOf, OutcomeReceiver, RunJob, RunThread, Slice, Spares, Ticket,
+    Job, JobFault, JobOf, Openings, OutcomeReceiver, RunJob, RunThread, Slice, Spares, Ticket,
 };
 use arachne_lang::Program;
-use arachne_machine::{Placing, Thread};
+use arachne_machine::Thread;
 use std::alloc::{AllocError, Global};
 
 /// A thread that ends in the slice behind its first fork.
@@ -64,18 +64,18 @@ impl<'p> RunJob for Hasty<'p> {
 
     ghost forks = { λ h child. (h.has_ended ≡ false) × IsForking h.job.thread child };
 
-    fn slice<P: Placing>(
+    fn slice(
         &mut self,
         left: &mut u32,
         spares: &mut Spares<'p>,
-        places: &mut P,
+        openings: &mut Openings<'_>,
     ) -> Result<Slice<Thread<'p>>, JobFault> {
         if self.has_forked || self.has_ended {
             *left -= 1;
             self.has_ended = true;
             return Ok(Slice::Ends);
         }
-        self.job.slice(left, spares, places)
+        self.job.slice(left, spares, openings)
     }
 
     fn fork_off(
