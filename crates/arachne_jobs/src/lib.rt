@@ -1,6 +1,7 @@
 //! What a context holds in a run: a thread of a task program with the cells of its children, and how workers see it.
 #![tactic(auto)]
 
+mod classes;
 mod ends;
 mod fault;
 mod job;
@@ -13,6 +14,7 @@ mod tags;
 mod waiting;
 mod wanted;
 
+pub use classes::has_exclusive;
 pub use fault::JobFault;
 pub use job::Job;
 pub use openings::Openings;

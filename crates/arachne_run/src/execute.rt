@@ -12,9 +12,8 @@ use crate::shared::Shared;
 use crate::sums::Sums;
 use crate::wake::Cause;
 use arachne_contexts::Contexts;
-use arachne_core::{Place, Rest};
+use arachne_core::Rest;
 use arachne_jobs::RunJob;
-use arachne_sleep::Who;
 use rand_core::Rng;
 use std::sync::Wait;
 
@@ -83,7 +82,8 @@ impl<'a, H: Wait, T: RunJob, C: Contexts<T>, R: Rng + Drop, G: Gate> Worker<'a, 
         if now.is_closed() {
             return false;
         }
-        !policy::may_take_ticket(now, self.desk.kept(), self.slots) || !self.desk.has_tickets()
+        !policy::may_take_ticket(now, self.desk.kept(), self.slots)
+            || !self.shared.room().is_any_waiting()
     }
 
     /// One slice of the thread in hand: it goes on for at most a quantum of steps, and what it asks for meanwhile is
@@ -135,7 +135,7 @@ impl<'a, H: Wait, T: RunJob, C: Contexts<T>, R: Rng + Drop, G: Gate> Worker<'a, 
     fn serve(&mut self, stop: Stop, left: u32) -> Result<Option<u32>, WorkerFault>
         ensures { (self.new.desk ≡ self.old.desk) × (self.new.locks ≡ self.old.locks) × (self.new.sums ≡ self.old.sums) }
     {
-        let who = self.who();
+        let who = self.desk.in_hand()?;
         match stop {
             Stop::Posted(post) => {
                 self.posted(post);
@@ -167,12 +167,6 @@ impl<'a, H: Wait, T: RunJob, C: Contexts<T>, R: Rng + Drop, G: Gate> Worker<'a, 
         Ok(Some(left))
     }
 
-    /// The thread in hand as the locks know it: by the tag of the one that runs in its place, under its own id.
-    fn who(&self) -> Who {
-        let (id, tag) = self.desk.in_hand();
-        Who { tag, id }
-    }
-
     /// Ends the thread in hand, and wakes its parent. With the root all workers stop. Then places of the core are kept
     /// or given back.
     fn end(&mut self) -> Result<(), WorkerFault>
@@ -197,14 +191,6 @@ impl<'a, H: Wait, T: RunJob, C: Contexts<T>, R: Rng + Drop, G: Gate> Worker<'a, 
         if tended.receivers != 0 {
             self.shared.signals().hint_cores(tended.receivers);
             self.gate.moved(tended.receivers);
-        }
-    }
-
-    /// The place of an index of the core.
-    pub(crate) fn place(&self, index: u8) -> Place {
-        Place {
-            core: self.core,
-            index,
         }
     }
 }

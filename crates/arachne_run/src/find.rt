@@ -128,7 +128,7 @@ impl<'a, H: Wait, T: RunJob, C: Contexts<T>, R: Rng + Drop, G: Gate> Worker<'a, 
     fn take_ticket(&mut self) -> Result<bool, WorkerFault>
         ensures { (self.new.desk ≡ self.old.desk) × (self.new.locks ≡ self.old.locks) × (self.new.sums ≡ self.old.sums) }
     {
-        if !self.desk.has_tickets() {
+        if !self.shared.room().is_any_waiting() {
             return Ok(false);
         }
         let now = self.desk.look();

@@ -3,7 +3,6 @@
 
 mod audit;
 mod claims;
-mod classes;
 mod desk;
 mod execute;
 mod fault;

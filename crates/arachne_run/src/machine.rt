@@ -7,14 +7,14 @@ ghost use Rattle.arachne_sleep.specs.SleepLocks.{AreSeatsOf};
 ghost use Rattle.arachne_spill.specs.Views.{IsPassOf};
 ghost use Rattle.arachne_run.specs.Tokens.{AreIdle, IsSetUp};
 
-use crate::classes::has_exclusive;
 use crate::fault::WorkerFault;
-use crate::policy::{may_keep_places, may_pull_threads};
+use crate::policy::may_keep_places;
 use crate::shared::Shared;
 use crate::tokens::Tokens;
 use arachne_arbiter::{Arbiter, Cores};
 use arachne_contexts::{Contexts, Seats, Tagged};
 use arachne_core::{CORES, SLOTS};
+use arachne_jobs::has_exclusive;
 use arachne_lang::Program;
 use arachne_ledger::Ledgers;
 use arachne_policy::CoreOrder;
@@ -41,7 +41,8 @@ pub(crate) struct Machine<C, K: Tagged + Drop> {
     pub(crate) orders: usize,
     /// Whether workers may keep places.
     pub(crate) may_keep: bool,
-    /// Whether workers may move threads to their own cores.
+    /// Whether workers may move threads to their own cores: not where a thread may want a whole core, since a move takes
+    /// a place there while it is made.
     pub(crate) may_pull: bool,
 }
 
@@ -112,7 +113,7 @@ impl<C: Seats + Drop, K: Tagged + Drop> Machine<C, K> {
             quantum,
             orders: count,
             may_keep: may_keep_places(exclusive, count, program.locks > 0 && cores > 1),
-            may_pull: may_pull_threads(exclusive),
+            may_pull: !exclusive,
         };
         let tokens = Tokens {
             seat,

@@ -36,12 +36,6 @@ pub(crate) fn may_keep_places(has_exclusive: bool, orders: usize, moves_holders:
     !has_exclusive && orders == 0 && !moves_holders
 }
 
-/// Whether a worker may move threads to its own core by itself: not where a thread may want a whole core, since a move
-/// takes a place there while it is made.
-pub(crate) fn may_pull_threads(has_exclusive: bool) -> bool {
-    !has_exclusive
-}
-
 /// Whether a place that a thread leaves is kept: its core was full.
 pub(crate) fn keeps_place(before: OccWord, slots: u8) -> bool {
     before.count() >= slots && !before.is_closed() && !before.is_exclusive()

@@ -16,6 +16,7 @@ use arachne_arbiter::{Arbiter, Cores};
 use arachne_contexts::{Claimed, Contexts, Held, Moved, Placed, Rested, Taken, Woken};
 use arachne_core::{MarkWord, OccWord, Place, Rest, SLOTS, ThreadId};
 use arachne_jobs::{RunJob, RunSpares, RunThread, RunTicket, Tags};
+use arachne_sleep::Who;
 use arachne_spill::SpillPass;
 use rand_core::Rng;
 use std::alloc::Global;
@@ -123,17 +124,14 @@ impl<'a, H: Wait, T: RunJob, C: Contexts<T>, R: Rng + Drop> Seat<'a, H, T, C, R>
         }
     }
 
-    /// The id of the thread in hand, and the tag of the one that goes on next in its place. Without one both are 0.
-    pub(crate) fn in_hand(&self) -> (ThreadId, u64) {
+    /// The thread in hand as the locks know it: by the tag of the one that goes on next in its place, under its own id.
+    pub(crate) fn in_hand(&self) -> Result<Who, WorkerFault> {
         match &self.held {
-            Some(held) => (held.id(), held.value.running_tag()),
-            None => {
-                let none = ThreadId {
-                    context: 0,
-                    generation: 0,
-                };
-                (none, 0)
-            }
+            Some(held) => Ok(Who {
+                tag: held.value.running_tag(),
+                id: held.id(),
+            }),
+            None => Err(WorkerFault::Token),
         }
     }
 
@@ -351,13 +349,6 @@ impl<'a, H: Wait, T: RunJob, C: Contexts<T>, R: Rng + Drop> Seat<'a, H, T, C, R>
             table.move_one(self.rt, &mut self.seat, place, self.core),
             Moved::Moved
         )
-    }
-
-    /// Whether a ticket lies in the queue.
-    pub(crate) fn has_tickets(&mut self) -> bool
-        ensures { self.new ≡ self.old }
-    {
-        self.machine.shared.room().is_any_waiting()
     }
 
     /// Takes a ticket from the queue, and posts its child on the core if that waits still and there is a place. Whether

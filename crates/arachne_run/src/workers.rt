@@ -192,14 +192,13 @@ fn work_on<
     chooser: R,
     tokens: Tokens<C::Seat, K>,
     root: Option<T>,
-    of: PhantomData<(T, R)>,
+    _of: PhantomData<(T, R)>,
 ) -> Option<Tokens<C::Seat, K>>
     requires tokens { AreIdle C.sits C.idle machine.now tokens }
     requires set_up { IsSetUp C.core_count C.slot_count machine.now }
     requires core { core < machine.now.cores }
     ensures { IfSome result (AreIdle C.sits C.idle machine.now) }
 {
-    let _ = of;
     let Tokens {
         seat,
         share,
@@ -238,54 +237,45 @@ fn work_on<
         machine.shared.fail(rt, fault);
         return None;
     }
-    tokens_of::<H, T, K, C, R, G>(rt, machine, worker)
+    worker.into_tokens(machine)
 }
 
-/// The tokens of a worker that has ended, unless something is out with them.
-fn tokens_of<
-    'a,
-    H: Wait,
-    T: RunJob<Ticket = K>,
-    K: Tagged + Drop + Send,
-    C: Contexts<T>,
-    R: Rng + Drop,
-    G: Gate,
->(
-    rt: &'a H,
-    machine: &'a Machine<C, K>,
-    worker: Worker<'a, H, T, C, R, G>,
-) -> Option<Tokens<C::Seat, K>>
-    requires desk { worker.desk ≡ ground_of machine.now }
-    requires locks { worker.locks ≡ machine.now.locks }
-    requires sums { worker.sums ≡ machine.now.ledgers }
-    ensures { IfSome result (AreIdle C.sits C.idle machine.now) }
-{
-    let Worker {
-        desk,
-        locks,
-        sums,
-        ..
-    } = worker;
-    let Seat {
-        is_broken,
-        seat,
-        held,
-        spare,
-        kept,
-        pass,
-        arbiter,
-        ..
-    } = desk;
-    let mut kept = kept;
-    if is_broken || held.is_some() || kept.take().is_some() {
-        machine.shared.fail(rt, WorkerFault::Token);
-        return None;
+impl<'a, H: Wait, T: RunJob, C: Contexts<T>, R: Rng + Drop, G: Gate> Worker<'a, H, T, C, R, G> {
+    /// The tokens of a worker that has ended, unless something is out with them.
+    fn into_tokens(self, machine: &Machine<C, T::Ticket>) -> Option<Tokens<C::Seat, T::Ticket>>
+        requires desk { self.desk ≡ ground_of machine.now }
+        requires locks { self.locks ≡ machine.now.locks }
+        requires sums { self.sums ≡ machine.now.ledgers }
+        ensures { IfSome result (AreIdle C.sits C.idle machine.now) }
+    {
+        let Worker {
+            rt,
+            desk,
+            locks,
+            sums,
+            ..
+        } = self;
+        let Seat {
+            is_broken,
+            seat,
+            held,
+            spare,
+            kept,
+            pass,
+            arbiter,
+            ..
+        } = desk;
+        let mut kept = kept;
+        if is_broken || held.is_some() || kept.take().is_some() {
+            machine.shared.fail(rt, WorkerFault::Token);
+            return None;
+        }
+        Some(Tokens {
+            seat: machine.table.join_seats(rt, seat, spare),
+            share: sums.into_share(),
+            lock_seats: locks.into_seats(),
+            pass,
+            arbiter,
+        })
     }
-    Some(Tokens {
-        seat: machine.table.join_seats(rt, seat, spare),
-        share: sums.into_share(),
-        lock_seats: locks.into_seats(),
-        pass,
-        arbiter,
-    })
 }

@@ -2,7 +2,7 @@
 use arachne_lang::{Class, Expr};
 
 /// Whether an expression forks a thread that is to have a core for itself.
-pub(crate) fn has_exclusive(expr: &Expr) -> bool {
+pub fn has_exclusive(expr: &Expr) -> bool {
     match expr {
         Expr::Num(_) | Expr::Var(_) | Expr::Len(_) => false,
         Expr::Item(_, index) => has_exclusive(index),
