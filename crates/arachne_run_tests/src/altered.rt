@@ -9,6 +9,8 @@ use arachne_core::{Place, Rest, ThreadId};
 use arachne_locked::{LockedClaim, LockedContexts, LockedHold, LockedSeat};
 use std::alloc::{AllocError, Global};
 use std::sync::Wait;
+use std::sync::atomic::{AtomicU64, Ordering};
+use std::thread::yield_now;
 
 /// The word of an open core that is full.
 const FULL: u64 = 0x38FF_FFFF_FFFF_FFFF;
@@ -26,15 +28,41 @@ enum Alteration {
     IsFull,
     /// Each seat has something out.
     HasOut,
+    /// A claim on a core that is in use is refused its memory, and only then a thread that is to be finished comes back.
+    RefusesMemoryFirst,
+    /// A thread that is to be finished comes back, and only then a claim on a core that is in use is refused its memory.
+    HandsBackFirst,
 }
+
+/// How often the second of two calls looks whether the first one was made before it gives up.
+const POLLS: u32 = 100_000_000;
+
+/// How often it lets others go on then, so that what the first call came to is known.
+const YIELDS: u32 = 100_000;
 
 /// A table behind a lock that hands on all calls, or all but one. A run makes its table itself, so the number of cores says
 /// which: of 5 cores it hands back each thread that is to be finished, of 6 it refuses memory to a claim on a core that is in
-/// use, of 7 all cores but 0 are full, of 8 each seat has something out, and of any other number it answers nothing by itself.
+/// use, of 7 all cores but 0 are full, of 8 each seat has something out, of 9 and 10 it refuses memory and hands threads back,
+/// the one or the other first, and of any other number it answers nothing by itself.
 #[derive(Drop)]
 pub struct Altered<T: Tagged> {
     inner: LockedContexts<T>,
     alteration: Alteration,
+    /// 1 once the first of two calls was answered by itself.
+    came: AtomicU64,
+}
+
+/// Waits until the first of two calls was answered.
+fn wait(came: &AtomicU64) {
+    for _ in 0..POLLS {
+        if came.load(Ordering::SeqCst) > 0 {
+            break;
+        }
+        yield_now();
+    }
+    for _ in 0..YIELDS {
+        yield_now();
+    }
 }
 
 impl<T: Tagged + Drop> Seats for Altered<T> {
@@ -62,9 +90,19 @@ impl<T: Tagged + Drop> Seats for Altered<T> {
             6 => Alteration::RefusesMemory,
             7 => Alteration::IsFull,
             8 => Alteration::HasOut,
+            9 => Alteration::RefusesMemoryFirst,
+            10 => Alteration::HandsBackFirst,
             _ => Alteration::None,
         };
-        Ok((Altered { inner, alteration }, seat))
+        let came = AtomicU64::new(0);
+        Ok((
+            Altered {
+                inner,
+                alteration,
+                came,
+            },
+            seat,
+        ))
     }
 
     fn split<R: Wait>(&self, rt: &R, seat: LockedSeat) -> (LockedSeat, LockedSeat) {
@@ -118,6 +156,14 @@ impl<T: Tagged + Drop> Contexts<T> for Altered<T> {
                 Ok(Claimed::Full(FULL))
             }
             Alteration::RefusesMemory if self.inner.look(rt, seat, core) != 0 => Err(AllocError),
+            Alteration::RefusesMemoryFirst if self.inner.look(rt, seat, core) != 0 => {
+                self.came.store(1, Ordering::SeqCst);
+                Err(AllocError)
+            }
+            Alteration::HandsBackFirst if self.inner.look(rt, seat, core) != 0 => {
+                wait(&self.came);
+                Err(AllocError)
+            }
             _ => self.inner.claim(rt, seat, core),
         }
     }
@@ -190,6 +236,14 @@ impl<T: Tagged + Drop> Contexts<T> for Altered<T> {
     {
         match self.alteration {
             Alteration::HandsBack => Err(held),
+            Alteration::RefusesMemoryFirst => {
+                wait(&self.came);
+                Err(held)
+            }
+            Alteration::HandsBackFirst => {
+                self.came.store(1, Ordering::SeqCst);
+                Err(held)
+            }
             _ => self.inner.finish(rt, seat, held),
         }
     }
@@ -220,10 +274,21 @@ impl<T: Tagged + Drop> Contexts<T> for Altered<T> {
         alloc: Global,
         seat: LockedSeat,
     ) -> Result<Vec<(ThreadId, T)>, (Altered<T>, LockedSeat)> {
-        let Altered { inner, alteration } = self;
+        let Altered {
+            inner,
+            alteration,
+            came,
+        } = self;
         match inner.close(rt, alloc, seat) {
             Ok(rest) => Ok(rest),
-            Err((inner, seat)) => Err((Altered { inner, alteration }, seat)),
+            Err((inner, seat)) => Err((
+                Altered {
+                    inner,
+                    alteration,
+                    came,
+                },
+                seat,
+            )),
         }
     }
 

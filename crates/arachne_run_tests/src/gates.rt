@@ -30,6 +30,10 @@ pub struct Watch {
     pub entered: AtomicU64,
     /// How many slices were entered.
     pub slices: AtomicU64,
+    /// How many slices have ended.
+    pub ended: AtomicU64,
+    /// How often a kernel thread that was parked went on.
+    pub unparked: AtomicU64,
     zero: AtomicU64,
     one: AtomicU64,
     failed: AtomicU64,
@@ -41,6 +45,8 @@ impl Watch {
             watching,
             entered: AtomicU64::new(0),
             slices: AtomicU64::new(0),
+            ended: AtomicU64::new(0),
+            unparked: AtomicU64::new(0),
             zero: AtomicU64::new(0),
             one: AtomicU64::new(0),
             failed: AtomicU64::new(0),
@@ -102,6 +108,14 @@ impl Gate for Watch {
             (Watching::Lead(wanted), 1, 0) => self.wait(&self.zero, wanted),
             _ => {}
         }
+    }
+
+    fn slice_ended(&self, _core: u8) {
+        self.ended.fetch_add(1, Ordering::SeqCst);
+    }
+
+    fn unparked(&self, _core: u8) {
+        self.unparked.fetch_add(1, Ordering::SeqCst);
     }
 
     fn applied(&self, _orders: usize) {

@@ -18,6 +18,7 @@ use std::thread::Threads;
 
 mod cores;
 mod facts;
+mod faults;
 mod loads;
 mod locks;
 mod orders;

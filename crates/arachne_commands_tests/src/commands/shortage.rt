@@ -1,0 +1,158 @@
+//! A process whose memory is used up, and what the program does with the little that is given back.
+use super::endings::{Told, shown, status_of, told_by};
+use super::fakes::{Script, Tray};
+use super::spelling::spelled;
+use std::alloc::{AllocError, Global};
+use std::process::Abort;
+use std::sync::Wait;
+use std::thread::Threads;
+
+/// The size of the first block that is tried, in bytes. As long as one is refused the next has half of it.
+const LARGEST: usize = 1 << 46;
+
+/// The smallest blocks that are taken.
+const SMALLEST: usize = 16;
+
+/// The most blocks that are taken.
+const BLOCKS: usize = 150_000;
+
+/// How many small blocks can be given back one at a time, and how large they are.
+const SMALL: usize = 4_000;
+
+const SMALL_SIZE: usize = 40;
+
+/// All memory that the process can get. Nothing is written to it, so it takes little of the machine's.
+#[derive(Drop)]
+struct Hoard {
+    large: Vec<Vec<u8>>,
+    small: Vec<Vec<u8>>,
+}
+
+impl Hoard {
+    /// Takes all memory there is, but room for so many kernel threads' stacks.
+    fn take(alloc: Global, stacks: usize) -> Result<Hoard, AllocError> {
+        let mut small = Vec::with_capacity(alloc, SMALL)?;
+        let mut large = Vec::with_capacity(alloc, BLOCKS)?;
+        let mut stacks_room = Vec::with_capacity(alloc, 64)?;
+        for _ in 0..SMALL {
+            small.push(Vec::with_capacity(alloc, SMALL_SIZE)?)?;
+        }
+        for _ in 0..stacks {
+            stacks_room.push(Vec::<u8>::with_capacity(alloc, 1 << 24)?)?;
+        }
+        let mut size = LARGEST;
+        for _ in 0..BLOCKS {
+            if size < SMALLEST {
+                break;
+            }
+            match Vec::with_capacity(alloc, size) {
+                Ok(block) => large.push(block)?,
+                Err(AllocError) => size /= 2,
+            }
+        }
+        Ok(Hoard { large, small })
+    }
+}
+
+/// What is told where memory or a kernel thread is refused.
+const WANTS: &[&[u8]] = &[b"fault 30\n", b"fault 35\n"];
+
+/// How the words end on an input: as is told, or by a fault of want of memory or of a kernel thread.
+fn is_told<R: Threads + Wait + Sync>(
+    rt: &R,
+    alloc: Global,
+    words: &[&str],
+    input: &[u8],
+    told: Told<'_>,
+    output: &mut Tray,
+    faults: &mut Tray,
+) -> Option<bool> {
+    output.kept.clear();
+    faults.kept.clear();
+    let status = status_of(rt, alloc, words, &mut Script::of(input), output, faults);
+    let (output, faults) = (output.kept.as_slice(), faults.kept.as_slice());
+    if status == told.status && output == told.output && shown(status, faults) == told.faults {
+        return Some(true);
+    }
+    let wants = WANTS.contains(&faults);
+    if status == 1 && output.is_empty() && wants {
+        return Some(false);
+    }
+    None
+}
+
+/// Words, an input, how they end on it, and how many kernel threads they start.
+type Row = (&'static str, &'static str, &'static str, usize);
+
+const ROWS: &[Row] = &[
+    (
+        "arachne run --cores 1 --names",
+        "arachne 1|ledgers 1|locks 1|(sweep add 1 (num 0) (num 8) (hold 0 (tally 0 (num 5) (num 1))))|",
+        "0 value 8|ledger 0 40|threads 8|thread / 1|thread /2 1|thread /1 1|thread /1/0 1|thread /0 1|thread /0/1 1|thread /0/0 1|thread /0/0/0 1|!",
+        1,
+    ),
+    (
+        "arachne run --cores 4 --quantum 1 --names 0:release:1 1:release:2 2:grant:1",
+        "arachne 1|ledgers 0|locks 0|(sweep add 2 (num 0) (num 8) (var 0))|",
+        "0 value 28|threads 4|thread /|thread /1|thread /0|thread /0/0|!",
+        4,
+    ),
+    (
+        "arachne eval --names",
+        "arachne 1|ledgers 0|locks 1|(fork n (hold 0 (num 2)) (num 3) (add (var 0) (var 1)))|",
+        "0 value 5|threads 2|thread / 0|thread /0 1|!",
+        0,
+    ),
+    (
+        "arachne check",
+        "arachne 1|ledgers 0|locks 0|(num 7)|",
+        "0 ok|!",
+        0,
+    ),
+    (
+        "arachne policy",
+        "2 151 100 1900 1000|3 100 100 1809 1000|",
+        "0 add|remove|!",
+        0,
+    ),
+    ("arachne run 0:take:1", "", "2 !fault 26 order 0|", 0),
+    ("arachne eval --cores 4", "", "2 !usage", 0),
+    ("arachne help policy", "", "2 !usage", 0),
+];
+
+/// Runs a row's words with no memory, and then with a little more each time, until they end as is told. It counts the runs.
+fn ends_at_last<R: Abort + Threads + Wait + Sync>(
+    rt: &R,
+    alloc: Global,
+    row: Row,
+) -> Result<u64, AllocError> {
+    let (words, input, told, stacks) = row;
+    let (input, told) = (spelled(alloc, input)?, spelled(alloc, told)?);
+    let parts: Vec<&str> = words.split(' ').collect(alloc)?;
+    let (parts, input, told) = (parts.as_slice(), input.as_bytes(), told_by(told.as_str()));
+    let mut output = Tray::with_room(alloc, 1_000)?;
+    let mut faults = Tray::with_room(alloc, 2_000)?;
+    let mut hoard = Hoard::take(alloc, stacks)?;
+    let mut runs = 0u64;
+    for _ in 0..SMALL {
+        runs = runs.wrapping_add(1);
+        let ended = is_told(rt, alloc, parts, input, told, &mut output, &mut faults);
+        assert!(rt; ended.is_some(), "{words}: {runs}");
+        if ended == Some(true) {
+            break;
+        }
+        let _ = hoard.small.pop();
+    }
+    Ok(runs)
+}
+
+/// At first each has no memory at all, and in the end enough.
+#[test]
+fn each_growth_is_refused(rt: HostRuntime) -> Result<(), AllocError> {
+    for &row in ROWS {
+        let runs = ends_at_last(&rt, rt.alloc(), row)?;
+        let (words, ..) = row;
+        assert!(rt; runs > 10 && runs < SMALL as u64, "{words}: {runs}");
+    }
+    Ok(())
+}
