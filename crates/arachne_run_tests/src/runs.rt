@@ -26,6 +26,7 @@ mod places;
 mod programs;
 mod reports;
 mod rows;
+mod shortage;
 mod tables;
 
 /// A form of context table.

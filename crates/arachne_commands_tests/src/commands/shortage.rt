@@ -2,57 +2,16 @@
 use super::endings::{Told, shown, status_of, told_by};
 use super::fakes::{Script, Tray};
 use super::spelling::spelled;
+use arachne_shortage::Hoard;
 use std::alloc::{AllocError, Global};
 use std::process::Abort;
 use std::sync::Wait;
 use std::thread::Threads;
 
-/// The size of the first block that is tried, in bytes. As long as one is refused the next has half of it.
-const LARGEST: usize = 1 << 46;
+/// The most runs of a row, and how many bytes more there are for each.
+const RUNS: u64 = 5_000;
 
-/// The smallest blocks that are taken.
-const SMALLEST: usize = 16;
-
-/// The most blocks that are taken.
-const BLOCKS: usize = 150_000;
-
-/// How many small blocks can be given back one at a time, and how large they are.
-const SMALL: usize = 4_000;
-
-const SMALL_SIZE: usize = 40;
-
-/// All memory that the process can get. Nothing is written to it, so it takes little of the machine's.
-#[derive(Drop)]
-struct Hoard {
-    large: Vec<Vec<u8>>,
-    small: Vec<Vec<u8>>,
-}
-
-impl Hoard {
-    /// Takes all memory there is, but room for so many kernel threads' stacks.
-    fn take(alloc: Global, stacks: usize) -> Result<Hoard, AllocError> {
-        let mut small = Vec::with_capacity(alloc, SMALL)?;
-        let mut large = Vec::with_capacity(alloc, BLOCKS)?;
-        let mut stacks_room = Vec::with_capacity(alloc, 64)?;
-        for _ in 0..SMALL {
-            small.push(Vec::with_capacity(alloc, SMALL_SIZE)?)?;
-        }
-        for _ in 0..stacks {
-            stacks_room.push(Vec::<u8>::with_capacity(alloc, 1 << 24)?)?;
-        }
-        let mut size = LARGEST;
-        for _ in 0..BLOCKS {
-            if size < SMALLEST {
-                break;
-            }
-            match Vec::with_capacity(alloc, size) {
-                Ok(block) => large.push(block)?,
-                Err(AllocError) => size /= 2,
-            }
-        }
-        Ok(Hoard { large, small })
-    }
-}
+const BYTES: usize = 100;
 
 /// What is told where memory or a kernel thread is refused.
 const WANTS: &[&[u8]] = &[b"fault 30\n", b"fault 35\n"];
@@ -134,14 +93,14 @@ fn ends_at_last<R: Abort + Threads + Wait + Sync>(
     let mut faults = Tray::with_room(alloc, 2_000)?;
     let mut hoard = Hoard::take(alloc, stacks)?;
     let mut runs = 0u64;
-    for _ in 0..SMALL {
+    for _ in 0..RUNS {
         runs = runs.wrapping_add(1);
         let ended = is_told(rt, alloc, parts, input, told, &mut output, &mut faults);
         assert!(rt; ended.is_some(), "{words}: {runs}");
         if ended == Some(true) {
             break;
         }
-        let _ = hoard.small.pop();
+        hoard.give_back(BYTES);
     }
     Ok(runs)
 }
@@ -152,7 +111,7 @@ fn each_growth_is_refused(rt: HostRuntime) -> Result<(), AllocError> {
     for &row in ROWS {
         let runs = ends_at_last(&rt, rt.alloc(), row)?;
         let (words, ..) = row;
-        assert!(rt; runs > 10 && runs < SMALL as u64, "{words}: {runs}");
+        assert!(rt; runs > 10 && runs < RUNS, "{words}: {runs}");
     }
     Ok(())
 }

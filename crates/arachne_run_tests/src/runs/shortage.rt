@@ -1,0 +1,277 @@
+//! Runs in a process whose memory is used up, with a little more for each: all end by a fault that says so, until one has a report.
+ghost use Rattle.arachne_lang.specs.Checked.{IsChecked};
+ghost use Rattle.arachne_lang.specs.Program.{source_of};
+
+use super::facts::{Fact, number};
+use super::programs::SWEEP;
+use super::reports::CHAIN;
+use super::{Form, Machine, Source, answer, checked, setup_of, text_of};
+use crate::choosers::{Progression, SPREAD};
+use crate::gates::{Watch, Watching};
+use arachne_lang::Program;
+use arachne_policy::{CoreOrder, OrderKind};
+use arachne_run::{RunFault, Setup};
+use arachne_shortage::Hoard;
+use std::alloc::{AllocError, Global};
+use std::process::Abort;
+use std::sync::Wait;
+use std::test::Fail;
+use std::thread::Threads;
+
+/// The most runs of a row.
+const RUNS: usize = 2_000;
+
+/// How many bytes more there are for each run than for the one before.
+const BYTES: usize = 400;
+
+/// How often a run is repeated with memory, and how much it has then.
+const REPEATED: usize = 20;
+
+const ENOUGH: usize = 400_000;
+
+/// How many bytes may be where nobody finds them, however often a run is repeated.
+const SLACK: usize = 4_096;
+
+/// A program on a machine.
+struct Row {
+    source: Source,
+    machine: Machine,
+    orders: &'static [CoreOrder],
+    /// Its value and its number of threads, as a report has them.
+    told: (u64, u64),
+    /// For how many kernel threads' stacks there is room.
+    stacks: usize,
+    /// What comes of a run at last.
+    last: Result<(), RunFault>,
+}
+
+/// Cores 1 and 2 are taken back, and core 1 is granted again.
+const ORDERS: &[CoreOrder] = &[
+    CoreOrder {
+        after: 0,
+        kind: OrderKind::Release,
+        core: 1,
+    },
+    CoreOrder {
+        after: 1,
+        kind: OrderKind::Release,
+        core: 2,
+    },
+    CoreOrder {
+        after: 2,
+        kind: OrderKind::Grant,
+        core: 1,
+    },
+];
+
+/// A fork.
+const FORK: Source = Source {
+    ledgers: 0,
+    locks: 0,
+    forks: 0,
+    expr: "(fork n (num 2) (num 3) (sub (var 0) (var 1)))",
+};
+
+/// Eight threads that hold a lock and add to a ledger.
+const HOLDS: Source = Source {
+    ledgers: 1,
+    locks: 1,
+    forks: 0,
+    expr: "(sweep add 1 (num 0) (num 8) (hold 0 (tally 0 (num 5) (num 1))))",
+};
+
+const ROWS: &[Row] = &[
+    Row {
+        source: FORK,
+        machine: (4, 100, 4),
+        orders: &[],
+        told: (u64::MAX, 2),
+        stacks: 4,
+        last: Ok(()),
+    },
+    Row {
+        source: FORK,
+        machine: (1, 100, 1),
+        orders: &[],
+        told: (u64::MAX, 2),
+        stacks: 0,
+        last: Ok(()),
+    },
+    Row {
+        source: HOLDS,
+        machine: (4, 100, 4),
+        orders: &[],
+        told: (8, 8),
+        stacks: 4,
+        last: Ok(()),
+    },
+    Row {
+        source: HOLDS,
+        machine: (1, 100, 1),
+        orders: &[],
+        told: (8, 8),
+        stacks: 0,
+        last: Ok(()),
+    },
+    Row {
+        source: SWEEP,
+        machine: (4, 1, 4),
+        orders: ORDERS,
+        told: (28, 4),
+        stacks: 4,
+        last: Ok(()),
+    },
+    Row {
+        source: CHAIN,
+        machine: (4, 100, 4),
+        orders: &[],
+        told: (61, 61),
+        stacks: 4,
+        last: Ok(()),
+    },
+    Row {
+        source: CHAIN,
+        machine: (1, 100, 1),
+        orders: &[],
+        told: (61, 61),
+        stacks: 0,
+        last: Ok(()),
+    },
+    // There is room for the stack of no kernel thread, or of one and not of three.
+    Row {
+        source: HOLDS,
+        machine: (4, 100, 4),
+        orders: &[],
+        told: (8, 8),
+        stacks: 0,
+        last: Err(RunFault::KernelThread),
+    },
+    Row {
+        source: HOLDS,
+        machine: (4, 100, 4),
+        orders: &[],
+        told: (8, 8),
+        stacks: 1,
+        last: Err(RunFault::KernelThread),
+    },
+];
+
+/// How a machine is set up, and its choosers.
+type Made = (Setup, Vec<Progression>);
+
+/// Runs a row's program. A report says what the row does.
+fn tried<R: Abort + Threads + Wait + Sync>(
+    rt: &R,
+    alloc: Global,
+    row: &Row,
+    program: &Program,
+    form: Form,
+    made: Made,
+) -> Result<(), RunFault>
+    requires { IsChecked (source_of program.now) }
+{
+    let watch = Watch::new(Watching::Nothing);
+    let (setup, choosers) = made;
+    let report = answer(rt, alloc, program, form, setup, choosers, &watch)?;
+    let value = number(&report, &watch, Fact::Value);
+    let threads = number(&report, &watch, Fact::Threads);
+    assert!(rt; (value, threads) == row.told);
+    Ok(())
+}
+
+/// So many times what a row's run wants.
+fn made_for(alloc: Global, row: &Row, count: usize) -> Result<Vec<Made>, AllocError> {
+    let mut made = Vec::new(alloc);
+    for _ in 0..count {
+        made.push(setup_of(alloc, row.machine, SPREAD, row.orders)?)?;
+    }
+    Ok(made)
+}
+
+/// Runs a row's program with no memory, and then with a little more each time, until that comes of it that is to. It counts the runs.
+fn refused<R: Abort + Threads + Wait + Sync>(
+    rt: &R,
+    alloc: Global,
+    row: &Row,
+    program: &Program,
+    form: Form,
+) -> Result<u64, AllocError>
+    requires { IsChecked (source_of program.now) }
+{
+    let mut runs = 0u64;
+    let made = made_for(alloc, row, RUNS)?;
+    let mut hoard = Hoard::take(alloc, row.stacks)?;
+    for made in made {
+        let result = tried(rt, alloc, row, program, form, made);
+        if result == row.last {
+            return Ok(runs);
+        }
+        let is_want = result == Err(RunFault::Memory) || result == Err(RunFault::KernelThread);
+        assert!(rt; is_want, "{result:?}");
+        runs = runs.wrapping_add(1);
+        hoard.give_back(BYTES);
+    }
+    Ok(0)
+}
+
+/// Runs a row's program again and again with enough memory, and with all else used up. Whether it always ends as it is to, and as much memory
+/// is left behind the last time as behind an early one.
+fn leaves_nothing<R: Abort + Threads + Wait + Sync>(
+    rt: &R,
+    alloc: Global,
+    row: &Row,
+    program: &Program,
+    form: Form,
+) -> Result<bool, AllocError>
+    requires { IsChecked (source_of program.now) }
+{
+    let made = made_for(alloc, row, REPEATED)?;
+    let mut hoard = Hoard::take(alloc, row.stacks)?;
+    let (mut early, mut runs) = (0usize, 0usize);
+    for made in made {
+        hoard.give_back(ENOUGH);
+        if tried(rt, alloc, row, program, form, made) != row.last {
+            return Ok(false);
+        }
+        let held = hoard.take_again()?;
+        if runs == REPEATED / 2 {
+            early = held;
+        }
+        if held.saturating_add(SLACK) < early {
+            return Ok(false);
+        }
+        runs = runs.wrapping_add(1);
+    }
+    Ok(true)
+}
+
+/// Each row's program over a form of table, and behind that in the same process with all memory.
+fn rows_end<R: Abort + Threads + Wait + Sync>(
+    rt: &R,
+    alloc: Global,
+    form: Form,
+) -> Result<(), Fail> {
+    for row in ROWS {
+        let text = text_of(alloc, &row.source)?;
+        let program = checked(alloc, text.as_bytes())?;
+        let machine = row.machine;
+        let runs = refused(rt, alloc, row, &program, form)?;
+        assert!(rt; runs > 10, "{runs}: {machine:?} {text}");
+        let is_flat = leaves_nothing(rt, alloc, row, &program, form)?;
+        assert!(rt; is_flat, "{machine:?} {text}");
+        let made = setup_of(alloc, machine, SPREAD, row.orders)?;
+        let result = tried(rt, alloc, row, &program, form, made);
+        assert!(rt; result.is_ok(), "{result:?}: {machine:?} {text}");
+    }
+    Ok(())
+}
+
+#[test]
+fn each_growth_is_refused_on_words(rt: HostRuntime) -> Result<(), Fail> {
+    rows_end(&rt, rt.alloc(), Form::Words)
+}
+
+#[test]
+fn each_growth_is_refused_behind_a_lock(rt: HostRuntime) -> Result<(), Fail> {
+    rows_end(&rt, rt.alloc(), Form::Locked)
+}
