@@ -16,7 +16,7 @@ pub enum Watching {
     Cores,
     /// It holds core 1's slice 0 until core 0 has entered this slice, and that until core 1 has entered slice 0.
     Meeting(u64),
-    /// It holds core 1's slice 0 until core 0 has entered this slice. No order may be applied before.
+    /// It holds core 1's slice 0 until core 0 has entered this slice, which waits for core 1. No order may be applied before.
     Holding(u64),
     /// It holds core 1's slice 0 until core 0 has entered so many slices.
     Lead(u64),
@@ -96,6 +96,7 @@ impl Gate for Watch {
                 self.wait(&self.one, 1);
             }
             (Watching::Holding(wanted), 0, nth) if nth == wanted => {
+                self.wait(&self.one, 1);
                 self.zero.store(1, Ordering::SeqCst);
             }
             (Watching::Meeting(_) | Watching::Holding(_), 1, 0) => {

@@ -20,9 +20,6 @@ const SMALL_SIZE: usize = 40;
 /// The size of the largest block that is looked for among what was given back.
 const PIECE: usize = 1 << 20;
 
-/// Room for the stack of a kernel thread.
-const STACK: usize = 1 << 24;
-
 /// All memory that a process can get, but what was given back. Nothing is written to it, so it takes little of the machine's.
 #[derive(Drop)]
 pub struct Hoard {
@@ -47,16 +44,12 @@ fn take_all(alloc: Global, blocks: &mut Vec<Vec<u8>>, largest: usize) -> Result<
 }
 
 impl Hoard {
-    /// Takes all memory there is, and gives back room for the stacks of so many kernel threads.
-    pub fn take(alloc: Global, stacks: usize) -> Result<Hoard, AllocError> {
+    /// Takes all memory there is. Kernel threads begin only on stacks of those that have ended before.
+    pub fn take(alloc: Global) -> Result<Hoard, AllocError> {
         let mut small = Vec::with_capacity(alloc, BLOCKS)?;
         let mut large = Vec::with_capacity(alloc, BLOCKS)?;
-        let mut spared: Vec<Vec<u8>> = Vec::new(alloc);
         for _ in 0..SMALL {
             small.push(Vec::with_capacity(alloc, SMALL_SIZE)?)?;
-        }
-        for _ in 0..stacks {
-            spared.push(Vec::with_capacity(alloc, STACK)?)?;
         }
         take_all(alloc, &mut large, LARGEST)?;
         Ok(Hoard {

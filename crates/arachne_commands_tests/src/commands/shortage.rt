@@ -40,58 +40,55 @@ fn is_told<R: Threads + Wait + Sync>(
     None
 }
 
-/// Words, an input, how they end on it, and how many kernel threads they start.
-type Row = (&'static str, &'static str, &'static str, usize);
+/// Words, an input, and how they end on it.
+type Row = (&'static str, &'static str, &'static str);
 
 const ROWS: &[Row] = &[
     (
         "arachne run --cores 1 --names",
         "arachne 1|ledgers 1|locks 1|(sweep add 1 (num 0) (num 8) (hold 0 (tally 0 (num 5) (num 1))))|",
         "0 value 8|ledger 0 40|threads 8|thread / 1|thread /2 1|thread /1 1|thread /1/0 1|thread /0 1|thread /0/1 1|thread /0/0 1|thread /0/0/0 1|!",
-        1,
     ),
     (
         "arachne run --cores 4 --quantum 1 --names 0:release:1 1:release:2 2:grant:1",
         "arachne 1|ledgers 0|locks 0|(sweep add 2 (num 0) (num 8) (var 0))|",
         "0 value 28|threads 4|thread /|thread /1|thread /0|thread /0/0|!",
-        4,
     ),
     (
         "arachne eval --names",
         "arachne 1|ledgers 0|locks 1|(fork n (hold 0 (num 2)) (num 3) (add (var 0) (var 1)))|",
         "0 value 5|threads 2|thread / 0|thread /0 1|!",
-        0,
     ),
     (
         "arachne check",
         "arachne 1|ledgers 0|locks 0|(num 7)|",
         "0 ok|!",
-        0,
     ),
     (
         "arachne policy",
         "2 151 100 1900 1000|3 100 100 1809 1000|",
         "0 add|remove|!",
-        0,
     ),
-    ("arachne run 0:take:1", "", "2 !fault 26 order 0|", 0),
-    ("arachne eval --cores 4", "", "2 !usage", 0),
-    ("arachne help policy", "", "2 !usage", 0),
+    ("arachne run 0:take:1", "", "2 !fault 26 order 0|"),
+    ("arachne eval --cores 4", "", "2 !usage"),
+    ("arachne help policy", "", "2 !usage"),
 ];
 
-/// Runs a row's words with no memory, and then with a little more each time, until they end as is told. It counts the runs.
+/// Runs a row's words with memory, with none, and then with a little more each time, until they end as is told. It counts the runs.
 fn ends_at_last<R: Abort + Threads + Wait + Sync>(
     rt: &R,
     alloc: Global,
     row: Row,
 ) -> Result<u64, AllocError> {
-    let (words, input, told, stacks) = row;
+    let (words, input, told) = row;
     let (input, told) = (spelled(alloc, input)?, spelled(alloc, told)?);
     let parts: Vec<&str> = words.split(' ').collect(alloc)?;
     let (parts, input, told) = (parts.as_slice(), input.as_bytes(), told_by(told.as_str()));
     let mut output = Tray::with_room(alloc, 1_000)?;
     let mut faults = Tray::with_room(alloc, 2_000)?;
-    let mut hoard = Hoard::take(alloc, stacks)?;
+    let with_memory = is_told(rt, alloc, parts, input, told, &mut output, &mut faults);
+    assert!(rt; with_memory == Some(true), "{words}");
+    let mut hoard = Hoard::take(alloc)?;
     let mut runs = 0u64;
     for _ in 0..RUNS {
         runs = runs.wrapping_add(1);

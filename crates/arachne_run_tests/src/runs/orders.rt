@@ -98,6 +98,7 @@ const FAR: Row = Row {
     shows: "a thread alone gets the first open core that is empty, however many cores there are",
     source: ALONE,
     forms: FORMS,
+    slots: SLOTS,
     machines: &[(64, 100, 64)],
     draws: ZEROS,
     orders: &[],

@@ -39,10 +39,6 @@ struct Row {
     orders: &'static [CoreOrder],
     /// Its value and its number of threads, as a report has them.
     told: (u64, u64),
-    /// For how many kernel threads' stacks there is room.
-    stacks: usize,
-    /// What comes of a run at last.
-    last: Result<(), RunFault>,
 }
 
 /// Cores 1 and 2 are taken back, and core 1 is granted again.
@@ -86,73 +82,42 @@ const ROWS: &[Row] = &[
         machine: (4, 100, 4),
         orders: &[],
         told: (u64::MAX, 2),
-        stacks: 4,
-        last: Ok(()),
     },
     Row {
         source: FORK,
         machine: (1, 100, 1),
         orders: &[],
         told: (u64::MAX, 2),
-        stacks: 0,
-        last: Ok(()),
     },
     Row {
         source: HOLDS,
         machine: (4, 100, 4),
         orders: &[],
         told: (8, 8),
-        stacks: 4,
-        last: Ok(()),
     },
     Row {
         source: HOLDS,
         machine: (1, 100, 1),
         orders: &[],
         told: (8, 8),
-        stacks: 0,
-        last: Ok(()),
     },
     Row {
         source: SWEEP,
         machine: (4, 1, 4),
         orders: ORDERS,
         told: (28, 4),
-        stacks: 4,
-        last: Ok(()),
     },
     Row {
         source: CHAIN,
         machine: (4, 100, 4),
         orders: &[],
         told: (61, 61),
-        stacks: 4,
-        last: Ok(()),
     },
     Row {
         source: CHAIN,
         machine: (1, 100, 1),
         orders: &[],
         told: (61, 61),
-        stacks: 0,
-        last: Ok(()),
-    },
-    // There is room for the stack of no kernel thread, or of one and not of three.
-    Row {
-        source: HOLDS,
-        machine: (4, 100, 4),
-        orders: &[],
-        told: (8, 8),
-        stacks: 0,
-        last: Err(RunFault::KernelThread),
-    },
-    Row {
-        source: HOLDS,
-        machine: (4, 100, 4),
-        orders: &[],
-        told: (8, 8),
-        stacks: 1,
-        last: Err(RunFault::KernelThread),
     },
 ];
 
@@ -188,22 +153,23 @@ fn made_for(alloc: Global, row: &Row, count: usize) -> Result<Vec<Made>, AllocEr
     Ok(made)
 }
 
-/// Runs a row's program with no memory, and then with a little more each time, until that comes of it that is to. It counts the runs.
+/// Runs a row's program with no memory, and then with a little more each time, until that comes of it. It counts the runs.
 fn refused<R: Abort + Threads + Wait + Sync>(
     rt: &R,
     alloc: Global,
     row: &Row,
     program: &Program,
     form: Form,
+    last: Result<(), RunFault>,
 ) -> Result<u64, AllocError>
     requires { IsChecked (source_of program.now) }
 {
     let mut runs = 0u64;
     let made = made_for(alloc, row, RUNS)?;
-    let mut hoard = Hoard::take(alloc, row.stacks)?;
+    let mut hoard = Hoard::take(alloc)?;
     for made in made {
         let result = tried(rt, alloc, row, program, form, made);
-        if result == row.last {
+        if result == last {
             return Ok(runs);
         }
         let is_want = result == Err(RunFault::Memory) || result == Err(RunFault::KernelThread);
@@ -214,38 +180,38 @@ fn refused<R: Abort + Threads + Wait + Sync>(
     Ok(0)
 }
 
-/// Runs a row's program again and again with enough memory, and with all else used up. Whether it always ends as it is to, and as much memory
-/// is left behind the last time as behind an early one.
+/// Runs a row's program again and again with enough memory, and with all else used up: each has a report, or finds no stack that a kernel
+/// thread has left, and as much memory is left behind the last one as behind an early one.
 fn leaves_nothing<R: Abort + Threads + Wait + Sync>(
     rt: &R,
     alloc: Global,
     row: &Row,
     program: &Program,
     form: Form,
-) -> Result<bool, AllocError>
+) -> Result<(), AllocError>
     requires { IsChecked (source_of program.now) }
 {
     let made = made_for(alloc, row, REPEATED)?;
-    let mut hoard = Hoard::take(alloc, row.stacks)?;
+    let mut hoard = Hoard::take(alloc)?;
     let (mut early, mut runs) = (0usize, 0usize);
     for made in made {
         hoard.give_back(ENOUGH);
-        if tried(rt, alloc, row, program, form, made) != row.last {
-            return Ok(false);
-        }
+        let result = tried(rt, alloc, row, program, form, made);
         let held = hoard.take_again()?;
         if runs == REPEATED / 2 {
             early = held;
         }
-        if held.saturating_add(SLACK) < early {
-            return Ok(false);
-        }
+        let is_right = result.is_ok() || result == Err(RunFault::KernelThread);
+        assert!(rt;
+            is_right && held.saturating_add(SLACK) >= early,
+            "{result:?} {runs} {held} {early}"
+        );
         runs = runs.wrapping_add(1);
     }
-    Ok(true)
+    Ok(())
 }
 
-/// Each row's program over a form of table, and behind that in the same process with all memory.
+/// Each row's program over a form of table, with all memory, as it is used up, and with all again.
 fn rows_end<R: Abort + Threads + Wait + Sync>(
     rt: &R,
     alloc: Global,
@@ -255,13 +221,14 @@ fn rows_end<R: Abort + Threads + Wait + Sync>(
         let text = text_of(alloc, &row.source)?;
         let program = checked(alloc, text.as_bytes())?;
         let machine = row.machine;
-        let runs = refused(rt, alloc, row, &program, form)?;
-        assert!(rt; runs > 10, "{runs}: {machine:?} {text}");
-        let is_flat = leaves_nothing(rt, alloc, row, &program, form)?;
-        assert!(rt; is_flat, "{machine:?} {text}");
         let made = setup_of(alloc, machine, SPREAD, row.orders)?;
-        let result = tried(rt, alloc, row, &program, form, made);
-        assert!(rt; result.is_ok(), "{result:?}: {machine:?} {text}");
+        let before = tried(rt, alloc, row, &program, form, made);
+        let runs = refused(rt, alloc, row, &program, form, Ok(()))?;
+        assert!(rt; before.is_ok() && runs > 10, "{runs}: {machine:?} {text}");
+        leaves_nothing(rt, alloc, row, &program, form)?;
+        let made = setup_of(alloc, machine, SPREAD, row.orders)?;
+        let behind = tried(rt, alloc, row, &program, form, made);
+        assert!(rt; behind.is_ok(), "{behind:?}: {machine:?} {text}");
     }
     Ok(())
 }
@@ -274,4 +241,21 @@ fn each_growth_is_refused_on_words(rt: HostRuntime) -> Result<(), Fail> {
 #[test]
 fn each_growth_is_refused_behind_a_lock(rt: HostRuntime) -> Result<(), Fail> {
     rows_end(&rt, rt.alloc(), Form::Locked)
+}
+
+/// The first run of the process has no stack for a kernel thread, and the next one has.
+#[test]
+fn kernel_threads_are_refused(rt: HostRuntime) -> Result<(), Fail> {
+    let alloc = rt.alloc();
+    let Some(row) = ROWS.first() else {
+        return Err("no row")?;
+    };
+    let text = text_of(alloc, &row.source)?;
+    let program = checked(alloc, text.as_bytes())?;
+    let refusal = Err(RunFault::KernelThread);
+    let runs = refused(&rt, alloc, row, &program, Form::Words, refusal)?;
+    let made = setup_of(alloc, row.machine, SPREAD, row.orders)?;
+    let behind = tried(&rt, alloc, row, &program, Form::Words, made);
+    assert!(rt; behind.is_ok() && runs > 10, "{runs} {behind:?}");
+    Ok(())
 }

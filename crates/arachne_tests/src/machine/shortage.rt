@@ -29,7 +29,7 @@ impl Memory {
     /// None.
     fn none(alloc: Global) -> Result<Memory, Fail> {
         Ok(Memory {
-            hoard: Some(Hoard::take(alloc, 0)?),
+            hoard: Some(Hoard::take(alloc)?),
             refused: 0,
         })
     }
