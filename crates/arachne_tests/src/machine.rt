@@ -43,7 +43,7 @@ fn start<'p>(
         Ok(thread) => Ok(thread),
         Err(_) => {
             memory.spare();
-            Ok(Thread::start(alloc, program, tag, &mut Memory::ample())?)
+            Ok(Thread::start(alloc, program, tag)?)
         }
     }
 }
@@ -454,7 +454,7 @@ fn join_child<'p>(thread: &mut Thread<'p>, outcome: Outcome<'p>) {
 
 /// The outcome of the root of a program with one fork.
 fn root_outcome<'p>(alloc: Global, program: &'p Program, tag: u64) -> Result<Outcome<'p>, Fail> {
-    let mut thread = start(alloc, program, tag)?;
+    let mut thread = start(alloc, program, tag, &mut Memory::ample())?;
     let outcome = awaited(&mut thread)?;
     join_child(&mut thread, outcome);
     ended(thread)
