@@ -16,7 +16,7 @@ pub enum Watching {
     Cores,
     /// It holds core 1's slice 0 until core 0 has entered this slice, and that until core 1 has entered slice 0.
     Meeting(u64),
-    /// It holds core 1's slice 0 until core 0 has entered this slice, which waits for core 1. No order may be applied before.
+    /// It holds core 1's slice 0 until core 0 has entered this slice. No order may be applied before.
     Holding(u64),
     /// It holds core 1's slice 0 until core 0 has entered so many slices.
     Lead(u64),
@@ -30,10 +30,6 @@ pub struct Watch {
     pub entered: AtomicU64,
     /// How many slices were entered.
     pub slices: AtomicU64,
-    /// How many slices have ended.
-    pub ended: AtomicU64,
-    /// How often a kernel thread that was parked went on.
-    pub unparked: AtomicU64,
     zero: AtomicU64,
     one: AtomicU64,
     failed: AtomicU64,
@@ -45,8 +41,6 @@ impl Watch {
             watching,
             entered: AtomicU64::new(0),
             slices: AtomicU64::new(0),
-            ended: AtomicU64::new(0),
-            unparked: AtomicU64::new(0),
             zero: AtomicU64::new(0),
             one: AtomicU64::new(0),
             failed: AtomicU64::new(0),
@@ -96,7 +90,6 @@ impl Gate for Watch {
                 self.wait(&self.one, 1);
             }
             (Watching::Holding(wanted), 0, nth) if nth == wanted => {
-                self.wait(&self.one, 1);
                 self.zero.store(1, Ordering::SeqCst);
             }
             (Watching::Meeting(_) | Watching::Holding(_), 1, 0) => {
@@ -109,14 +102,6 @@ impl Gate for Watch {
             (Watching::Lead(wanted), 1, 0) => self.wait(&self.zero, wanted),
             _ => {}
         }
-    }
-
-    fn slice_ended(&self, _core: u8) {
-        self.ended.fetch_add(1, Ordering::SeqCst);
-    }
-
-    fn unparked(&self, _core: u8) {
-        self.unparked.fetch_add(1, Ordering::SeqCst);
     }
 
     fn applied(&self, _orders: usize) {
