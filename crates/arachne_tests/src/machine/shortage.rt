@@ -86,6 +86,7 @@ fn join_at_last<'p>(
 }
 
 /// Threads that wait for a child, the last one for the thread that runs, and children that were given away and have not begun.
+#[derive(Drop)]
 struct Family<'p> {
     parents: Vec<Thread<'p>>,
     children: Vec<Thread<'p>>,
