@@ -73,13 +73,8 @@ impl Hoard {
         }
     }
 
-    /// Takes again what is left of that. How many bytes there are among the small blocks then.
-    pub fn take_again(&mut self) -> Result<usize, AllocError> {
-        take_all(self.alloc, &mut self.small, PIECE)?;
-        let mut held = 0usize;
-        for block in self.small.as_slice() {
-            held = held.saturating_add(block.capacity());
-        }
-        Ok(held)
+    /// Takes again what is left of that.
+    pub fn take_again(&mut self) -> Result<(), AllocError> {
+        take_all(self.alloc, &mut self.small, PIECE)
     }
 }

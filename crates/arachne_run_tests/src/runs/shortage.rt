@@ -19,22 +19,22 @@ use std::test::Fail;
 use std::thread::Threads;
 
 /// The most runs of a row on one core, which has a report at last.
-const RUNS: usize = 2_000;
+const RUNS: u64 = 2_000;
 
 /// The runs of one on several cores. Once all memory was used up the C library gives none to a kernel thread that has just begun, whatever
 /// was given back, so that none need have a report.
-const RUNS_ON_CORES: usize = 200;
+const RUNS_ON_CORES: u64 = 200;
 
 /// How many bytes more there are for each run than for the one before.
 const BYTES: usize = 400;
 
-/// How often a run is repeated with memory, and how much it has then.
-const REPEATED: usize = 40;
+/// How often a run on one core is repeated with the memory of the first that had a report, and how many bytes more.
+const REPEATED: usize = 400;
 
-const ENOUGH: usize = 400_000;
+const SLACK: usize = 16_000;
 
-/// How many bytes may be where nobody finds them, however often a run is repeated.
-const SLACK: usize = 1_024;
+/// Enough of what runs want, which is made before memory is used up.
+const MADE: usize = 2_400;
 
 /// A program on a machine.
 struct Row {
@@ -165,56 +165,73 @@ fn refused<R: Abort + Threads + Wait + Sync>(
     row: &Row,
     program: &Program,
     form: Form,
+    made: &mut Vec<Made>,
+    hoard: &mut Hoard,
     last: Result<(), RunFault>,
-) -> Result<(u64, bool), AllocError>
+) -> (u64, bool)
     requires { IsChecked (source_of program.now) }
 {
-    let mut runs = 0u64;
     let (cores, _, _) = row.machine;
     let most = if cores > 1 { RUNS_ON_CORES } else { RUNS };
-    let made = made_for(alloc, row, most)?;
-    let mut hoard = Hoard::take(alloc)?;
-    for made in made {
+    for runs in 0..most {
+        let Some(made) = made.pop() else {
+            return (runs, false);
+        };
         let result = tried(rt, alloc, row, program, form, made);
         if result == last {
-            return Ok((runs, true));
+            return (runs, true);
         }
         let is_want = result == Err(RunFault::Memory) || result == Err(RunFault::KernelThread);
         assert!(rt; is_want, "{result:?}");
-        runs = runs.wrapping_add(1);
         hoard.give_back(BYTES);
     }
-    Ok((runs, false))
+    (most, false)
 }
 
-/// Runs a row's program again and again with enough memory, and with all else used up: each has a report, and as much
-/// memory is left behind the late ones as behind the early ones.
-fn leaves_nothing<R: Abort + Threads + Wait + Sync>(
+/// Whether a row's program has a report again and again with the memory that there is. If each run left something behind, there would be none
+/// for the last ones.
+fn repeats<R: Abort + Threads + Wait + Sync>(
     rt: &R,
     alloc: Global,
     row: &Row,
     program: &Program,
     form: Form,
-) -> Result<(), AllocError>
+    made: &mut Vec<Made>,
+) -> bool
     requires { IsChecked (source_of program.now) }
 {
-    let made = made_for(alloc, row, REPEATED)?;
-    let mut hoard = Hoard::take(alloc)?;
-    let (mut early, mut late, mut runs) = (0usize, 0usize, 0usize);
-    for made in made {
-        hoard.give_back(ENOUGH);
-        let result = tried(rt, alloc, row, program, form, made);
-        assert!(rt; result.is_ok(), "{result:?} {runs}");
-        let held = hoard.take_again()?;
-        if runs < REPEATED / 2 {
-            early = early.max(held);
-        } else {
-            late = late.max(held);
+    for _ in 0..REPEATED {
+        let Some(made) = made.pop() else {
+            return false;
+        };
+        if tried(rt, alloc, row, program, form, made).is_err() {
+            return false;
         }
-        runs = runs.wrapping_add(1);
     }
-    assert!(rt; late.saturating_add(SLACK) >= early, "{late} {early}");
-    Ok(())
+    true
+}
+
+/// A row's program over a form of table, as memory is used up: how many runs were refused it, and whether that came then which is to.
+fn without_memory<R: Abort + Threads + Wait + Sync>(
+    rt: &R,
+    alloc: Global,
+    row: &Row,
+    program: &Program,
+    form: Form,
+    last: Result<(), RunFault>,
+) -> Result<(u64, bool), AllocError>
+    requires { IsChecked (source_of program.now) }
+{
+    let (cores, _, _) = row.machine;
+    let mut made = made_for(alloc, row, MADE)?;
+    let mut hoard = Hoard::take(alloc)?;
+    let (runs, is_over) = refused(rt, alloc, row, program, form, &mut made, &mut hoard, last);
+    if cores > 1 {
+        return Ok((runs, is_over));
+    }
+    hoard.give_back(SLACK);
+    let repeats = repeats(rt, alloc, row, program, form, &mut made);
+    Ok((runs, is_over && repeats))
 }
 
 /// Each row's program on at most so many cores over a form of table: with all memory, as it is used up, and with all again.
@@ -231,18 +248,16 @@ fn rows_end<R: Abort + Threads + Wait + Sync>(
         }
         let text = text_of(alloc, &row.source)?;
         let program = checked(alloc, text.as_bytes())?;
-        let machine = row.machine;
-        let made = setup_of(alloc, machine, SPREAD, row.orders)?;
+        let made = setup_of(alloc, row.machine, SPREAD, row.orders)?;
         let before = tried(rt, alloc, row, &program, form, made);
-        let (runs, is_over) = refused(rt, alloc, row, &program, form, Ok(()))?;
-        assert!(rt; before.is_ok() && runs > 10, "{runs}: {machine:?} {text}");
-        if cores == 1 {
-            assert!(rt; is_over, "{text}");
-            leaves_nothing(rt, alloc, row, &program, form)?;
-        }
-        let made = setup_of(alloc, machine, SPREAD, row.orders)?;
+        let (runs, is_over) = without_memory(rt, alloc, row, &program, form, Ok(()))?;
+        let made = setup_of(alloc, row.machine, SPREAD, row.orders)?;
         let behind = tried(rt, alloc, row, &program, form, made);
-        assert!(rt; behind.is_ok(), "{behind:?}: {machine:?} {text}");
+        let is_right = before.is_ok() && runs > 10 && (is_over || cores > 1) && behind.is_ok();
+        assert!(rt;
+            is_right,
+            "{cores} {before:?} {runs} {is_over} {behind:?} {text}"
+        );
     }
     Ok(())
 }
@@ -267,7 +282,7 @@ fn kernel_threads_are_refused(rt: HostRuntime) -> Result<(), Fail> {
     let text = text_of(alloc, &row.source)?;
     let program = checked(alloc, text.as_bytes())?;
     let refusal = Err(RunFault::KernelThread);
-    let (runs, is_over) = refused(&rt, alloc, row, &program, Form::Words, refusal)?;
+    let (runs, is_over) = without_memory(&rt, alloc, row, &program, Form::Words, refusal)?;
     let made = setup_of(alloc, row.machine, SPREAD, row.orders)?;
     let behind = tried(&rt, alloc, row, &program, Form::Words, made);
     assert!(rt; behind.is_ok() && is_over && runs > 10, "{runs} {behind:?}");
