@@ -28,13 +28,14 @@ const RUNS_ON_CORES: u64 = 200;
 /// How many bytes more there are for each run than for the one before.
 const BYTES: usize = 400;
 
-/// How often a run on one core is repeated with the memory of the first that had a report, and how many bytes more.
-const REPEATED: usize = 400;
+/// How often a run on one core is repeated with the memory of the first that had a report, and how many bytes more: the C library keeps some
+/// of what is given back for blocks of the same size, of each a few.
+const REPEATED: usize = 1_000;
 
-const SLACK: usize = 16_000;
+const SLACK: usize = 100_000;
 
 /// Enough of what runs want, which is made before memory is used up.
-const MADE: usize = 2_400;
+const MADE: usize = 3_200;
 
 /// A program on a machine.
 struct Row {
