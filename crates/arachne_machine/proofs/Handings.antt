@@ -218,13 +218,13 @@ hand_fold_first before mid new v from first body popped gives b =
     hands_to_part before mid new v (FoldFirst from first body) (FoldStart from v body) mid.environment first popped gives b refl refl refl
     (record { ending = refl; account = λ a any. refl; work = omega arith; trace = refl; faultless = λ held h. ((h.0.0.1, tt), h.0.0.0) })
 
-without-two : (env : List ℕ) (x y : ℕ) → without_newest 2 (with_newest (with_newest env x) y) ≡ env
+pub without-two : (env : List ℕ) (x y : ℕ) → without_newest 2 (with_newest (with_newest env x) y) ≡ env
 without-two env x y =
     let all = with_newest (with_newest env x) y in
     let long : length all - 2 ≡ length env = omega (arith, length-append (env ++ x ∷ []) (y ∷ []), length-append env (x ∷ [])) in
     ap (λ n. take n all) long ∙ ap (take (length env)) (append_assoc env (x ∷ []) (y ∷ [])) ∙ take-append_seam env (x ∷ y ∷ [])
 
-without-one : (env : List ℕ) (x : ℕ) → without_newest 1 (with_newest env x) ≡ env
+pub without-one : (env : List ℕ) (x : ℕ) → without_newest 1 (with_newest env x) ≡ env
 without-one env x =
     let long : length (env ++ x ∷ []) - 1 ≡ length env = omega (arith, length-append env (x ∷ [])) in
     ap (λ n. take n (env ++ x ∷ [])) long ∙ take-append_seam env (x ∷ [])

@@ -15,6 +15,7 @@ pub mod Handings
 pub mod Splitting
 pub mod Joining
 pub mod Soundness
+pub mod Turning
 pub mod Here
 pub mod Levels
 pub mod Going

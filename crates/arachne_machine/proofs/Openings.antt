@@ -29,7 +29,7 @@ use Rattle.arachne_machine.specs.Steps.{Becomes, AfterSteps}
 use Rattle.arachne_machine.proofs.Accounts.{after-nothing, after-sequence}
 use Rattle.arachne_machine.proofs.Faultlessness.{no_faults-append, unless_none, or_else_none, less}
 use Rattle.arachne_machine.proofs.Frames.{with_steps-add}
-use Rattle.arachne_machine.proofs.Purity.{leaf_pure, leaf_work, pure_effects, pure_trace}
+use Rattle.arachne_machine.proofs.Purity.{binary_pure, leaf_pure, leaf_work}
 use Rattle.arachne_machine.proofs.Outlooks.{StepOutlook, Step, steps_by, as_it_is, framed_as, alone, none_here, none_kept, nothing_first}
 
 -- An expression of this tree comes to the same in so many steps, by these frames and this to do next.
@@ -108,8 +108,8 @@ open_binary source name env operation left right = record {
 }
 
 -- where the left side is a leaf, and where both are
-leaf_traced : (A : List (List ℕ)) (t : Tree) (env : List ℕ) → IsLeaf t → trace_of A t env ≡ event.Step ∷ []
-leaf_traced A t env leaf = pure_trace A t env (leaf_pure t leaf) ∙ ap (λ n. with_steps n []) (leaf_work A t env leaf)
+leaf_traced : (source : Source) (t : Tree) (env : List ℕ) → IsLeaf t → trace_of source.arrays t env ≡ event.Step ∷ []
+leaf_traced source t env leaf = (leaf_pure source t env leaf).trace ∙ ap (λ n. with_steps n []) (leaf_work source.arrays t env leaf)
 
 pub open_right : (source : Source) (name : List ℕ) (env : List ℕ) (operation : Operation) (left right : Bor Expr) → IsLeaf (tree_of left.now) →
     Opens 2 source name (Binary operation (tree_of left.now) (tree_of right.now)) env (Begin right) (Apply operation (value_of source.arrays (tree_of left.now) env) ∷ [])
@@ -118,24 +118,24 @@ open_right source name env operation left right leaf =
     let y = effects_of source.arrays source.locks (tree_of right.now) env in
     record {
       ending = refl;
-      account = λ a. ap (after name y) (sym (after-nothing name a) ∙ ap (λ e. after name e a) (sym (pure_effects source.arrays source.locks (tree_of left.now) env (leaf_pure (tree_of left.now) leaf))))
+      account = λ a. ap (after name y) (sym (after-nothing name a) ∙ ap (λ e. after name e a) (sym (leaf_pure source (tree_of left.now) env leaf).effects))
           ∙ sym (after-sequence name x y a);
       work = omega (arith, leaf_work source.arrays (tree_of left.now) env leaf);
       trace = ap (with_steps 2) (append-nil (trace_of source.arrays (tree_of right.now) env))
-          ∙ ap (λ l. event.Step ∷ (l ++ trace_of source.arrays (tree_of right.now) env)) (sym (leaf_traced source.arrays (tree_of left.now) env leaf));
+          ∙ ap (λ l. event.Step ∷ (l ++ trace_of source.arrays (tree_of right.now) env)) (sym (leaf_traced source (tree_of left.now) env leaf));
       faultless = λ held h.
           let parts = no_faults-append (node_faults source held h.0 (tree_of left.now)) (node_faults source held h.0 (tree_of right.now)) h.1.1 in
           ((tt, tt), (h.0, parts.1));
     }
 
 -- what is pure comes to its value at once
-pub open_pure : (source : Source) (name : List ℕ) (env : List ℕ) (t : Tree) (steps : ℕ) → IsPure t → steps + 1 ≡ work_of source.arrays t env →
+pub open_pure : (source : Source) (name : List ℕ) (env : List ℕ) (t : Tree) (steps : ℕ) → IsPure source t env → steps + 1 ≡ work_of source.arrays t env →
     Opens steps source name t env (Give (value_of source.arrays t env)) []
 open_pure source name env t steps pure counted = record {
   ending = refl;
-  account = λ a. sym (after-nothing name a) ∙ ap (λ e. after name e a) (sym (pure_effects source.arrays source.locks t env pure));
+  account = λ a. sym (after-nothing name a) ∙ ap (λ e. after name e a) (sym pure.effects);
   work = omega (arith, counted);
-  trace = sym (with_steps-add steps 1 []) ∙ ap (λ n. with_steps n []) counted ∙ sym (pure_trace source.arrays t env pure);
+  trace = sym (with_steps-add steps 1 []) ∙ ap (λ n. with_steps n []) counted ∙ sym pure.trace;
   faultless = λ held h. (tt, tt);
 }
 
@@ -274,4 +274,4 @@ begins_both old new expr first second operation x y v begins is_tree one two is 
     let whole : v ≡ value_of A (Binary operation a c) env = made ∙ ap (λ n. apply operation n y) is ∙ ap (λ n. apply operation (value_of A a env) n) also in
     goes_to_value 2 old new expr (Binary operation a c) (value_of A (Binary operation a c) env) begins is_tree
     (framed_as old new env fs fs (Give v) (Give (value_of A (Binary operation a c) env)) b refl (ap Give whole))
-    (open_pure source old.own.name env (Binary operation a c) 2 (leaf_pure a one, leaf_pure c two) (omega (arith, leaf_work A a env one, leaf_work A c env two)))
+    (open_pure source old.own.name env (Binary operation a c) 2 (binary_pure source env operation a c (leaf_pure source a env one) (leaf_pure source c env two)) (omega (arith, leaf_work A a env one, leaf_work A c env two)))

@@ -336,6 +336,14 @@ pub record Makes (had left beside : ℕ) (old new : Strand) : Type 0 where
   pub counted : left + made ≡ had + beside
   pub goes : AfterSteps made old None new
 
+-- The first comes to where a fold of the second goes on from this number with this value so far, and so many steps are left then.
+abbrev pub ComesToFold : Strand → Strand → ℕ → ℕ → ℕ → ℕ → Bor Expr → ℕ → Type 0
+ComesToFold before t had left next end body so_far = (on : Strand) → TurnsFold t on next end body so_far → Makes had left 1 before on
+
+-- and where a sweep does
+abbrev pub ComesToSweep : Strand → Strand → ℕ → ℕ → Reduction → ℕ → ℕ → Bor Expr → ℕ → Type 0
+ComesToSweep before t had left reduction next end body so_far = (on : Strand) → TurnsSweep t on reduction next end body so_far → Makes had left 1 before on
+
 -- a pause with more to come
 abbrev pub IsNotEnd : Pending → Type 0
 IsNotEnd pause.Ended = ⊥

@@ -1,5 +1,6 @@
 //! The steps that begin an expression.
 use crate::frame::{Control, Frame};
+use crate::lookup::{length_in, variable_in};
 use crate::placing::Placing;
 use crate::spares::Spares;
 use crate::state::{Progress, State};
@@ -37,8 +38,11 @@ impl<'p> State<'p> {
     {
         let part = match expr {
             Expr::Num(number) => return Ok(Progress::Value(*number)),
-            Expr::Var(variable) => return Ok(Progress::Value(self.variable(*variable))),
-            Expr::Len(array) => return Ok(Progress::Value(self.length(*array))),
+            Expr::Var(variable) => return Ok(Progress::Value(variable_in(
+                self.environment.as_slice(),
+                *variable,
+            ))),
+            Expr::Len(array) => return Ok(Progress::Value(length_in(self.program, *array))),
             Expr::Item(array, index) => self.enter(Frame::Index(*array), index)?,
             Expr::Binary(operation, first, second) => {
                 return self.operate(*operation, first, second, left);
@@ -109,7 +113,7 @@ impl<'p> State<'p> {
     {
         match expr {
             Expr::Num(number) => Some(*number),
-            Expr::Var(variable) => Some(self.variable(*variable)),
+            Expr::Var(variable) => Some(variable_in(self.environment.as_slice(), *variable)),
             _ => None,
         }
     }
@@ -134,27 +138,5 @@ impl<'p> State<'p> {
         self.frames.push(Frame::Release(lock))?;
         self.control = Control::Asks { lock, body };
         Ok(())
-    }
-
-    /// The value of a variable.
-    #[inline(always)]
-    fn variable(&self, variable: u64) -> u64
-        ensures { result ≡ slice_index self.now.environment.items variable }
-    {
-        match self.environment.get(variable as usize) {
-            Some(value) => *value,
-            None => 0,
-        }
-    }
-
-    /// How many items an array has.
-    #[inline(always)]
-    fn length(&self, array: u64) -> u64
-        ensures { result ≡ length (array_at (source_of self.now.program.now).arrays array) }
-    {
-        match self.program.arrays.get(array as usize) {
-            Some(items) => items.len() as u64,
-            None => 0,
-        }
     }
 }

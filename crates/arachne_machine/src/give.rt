@@ -1,8 +1,9 @@
 //! Hands a value on from frame to frame.
 use crate::frame::{Control, Frame, Stretch};
+use crate::lookup::item_in;
 use crate::placing::Placing;
 use crate::state::{Progress, State};
-use arachne_lang::{Expr, Reduction};
+use arachne_lang::Expr;
 use std::alloc::AllocError;
 
 /// How a value is handed on.
@@ -177,7 +178,7 @@ impl<'p> State<'p> {
         ensures frames { OnValue result (vec_len self.new.frames ≤ vec_len self.old.frames) }
     {
         match frame {
-            Frame::Index(array) => Progress::Value(self.item(array, value)),
+            Frame::Index(array) => Progress::Value(item_in(self.program, array, value)),
             Frame::Apply(operation, first) => Progress::Value(operation.apply(first, value)),
             Frame::Restore(length) => {
                 self.environment.truncate(length);
@@ -294,7 +295,7 @@ impl<'p> State<'p> {
 
     /// Begins an expression after a frame was taken away; this frame says what comes after it.
     #[inline(always)]
-    fn go_on(&mut self, frame: Frame<'p>, part: &'p Expr) -> Progress<'p>
+    pub fn go_on(&mut self, frame: Frame<'p>, part: &'p Expr) -> Progress<'p>
         requires { vec_len self.old.frames + 1 ≤ vec_capacity self.old.frames }
         ensures begins { result ≡ ways.Begin part.entry }
         ensures same { Pushes self.old self.new frame.entry }
@@ -347,81 +348,5 @@ impl<'p> State<'p> {
     {
         let length = self.environment.len().saturating_sub(count);
         self.environment.truncate(length);
-    }
-
-    /// An item of an array, 0 outside it.
-    #[inline(always)]
-    fn item(&self, array: u64, index: u64) -> u64
-        ensures { result ≡ slice_index (array_at (source_of self.now.program.now).arrays array) index }
-    {
-        match self.program.arrays.get(array as usize) {
-            Some(items) => match items.get(index as usize) {
-                Some(item) => *item,
-                None => 0,
-            },
-            None => 0,
-        }
-    }
-
-    /// A fold that has this value so far goes on from a number to below an end.
-    #[inline(always)]
-    fn turn_fold(
-        &mut self,
-        next: u64,
-        end: u64,
-        body: &'p Expr,
-        so_far: u64,
-        left: &mut u32,
-    ) -> Progress<'p>
-        requires environment { vec_len self.old.environment + 2 ≤ vec_capacity self.old.environment }
-        requires frames { vec_len self.old.frames + 1 ≤ vec_capacity self.old.frames }
-        ensures turns { FoldsOn self.old (seen_in result self.new) next end body.entry so_far }
-        ensures step { IsOneStep left.old left.new result self.new }
-        ensures fewer { left.new ≤ left.old }
-        ensures room { OnValue result (self.new ≡ self.old) }
-    {
-        if next >= end {
-            return self.hand_result(so_far, left);
-        }
-        self.environment.push_reserved(next);
-        self.environment.push_reserved(so_far);
-        let turn = Frame::FoldTurn {
-            next: next + 1,
-            end,
-            body,
-        };
-        self.go_on(turn, body)
-    }
-
-    /// A sweep that has this value so far goes on from a number to below an end.
-    #[inline(always)]
-    pub fn turn_sweep(
-        &mut self,
-        reduction: Reduction,
-        next: u64,
-        end: u64,
-        body: &'p Expr,
-        so_far: u64,
-        left: &mut u32,
-    ) -> Progress<'p>
-        requires environment { vec_len self.old.environment + 2 ≤ vec_capacity self.old.environment }
-        requires frames { vec_len self.old.frames + 1 ≤ vec_capacity self.old.frames }
-        ensures turns { SweepsOn self.old (seen_in result self.new) reduction next end body.entry so_far }
-        ensures step { IsOneStep left.old left.new result self.new }
-        ensures fewer { left.new ≤ left.old }
-        ensures room { OnValue result (self.new ≡ self.old) }
-    {
-        if end <= next {
-            return self.hand_result(so_far, left);
-        }
-        self.environment.push_reserved(next);
-        let turn = Frame::SweepTurn {
-            reduction,
-            next: next + 1,
-            end,
-            so_far,
-            body,
-        };
-        self.go_on(turn, body)
     }
 }

@@ -11,6 +11,7 @@ mod join;
 mod level;
 mod line;
 mod lines;
+mod lookup;
 mod outcome;
 mod pause;
 mod placed;
@@ -19,6 +20,8 @@ mod spares;
 mod state;
 mod tables;
 mod thread;
+mod turns;
+mod worth;
 
 pub use alone::run_alone;
 pub use line::{Ran, ThreadLine};

@@ -1,4 +1,2 @@
-pub mod Crossing
 pub mod Granting
 pub mod Marking
-mod Awaiting

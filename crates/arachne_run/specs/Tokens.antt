@@ -24,8 +24,8 @@ ground_of machine = record { table = machine.table; tickets = machine.tickets; c
 abbrev pub IsArbiterOf : {Table Ticket : Type 0} → Machine Table Ticket → Option Progress → Type 0
 IsArbiterOf machine arbiter = IfSome arbiter (λ progress. (length progress.list ≡ machine.orders) × (progress.cores ≡ machine.cores))
 
--- the seat sits at the machine's table, the share is of its ledgers, the lock seats are of its locks, the pass is of its queue, and the arbiter,
--- if there is one, is its arbiter; nothing is out with the seat
+-- the seat sits at the machine's table, the share is of its ledgers, the lock seats are of its locks, the pass is of
+-- its queue, and the arbiter, if there is one, is its arbiter; nothing is out with the seat
 abbrev pub AreIdle : {Table Seat Ticket : Type 0} → (Table → Seat → Type 0) → (Table → Seat → Type 0) → Machine Table Ticket → Tokens Seat Ticket → Type 0
 AreIdle sits idle machine tokens =
     sits machine.table tokens.seat × idle machine.table tokens.seat × IsShareOf machine.ledgers tokens.share × AreSeatsOf machine.locks tokens.lock_seats
@@ -48,8 +48,8 @@ in_hand tag (Some held) = thread_in tag held ∷ []
 abbrev pub IsSpent : {Seat C H : Type 0} → (Seat → List (Out C H) → Type 0) → Out C H → Seat → Seat → Type 0
 IsSpent {Seat} {C} {H} has out old new = (outs : List (Out C H)) → has old (out ∷ outs) → has new outs
 
--- its table has its cores, of which there are one to 64, as many as the shared words are for, each with its places, one to 56, and a slice
--- has a step at least
+-- its table has its cores, of which there are one to 64, as many as the shared words are for, each with its places, one
+-- to 56, and a slice has a step at least
 pub record IsSetUp {Table Ticket : Type 0} (core_count slot_count : Table → ℕ) (machine : Machine Table Ticket) : Type 0 where
   pub cores : core_count machine.table ≡ machine.cores
   pub some : 1 ≤ machine.cores

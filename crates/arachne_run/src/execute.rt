@@ -9,11 +9,11 @@ use crate::policy;
 use crate::queue::Agenda;
 use crate::seat::Seat;
 use crate::shared::Shared;
-use crate::slice::RunJob;
 use crate::sums::Sums;
 use crate::wake::Cause;
 use arachne_contexts::Contexts;
 use arachne_core::{Place, Rest};
+use arachne_jobs::RunJob;
 use arachne_sleep::Who;
 use rand_core::Rng;
 use std::sync::Wait;
@@ -47,8 +47,8 @@ pub(crate) struct Worker<'a, H, T: RunJob, C: Contexts<T>, R, G> {
 }
 
 impl<'a, H: Wait, T: RunJob, C: Contexts<T>, R: Rng + Drop, G: Gate> Worker<'a, H, T, C, R, G> {
-    /// The thread in hand, which was at this index, has a slice, and more as long as nothing else is to go on. Then it rests, or
-    /// has ended.
+    /// The thread in hand, which was at this index, has a slice, and more as long as nothing else is to go on. Then it
+    /// rests, or has ended.
     pub(crate) fn turn(&mut self, index: u8) -> Result<(), WorkerFault>
         ensures { (self.new.desk ≡ self.old.desk) × (self.new.locks ≡ self.old.locks) × (self.new.sums ≡ self.old.sums) }
     {
@@ -68,8 +68,8 @@ impl<'a, H: Wait, T: RunJob, C: Contexts<T>, R: Rng + Drop, G: Gate> Worker<'a, 
         Ok(())
     }
 
-    /// Whether the thread in hand has another slice at once: no other is known to be ready, no ticket could be taken, and the
-    /// workers go on.
+    /// Whether the thread in hand has another slice at once: no other is known to be ready, no ticket could be taken,
+    /// and the workers go on.
     fn goes_on(&mut self) -> bool
         ensures { (self.new.desk ≡ self.old.desk) × (self.new.locks ≡ self.old.locks) × (self.new.sums ≡ self.old.sums) }
     {
@@ -86,7 +86,8 @@ impl<'a, H: Wait, T: RunJob, C: Contexts<T>, R: Rng + Drop, G: Gate> Worker<'a, 
         !policy::may_take_ticket(now, self.desk.kept(), self.slots) || !self.desk.has_tickets()
     }
 
-    /// One slice of the thread in hand: it goes on for at most a quantum of steps, and what it asks for meanwhile is answered.
+    /// One slice of the thread in hand: it goes on for at most a quantum of steps, and what it asks for meanwhile is
+    /// answered.
     fn slice(&mut self) -> Result<SliceEnd, WorkerFault>
         ensures { (self.new.desk ≡ self.old.desk) × (self.new.locks ≡ self.old.locks) × (self.new.sums ≡ self.old.sums) }
     {
@@ -172,8 +173,8 @@ impl<'a, H: Wait, T: RunJob, C: Contexts<T>, R: Rng + Drop, G: Gate> Worker<'a, 
         Who { tag, id }
     }
 
-    /// Ends the thread in hand, and wakes its parent. With the root all workers stop. Then places of the core are kept or given
-    /// back.
+    /// Ends the thread in hand, and wakes its parent. With the root all workers stop. Then places of the core are kept
+    /// or given back.
     fn end(&mut self) -> Result<(), WorkerFault>
         ensures { (self.new.desk ≡ self.old.desk) × (self.new.locks ≡ self.old.locks) × (self.new.sums ≡ self.old.sums) }
     {

@@ -6,9 +6,9 @@ use crate::execute::Worker;
 use crate::fault::WorkerFault;
 use crate::gate::Gate;
 use crate::policy;
-use crate::slice::RunJob;
 use arachne_contexts::Contexts;
 use arachne_core::SLOTS;
+use arachne_jobs::RunJob;
 use rand_core::Rng;
 use std::hint::spin_loop;
 use std::sync::Wait;
@@ -38,10 +38,12 @@ impl<'a, H: Wait, T: RunJob, C: Contexts<T>, R: Rng + Drop, G: Gate> Worker<'a, 
         unreachable!()
     }
 
-    /// Runs each thread that may be ready as far as is known, once, and then takes a ticket. Whether there was anything.
+    /// Runs each thread that may be ready as far as is known, once, and then takes a ticket. Whether there was
+    /// anything.
     fn scan(&mut self) -> Result<bool, WorkerFault>
         ensures { (self.new.desk ≡ self.old.desk) × (self.new.locks ≡ self.old.locks) × (self.new.sums ≡ self.old.sums) }
     {
+        self.desk.thin_out()?;
         let mut indexes = self.shared.signals().take(self.core);
         if self.agenda.is_look_due() {
             indexes |= self.desk.look().mask();
@@ -51,8 +53,8 @@ impl<'a, H: Wait, T: RunJob, C: Contexts<T>, R: Rng + Drop, G: Gate> Worker<'a, 
         Ok(self.take_ticket()? || found)
     }
 
-    /// The same for all that is occupied, and parks where the core is closed and nothing is on it. Before it sleeps the places
-    /// that it keeps are given back, and all that it has posted is told of.
+    /// The same for all that is occupied, and parks where the core is closed and nothing is on it. Before it sleeps the
+    /// places that it keeps are given back, and all that it has posted is told of.
     fn scan_all(&mut self, idle: u32) -> Result<bool, WorkerFault>
         ensures { (self.new.desk ≡ self.old.desk) × (self.new.locks ≡ self.old.locks) × (self.new.sums ≡ self.old.sums) }
     {
@@ -72,7 +74,8 @@ impl<'a, H: Wait, T: RunJob, C: Contexts<T>, R: Rng + Drop, G: Gate> Worker<'a, 
         Ok(parked)
     }
 
-    /// Runs each thread that is ready at the indexes of the scan, upwards, unless all workers stop. Whether there was one.
+    /// Runs each thread that is ready at the indexes of the scan, upwards, unless all workers stop. Whether there was
+    /// one.
     fn run_each(&mut self) -> Result<bool, WorkerFault>
         ensures { (self.new.desk ≡ self.old.desk) × (self.new.locks ≡ self.old.locks) × (self.new.sums ≡ self.old.sums) }
     {
@@ -92,14 +95,17 @@ impl<'a, H: Wait, T: RunJob, C: Contexts<T>, R: Rng + Drop, G: Gate> Worker<'a, 
         Ok(found)
     }
 
-    /// Runs the thread at an index of the core for a turn, if it is ready, and then each that is to go on before all others.
-    /// Whether there was one that was ready.
+    /// Runs the thread at an index of the core for a turn, if it is ready, and then each that is to go on before all
+    /// others. None begins once all workers stop. Whether there was one that was ready.
     fn run_at(&mut self, index: u8) -> Result<bool, WorkerFault>
         ensures { (self.new.desk ≡ self.old.desk) × (self.new.locks ≡ self.old.locks) × (self.new.sums ≡ self.old.sums) }
     {
         let mut index = index;
         let mut found = false;
         for _ in 0..policy::MOST_IN_TURN {
+            if self.shared.is_stopped() {
+                break;
+            }
             self.tend();
             match self.desk.take(index) {
                 Grip::Taken => {
@@ -136,8 +142,8 @@ impl<'a, H: Wait, T: RunJob, C: Contexts<T>, R: Rng + Drop, G: Gate> Worker<'a, 
         Ok(found)
     }
 
-    /// Waits, longer the more rounds have found nothing: it spins, then yields the processor, then sleeps. Each of these ends
-    /// once a thread of the core may be ready, and a sleep once all workers stop too.
+    /// Waits, longer the more rounds have found nothing: it spins, then yields the processor, then sleeps. Each of
+    /// these ends once a thread of the core may be ready, and a sleep once all workers stop too.
     fn wait(&self, round: u32) {
         if round <= policy::LAST_SPIN {
             for _ in 0..1u32 << round {

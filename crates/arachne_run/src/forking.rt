@@ -14,10 +14,10 @@ use crate::machine::Machine;
 use crate::policy;
 use crate::queue::Post;
 use crate::shared::Shared;
-use crate::slice::{RunJob, Slice};
 use crate::tags::Tags;
 use arachne_contexts::{Claimed, Contexts, Held, Identified, Placed, Seats, Tagged};
 use arachne_core::OccWord;
+use arachne_jobs::{RunJob, Slice};
 use arachne_lang::Class;
 use arachne_machine::Placing;
 use arachne_spill::{CAPACITY, SpillPass};
@@ -43,13 +43,37 @@ pub(crate) struct Openings<'a, H, T, C: Seats, R> {
     ghost counted: { C.core_count table.now ≡ cores },
 }
 
+impl<'a, H, T, C: Seats, R: Drop> Openings<'a, H, T, C, R> {
+    /// What threads are told at their forks, by this chooser. None where memory is refused.
+    pub(crate) fn boxed<K: Tagged + Drop>(
+        rt: &'a H,
+        alloc: Global,
+        machine: &'a Machine<C, K>,
+        chooser: R,
+    ) -> Option<Box<Openings<'a, H, T, C, R>>>
+        requires { IsSetUp C.core_count C.slot_count machine.now }
+    {
+        let openings = Openings {
+            rt,
+            table: &machine.table,
+            cores: machine.cores,
+            slots: machine.slots,
+            shared: &machine.shared,
+            chooser,
+            tags: Tags::new(),
+            of: PhantomData,
+        };
+        Box::new(alloc, openings).ok()
+    }
+}
+
 impl<'a, H: Wait, T: Tagged, C: Contexts<T>, R: Rng> Placing for Openings<'a, H, T, C, R> {
     ghost use Rattle.std.specs.Prelude.{false};
 
     ghost gives_all = { false };
 
-    /// Whether a child may get a place, or wait for one. Where it may not, the chooser's word for it is drawn here. The looks are
-    /// with no seat: the claim decides.
+    /// Whether a child may get a place, or wait for one. Where it may not, the chooser's word for it is drawn here. The
+    /// looks are with no seat: the claim decides.
     #[inline(always)]
     fn is_any(&mut self, class: Class) -> bool {
         if class == Class::Exclusive {
@@ -123,8 +147,8 @@ struct Fork<Child> {
     tag: u64,
 }
 
-/// Answers a fork of the thread in hand: the child gets a place on a core that has one for a thread of its class. Else a normal one
-/// waits, if there is room in the queue, and another one runs in place.
+/// Answers a fork of the thread in hand: the child gets a place on a core that has one for a thread of its class. Else
+/// a normal one waits, if there is room in the queue, and another one runs in place.
 #[inline(always)]
 fn answer_fork<H: Wait, T: RunJob, C: Contexts<T>, R: Rng>(
     rt: &H,
@@ -155,8 +179,8 @@ fn answer_fork<H: Wait, T: RunJob, C: Contexts<T>, R: Rng>(
     }
 }
 
-/// A place for a thread that is forked. A normal one gets it on the core with fewer threads of two that are drawn, else on another
-/// core that has one; an exclusive one on an empty core.
+/// A place for a thread that is forked. A normal one gets it on the core with fewer threads of two that are drawn, else
+/// on another core that has one; an exclusive one on an empty core.
 #[inline(always)]
 fn claim<H: Wait, T: RunJob, C: Contexts<T>, R: Rng>(
     rt: &H,
@@ -234,7 +258,8 @@ fn put_aside<H: Wait, T: RunJob, C: Contexts<T>>(
     Ok(Stop::Goes)
 }
 
-/// A place of the core: the newest that is kept, else one that is free.
+/// A place of the core: the newest that is kept, else one that is free. Tries again where another took the place
+/// meanwhile.
 pub(crate) fn free_place<H: Wait, T: RunJob, C: Contexts<T>>(
     rt: &H,
     machine: &Machine<C, T::Ticket>,
@@ -252,14 +277,19 @@ pub(crate) fn free_place<H: Wait, T: RunJob, C: Contexts<T>>(
     if let Some(claim) = kept.take() {
         return Ok(Some(claim));
     }
-    match machine.table.claim(rt, spare, core) {
-        Ok(Claimed::Place(claim)) => Ok(Some(claim)),
-        Ok(_) => Ok(None),
-        Err(_) => Err(WorkerFault::Memory),
+    for _ in rt.forever() {
+        match machine.table.claim(rt, spare, core) {
+            Ok(Claimed::Place(claim)) => return Ok(Some(claim)),
+            Ok(Claimed::Full(_) | Claimed::Closed(_)) => return Ok(None),
+            Ok(Claimed::Lost(_)) => {}
+            Err(_) => return Err(WorkerFault::Memory),
+        }
     }
+    unreachable!()
 }
 
-/// Posts a child that has waited at a place, or gives that back where the child is gone meanwhile. Whether it was posted.
+/// Posts a child that has waited at a place, or gives that back where the child is gone meanwhile. Whether it was
+/// posted.
 pub(crate) fn post_waiting<H: Wait, T: RunJob, C: Contexts<T>>(
     rt: &H,
     machine: &Machine<C, T::Ticket>,

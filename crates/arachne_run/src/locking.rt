@@ -1,12 +1,13 @@
-//! What a worker does for the thread in hand at a sleep lock: it tries again where another kernel thread is at the lock.
+//! What a worker does for the thread in hand at a sleep lock: it tries again where another kernel thread is at the
+//! lock.
 ghost use Rattle.std.specs.Prelude.{◌≡◌};
 
 use crate::execute::Worker;
 use crate::fault::WorkerFault;
 use crate::gate::Gate;
-use crate::slice::RunJob;
 use arachne_contexts::Contexts;
 use arachne_core::ThreadId;
+use arachne_jobs::RunJob;
 use arachne_sleep::{AskFault, Asked, Freed, Tried, Who};
 use crossbeam_utils::Backoff;
 use rand_core::Rng;

@@ -21,7 +21,8 @@ pub(crate) const MOST_KEPT_BACK: usize = 8;
 /// For how many steps a worker keeps something back.
 pub(crate) const PATIENCE: u32 = 500;
 
-/// How many threads a worker posts on other cores before it keeps any back: at first, work is to get to the other cores.
+/// How many threads a worker posts on other cores before it keeps any back: at first, work is to get to the other
+/// cores.
 pub(crate) const TOLD_AT_ONCE: u32 = 32;
 
 /// Whether a worker that has posted so many threads on other cores before keeps the next one back.
@@ -34,8 +35,8 @@ pub(crate) fn has_room(now: OccWord, slots: u8) -> bool {
     !now.is_closed() && !now.is_exclusive() && now.count() < slots
 }
 
-/// Whether places may be kept at all: not where a thread may want a whole core, nor where orders may close one, nor where a thread
-/// that holds a lock may be moved from one core to another.
+/// Whether places may be kept at all: not where a thread may want a whole core, nor where orders may close one, nor
+/// where a thread that holds a lock may be moved from one core to another.
 pub(crate) fn may_keep_places(has_exclusive: bool, orders: usize, moves_holders: bool) -> bool {
     !has_exclusive && orders == 0 && !moves_holders
 }
@@ -45,13 +46,14 @@ pub(crate) fn keeps_place(before: OccWord, slots: u8) -> bool {
     before.count() >= slots && !before.is_closed() && !before.is_exclusive()
 }
 
-/// Whether so many places that are kept are given back, all of them: fewer than half of the core's places have threads.
+/// Whether so many places that are kept are given back, all of them: half of the core's places have no thread.
 pub(crate) fn gives_back(now: OccWord, kept: usize, slots: u8) -> bool {
     let threads = usize::from(now.count()).saturating_sub(kept);
-    threads * 2 < usize::from(slots)
+    threads * 2 <= usize::from(slots)
 }
 
-/// Whether a ticket may be taken on a core that looks so: it is open, no thread has it alone, and a place is free or kept.
+/// Whether a ticket may be taken on a core that looks so: it is open, no thread has it alone, and a place is free or
+/// kept.
 pub(crate) fn may_take_ticket(now: OccWord, kept: usize, slots: u8) -> bool {
     !now.is_closed() && !now.is_exclusive() && (kept > 0 || now.count() < slots)
 }

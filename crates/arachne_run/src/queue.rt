@@ -1,5 +1,5 @@
-//! What a worker remembers: where threads of its core may be ready, which is to go on next, and what it has posted on other
-//! cores.
+//! What a worker remembers: where threads of its core may be ready, which is to go on next, and what it has posted on
+//! other cores.
 //!
 //! Plain data: it touches no word that another worker sees.
 ghost use Rattle.std.specs.Prelude.{◌≤◌};

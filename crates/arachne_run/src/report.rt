@@ -30,8 +30,8 @@ pub struct Report {
 }
 
 impl Report {
-    /// What the root's outcome brings. Its sums have to be the words of the ledgers, no two threads may have one tag, and
-    /// the grants of the locks have to be the threads' holds.
+    /// What the root's outcome brings. Its sums have to be the words of the ledgers, no two threads may have one tag,
+    /// and the grants of the locks have to be the threads' holds.
     pub(crate) fn of(
         alloc: Global,
         outcome: Outcome,

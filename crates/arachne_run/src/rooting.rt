@@ -4,8 +4,8 @@ ghost use Rattle.arachne_run.specs.Tokens.{IsSetUp};
 
 use crate::fault::WorkerFault;
 use crate::machine::Machine;
-use crate::slice::RunJob;
 use arachne_contexts::{Claimed, Contexts, Placed};
+use arachne_jobs::RunJob;
 use std::sync::Wait;
 
 /// Posts the root on core 0, where a table on which nothing runs has a place. Its index.

@@ -17,17 +17,18 @@ use crate::gate::Gate;
 use crate::machine::Machine;
 use crate::report::Report;
 use crate::setup::Setup;
-use crate::slice::JobOf;
 use crate::workers::work_all;
 use arachne_contexts::Contexts;
+use arachne_jobs::{JobOf, RunSpares};
 use arachne_lang::Program;
 use rand_core::Rng;
 use std::alloc::Global;
 use std::sync::Wait;
 use std::thread::Threads;
 
-/// Runs a program on one kernel thread for each core, over a table of the type `C`. Each core draws from its own chooser.
-/// The orders take cores back and grant them again while it runs; those that are not reached before its end are not applied.
+/// Runs a program on one kernel thread for each core, over a table of the type `C`. Each core draws from its own
+/// chooser. The orders take cores back and grant them again while it runs; those that are not reached before its end
+/// are not applied.
 ///
 /// The program is unchanged. After an error nothing of the run is left.
 pub fn run<
@@ -61,7 +62,7 @@ pub fn run<
     setup.check(choosers.len())?;
     let mut choosers = choosers;
     choosers.reverse();
-    let (root, receiver) = T::begin(alloc, program, &mut T::spares(alloc))?;
+    let (root, receiver) = T::begin(alloc, program, &mut T::Spares::none(alloc))?;
     let (machine, tokens) = Machine::<C, T::Ticket>::new(
         alloc,
         setup.cores as u8,

@@ -1,8 +1,10 @@
 //! A worker's seats at the table, and what is out with them.
 //!
-//! It alone calls the table. Its type keeps the bookkeeping: the thread in hand is out with one seat, the places that are kept
-//! with the other, and nothing else is out between two calls.
-ghost use Rattle.std.specs.Prelude.{◌≡◌, ◌≤◌};
+//! It alone calls the table. Its type keeps the bookkeeping: the thread in hand is out with one seat, the places that
+//! are kept with the other, and nothing else is out between two calls.
+ghost use Rattle.std.specs.Prelude.{◌≡◌, ◌<◌, ◌≤◌, []};
+ghost use Rattle.arachne_run.specs.Tokens.{IsArbiterOf, IsSetUp, ground_of};
+ghost use Rattle.arachne_spill.specs.Views.{IsPassOf};
 
 use crate::claims::Claims;
 use crate::desk::{Grip, Stop, Tended};
@@ -10,10 +12,10 @@ use crate::fault::WorkerFault;
 use crate::forking::{Openings, free_place, go_on, post_waiting};
 use crate::machine::Machine;
 use crate::policy;
-use crate::slice::RunJob;
 use arachne_arbiter::{Arbiter, Cores};
 use arachne_contexts::{Claimed, Contexts, Held, Moved, Placed, Rested, Taken, Woken};
 use arachne_core::{MarkWord, OccWord, Place, Rest, SLOTS, ThreadId};
+use arachne_jobs::{RunJob, RunSpares, RunThread, RunTicket};
 use arachne_spill::SpillPass;
 use rand_core::Rng;
 use std::alloc::Global;
@@ -38,7 +40,7 @@ pub(crate) struct Seat<'a, H, T: RunJob, C: Contexts<T>, R> {
     pub(crate) pass: SpillPass<T::Ticket>,
     pub(crate) arbiter: Option<Arbiter>,
     /// What threads are told at their forks. It is here unless a thread goes on.
-    pub(crate) openings: Option<Openings<'a, H, T, C, R>>,
+    pub(crate) openings: Option<Box<Openings<'a, H, T, C, R>>>,
     /// What is kept of ended threads for those that begin.
     pub(crate) spares: T::Spares,
 }
@@ -61,6 +63,45 @@ impl<'a, H, T: RunJob, C: Contexts<T>, R> Model for Seat<'a, H, T, C, R> {
 }
 
 impl<'a, H: Wait, T: RunJob, C: Contexts<T>, R: Rng + Drop> Seat<'a, H, T, C, R> {
+    /// A worker's two seats, with which nothing is out, and what else it has of the machine.
+    pub(crate) fn new(
+        rt: &'a H,
+        alloc: Global,
+        machine: &'a Machine<C, T::Ticket>,
+        core: u8,
+        seat: C::Seat,
+        spare: C::Seat,
+        pass: SpillPass<T::Ticket>,
+        arbiter: Option<Arbiter>,
+        openings: Box<Openings<'a, H, T, C, R>>,
+    ) -> Seat<'a, H, T, C, R>
+        requires set_up { IsSetUp C.core_count C.slot_count machine.now }
+        requires core { core < machine.now.cores }
+        requires seat { C.sits machine.now.table seat }
+        requires nothing { C.has machine.now.table seat [] }
+        requires spare { C.sits machine.now.table spare }
+        requires nothing_spare { C.has machine.now.table spare [] }
+        requires pass { IsPassOf machine.now.tickets pass }
+        requires arbiter { IsArbiterOf machine.now arbiter }
+        ensures { result ≡ ground_of machine.now }
+    {
+        Seat {
+            rt,
+            alloc,
+            machine,
+            core,
+            is_broken: false,
+            seat,
+            held: None,
+            spare,
+            kept: Claims::new(alloc),
+            pass,
+            arbiter,
+            openings: Some(openings),
+            spares: T::Spares::none(alloc),
+        }
+    }
+
     /// Takes the thread at an index of the core in hand, if it is ready and none is.
     #[inline(always)]
     pub(crate) fn take(&mut self, index: u8) -> Grip
@@ -106,7 +147,7 @@ impl<'a, H: Wait, T: RunJob, C: Contexts<T>, R: Rng + Drop> Seat<'a, H, T, C, R>
         let Some(mut openings) = self.openings.take() else {
             return Err(WorkerFault::Token);
         };
-        let Some(mut held) = self.held.take() else {
+        let Some(held) = &mut self.held else {
             return Err(WorkerFault::Token);
         };
         self.is_broken = true;
@@ -116,12 +157,11 @@ impl<'a, H: Wait, T: RunJob, C: Contexts<T>, R: Rng + Drop> Seat<'a, H, T, C, R>
             self.machine,
             &mut self.seat,
             &mut self.pass,
-            &mut held,
+            held,
             &mut openings,
             &mut self.spares,
             left,
         )?;
-        self.held = Some(held);
         self.openings = Some(openings);
         self.is_broken = false;
         Ok(stop)
@@ -132,12 +172,13 @@ impl<'a, H: Wait, T: RunJob, C: Contexts<T>, R: Rng + Drop> Seat<'a, H, T, C, R>
         ensures { self.new ≡ self.old }
     {
         match &mut self.held {
-            Some(held) => held.value.answer(),
+            Some(held) => Ok(held.value.answer()?),
             None => Err(WorkerFault::Token),
         }
     }
 
-    /// Puts the thread in hand back, as ready or blocked by its pause. How it rests then: one that was woken meanwhile is ready.
+    /// Puts the thread in hand back, as ready or blocked by its pause. How it rests then: one that was woken meanwhile
+    /// is ready.
     #[inline(always)]
     pub(crate) fn rest(&mut self) -> Result<Rest, WorkerFault>
         ensures { self.new ≡ self.old }
@@ -176,7 +217,7 @@ impl<'a, H: Wait, T: RunJob, C: Contexts<T>, R: Rng + Drop> Seat<'a, H, T, C, R>
         };
         let table = &self.machine.table;
         match table.finish(self.rt, &mut self.seat, held) {
-            Ok(job) => job.leave(&mut self.spares),
+            Ok(job) => Ok(job.leave(&mut self.spares)?),
             Err(held) => {
                 self.held = Some(held);
                 Err(WorkerFault::Token)
@@ -184,7 +225,8 @@ impl<'a, H: Wait, T: RunJob, C: Contexts<T>, R: Rng + Drop> Seat<'a, H, T, C, R>
         }
     }
 
-    /// Keeps the place that a thread has left or gives all back that are kept, by what the core was before and is now.
+    /// Keeps the place that a thread has left, if the core was full before. Then what is kept is given back, if that is
+    /// due.
     pub(crate) fn settle_places(&mut self, before: OccWord) -> Result<(), WorkerFault>
         ensures { self.new ≡ self.old }
     {
@@ -203,6 +245,14 @@ impl<'a, H: Wait, T: RunJob, C: Contexts<T>, R: Rng + Drop> Seat<'a, H, T, C, R>
             }
             self.is_broken = false;
         }
+        self.thin_out()
+    }
+
+    /// Gives back all places that are kept, if that is due by what is on the core.
+    #[inline(always)]
+    pub(crate) fn thin_out(&mut self) -> Result<(), WorkerFault>
+        ensures { self.new ≡ self.old }
+    {
         let kept = self.kept.count();
         if kept > 0 && policy::gives_back(self.look(), kept, self.machine.slots) {
             return self.give_all_back();
@@ -302,8 +352,8 @@ impl<'a, H: Wait, T: RunJob, C: Contexts<T>, R: Rng + Drop> Seat<'a, H, T, C, R>
         self.machine.shared.signals().waiting() > 0
     }
 
-    /// Takes a ticket from the queue, and posts its child on the core if that waits still and there is a place. Whether there
-    /// was a ticket, and the index of the child.
+    /// Takes a ticket from the queue, and posts its child on the core if that waits still and there is a place. Whether
+    /// there was a ticket, and the index of the child.
     pub(crate) fn take_ticket(&mut self) -> Result<(bool, Option<u8>), WorkerFault>
         ensures { self.new ≡ self.old }
     {
@@ -314,7 +364,7 @@ impl<'a, H: Wait, T: RunJob, C: Contexts<T>, R: Rng + Drop> Seat<'a, H, T, C, R>
             return Ok((false, None));
         };
         self.machine.shared.signals().ticket_went();
-        if !T::still_waits(&ticket) {
+        if !ticket.still_waits() {
             return Ok((true, None));
         }
         self.is_broken = true;
@@ -336,11 +386,15 @@ impl<'a, H: Wait, T: RunJob, C: Contexts<T>, R: Rng + Drop> Seat<'a, H, T, C, R>
     pub(crate) fn tend(&mut self) -> Tended
         ensures { self.new ≡ self.old }
     {
+        let nothing = Tended {
+            applied: None,
+            receivers: 0,
+        };
+        if self.machine.orders == 0 {
+            return nothing;
+        }
         let Some(arbiter) = &mut self.arbiter else {
-            return Tended {
-                applied: None,
-                receivers: 0,
-            };
+            return nothing;
         };
         let before = arbiter.applied();
         let machine = self.machine;

@@ -10,8 +10,8 @@ use std::sync::atomic::{AtomicU64, Ordering};
 use std::sync::{Mutex, Wait};
 use std::time::Duration;
 
-/// The word that stops all workers, the next tag that is not drawn, the first fault, and what kernel threads tell one another.
-/// The tag has a cache line of its own.
+/// The word that stops all workers, the next tag that is not drawn, the first fault, and what kernel threads tell one
+/// another. The tag has a cache line of its own.
 #[derive(Drop)]
 pub(crate) struct Shared {
     stop: AtomicU64,

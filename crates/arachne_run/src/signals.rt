@@ -27,9 +27,9 @@ pub(crate) fn bit_of(index: u8) -> u64 {
     }
 }
 
-/// For each core a word on a cache line of its own, the count of its slices and the parker of its kernel thread. The word has a
-/// bit for each index at which a thread may be ready, and one that says that the core's worker sleeps. A bit is a hint: the
-/// table alone says what is ready, and what no bit shows is found by a look at all that is occupied.
+/// For each core a word on a cache line of its own, the count of its slices and the parker of its kernel thread. The
+/// word has a bit for each index at which a thread may be ready, and one that says that the core's worker sleeps. A bit
+/// is a hint: the table alone says what is ready, and what no bit shows is found by a look at all that is occupied.
 #[derive(Drop)]
 pub(crate) struct Signals {
     words: Vec<CachePadded<AtomicU64>>,

@@ -5,9 +5,9 @@ use crate::execute::Worker;
 use crate::gate::Gate;
 use crate::policy;
 use crate::queue::Post;
-use crate::slice::RunJob;
 use arachne_contexts::{Contexts, Woken};
 use arachne_core::{Mark, Place, ThreadId};
+use arachne_jobs::RunJob;
 use rand_core::Rng;
 use std::sync::Wait;
 
@@ -21,8 +21,9 @@ pub(crate) enum Cause {
 }
 
 impl<'a, H: Wait, T: RunJob, C: Contexts<T>, R: Rng + Drop, G: Gate> Worker<'a, H, T, C, R, G> {
-    /// Wakes the thread of this id, if it has not ended, and has it go on. One that holds a lock goes on here, as others may wait
-    /// for it; another one too where its core's worker sleeps: moving it takes less than waking a kernel thread.
+    /// Wakes the thread of this id, if it has not ended, and has it go on. One that holds a lock goes on here, as
+    /// others may wait for it; another one too where its core's worker sleeps: moving it takes less than waking a
+    /// kernel thread.
     pub(crate) fn wake(&mut self, id: ThreadId, cause: Cause)
         ensures { (self.new.desk ≡ self.old.desk) × (self.new.locks ≡ self.old.locks) × (self.new.sums ≡ self.old.sums) }
     {
@@ -103,9 +104,9 @@ impl<'a, H: Wait, T: RunJob, C: Contexts<T>, R: Rng + Drop, G: Gate> Worker<'a, 
         }
     }
 
-    /// The index of the core at which a thread is to go on next: one that holds a lock now, or the newest that the worker has
-    /// posted and not told of, which is moved here. Those that can't be are told of, and those that went on meanwhile are
-    /// forgotten.
+    /// The index of the core at which a thread is to go on next: one that holds a lock now, or the newest that the
+    /// worker has posted and not told of, which is moved here. Those that can't be are told of, and those that went on
+    /// meanwhile are forgotten.
     pub(crate) fn next(&mut self) -> Option<u8>
         ensures { (self.new.desk ≡ self.old.desk) × (self.new.locks ≡ self.old.locks) × (self.new.sums ≡ self.old.sums) }
     {
@@ -124,7 +125,8 @@ impl<'a, H: Wait, T: RunJob, C: Contexts<T>, R: Rng + Drop, G: Gate> Worker<'a, 
         None
     }
 
-    /// Moves the thread in a context, which is at this place, to this core, if it is at rest and there is room. Its index then.
+    /// Moves the thread in a context, which is at this place, to this core, if it is at rest and there is room. Its
+    /// index then.
     fn take_back(&mut self, context: u32, place: Place) -> Option<u8>
         ensures { (self.new.desk ≡ self.old.desk) × (self.new.locks ≡ self.old.locks) × (self.new.sums ≡ self.old.sums) }
     {

@@ -1,9 +1,8 @@
 //! The kernel threads of a run, one for each core.
 ghost use Rattle.std.specs.Prelude.{◌≡◌, ◌<◌, ◌≤◌, IfSome, vec_capacity, vec_len};
 ghost use Rattle.std.specs.Thread.{IsSync};
-ghost use Rattle.arachne_run.specs.Tokens.{AreIdle, IsSetUp};
+ghost use Rattle.arachne_run.specs.Tokens.{AreIdle, IsSetUp, ground_of};
 
-use crate::claims::Claims;
 use crate::execute::Worker;
 use crate::fault::WorkerFault;
 use crate::forking::Openings;
@@ -13,11 +12,10 @@ use crate::machine::Machine;
 use crate::queue::Agenda;
 use crate::rooting::post_root;
 use crate::seat::Seat;
-use crate::slice::RunJob;
 use crate::sums::Sums;
-use crate::tags::Tags;
 use crate::tokens::Tokens;
 use arachne_contexts::{Contexts, Seats, Tagged};
+use arachne_jobs::RunJob;
 use rand_core::Rng;
 use std::alloc::Global;
 use std::marker::PhantomData;
@@ -128,8 +126,8 @@ pub(crate) fn work_all<
     )
 }
 
-/// The tokens and the chooser of one worker more, for which there is room among the others then. Where they can't be had
-/// that is recorded.
+/// The tokens and the chooser of one worker more, for which there is room among the others then. Where they can't be
+/// had that is recorded.
 fn part_off<H: Wait, C: Seats, K: Tagged + Drop, R: Drop, W>(
     rt: &H,
     alloc: Global,
@@ -177,8 +175,8 @@ fn joined<H: Wait, C: Seats, K: Tagged + Drop>(
     Some(own.join::<H, C>(rt, machine, others))
 }
 
-/// Works on one core until all stop, where there is a root from it on. The tokens, unless something is out with them after a
-/// fault.
+/// Works on one core until all stop, where there is a root from it on. The tokens, unless something is out with them
+/// after a fault.
 fn work_on<
     H: Wait,
     T: RunJob<Ticket = K>,
@@ -203,6 +201,37 @@ fn work_on<
     ensures { IfSome result (AreIdle C.sits C.idle machine.now) }
 {
     let _ = of;
+    let Some(openings) = Openings::boxed(rt, alloc, machine, chooser) else {
+        machine.shared.fail(rt, WorkerFault::Memory);
+        return None;
+    };
+    work_with::<H, T, K, C, R, G>(rt, alloc, machine, gate, core, openings, tokens, root)
+}
+
+/// The same, with what threads of the core are told at their forks.
+fn work_with<
+    'a,
+    H: Wait,
+    T: RunJob<Ticket = K>,
+    K: Tagged + Drop + Send,
+    C: Contexts<T>,
+    R: Rng + Drop,
+    G: Gate,
+>(
+    rt: &'a H,
+    alloc: Global,
+    machine: &'a Machine<C, K>,
+    gate: &'a G,
+    core: u8,
+    openings: Box<Openings<'a, H, T, C, R>>,
+    tokens: Tokens<C::Seat, K>,
+    root: Option<T>,
+) -> Option<Tokens<C::Seat, K>>
+    requires tokens { AreIdle C.sits C.idle machine.now tokens }
+    requires set_up { IsSetUp C.core_count C.slot_count machine.now }
+    requires core { core < machine.now.cores }
+    ensures { IfSome result (AreIdle C.sits C.idle machine.now) }
+{
     let Tokens {
         seat,
         share,
@@ -221,30 +250,9 @@ fn work_on<
             }
         }
     }
-    let desk: Seat<'_, H, T, C, R> = Seat {
-        rt,
-        alloc,
-        machine,
-        core,
-        is_broken: false,
-        seat,
-        held: None,
-        spare,
-        kept: Claims::new(alloc),
-        pass,
-        arbiter,
-        openings: Some(Openings {
-            rt,
-            table: &machine.table,
-            cores: machine.cores,
-            slots: machine.slots,
-            shared: &machine.shared,
-            chooser,
-            tags: Tags::new(),
-            of: PhantomData,
-        }),
-        spares: T::spares(alloc),
-    };
+    let desk = Seat::new(
+        rt, alloc, machine, core, seat, spare, pass, arbiter, openings,
+    );
     let mut worker: Worker<'_, H, T, C, R, G> = Worker {
         rt,
         gate,
@@ -262,6 +270,28 @@ fn work_on<
         machine.shared.fail(rt, fault);
         return None;
     }
+    tokens_of::<H, T, K, C, R, G>(rt, machine, worker)
+}
+
+/// The tokens of a worker that has ended, unless something is out with them.
+fn tokens_of<
+    'a,
+    H: Wait,
+    T: RunJob<Ticket = K>,
+    K: Tagged + Drop + Send,
+    C: Contexts<T>,
+    R: Rng + Drop,
+    G: Gate,
+>(
+    rt: &'a H,
+    machine: &'a Machine<C, K>,
+    worker: Worker<'a, H, T, C, R, G>,
+) -> Option<Tokens<C::Seat, K>>
+    requires desk { worker.desk ≡ ground_of machine.now }
+    requires locks { worker.locks ≡ machine.now.locks }
+    requires sums { worker.sums ≡ machine.now.ledgers }
+    ensures { IfSome result (AreIdle C.sits C.idle machine.now) }
+{
     let Worker {
         desk,
         locks,

@@ -32,6 +32,8 @@ enum Alteration {
     RefusesMemoryFirst,
     /// A thread that is to be finished comes back, and only then a claim on a core that is in use is refused its memory.
     HandsBackFirst,
+    /// Of three claims that follow one another the first two are lost.
+    Loses,
 }
 
 /// How often the second of two calls looks whether the first one was made before it gives up.
@@ -40,22 +42,23 @@ const POLLS: u32 = 100_000_000;
 /// How often it lets others go on then, so that what the first call came to is known.
 const YIELDS: u32 = 100_000;
 
-/// A table behind a lock that hands on all calls, or all but one. A run makes its table itself, so the number of cores says
-/// which: of 5 cores it hands back each thread that is to be finished, of 6 it refuses memory to a claim on a core that is in
-/// use, of 7 all cores but 0 are full, of 8 each seat has something out, of 9 and 10 it refuses memory and hands threads back,
-/// the one or the other first, and of any other number it answers nothing by itself.
+/// A table behind a lock that hands on all calls, or all but one. A run makes its table itself, so the numbers of cores and of
+/// places say which: of 5 cores it hands back each thread that is to be finished, of 6 it refuses memory to a claim on a core
+/// that is in use, of 7 all cores but 0 are full, of 8 each seat has something out, of 9 and 10 it refuses memory and hands threads back,
+/// the one or the other first, of any other number of 5 places two of three claims are lost, and else it answers nothing by
+/// itself.
 #[derive(Drop)]
 pub struct Altered<T: Tagged> {
     inner: LockedContexts<T>,
     alteration: Alteration,
-    /// 1 once the first of two calls was answered by itself.
-    came: AtomicU64,
+    /// How many calls were counted that it may answer by itself.
+    answered: AtomicU64,
 }
 
 /// Waits until the first of two calls was answered.
-fn wait(came: &AtomicU64) {
+fn wait(answered: &AtomicU64) {
     for _ in 0..POLLS {
-        if came.load(Ordering::SeqCst) > 0 {
+        if answered.load(Ordering::SeqCst) > 0 {
             break;
         }
         yield_now();
@@ -85,24 +88,22 @@ impl<T: Tagged + Drop> Seats for Altered<T> {
         first_generation: u64,
     ) -> Result<(Altered<T>, LockedSeat), AllocError> {
         let (inner, seat) = LockedContexts::new(alloc, cores, slots, first_generation)?;
-        let alteration = match cores {
-            5 => Alteration::HandsBack,
-            6 => Alteration::RefusesMemory,
-            7 => Alteration::IsFull,
-            8 => Alteration::HasOut,
-            9 => Alteration::RefusesMemoryFirst,
-            10 => Alteration::HandsBackFirst,
+        let alteration = match (cores, slots) {
+            (5, _) => Alteration::HandsBack,
+            (6, _) => Alteration::RefusesMemory,
+            (7, _) => Alteration::IsFull,
+            (8, _) => Alteration::HasOut,
+            (9, _) => Alteration::RefusesMemoryFirst,
+            (10, _) => Alteration::HandsBackFirst,
+            (_, 5) => Alteration::Loses,
             _ => Alteration::None,
         };
-        let came = AtomicU64::new(0);
-        Ok((
-            Altered {
-                inner,
-                alteration,
-                came,
-            },
-            seat,
-        ))
+        let altered = Altered {
+            inner,
+            alteration,
+            answered: AtomicU64::new(0),
+        };
+        Ok((altered, seat))
     }
 
     fn split<R: Wait>(&self, rt: &R, seat: LockedSeat) -> (LockedSeat, LockedSeat) {
@@ -157,12 +158,15 @@ impl<T: Tagged + Drop> Contexts<T> for Altered<T> {
             }
             Alteration::RefusesMemory if self.inner.look(rt, seat, core) != 0 => Err(AllocError),
             Alteration::RefusesMemoryFirst if self.inner.look(rt, seat, core) != 0 => {
-                self.came.store(1, Ordering::SeqCst);
+                self.answered.store(1, Ordering::SeqCst);
                 Err(AllocError)
             }
             Alteration::HandsBackFirst if self.inner.look(rt, seat, core) != 0 => {
-                wait(&self.came);
+                wait(&self.answered);
                 Err(AllocError)
+            }
+            Alteration::Loses if self.answered.fetch_add(1, Ordering::SeqCst) % 3 < 2 => {
+                Ok(Claimed::Lost(self.inner.look(rt, seat, core)))
             }
             _ => self.inner.claim(rt, seat, core),
         }
@@ -237,11 +241,11 @@ impl<T: Tagged + Drop> Contexts<T> for Altered<T> {
         match self.alteration {
             Alteration::HandsBack => Err(held),
             Alteration::RefusesMemoryFirst => {
-                wait(&self.came);
+                wait(&self.answered);
                 Err(held)
             }
             Alteration::HandsBackFirst => {
-                self.came.store(1, Ordering::SeqCst);
+                self.answered.store(1, Ordering::SeqCst);
                 Err(held)
             }
             _ => self.inner.finish(rt, seat, held),
@@ -277,18 +281,18 @@ impl<T: Tagged + Drop> Contexts<T> for Altered<T> {
         let Altered {
             inner,
             alteration,
-            came,
+            answered,
         } = self;
         match inner.close(rt, alloc, seat) {
             Ok(rest) => Ok(rest),
-            Err((inner, seat)) => Err((
-                Altered {
+            Err((inner, seat)) => {
+                let altered = Altered {
                     inner,
                     alteration,
-                    came,
-                },
-                seat,
-            )),
+                    answered,
+                };
+                Err((altered, seat))
+            }
         }
     }
 

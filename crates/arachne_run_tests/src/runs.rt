@@ -19,6 +19,7 @@ use std::thread::Threads;
 mod cores;
 mod facts;
 mod faults;
+mod left;
 mod loads;
 mod locks;
 mod orders;
@@ -27,7 +28,9 @@ mod programs;
 mod reports;
 mod rows;
 mod shortage;
+mod slices;
 mod tables;
+mod tickets;
 
 /// A form of context table.
 #[derive(Clone, Copy)]

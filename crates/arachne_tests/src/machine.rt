@@ -10,7 +10,8 @@ mod ways;
 use self::shortage::Memory;
 use arachne_lang::{Class, Meaning, Name, Program, TextFault, parse};
 use arachne_machine::{
-    NotJoined, NotPlaced, Outcome, OutcomeParts, Pause, Pending, Ran, Thread, ThreadLine, run_alone,
+    NotJoined, NotPlaced, Outcome, OutcomeParts, Pause, Pending, Placing, Ran, Spares, Thread,
+    ThreadLine, run_alone,
 };
 use std::alloc::Global;
 use std::process::Abort;
@@ -576,6 +577,66 @@ fn an_awaited_child_begins_in_place(rt: HostRuntime) -> Result<(), Fail> {
     let program = program(rt.alloc(), 0, TWO_FORKS)?;
     let told = told_of_two(rt.alloc(), &program)?;
     assert!(rt; told.as_str() == "9 [] []9-[] [1]0+[] [0]0~[]", "{told}");
+    Ok(())
+}
+
+/// Says of the first fork that there is no place, of the next that there is one, and so on in turn.
+#[derive(Clone, Copy)]
+struct InTurn {
+    is_next: bool,
+}
+
+impl Placing for InTurn {
+    ghost gives_all = { false };
+
+    fn is_any(&mut self, _class: Class) -> bool {
+        self.is_next = !self.is_next;
+        !self.is_next
+    }
+
+    fn tag(&mut self) -> u64 {
+        0
+    }
+}
+
+/// The child of a thread's first fork for which there is a place, which is given away. Those of the forks before it are to run in
+/// the thread's place.
+fn first_with_place<'p>(alloc: Global, thread: &mut Thread<'p>) -> Result<Thread<'p>, Fail>
+    ensures { IfOk result IsAlone }
+{
+    if thread.pending().is_some() {
+        return Err("a pause is not answered")?;
+    }
+    let mut spares = Spares::new(alloc);
+    let mut places = InTurn { is_next: false };
+    let mut left = 100u32;
+    let Ok(pause) = thread.advance_within(&mut left, &mut spares, &mut places) else {
+        return Err("memory was refused")?;
+    };
+    let Pause::Forks(_, child) = pause else {
+        return Err("no fork")?;
+    };
+    thread.forked();
+    Ok(child)
+}
+
+/// What is told of the threads of `TWO_FORKS`, where there is a place for the second child alone, whose tag is 20.
+fn told_of_one_with_place(alloc: Global, program: &Program) -> Result<String, Fail> {
+    let mut thread = start(alloc, program, 9)?;
+    let mut child = first_with_place(alloc, &mut thread)?;
+    child.set_tag(20);
+    go_on(&mut thread)?;
+    let outcome = ended(child)?;
+    join_child(&mut thread, outcome);
+    let parts = parts(ended(thread)?)?;
+    told(alloc, &parts)
+}
+
+#[test]
+fn a_child_without_a_place_waits_for_one_that_has(rt: HostRuntime) -> Result<(), Fail> {
+    let program = program(rt.alloc(), 0, TWO_FORKS)?;
+    let told = told_of_one_with_place(rt.alloc(), &program)?;
+    assert!(rt; told.as_str() == "9 [] []9-[] [1]20-[] [0]0+[]", "{told}");
     Ok(())
 }
 

@@ -134,6 +134,20 @@ const ROWS: &[Row] = &[
         telling: Telling::Nothing,
         told: "",
     },
+    // The root has the only place of the core that is drawn, and the other cores are tried upwards.
+    Row {
+        shows: "where the core that is drawn is full, the lowest that is not gets the thread",
+        source: FORK,
+        forms: FORMS,
+        slots: 1,
+        machines: &[(4, 1, 4), (4, 7, 4), (4, 100, 4), (4, 10_000, 4)],
+        draws: ZEROS,
+        orders: &[],
+        watching: Watching::Cores,
+        facts: &[(Fact::Value, 5), (Fact::Slot, 2), (Fact::Cores, 0b0011)],
+        telling: Telling::Nothing,
+        told: "",
+    },
     // The child runs while the root does.
     Row {
         shows: "a thread that has a core alone runs beside its parent",
@@ -143,7 +157,7 @@ const ROWS: &[Row] = &[
         machines: &[(2, 1, 2)],
         draws: ZEROS,
         orders: &[],
-        watching: Watching::Meeting(500),
+        watching: Watching::Meeting(500, 0),
         facts: &[
             (Fact::Value, 1),
             (Fact::Threads, 2),

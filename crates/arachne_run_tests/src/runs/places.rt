@@ -2,12 +2,11 @@
 use super::cores::ALONE;
 use super::facts::{Fact, Telling};
 use super::reports::{CHAIN, MANY};
-use super::rows::{Row, row_holds, rows_hold};
-use super::{FORMS, Form, Machine, Source};
+use super::rows::{Row, rows_hold};
+use super::{FORMS, Machine, Source};
 use crate::choosers::{CORE_ONE, SPREAD, ZEROS};
 use crate::gates::Watching;
 use arachne_core::SLOTS;
-use arachne_policy::{CoreOrder, OrderKind};
 use std::test::Fail;
 
 /// One core, at each quantum.
@@ -26,7 +25,30 @@ const AFTER_MANY: Source = Source {
     ledgers: 0,
     locks: 0,
     forks: 0,
-    expr: "(let (sweep add 1 (num 0) (num 100) (var 0)) (fold (num 0) (num 1000) (num 0) (fork n (num 1) (num 1) (add (var 2) (var 3)))))",
+    expr: "(let (sweep add 1 (num 0) (num 100) (fold (num 0) (num 30) (num 0) (num 0))) (fold (num 0) (num 1000) (num 0) (fork n (num 1) (num 1) (add (var 2) (var 3)))))",
+};
+
+/// 31 threads that wait for one another, of which the innermost has 9 that end soon, and then 24 that live at once.
+const NEVER_FULL: Source = Source {
+    ledgers: 0,
+    locks: 0,
+    forks: 30,
+    expr: "(let (sweep add 1 (num 0) (num 10) (var 0)) (sweep add 1 (num 0) (num 25) (fold (num 0) (num 300) (num 0) (num 0))))",
+};
+
+/// Of a core's 56 places 55 are taken at most.
+const ALL_PLACED: Row = Row {
+    shows: "no place is kept on a core that was never full",
+    source: NEVER_FULL,
+    forms: FORMS,
+    slots: SLOTS,
+    machines: &[(1, 1, 1), (1, 7, 1), (1, 100, 1)],
+    draws: ZEROS,
+    orders: &[],
+    watching: Watching::Nothing,
+    facts: &[(Fact::Value, 30), (Fact::Slot, 64)],
+    telling: Telling::Nothing,
+    told: "",
 };
 
 /// A normal thread, and once that has ended one that is to be alone.
@@ -37,8 +59,16 @@ const THEN_ALONE: Source = Source {
     expr: "(fork n (num 1) (num 2) (fork x (num 3) (num 4) (add (var 2) (var 3))))",
 };
 
-/// Two threads that count.
-const BESIDE: Source = Source {
+/// Two threads that count to 5,000.
+pub(super) const BESIDE: Source = Source {
+    ledgers: 0,
+    locks: 0,
+    forks: 0,
+    expr: "(fork n (fold (num 0) (num 5000) (num 0) (var 1)) (fold (num 0) (num 5000) (num 0) (var 1)) (add (var 0) (var 1)))",
+};
+
+/// Two threads that count to 50,000.
+pub(super) const BESIDE_LONG: Source = Source {
     ledgers: 0,
     locks: 0,
     forks: 0,
@@ -120,6 +150,14 @@ const ROWS: &[Row] = &[
         telling: Telling::Ran,
         told: "slot spill slot ",
     },
+];
+
+#[test]
+fn threads_get_places_as_they_come(rt: HostRuntime) -> Result<(), Fail> {
+    rows_hold(&rt, rt.alloc(), ROWS)
+}
+
+const KEPT: &[Row] = &[
     Row {
         shows: "where two threads live at most, each has a place",
         source: IN_TURN,
@@ -151,16 +189,46 @@ const ROWS: &[Row] = &[
         telling: Telling::Nothing,
         told: "",
     },
+    ALL_PLACED,
+    Row {
+        source: Source {
+            expr: "(let (sweep add 1 (num 0) (num 10) (var 0)) (sweep add 1 (num 0) (num 25) (fold (num 0) (num 12000) (num 0) (num 0))))",
+            ..NEVER_FULL
+        },
+        machines: &[(1, 10_000, 1)],
+        ..ALL_PLACED
+    },
+];
+
+#[test]
+fn places_are_kept_on_full_cores_alone(rt: HostRuntime) -> Result<(), Fail> {
+    rows_hold(&rt, rt.alloc(), KEPT)
+}
+
+const AT_ONCE: &[Row] = &[
     // Each of the two waits for the other.
     Row {
         shows: "two long threads run side by side",
         source: BESIDE,
         forms: FORMS,
         slots: SLOTS,
-        machines: &[(2, 1, 2), (2, 7, 2), (2, 100, 2), (2, 10_000, 2)],
+        machines: &[(2, 1, 2), (2, 7, 2), (2, 100, 2)],
         draws: CORE_ONE,
         orders: &[],
-        watching: Watching::Meeting(3),
+        watching: Watching::Meeting(3, 0),
+        facts: &[(Fact::Value, 0), (Fact::Slot, 2), (Fact::IsOver, 1)],
+        telling: Telling::Nothing,
+        told: "",
+    },
+    Row {
+        shows: "two long threads run side by side",
+        source: BESIDE_LONG,
+        forms: FORMS,
+        slots: SLOTS,
+        machines: &[(2, 10_000, 2)],
+        draws: CORE_ONE,
+        orders: &[],
+        watching: Watching::Meeting(3, 0),
         facts: &[(Fact::Value, 0), (Fact::Slot, 2), (Fact::IsOver, 1)],
         telling: Telling::Nothing,
         told: "",
@@ -173,34 +241,16 @@ const ROWS: &[Row] = &[
         machines: &[(2, 1, 2)],
         draws: ZEROS,
         orders: &[],
-        watching: Watching::Meeting(500),
+        watching: Watching::Meeting(500, 0),
         facts: &[(Fact::Value, 1), (Fact::Slot, 2), (Fact::IsOver, 1)],
-        telling: Telling::Nothing,
-        told: "",
-    },
-    // Core 1's first slice is in progress until core 0 has entered its slice 400. By then 400 have ended.
-    Row {
-        shows: "a slice counts once it has ended",
-        source: BESIDE,
-        forms: FORMS,
-        slots: SLOTS,
-        machines: &[(2, 1, 2), (2, 7, 2), (2, 100, 2)],
-        draws: CORE_ONE,
-        orders: &[CoreOrder {
-            after: 401,
-            kind: OrderKind::Release,
-            core: 1,
-        }],
-        watching: Watching::Holding(400),
-        facts: &[(Fact::Value, 0), (Fact::Applied, 1), (Fact::IsOver, 1)],
         telling: Telling::Nothing,
         told: "",
     },
 ];
 
 #[test]
-fn threads_get_places_as_they_come(rt: HostRuntime) -> Result<(), Fail> {
-    rows_hold(&rt, rt.alloc(), ROWS)
+fn threads_run_side_by_side(rt: HostRuntime) -> Result<(), Fail> {
+    rows_hold(&rt, rt.alloc(), AT_ONCE)
 }
 
 /// A normal thread ends, and one that is to be alone begins.
@@ -218,13 +268,16 @@ const ALONE_AFTER_ANOTHER: Row = Row {
     told: "",
 };
 
+/// The same on cores of one place, where each thread's core is full.
+const ALONE_AFTER_FULL: Row = Row {
+    slots: 1,
+    ..ALONE_AFTER_ANOTHER
+};
+
 #[test]
 fn a_core_that_is_left_is_free_at_once(rt: HostRuntime) -> Result<(), Fail> {
-    let alloc = rt.alloc();
     for _ in 0..75 {
-        for &machine in ALONE_AFTER_ANOTHER.machines {
-            row_holds(&rt, alloc, &ALONE_AFTER_ANOTHER, Form::Words, machine, &[])?;
-        }
+        rows_hold(&rt, rt.alloc(), &[ALONE_AFTER_ANOTHER, ALONE_AFTER_FULL])?;
     }
     Ok(())
 }

@@ -61,11 +61,14 @@ pub(super) fn row_holds<R: Abort + Threads + Wait + Sync>(
     let told = told(alloc, &answer, row.telling)?;
     let shows = row.shows;
     assert_eq!(rt; told.as_str(), row.told, "{shows}: {machine:?} {text}");
-    if let Ok(report) = &answer {
-        for &(fact, expected) in row.facts {
-            let found = number(report, &watch, fact);
-            assert_eq!(rt; found, expected, "{shows}: {machine:?} {text}");
+    match &answer {
+        Ok(report) => {
+            for &(fact, expected) in row.facts {
+                let found = number(report, &watch, fact);
+                assert_eq!(rt; found, expected, "{shows}: {machine:?} {text}");
+            }
         }
+        Err(_) => assert!(rt; watch.is_over(), "{shows}: {machine:?} {text}"),
     }
     Ok(())
 }

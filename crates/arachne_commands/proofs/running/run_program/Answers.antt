@@ -7,7 +7,7 @@ use Rattle.arachne_words.proofs.seat.WordSeat.TheSendSync as seat
 use Rattle.arachne_words.proofs.seat.WordClaim.TheSendSync as claim
 use Rattle.arachne_words.proofs.seat.WordHold.TheSendSync as hold
 use Rattle.arachne_machine.proofs.Crossing.{thread_send}
-use Rattle.arachne_run.proofs.Crossing.{job_send, spares_send}
+use Rattle.arachne_jobs.proofs.Crossing.{job_send, spares_send}
 use Rattle.arachne_run.proofs.gate.OpenGate.TheSendSync as gate
 use Rattle.arachne_commands.proofs.RunRefusals.{choosers_length, refused_by_run}
 use Rattle.arachne_commands.proofs.running.run_program.Goals as goal

@@ -6,7 +6,7 @@ use Rattle.arachne_locked.proofs.seat.LockedSeat.TheSendSync as seat
 use Rattle.arachne_locked.proofs.tokens.LockedClaim.TheSendSync as claim
 use Rattle.arachne_locked.proofs.tokens.LockedHold.TheSendSync as hold
 use Rattle.arachne_machine.proofs.Crossing.{thread_send}
-use Rattle.arachne_run.proofs.Crossing.{job_send, spares_send}
+use Rattle.arachne_jobs.proofs.Crossing.{job_send, spares_send}
 use Rattle.arachne_run_tests.proofs.altered.Altered.TheSendSync as altered
 use Rattle.arachne_run_tests.proofs.choosers.Progression.TheSendSync as chooser
 use Rattle.arachne_run_tests.proofs.gates.Watch.TheSendSync as watch

@@ -6,7 +6,7 @@ use Rattle.arachne_words.proofs.seat.WordSeat.TheSendSync as seat
 use Rattle.arachne_words.proofs.seat.WordClaim.TheSendSync as claim
 use Rattle.arachne_words.proofs.seat.WordHold.TheSendSync as hold
 use Rattle.arachne_machine.proofs.Crossing.{thread_send}
-use Rattle.arachne_run.proofs.Crossing.{job_send, spares_send}
+use Rattle.arachne_jobs.proofs.Crossing.{job_send, spares_send}
 use Rattle.arachne_run_tests.proofs.choosers.Progression.TheSendSync as chooser
 use Rattle.arachne_run_tests.proofs.gates.Watch.TheSendSync as watch
 use Rattle.arachne_run_tests.proofs.runs.run_on_words.Goals as goal

@@ -46,23 +46,23 @@ pub returns-in-Var-clause-ok : goal.returns-in-Var-clause-ok
 returns-in-Var-clause-ok g c =
     let t = c.args.self.now in
     let e = c.args.expr in
-    let v = c.variable.result in
+    let v = c.variable_in.result in
     let s = c.requires.sound in
     comes_of _ _ _ (beginning_in t e) (way.Value v) t s refl (leaves_begun t e s) tt
     (reaches_value _ v (beginning (top t) e) (top t)
     (goes_to_value 0 (beginning (top t) e) (giving (top t) v) e (Variable c.in-Var.variable) (slice_index t.environment.items c.in-Var.variable) refl (ap tree_of c.in-Var.is)
-    (as_beginning (top t) (giving (top t) v) e _ _ _ (given (top t) _ _ (ap Give c.variable.ensures))) (open_variable (source_of t.program.now) (top t).own.name t.environment.items c.in-Var.variable)))
+    (as_beginning (top t) (giving (top t) v) e _ _ _ (given (top t) _ _ (ap Give (c.variable_in.ensures ∙ ap (λ l. slice_index l c.in-Var.variable) c.as_slice.ensures.value)))) (open_variable (source_of t.program.now) (top t).own.name t.environment.items c.in-Var.variable)))
 
 pub returns-in-Len-clause-ok : goal.returns-in-Len-clause-ok
 returns-in-Len-clause-ok g c =
     let t = c.args.self.now in
     let e = c.args.expr in
-    let v = c.length.result in
+    let v = c.length_in.result in
     let s = c.requires.sound in
     comes_of _ _ _ (beginning_in t e) (way.Value v) t s refl (leaves_begun t e s) tt
     (reaches_value _ v (beginning (top t) e) (top t)
     (goes_to_value 0 (beginning (top t) e) (giving (top t) v) e (Length c.in-Len.array) _ refl (ap tree_of c.in-Len.is)
-    (as_beginning (top t) (giving (top t) v) e _ _ _ (given (top t) _ _ (ap Give c.length.ensures))) (open_length (source_of t.program.now) (top t).own.name t.environment.items c.in-Len.array)))
+    (as_beginning (top t) (giving (top t) v) e _ _ _ (given (top t) _ _ (ap Give c.length_in.ensures))) (open_length (source_of t.program.now) (top t).own.name t.environment.items c.in-Len.array)))
 
 pub returns-in-Hold-clause-ok : goal.returns-in-Hold-clause-ok
 returns-in-Hold-clause-ok g c =

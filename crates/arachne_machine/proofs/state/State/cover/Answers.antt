@@ -3,12 +3,11 @@ use Rattle.std.specs.Prelude.{max}
 use Rattle.arachne_lang.specs.declared.program.Class.TheVariants.{Normal}
 use Rattle.arachne_machine.specs.Ending.{fork_awaited}
 use Rattle.arachne_machine.specs.Steps.{IsLeftOver, pending_of, top}
-use Rattle.arachne_machine.specs.Runs.{seen_in}
 use Rattle.arachne_machine.proofs.Handings.{covers}
 use Rattle.arachne_machine.proofs.Splitting.{goes_to_half, places_half}
-use Rattle.arachne_machine.proofs.Strides.{reaches_once}
-use Rattle.arachne_machine.proofs.Going.{comes_fork, comes_of, leaves_on, leaves_same, leaves_seen, line_in, number_fits, runs_place, start_in, start_same, sweeps_leave, sweeps_top, top_same}
-use Rattle.arachne_machine.proofs.Lasting.{one_step_no_stop}
+use Rattle.arachne_machine.proofs.Turning.{makes_once}
+use Rattle.arachne_machine.proofs.Going.{comes_fork, comes_of, leaves_on, leaves_same, line_in, number_fits, runs_place, start_in, start_same, top_same}
+use Rattle.arachne_machine.proofs.Lasting.{no_stop}
 use Rattle.arachne_machine.proofs.state.State.cover.Goals as goal
 
 pub halve_here-requires : goal.halve_here-requires
@@ -56,11 +55,12 @@ returns-clause-ok g c =
     let same = c.reserve_turn.ensures.same in
     let p = c.turn_sweep.result in
     let new = c.turn_sweep.new.self in
-    let after = seen_in p new in
     let le = start_in t c.requires.sound in
-    let on = start_same t mid _ _ same le in
     comes_of _ _ _ t p new c.requires.sound (ap pending_of c.requires.covers)
-    (leaves_seen t new p (leaves_on t mid after (leaves_same t mid _ _ same le) (sweeps_leave mid after _ _ _ _ _ c.turn_sweep.ensures.turns on)))
-    (one_step_no_stop _ _ p new _ c.turn_sweep.ensures.step)
-    (reaches_once _ _ (top t) p new c.turn_sweep.ensures.step
-    (covers (top t) (top mid) (top after) s c.unit-unit.result (top_same t mid _ _ same le) c.requires.covers short c.unit-unit.ensures (sweeps_top mid after _ _ _ _ _ c.turn_sweep.ensures.turns on)))
+    (leaves_on t mid new (leaves_same t mid _ _ same le) c.turn_sweep.ensures.leaves)
+    (no_stop p _ c.turn_sweep.ensures.stops)
+    (c.turn_sweep.ensures.reaches (top t) (λ on turns. makes_once _ (top t) on
+    (covers (top t) (top mid) on s c.unit-unit.result (top_same t mid _ _ same le) c.requires.covers short c.unit-unit.ensures turns)))
+
+pub turn_sweep-requires-clause-start : goal.turn_sweep-requires-clause-start
+turn_sweep-requires-clause-start g c = start_same c.args.self.now c.reserve_turn.new.self _ _ c.reserve_turn.ensures.same (start_in c.args.self.now c.requires.sound)

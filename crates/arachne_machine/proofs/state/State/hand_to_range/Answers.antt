@@ -2,13 +2,12 @@ use Rattle.std.proofs.Common.{refl, subst}
 use Rattle.arachne_machine.specs.declared.state.Progress.TheVariants.{Goes}
 use Rattle.arachne_machine.specs.declared.frame.Control.TheVariants.{Cover}
 use Rattle.arachne_machine.specs.Steps.{IsPopped, beginning, giving, top}
-use Rattle.arachne_machine.specs.Runs.{seen_in}
 use Rattle.arachne_machine.proofs.Outlooks.{as_giving, begins_with, given_from}
 use Rattle.arachne_machine.proofs.Handings.{hand_fold_to, hand_fold_first, hand_fold_start, fold_giving, hand_sweep_to, hand_sweep_start}
 use Rattle.arachne_machine.proofs.Strides.{reaches_once, reaches_part}
 use Rattle.arachne_machine.proofs.Levels.{changes_leave, top_becomes}
-use Rattle.arachne_machine.proofs.Going.{folds_leave, folds_top, leaves_seen}
-use Rattle.arachne_machine.proofs.Lasting.{begins_no_stop, one_step_no_stop}
+use Rattle.arachne_machine.proofs.Turning.{makes_once}
+use Rattle.arachne_machine.proofs.Lasting.{begins_no_stop, no_stop}
 use Rattle.arachne_machine.proofs.state.State.hand_to_range.Goals as goal
 
 pub returns-in-FoldTo-clause-made : goal.returns-in-FoldTo-clause-made
@@ -36,12 +35,10 @@ returns-in-FoldFirst-clause-made c = λ before popped.
 pub returns-in-FoldStart-clause-made : goal.returns-in-FoldStart-clause-made
 returns-in-FoldStart-clause-made c = λ before popped.
     let t = top c.args.self.now in
-    let le = c.requires.start in
     let v = c.args.value in
-    let after = seen_in c.turn_fold.result c.turn_fold.new.self in
-    reaches_once _ _ before c.turn_fold.result c.turn_fold.new.self c.turn_fold.ensures.step
-    (hand_fold_start before (giving t v) (top after) v c.in-FoldStart.from c.in-FoldStart.to c.in-FoldStart.body (subst (λ f. IsPopped f before (giving t v)) c.in-FoldStart.is popped) refl
-    (fold_giving t (top after) v _ _ _ _ (folds_top c.args.self.now after _ _ _ _ c.turn_fold.ensures.turns le)))
+    c.turn_fold.ensures.reaches before (λ on turns. makes_once _ before on
+    (hand_fold_start before (giving t v) on v c.in-FoldStart.from c.in-FoldStart.to c.in-FoldStart.body (subst (λ f. IsPopped f before (giving t v)) c.in-FoldStart.is popped) refl
+    (fold_giving t on v _ _ _ _ turns)))
 
 pub returns-in-SweepTo-clause-made : goal.returns-in-SweepTo-clause-made
 returns-in-SweepTo-clause-made c = λ before popped.
@@ -70,8 +67,7 @@ pub returns-in-FoldFirst-clause-leaves : goal.returns-in-FoldFirst-clause-leaves
 returns-in-FoldFirst-clause-leaves c = changes_leave c.args.self.now c.go_on-in-FoldFirst.new.self _ _ _ c.go_on-in-FoldFirst.ensures.same c.requires.start
 
 pub returns-in-FoldStart-clause-leaves : goal.returns-in-FoldStart-clause-leaves
-returns-in-FoldStart-clause-leaves c =
-    leaves_seen c.args.self.now c.turn_fold.new.self c.turn_fold.result (folds_leave c.args.self.now (seen_in c.turn_fold.result c.turn_fold.new.self) _ _ _ _ c.turn_fold.ensures.turns c.requires.start)
+returns-in-FoldStart-clause-leaves c = c.turn_fold.ensures.leaves
 
 pub returns-in-SweepTo-clause-leaves : goal.returns-in-SweepTo-clause-leaves
 returns-in-SweepTo-clause-leaves c = changes_leave c.args.self.now c.go_on-in-SweepTo.new.self _ _ _ c.go_on-in-SweepTo.ensures.same c.requires.start
@@ -83,7 +79,7 @@ pub returns-in-FoldFirst-clause-stops : goal.returns-in-FoldFirst-clause-stops
 returns-in-FoldFirst-clause-stops c = begins_no_stop c.go_on-in-FoldFirst.result _ _ c.go_on-in-FoldFirst.ensures.begins
 
 pub returns-in-FoldStart-clause-stops : goal.returns-in-FoldStart-clause-stops
-returns-in-FoldStart-clause-stops c = one_step_no_stop _ _ c.turn_fold.result _ _ c.turn_fold.ensures.step
+returns-in-FoldStart-clause-stops c = no_stop c.turn_fold.result _ c.turn_fold.ensures.stops
 
 pub returns-in-SweepTo-clause-stops : goal.returns-in-SweepTo-clause-stops
 returns-in-SweepTo-clause-stops c = begins_no_stop c.go_on-in-SweepTo.result _ _ c.go_on-in-SweepTo.ensures.begins

@@ -1,21 +1,21 @@
-use Rattle.std.proofs.Common.{◌≤◌, length, true, false, refl, ap, ◌∙◌, subst}
+use Rattle.std.proofs.Common.{true, false, refl, ap, ◌∙◌, subst}
 use Rattle.arachne_lang.specs.Value.{apply}
 use Rattle.arachne_machine.specs.Steps.{IsPopped, beginning, giving, top}
-use Rattle.arachne_machine.specs.Runs.{seen_in}
 use Rattle.arachne_machine.proofs.Outlooks.{as_giving, begins_with, given_from}
 use Rattle.arachne_machine.proofs.Handings.{hand_index, hand_right, hand_apply, hand_branch, is_zero, is_not_zero, hand_extend, hand_restore, hand_fold_turn, hand_sweep_turn}
-use Rattle.arachne_machine.proofs.Strides.{part_begun, reaches_once, reaches_part, reaches_value}
+use Rattle.arachne_machine.proofs.Strides.{part_begun, reaches_part, reaches_value}
 use Rattle.arachne_machine.proofs.state.State.hand_within.Goals.{then-value-eq0, else-value-eq0}
+use Rattle.arachne_machine.proofs.Turning.{makes_once}
 use Rattle.arachne_machine.proofs.Levels.{changes_leave, top_becomes}
-use Rattle.arachne_machine.proofs.Going.{as_is, folds_leave, folds_top, leaves_on, leaves_same, leaves_seen, start_same, sweeps_leave, sweeps_top, top_same}
-use Rattle.arachne_machine.proofs.Lasting.{begins_no_stop, one_step_no_stop}
+use Rattle.arachne_machine.proofs.Going.{as_is, leaves_on, leaves_same, start_same, top_same}
+use Rattle.arachne_machine.proofs.Lasting.{begins_no_stop, no_stop}
 use Rattle.arachne_machine.proofs.state.State.hand_within.Goals as goal
 
 pub returns-in-Index-clause-made : goal.returns-in-Index-clause-made
 returns-in-Index-clause-made c = λ before popped.
     let t = giving (top c.args.self.now) c.args.value in
     reaches_value _ _ before (top c.args.self.now)
-    (hand_index before t _ c.args.value c.in-Index.array c.item.result (subst (λ f. IsPopped f before t) c.in-Index.is popped) refl c.item.ensures (given_from (top c.args.self.now) c.args.value _ _ refl))
+    (hand_index before t _ c.args.value c.in-Index.array c.item_in.result (subst (λ f. IsPopped f before t) c.in-Index.is popped) refl c.item_in.ensures (given_from (top c.args.self.now) c.args.value _ _ refl))
 
 pub returns-in-Apply-clause-made : goal.returns-in-Apply-clause-made
 returns-in-Apply-clause-made c = λ before popped.
@@ -56,28 +56,23 @@ returns-in-Extend-clause-made c = λ before popped.
 pub returns-in-FoldTurn-clause-made : goal.returns-in-FoldTurn-clause-made
 returns-in-FoldTurn-clause-made c = λ before popped.
     let t = top c.args.self.now in
-    let le = c.requires.start in
     let v = c.args.value in
     let dropped = c.drop_newest.new.self in
-    let on : dropped.level.start ≤ length dropped.frames.items = start_same c.args.self.now dropped _ _ c.drop_newest.ensures.same le in
-    let after = seen_in c.turn_fold.result c.turn_fold.new.self in
-    reaches_once _ _ before c.turn_fold.result c.turn_fold.new.self c.turn_fold.ensures.step
-    (hand_fold_turn before (giving t v) (top dropped) (top after) v c.in-FoldTurn.next c.in-FoldTurn.end c.in-FoldTurn.body t.control
-    (subst (λ f. IsPopped f before (giving t v)) c.in-FoldTurn.is popped) refl (as_giving t (top dropped) v _ _ _ (top_same c.args.self.now dropped _ _ c.drop_newest.ensures.same le)) (folds_top dropped after _ _ _ _ c.turn_fold.ensures.turns on))
+    c.turn_fold.ensures.reaches before (λ on turns. makes_once _ before on
+    (hand_fold_turn before (giving t v) (top dropped) on v c.in-FoldTurn.next c.in-FoldTurn.end c.in-FoldTurn.body t.control
+    (subst (λ f. IsPopped f before (giving t v)) c.in-FoldTurn.is popped) refl
+    (as_giving t (top dropped) v _ _ _ (top_same c.args.self.now dropped _ _ c.drop_newest.ensures.same c.requires.start)) turns))
 
 pub returns-in-SweepTurn-clause-made : goal.returns-in-SweepTurn-clause-made
 returns-in-SweepTurn-clause-made c = λ before popped.
     let t = top c.args.self.now in
-    let le = c.requires.start in
     let v = c.args.value in
     let dropped = c.drop_newest-in-SweepTurn.new.self in
-    let on : dropped.level.start ≤ length dropped.frames.items = start_same c.args.self.now dropped _ _ c.drop_newest-in-SweepTurn.ensures.same le in
-    let after = seen_in c.turn_sweep.result c.turn_sweep.new.self in
-    reaches_once _ _ before c.turn_sweep.result c.turn_sweep.new.self c.turn_sweep.ensures.step
-    (hand_sweep_turn before (giving t v) (top dropped) (top after) v c.in-SweepTurn.reduction c.in-SweepTurn.next c.in-SweepTurn.end c.in-SweepTurn.so_far c.apply-value.result c.in-SweepTurn.body t.control
-    (subst (λ f. IsPopped f before (giving t v)) c.in-SweepTurn.is popped) refl (as_giving t (top dropped) v _ _ _ (top_same c.args.self.now dropped _ _ c.drop_newest-in-SweepTurn.ensures.same le))
-    (c.apply-value.ensures ∙ ap (λ o. apply o c.in-SweepTurn.so_far v) c.operation.ensures)
-    (sweeps_top dropped after _ _ _ _ _ c.turn_sweep.ensures.turns on))
+    c.turn_sweep.ensures.reaches before (λ on turns. makes_once _ before on
+    (hand_sweep_turn before (giving t v) (top dropped) on v c.in-SweepTurn.reduction c.in-SweepTurn.next c.in-SweepTurn.end c.in-SweepTurn.so_far c.apply-value.result c.in-SweepTurn.body t.control
+    (subst (λ f. IsPopped f before (giving t v)) c.in-SweepTurn.is popped) refl
+    (as_giving t (top dropped) v _ _ _ (top_same c.args.self.now dropped _ _ c.drop_newest-in-SweepTurn.ensures.same c.requires.start))
+    (c.apply-value.ensures ∙ ap (λ o. apply o c.in-SweepTurn.so_far v) c.operation.ensures) turns))
 
 pub returns-after-value-eq0-clause-made : goal.returns-after-value-eq0-clause-made
 returns-after-value-eq0-clause-made c = λ before popped.
@@ -105,21 +100,19 @@ returns-in-Extend-clause-leaves c = changes_leave c.args.self.now c.extend.new.s
 
 pub returns-in-FoldTurn-clause-leaves : goal.returns-in-FoldTurn-clause-leaves
 returns-in-FoldTurn-clause-leaves c =
-    let t = c.args.self.now in
-    let d = c.drop_newest.new.self in
-    let after = seen_in c.turn_fold.result c.turn_fold.new.self in
-    leaves_seen t c.turn_fold.new.self c.turn_fold.result
-    (leaves_on t d after (leaves_same t d _ _ c.drop_newest.ensures.same c.requires.start)
-    (folds_leave d after _ _ _ _ c.turn_fold.ensures.turns (start_same t d _ _ c.drop_newest.ensures.same c.requires.start)))
+    leaves_on c.args.self.now c.drop_newest.new.self c.turn_fold.new.self (leaves_same c.args.self.now c.drop_newest.new.self _ _ c.drop_newest.ensures.same c.requires.start)
+    c.turn_fold.ensures.leaves
 
 pub returns-in-SweepTurn-clause-leaves : goal.returns-in-SweepTurn-clause-leaves
 returns-in-SweepTurn-clause-leaves c =
-    let t = c.args.self.now in
     let d = c.drop_newest-in-SweepTurn.new.self in
-    let after = seen_in c.turn_sweep.result c.turn_sweep.new.self in
-    leaves_seen t c.turn_sweep.new.self c.turn_sweep.result
-    (leaves_on t d after (leaves_same t d _ _ c.drop_newest-in-SweepTurn.ensures.same c.requires.start)
-    (sweeps_leave d after _ _ _ _ _ c.turn_sweep.ensures.turns (start_same t d _ _ c.drop_newest-in-SweepTurn.ensures.same c.requires.start)))
+    leaves_on c.args.self.now d c.turn_sweep.new.self (leaves_same c.args.self.now d _ _ c.drop_newest-in-SweepTurn.ensures.same c.requires.start) c.turn_sweep.ensures.leaves
+
+pub turn_fold-requires-clause-start : goal.turn_fold-requires-clause-start
+turn_fold-requires-clause-start c = start_same c.args.self.now c.drop_newest.new.self _ _ c.drop_newest.ensures.same c.requires.start
+
+pub turn_sweep-requires-clause-start : goal.turn_sweep-requires-clause-start
+turn_sweep-requires-clause-start c = start_same c.args.self.now c.drop_newest-in-SweepTurn.new.self _ _ c.drop_newest-in-SweepTurn.ensures.same c.requires.start
 
 pub returns-after-value-eq0-clause-leaves : goal.returns-after-value-eq0-clause-leaves
 returns-after-value-eq0-clause-leaves c = leaves_same c.args.self.now c.args.self.now _ _ (as_is c.args.self.now) c.requires.start
@@ -131,7 +124,7 @@ pub returns-in-Extend-clause-stops : goal.returns-in-Extend-clause-stops
 returns-in-Extend-clause-stops c = begins_no_stop c.extend.result _ _ c.extend.ensures.begins
 
 pub returns-in-FoldTurn-clause-stops : goal.returns-in-FoldTurn-clause-stops
-returns-in-FoldTurn-clause-stops c = one_step_no_stop _ _ c.turn_fold.result _ _ c.turn_fold.ensures.step
+returns-in-FoldTurn-clause-stops c = no_stop c.turn_fold.result _ c.turn_fold.ensures.stops
 
 pub returns-in-SweepTurn-clause-stops : goal.returns-in-SweepTurn-clause-stops
-returns-in-SweepTurn-clause-stops c = one_step_no_stop _ _ c.turn_sweep.result _ _ c.turn_sweep.ensures.step
+returns-in-SweepTurn-clause-stops c = no_stop c.turn_sweep.result _ c.turn_sweep.ensures.stops

@@ -5,9 +5,10 @@ ghost use Rattle.arachne_lang.specs.Checked.{IsChecked};
 ghost use Rattle.std.specs.Prelude.{ℕ, Option, None, Some};
 ghost use Rattle.arachne_core.specs.declared.thread_id.ThreadId.{ThreadId};
 ghost use Rattle.arachne_machine.specs.declared.pause.Pending.{Pending};
-ghost use Rattle.arachne_run.specs.Slices.{IsLeft, MayRest, UsesSteps};
+ghost use Rattle.arachne_machine.specs.declared.pause.Pending.TheVariants as pause;
+ghost use Rattle.arachne_jobs.specs.Slices.{IsLeft, IsRequest, MayRest, UsesSteps};
 
-use crate::fault::WorkerFault;
+use crate::fault::JobFault;
 use crate::wanted::OutcomeReceiver;
 use arachne_contexts::Tagged;
 use arachne_core::{Rest, ThreadId};
@@ -36,17 +37,8 @@ pub enum Slice<Child> {
     Ends,
 }
 
-/// What a context holds in a run, as its workers see it.
-pub trait RunJob: Tagged + Drop {
-    /// A thread that was forked and has no place yet.
-    type Child: Drop + Send;
-
-    /// What stands for a child that waits for a place.
-    type Ticket: Tagged + Drop + Send;
-
-    /// What a worker keeps of ended threads for those that begin.
-    type Spares: Drop + Send;
-
+/// A thread that runs, as its workers see it: whose turn it is, how it rests, and the answer to what it asks for.
+pub trait RunThread: Tagged + Drop {
     /// The tag of the thread that goes on next: the job's own, or that of one that runs in its place.
     ghost running_tag_of: { Self → ℕ };
 
@@ -56,12 +48,6 @@ pub trait RunJob: Tagged + Drop {
     /// The pause that is not answered.
     ghost pause_of: { Self → Option Pending };
 
-    /// The job forks this child, and is not answered.
-    ghost forks: { Self → Self.Child → Type 0 };
-
-    /// Nothing is kept yet. It takes no memory.
-    fn spares(alloc: Global) -> Self::Spares;
-
     /// The tag of the thread that goes on next, and whose the pause is that is not answered.
     fn running_tag(&self) -> u64
         ensures { result ≡ running_tag_of self.now };
@@ -70,19 +56,54 @@ pub trait RunJob: Tagged + Drop {
     fn rest(&self) -> Option<Rest>
         ensures { IfSome result (λ rest. MayRest rest (pause_of self.now)) };
 
-    /// Goes on for at most as many steps as are left, of which fewer are left then. A thread that waits makes none. A child
-    /// for which there is no place runs in this job's.
+    /// What it asks for is done: it holds the lock that it asked for, the lock is free, or the amount was added.
+    /// `Foreign` where it asks for nothing.
+    fn answer(&mut self) -> Result<(), JobFault>
+        ensures tag { Self.tag_of self.new ≡ Self.tag_of self.old }
+        ensures parent { parent_of self.new ≡ parent_of self.old }
+        ensures asked { OnOk result (IsRequest (pause_of self.old)) }
+        ensures answered { OnOk result (pause_of self.new ≡ None) };
+}
+
+/// What stands for a child that waits for a place.
+pub trait RunTicket: Tagged + Drop + Send {
+    /// Whether its child waits still. Nothing is taken.
+    fn still_waits(&self) -> bool;
+}
+
+/// What a worker keeps of ended threads for those that begin.
+pub trait RunSpares: Drop + Send {
+    /// Nothing is kept yet. It takes no memory.
+    fn none(alloc: Global) -> Self;
+}
+
+/// What a context holds in a run: a thread with all that its slices and its forks need.
+pub trait RunJob: RunThread {
+    /// A thread that was forked and has no place yet.
+    type Child: Drop + Send;
+
+    /// What stands for a child that waits for a place.
+    type Ticket: RunTicket;
+
+    /// What a worker keeps of ended threads for those that begin.
+    type Spares: RunSpares;
+
+    /// The job forks this child, and is not answered.
+    ghost forks: { Self → Self.Child → Type 0 };
+
+    /// Goes on for at most as many steps as are left, of which fewer are left then. A thread that waits makes none. A
+    /// child for which there is no place runs in this job's.
     fn slice<P: Placing>(
         &mut self,
         left: &mut u32,
         spares: &mut Self::Spares,
         places: &mut P,
-    ) -> Result<Slice<Self::Child>, WorkerFault>
+    ) -> Result<Slice<Self::Child>, JobFault>
         requires { 1 ≤ left.old }
         ensures tag { Self.tag_of self.new ≡ Self.tag_of self.old }
         ensures steps { IfOk result (λ slice. UsesSteps slice left.old left.new) }
-        ensures parent { parent_of self.new ≡ parent_of self.old }
-        ensures left { IfOk result (λ slice. IsLeft forks pause_of slice self.new) };
+        ensures parent { Self.parent_of self.new ≡ Self.parent_of self.old }
+        ensures left { IfOk result (λ slice. IsLeft forks Self.pause_of slice self.new) };
 
     /// The child becomes a job of its own with this tag, whose parent runs under this id.
     fn fork_off(
@@ -92,16 +113,16 @@ pub trait RunJob: Tagged + Drop {
         child: Self::Child,
         tag: u64,
         spares: &mut Self::Spares,
-    ) -> Result<Self, WorkerFault>
+    ) -> Result<Self, JobFault>
         requires { forks self.old child }
         ensures tag { Self.tag_of self.new ≡ Self.tag_of self.old }
-        ensures parent { parent_of self.new ≡ parent_of self.old }
+        ensures parent { Self.parent_of self.new ≡ Self.parent_of self.old }
         ensures child { IfOk result (λ job. Self.tag_of job ≡ tag) }
-        ensures childs_parent { IfOk result (λ job. parent_of job ≡ Some me) }
-        ensures answered { OnOk result (pause_of self.new ≡ None) };
+        ensures childs_parent { IfOk result (λ job. Self.parent_of job ≡ Some me) }
+        ensures answered { OnOk result (Self.pause_of self.new ≡ None) };
 
-    /// The child waits with this tag for a place, or until this job, which runs under this id, awaits it. The ticket for it;
-    /// none where it is not to wait or memory is refused, and the child runs in this job's place.
+    /// The child waits with this tag for a place, or until this job, which runs under this id, awaits it. The ticket
+    /// for it; none where it is not to wait or memory is refused, and the child runs in this job's place.
     fn put_aside(
         &mut self,
         alloc: Global,
@@ -109,28 +130,20 @@ pub trait RunJob: Tagged + Drop {
         child: Self::Child,
         tag: u64,
         waits: bool,
-    ) -> Result<Option<Self::Ticket>, WorkerFault>
+    ) -> Result<Option<Self::Ticket>, JobFault>
         requires { forks self.old child }
         ensures tag { Self.tag_of self.new ≡ Self.tag_of self.old }
-        ensures parent { parent_of self.new ≡ parent_of self.old }
-        ensures answered { OnOk result (pause_of self.new ≡ None) }
+        ensures parent { Self.parent_of self.new ≡ Self.parent_of self.old }
+        ensures answered { OnOk result (Self.pause_of self.new ≡ None) }
         ensures ticket { IfOk result (λ made. IfSome made (λ ticket. Self.Ticket.tag_of ticket ≡ tag)) };
-
-    /// Whether a ticket's child waits still. Nothing is taken.
-    fn still_waits(ticket: &Self::Ticket) -> bool;
 
     /// The job of a ticket's child, if that waits still.
     fn of_ticket(alloc: Global, ticket: Self::Ticket, spares: &mut Self::Spares) -> Option<Self>;
 
-    /// What it asks for is done: it holds the lock that it asked for, the lock is free, or the amount was added.
-    fn answer(&mut self) -> Result<(), WorkerFault>
-        ensures tag { Self.tag_of self.new ≡ Self.tag_of self.old }
-        ensures parent { parent_of self.new ≡ parent_of self.old }
-        ensures answered { OnOk result (pause_of self.new ≡ None) };
-
-    /// Leaves the outcome for its parent, which is to be woken; the root has none.
-    fn leave(self, spares: &mut Self::Spares) -> Result<Option<ThreadId>, WorkerFault>
-        ensures { IfOk result (λ parent. parent ≡ parent_of self) };
+    /// Leaves the outcome for its parent, which is to be woken; the root has none. `Foreign` where it has not ended.
+    fn leave(self, spares: &mut Self::Spares) -> Result<Option<ThreadId>, JobFault>
+        ensures ended { OnOk result (Self.pause_of self ≡ Some pause.Ended) }
+        ensures parent { IfOk result (λ parent. parent ≡ Self.parent_of self) };
 }
 
 /// The jobs of a program's threads.

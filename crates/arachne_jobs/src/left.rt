@@ -21,7 +21,7 @@ pub enum Left<'p> {
 }
 
 impl<'p> Fits<Wanted> for Left<'p> {
-    ghost use Rattle.arachne_run.specs.Cells.{IsLeftFor, MayWait};
+    ghost use Rattle.arachne_jobs.specs.Cells.{IsLeftFor, MayWait};
 
     ghost fits = { IsLeftFor };
 

@@ -1,10 +1,11 @@
 //! A child that waits in its join cell, for a place or for its parent.
 ghost use Rattle.std.specs.Prelude.{◌≡◌, IfOk, IfErr, IfSome};
 ghost use Rattle.std.specs.Arc.{arc_value};
-ghost use Rattle.arachne_run.specs.Cells.{HasNotBegun, IsFor, IsFoundFor, IsWanted};
-ghost use Rattle.arachne_run.specs.Threads.{tag_of};
+ghost use Rattle.arachne_jobs.specs.Cells.{HasNotBegun, IsFor, IsFoundFor, IsWanted};
+ghost use Rattle.arachne_jobs.specs.Threads.{tag_of};
 
 use crate::left::{Found, Left, Waiting};
+use crate::slice::RunTicket;
 use crate::wanted::Wanted;
 use arachne_contexts::Tagged;
 use arachne_core::ThreadId;
@@ -25,7 +26,7 @@ pub struct WaitCell<'p> {
 
 impl<'p> Model for WaitCell<'p> {
     ghost use Rattle.std.specs.Arc.{arc_value};
-    ghost use Rattle.arachne_run.specs.declared.wanted.Wanted.{Wanted};
+    ghost use Rattle.arachne_jobs.specs.declared.wanted.Wanted.{Wanted};
 
     ghost Value = { Wanted };
 
@@ -62,7 +63,7 @@ pub struct SpilledEnd<'p> {
 impl<'p> Model for SpilledEnd<'p> {
     ghost use Rattle.std.specs.Prelude.{◌≡◌};
     ghost use Rattle.std.specs.Arc.{arc_value};
-    ghost use Rattle.arachne_run.specs.declared.wanted.Wanted.{Wanted};
+    ghost use Rattle.arachne_jobs.specs.declared.wanted.Wanted.{Wanted};
 
     ghost Value = { Wanted };
 
@@ -130,13 +131,14 @@ impl<'p> WaitCell<'p> {
     }
 }
 
-impl<'p> Ticket<'p> {
-    /// Whether the child waits still. Nothing is taken.
-    pub(crate) fn still_waits(&self) -> bool {
+impl<'p> RunTicket for Ticket<'p> {
+    fn still_waits(&self) -> bool {
         let (state, _) = self.cell.seen();
         state == CellState::Waiting
     }
+}
 
+impl<'p> Ticket<'p> {
     /// The child, if it waits still, with the end at which it leaves its outcome.
     pub(crate) fn take(self) -> Option<(Waiting<'p>, SpilledEnd<'p>)>
         ensures { IfSome result (λ taken. IsFor taken.0.thread taken.1 × HasNotBegun taken.0.thread) }

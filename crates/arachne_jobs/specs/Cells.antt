@@ -3,14 +3,14 @@ use Rattle.std.specs.Prelude.{◌≡◌, None}
 use Rattle.arachne_lang.specs.declared.program.Program.{Program}
 use Rattle.arachne_lang.specs.Program.{source_of}
 use Rattle.arachne_machine.specs.Outcome.{Finished}
-use Rattle.arachne_run.specs.Threads.{Thread, program_of, name_of}
+use Rattle.arachne_jobs.specs.Threads.{Thread, program_of, name_of}
 use Rattle.arachne_machine.specs.Nested.{IsAlone}
-use Rattle.arachne_run.specs.Threads.{pause_of}
-use Rattle.arachne_run.specs.declared.wanted.Wanted.{Wanted}
-use Rattle.arachne_run.specs.declared.left.Left.{Left}
-use Rattle.arachne_run.specs.declared.left.Left.TheVariants as left
-use Rattle.arachne_run.specs.declared.left.Found.{Found}
-use Rattle.arachne_run.specs.declared.left.Found.TheVariants as found
+use Rattle.arachne_jobs.specs.Threads.{pause_of}
+use Rattle.arachne_jobs.specs.declared.wanted.Wanted.{Wanted}
+use Rattle.arachne_jobs.specs.declared.left.Left.{Left}
+use Rattle.arachne_jobs.specs.declared.left.Left.TheVariants as left
+use Rattle.arachne_jobs.specs.declared.left.Found.{Found}
+use Rattle.arachne_jobs.specs.declared.left.Found.TheVariants as found
 
 -- the outcome is of this program, and of the thread of this name
 abbrev pub IsWanted : Wanted → Finished → Type 0

@@ -1,9 +1,9 @@
 -- What the ends of a job are for.
-use Rattle.arachne_run.specs.declared.wanted.Wanted.{Wanted}
-use Rattle.arachne_run.specs.declared.ends.End.{End}
-use Rattle.arachne_run.specs.declared.ends.End.TheVariants as end
-use Rattle.arachne_run.specs.declared.ends.Awaited.{Awaited}
-use Rattle.arachne_run.specs.declared.ends.Awaited.TheVariants as awaited
+use Rattle.arachne_jobs.specs.declared.wanted.Wanted.{Wanted}
+use Rattle.arachne_jobs.specs.declared.ends.End.{End}
+use Rattle.arachne_jobs.specs.declared.ends.End.TheVariants as end
+use Rattle.arachne_jobs.specs.declared.ends.Awaited.{Awaited}
+use Rattle.arachne_jobs.specs.declared.ends.Awaited.TheVariants as awaited
 
 -- what a thread leaves there
 abbrev pub left_at : End → Wanted

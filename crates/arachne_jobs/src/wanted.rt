@@ -14,7 +14,7 @@ pub struct Wanted {
 }
 
 impl<'p> Fits<Wanted> for Outcome<'p> {
-    ghost use Rattle.arachne_run.specs.Cells.{IsWanted};
+    ghost use Rattle.arachne_jobs.specs.Cells.{IsWanted};
 
     ghost fits = { IsWanted };
 }

@@ -2,6 +2,7 @@
 ghost use Rattle.std.specs.Prelude.{◌≡◌, []};
 
 use crate::ends::Awaited;
+use crate::slice::RunSpares;
 use crate::wanted::Wanted;
 use arachne_join::SpareCells;
 use arachne_machine::{Outcome, Spares as SpareThreads};
@@ -10,8 +11,8 @@ use std::alloc::Global;
 /// How many lists of receivers are kept at most.
 const MOST_LISTS: usize = 64;
 
-/// The memory of threads that have ended, the join cells that nobody uses, and lists for the receivers that a thread awaits.
-/// Each worker has its own, so that most forks take memory for a name alone.
+/// The memory of threads that have ended, the join cells that nobody uses, and lists for the receivers that a thread
+/// awaits. Each worker has its own, so that most forks take memory for a name alone.
 #[derive(Drop)]
 pub struct Spares<'p> {
     pub(crate) threads: SpareThreads<'p>,
@@ -19,16 +20,17 @@ pub struct Spares<'p> {
     awaited: Vec<Vec<Awaited<'p>>>,
 }
 
-impl<'p> Spares<'p> {
-    /// Nothing yet. It takes no memory.
-    pub(crate) fn new(alloc: Global) -> Spares<'p> {
+impl<'p> RunSpares for Spares<'p> {
+    fn none(alloc: Global) -> Spares<'p> {
         Spares {
             threads: SpareThreads::new(alloc),
             cells: SpareCells::new(alloc),
             awaited: Vec::new(alloc),
         }
     }
+}
 
+impl<'p> Spares<'p> {
     /// A list for the receivers that a thread awaits, which is empty.
     pub(crate) fn take_awaited(&mut self, alloc: Global) -> Vec<Awaited<'p>>
         ensures { result.items ≡ [] }

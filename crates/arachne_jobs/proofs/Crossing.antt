@@ -9,16 +9,16 @@ use Rattle.arachne_join.proofs.Crossing.{sender_send, receiver_send, unused_send
 use Rattle.arachne_machine.proofs.Crossing.{thread_field_send, outcome_send, spares_field_send}
 use Rattle.arachne_join.proofs.cell.JoinCell.TheSendSync as cell
 use Rattle.arachne_join.proofs.sending_end.SendingEnd.TheSendSync as sending_end
-use Rattle.arachne_run.specs.contracts.ends.Awaited as awaited
-use Rattle.arachne_run.specs.contracts.ends.End as end
-use Rattle.arachne_run.specs.contracts.job.Job as job
-use Rattle.arachne_run.specs.contracts.left.Left as left
-use Rattle.arachne_run.specs.contracts.left.Waiting as waiting
-use Rattle.arachne_run.specs.contracts.spares.Spares as spares
-use Rattle.arachne_run.specs.contracts.waiting.SpilledEnd as spilled_end
-use Rattle.arachne_run.specs.contracts.waiting.Ticket as ticket
-use Rattle.arachne_run.specs.contracts.waiting.WaitCell as wait_cell
-use Rattle.arachne_run.specs.contracts.wanted.Wanted as wanted
+use Rattle.arachne_jobs.specs.contracts.ends.Awaited as awaited
+use Rattle.arachne_jobs.specs.contracts.ends.End as end
+use Rattle.arachne_jobs.specs.contracts.job.Job as job
+use Rattle.arachne_jobs.specs.contracts.left.Left as left
+use Rattle.arachne_jobs.specs.contracts.left.Waiting as waiting
+use Rattle.arachne_jobs.specs.contracts.spares.Spares as spares
+use Rattle.arachne_jobs.specs.contracts.waiting.SpilledEnd as spilled_end
+use Rattle.arachne_jobs.specs.contracts.waiting.Ticket as ticket
+use Rattle.arachne_jobs.specs.contracts.waiting.WaitCell as wait_cell
+use Rattle.arachne_jobs.specs.contracts.wanted.Wanted as wanted
 
 pub wanted_send : IsSend wanted.the_row
 wanted_send = search (sendable, std.crosses) depth 30

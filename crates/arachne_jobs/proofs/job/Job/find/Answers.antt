@@ -1,8 +1,8 @@
-use Rattle.arachne_run.specs.Threads.{program_of}
-use Rattle.arachne_run.specs.Cells.{IsOf}
-use Rattle.arachne_run.specs.Ends.{awaited_at}
-use Rattle.arachne_run.proofs.Awaiting.{fewer, put_back}
-use Rattle.arachne_run.proofs.job.Job.find.Goals as goal
+use Rattle.arachne_jobs.specs.Threads.{program_of}
+use Rattle.arachne_jobs.specs.Cells.{IsOf}
+use Rattle.arachne_jobs.specs.Ends.{awaited_at}
+use Rattle.arachne_jobs.proofs.Awaiting.{fewer, put_back}
+use Rattle.arachne_jobs.proofs.job.Job.find.Goals as goal
 
 pub invariant_of-self-in-Ok : goal.invariant_of-self-in-Ok
 invariant_of-self-in-Ok c =

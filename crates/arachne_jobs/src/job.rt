@@ -5,15 +5,15 @@ ghost use Rattle.arachne_lang.specs.Checked.{IsChecked};
 ghost use Rattle.arachne_machine.specs.Nested.{IsPlacing, MayBePlaced};
 ghost use Rattle.arachne_machine.specs.Suspended.{awaited};
 ghost use Rattle.arachne_machine.specs.declared.pause.Pending.TheVariants as pause;
-ghost use Rattle.arachne_run.specs.Threads.{IsForking, IsGoing, IsAwaiting, name_of, pause_of, program_of, running_tag_of, tag_of};
-ghost use Rattle.arachne_run.specs.Cells.{IsFoundFor, IsFoundOf, IsOf, IsFor};
-ghost use Rattle.arachne_run.specs.Ends.{awaited_at};
-ghost use Rattle.arachne_run.specs.Slices.{IsLeft, UsesSteps};
+ghost use Rattle.arachne_jobs.specs.Threads.{IsForking, IsGoing, IsAwaiting, name_of, pause_of, program_of, running_tag_of, tag_of};
+ghost use Rattle.arachne_jobs.specs.Cells.{IsFoundFor, IsFoundOf, IsOf, IsFor};
+ghost use Rattle.arachne_jobs.specs.Ends.{awaited_at};
+ghost use Rattle.arachne_jobs.specs.Slices.{IsLeft, UsesSteps};
 
 use crate::ends::{Awaited, End};
-use crate::fault::WorkerFault;
+use crate::fault::JobFault;
 use crate::left::{Found, Waiting};
-use crate::slice::{JobOf, RunJob, Slice};
+use crate::slice::{JobOf, RunJob, RunThread, Slice};
 use crate::spares::Spares;
 use crate::waiting::{Ticket, WaitCell};
 use crate::wanted::{OutcomeReceiver, Wanted};
@@ -39,9 +39,9 @@ pub struct Job<'p> {
 
 impl<'p> Model for Job<'p> {
     ghost use Rattle.std.specs.Prelude.{All};
-    ghost use Rattle.arachne_run.specs.Threads.{Posted, program_of};
-    ghost use Rattle.arachne_run.specs.Cells.{IsOf, IsFor};
-    ghost use Rattle.arachne_run.specs.Ends.{awaited_at, left_at};
+    ghost use Rattle.arachne_jobs.specs.Threads.{Posted, program_of};
+    ghost use Rattle.arachne_jobs.specs.Cells.{IsOf, IsFor};
+    ghost use Rattle.arachne_jobs.specs.Ends.{awaited_at, left_at};
 
     ghost Value = { Posted };
 
@@ -63,24 +63,12 @@ impl<'p> Tagged for Job<'p> {
     }
 }
 
-impl<'p> RunJob for Job<'p> {
-    type Child = Thread<'p>;
-
-    type Ticket = Ticket<'p>;
-
-    type Spares = Spares<'p>;
-
+impl<'p> RunThread for Job<'p> {
     ghost running_tag_of = { λ j. running_tag_of j.thread };
 
     ghost parent_of = { λ j. j.parent };
 
     ghost pause_of = { λ j. pause_of j.thread };
-
-    ghost forks = { λ j child. IsForking j.thread child };
-
-    fn spares(alloc: Global) -> Spares<'p> {
-        Spares::new(alloc)
-    }
 
     fn running_tag(&self) -> u64 {
         self.thread.running_tag()
@@ -94,12 +82,32 @@ impl<'p> RunJob for Job<'p> {
         }
     }
 
+    fn answer(&mut self) -> Result<(), JobFault> {
+        match self.thread.pending() {
+            Some(Pending::Asks(_)) => self.thread.granted(),
+            Some(Pending::Frees(_)) => self.thread.freed(),
+            Some(Pending::Tallies(_, _)) => self.thread.tallied(),
+            _ => return Err(JobFault::Foreign),
+        }
+        Ok(())
+    }
+}
+
+impl<'p> RunJob for Job<'p> {
+    type Child = Thread<'p>;
+
+    type Ticket = Ticket<'p>;
+
+    type Spares = Spares<'p>;
+
+    ghost forks = { λ j child. IsForking j.thread child };
+
     fn slice<P: Placing>(
         &mut self,
         left: &mut u32,
         spares: &mut Spares<'p>,
         places: &mut P,
-    ) -> Result<Slice<Thread<'p>>, WorkerFault> {
+    ) -> Result<Slice<Thread<'p>>, JobFault> {
         match self.thread.pending() {
             None => {}
             Some(Pending::Joins) => {
@@ -108,7 +116,7 @@ impl<'p> RunJob for Job<'p> {
                 }
             }
             Some(Pending::Asks(lock)) => return Ok(Slice::Awaits(lock)),
-            _ => return Err(WorkerFault::Foreign),
+            _ => return Err(JobFault::Foreign),
         }
         self.advance(left, spares, places)
     }
@@ -120,7 +128,7 @@ impl<'p> RunJob for Job<'p> {
         child: Thread<'p>,
         tag: u64,
         spares: &mut Spares<'p>,
-    ) -> Result<Job<'p>, WorkerFault> {
+    ) -> Result<Job<'p>, JobFault> {
         let mut child = child;
         child.set_tag(tag);
         let (job, receiver) = Job::of(alloc, child, Some(me), spares)?;
@@ -136,7 +144,7 @@ impl<'p> RunJob for Job<'p> {
         child: Thread<'p>,
         tag: u64,
         waits: bool,
-    ) -> Result<Option<Ticket<'p>>, WorkerFault> {
+    ) -> Result<Option<Ticket<'p>>, JobFault> {
         let mut child = child;
         child.set_tag(tag);
         if !waits {
@@ -156,10 +164,6 @@ impl<'p> RunJob for Job<'p> {
         }
     }
 
-    fn still_waits(ticket: &Ticket<'p>) -> bool {
-        ticket.still_waits()
-    }
-
     fn of_ticket(alloc: Global, ticket: Ticket<'p>, spares: &mut Spares<'p>) -> Option<Job<'p>> {
         let (waiting, end) = ticket.take()?;
         let Waiting { mut thread, parent } = waiting;
@@ -172,17 +176,7 @@ impl<'p> RunJob for Job<'p> {
         })
     }
 
-    fn answer(&mut self) -> Result<(), WorkerFault> {
-        match self.thread.pending() {
-            Some(Pending::Asks(_)) => self.thread.granted(),
-            Some(Pending::Frees(_)) => self.thread.freed(),
-            Some(Pending::Tallies(_, _)) => self.thread.tallied(),
-            _ => return Err(WorkerFault::Foreign),
-        }
-        Ok(())
-    }
-
-    fn leave(self, spares: &mut Spares<'p>) -> Result<Option<ThreadId>, WorkerFault> {
+    fn leave(self, spares: &mut Spares<'p>) -> Result<Option<ThreadId>, JobFault> {
         let Job {
             thread,
             end,
@@ -190,7 +184,7 @@ impl<'p> RunJob for Job<'p> {
             parent,
         } = self;
         if thread.pending() != Some(Pending::Ended) {
-            return Err(WorkerFault::Foreign);
+            return Err(JobFault::Foreign);
         }
         spares.keep_awaited(awaited);
         let outcome = thread.finish_into(&mut spares.threads);
@@ -244,7 +238,7 @@ impl<'p> Job<'p> {
         left: &mut u32,
         spares: &mut Spares<'p>,
         places: &mut P,
-    ) -> Result<Slice<Thread<'p>>, WorkerFault>
+    ) -> Result<Slice<Thread<'p>>, JobFault>
         requires some { 1 ≤ left.old }
         requires going { IsGoing self.old.thread }
         ensures tag { tag_of self.new.thread ≡ tag_of self.old.thread }
@@ -273,7 +267,7 @@ impl<'p> Job<'p> {
     }
 
     /// The child runs in this thread's place once it is awaited, or at once where it is.
-    fn place(&mut self, child: Thread<'p>) -> Result<(), WorkerFault>
+    fn place(&mut self, child: Thread<'p>) -> Result<(), JobFault>
         requires pending { IsPlacing (pause_of self.old.thread) }
         requires child { MayBePlaced self.old.thread child }
         requires forked { pause_of self.old.thread ≡ Some pause.Forks → awaited self.old.thread.running ≡ Some (name_of child) }
@@ -283,24 +277,24 @@ impl<'p> Job<'p> {
     {
         match self.thread.in_place(child) {
             Ok(()) => Ok(()),
-            Err(NotPlaced::Memory(_)) => Err(WorkerFault::Memory),
-            Err(NotPlaced::Foreign(_)) => Err(WorkerFault::Foreign),
+            Err(NotPlaced::Memory(_)) => Err(JobFault::Memory),
+            Err(NotPlaced::Foreign(_)) => Err(JobFault::Foreign),
         }
     }
 
     /// Expects the outcome of a child.
-    fn expect(&mut self, awaited: Awaited<'p>) -> Result<(), WorkerFault>
+    fn expect(&mut self, awaited: Awaited<'p>) -> Result<(), JobFault>
         requires { IsOf (program_of self.old.thread) (awaited_at awaited) }
         ensures { self.new ≡ self.old }
     {
         match self.awaited.push(awaited) {
             Ok(()) => Ok(()),
-            Err(_) => Err(WorkerFault::Memory),
+            Err(_) => Err(JobFault::Memory),
         }
     }
 
     /// Joins the child that it awaits, if that has ended, and runs it in place, if it waits still. Whether it goes on.
-    fn join(&mut self, spares: &mut Spares<'p>) -> Result<bool, WorkerFault>
+    fn join(&mut self, spares: &mut Spares<'p>) -> Result<bool, JobFault>
         requires { IsAwaiting self.old.thread }
         ensures tag { tag_of self.new.thread ≡ tag_of self.old.thread }
         ensures parent { self.new.parent ≡ self.old.parent }
@@ -310,8 +304,8 @@ impl<'p> Job<'p> {
         match self.find(spares)? {
             Found::Outcome(outcome) => match self.thread.joined(outcome) {
                 Ok(()) => Ok(true),
-                Err(NotJoined::Memory(_)) => Err(WorkerFault::Memory),
-                Err(NotJoined::Foreign(_)) => Err(WorkerFault::Foreign),
+                Err(NotJoined::Memory(_)) => Err(JobFault::Memory),
+                Err(NotJoined::Foreign(_)) => Err(JobFault::Foreign),
             },
             Found::Child(child) => {
                 self.place(child)?;
@@ -322,12 +316,12 @@ impl<'p> Job<'p> {
     }
 
     /// What is in the cell of the child that it awaits. Where that is something, the cell is used up.
-    fn find(&mut self, spares: &mut Spares<'p>) -> Result<Found<'p>, WorkerFault>
+    fn find(&mut self, spares: &mut Spares<'p>) -> Result<Found<'p>, JobFault>
         ensures same { self.new ≡ self.old }
         ensures found { IfOk result (IsFoundOf (program_of self.old.thread)) }
     {
         let Some(awaited) = self.awaited.pop() else {
-            return Err(WorkerFault::Foreign);
+            return Err(JobFault::Foreign);
         };
         match look_at(awaited, spares) {
             Ok(found) => Ok(found),

@@ -4,10 +4,10 @@ use Rattle.std.specs.Prelude.{option_to_list}
 use Rattle.std.proofs.lemmas.List.Elements.{All-pop, All-push, All-same}
 use Rattle.arachne_lang.specs.declared.program.Program.{Program}
 use Rattle.arachne_lang.specs.Program.{source_of}
-use Rattle.arachne_run.specs.declared.wanted.Wanted.{Wanted}
-use Rattle.arachne_run.specs.declared.left.Found.{Found}
-use Rattle.arachne_run.specs.declared.left.Found.TheVariants as found
-use Rattle.arachne_run.specs.Cells.{IsFoundFor, IsFoundOf, IsOf}
+use Rattle.arachne_jobs.specs.declared.wanted.Wanted.{Wanted}
+use Rattle.arachne_jobs.specs.declared.left.Found.{Found}
+use Rattle.arachne_jobs.specs.declared.left.Found.TheVariants as found
+use Rattle.arachne_jobs.specs.Cells.{IsFoundFor, IsFoundOf, IsOf}
 
 pub fewer : {A X : Type 0} (P : X → Type 0) (xs ys : List X) (last : X) → xs ≡ ys ++ option_to_list (Some last) → A × All P xs → A × All P ys
 fewer P xs ys last e (a, all) = let (kept, is) = All-pop P xs ys (Some last) e all in (a, kept)

@@ -4,8 +4,8 @@ use Rattle.arachne_core.specs.declared.state.Rest.{Rest}
 use Rattle.arachne_core.specs.declared.state.Rest.TheVariants as rest
 use Rattle.arachne_machine.specs.declared.pause.Pending.{Pending}
 use Rattle.arachne_machine.specs.declared.pause.Pending.TheVariants as pause
-use Rattle.arachne_run.specs.declared.slice.Slice.{Slice}
-use Rattle.arachne_run.specs.declared.slice.Slice.TheVariants.{Goes, Forks, Blocks, Asks, Awaits, Frees, Tallies, Ends}
+use Rattle.arachne_jobs.specs.declared.slice.Slice.{Slice}
+use Rattle.arachne_jobs.specs.declared.slice.Slice.TheVariants.{Goes, Forks, Blocks, Asks, Awaits, Frees, Tallies, Ends}
 
 -- the pauses at which a job waits for another: for the end of a child, or for a lock
 abbrev pub IsWait : Option Pending → Type 0
@@ -13,7 +13,8 @@ IsWait (Some pause.Joins) = Unit {0}
 IsWait (Some (pause.Asks lock)) = Unit {0}
 IsWait _ = ⊥
 
--- the pauses at which a job asks for something that is done for it: it holds a lock from then on, frees one, or adds to a ledger
+-- the pauses at which a job asks for something that is done for it: it holds a lock from then on, frees one, or adds to
+-- a ledger
 abbrev pub IsRequest : Option Pending → Type 0
 IsRequest (Some (pause.Asks lock)) = Unit {0}
 IsRequest (Some (pause.Frees lock)) = Unit {0}
@@ -25,7 +26,8 @@ abbrev pub MayRest : Rest → Option Pending → Type 0
 MayRest rest.Ready pending = pending ≡ None
 MayRest rest.Blocked pending = IsWait pending
 
--- of the steps that a job had, fewer are left, or as many where it awaits a child; one that still waits for a lock has made none
+-- of the steps that a job had, fewer are left, or as many where it awaits a child; one that still waits for a lock has
+-- made none
 abbrev pub UsesSteps : {Child : Type 0} → Slice Child → ℕ → ℕ → Type 0
 UsesSteps Blocks had left = left ≤ had
 UsesSteps (Awaits lock) had left = left ≡ had
