@@ -1,6 +1,7 @@
-// A library to be loaded before the C library. It refuses the allocation of the number REFUSE, counted from 1, and with FROM=1 all
-// behind it too. Where the program ends it writes a line `STATUS LEFT`, how it ended and how many blocks were not given back, and runs
-// the program once more, in the same process, on the same words and input, with all memory that it asks for.
+// A library to be loaded before the C library. It refuses the allocation of the number REFUSE, counted from 1, and with
+// FROM=1 all behind it too. Where the program ends it writes a line `STATUS LEFT`, how it ended and how many blocks
+// were not given back, and runs the program once more, in the same process, on the same words and input, with all
+// memory that it asks for.
 #define _GNU_SOURCE
 #include <dlfcn.h>
 #include <errno.h>

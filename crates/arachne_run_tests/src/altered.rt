@@ -28,9 +28,11 @@ enum Alteration {
     IsFull,
     /// Each seat has something out.
     HasOut,
-    /// A claim on a core that is in use is refused its memory, and only then a thread that is to be finished comes back.
+    /// A claim on a core that is in use is refused its memory, and only then a thread that is to be finished comes
+    /// back.
     RefusesMemoryFirst,
-    /// A thread that is to be finished comes back, and only then a claim on a core that is in use is refused its memory.
+    /// A thread that is to be finished comes back, and only then a claim on a core that is in use is refused its
+    /// memory.
     HandsBackFirst,
     /// Of three claims that follow one another the first two are lost.
     Loses,
@@ -42,11 +44,11 @@ const POLLS: u32 = 100_000_000;
 /// How often it lets others go on then, so that what the first call came to is known.
 const YIELDS: u32 = 100_000;
 
-/// A table behind a lock that hands on all calls, or all but one. A run makes its table itself, so the numbers of cores and of
-/// places say which: of 5 cores it hands back each thread that is to be finished, of 6 it refuses memory to a claim on a core
-/// that is in use, of 7 all cores but 0 are full, of 8 each seat has something out, of 9 and 10 it refuses memory and hands threads back,
-/// the one or the other first, of any other number of 5 places two of three claims are lost, and else it answers nothing by
-/// itself.
+/// A table behind a lock that hands on all calls, or all but one. A run makes its table itself, so the numbers of cores
+/// and of places say which: of 5 cores it hands back each thread that is to be finished, of 6 it refuses memory to a
+/// claim on a core that is in use, of 7 all cores but 0 are full, of 8 each seat has something out, of 9 and 10 it
+/// refuses memory and hands threads back, the one or the other first, of any other number of 5 places two of three
+/// claims are lost, and else it answers nothing by itself.
 #[derive(Drop)]
 pub struct Altered<T: Tagged> {
     inner: LockedContexts<T>,

@@ -1,4 +1,5 @@
-//! For tests: all memory that a process can get, of which a little is given back at a time, so that each growth is refused.
+//! For tests: all memory that a process can get, of which a little is given back at a time, so that each growth is
+//! refused.
 #![tactic(auto)]
 
 use std::alloc::{AllocError, Global};
@@ -20,7 +21,8 @@ const SMALL_SIZE: usize = 40;
 /// The size of the largest block that is looked for among what was given back.
 const PIECE: usize = 1 << 20;
 
-/// All memory that a process can get, but what was given back. Nothing is written to it, so it takes little of the machine's.
+/// All memory that a process can get, but what was given back. Nothing is written to it, so it takes little of the
+/// machine's.
 #[derive(Drop)]
 pub struct Hoard {
     alloc: Global,

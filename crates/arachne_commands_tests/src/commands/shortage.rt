@@ -69,8 +69,8 @@ const ROWS: &[Row] = &[
     ("arachne help policy", "", "2 !usage"),
 ];
 
-/// The same on several cores. Once all memory was used up the C library gives none to a kernel thread that has just begun, whatever was given
-/// back, so that these need not end as with memory.
+/// The same on several cores. Once all memory was used up the C library gives none to a kernel thread that has just
+/// begun, whatever was given back, so that these need not end as with memory.
 const ON_CORES: &[Row] = &[(
     "arachne run --cores 4 --quantum 1 --names 0:release:1 1:release:2 2:grant:1",
     "arachne 1|ledgers 0|locks 0|(sweep add 2 (num 0) (num 8) (var 0))|",

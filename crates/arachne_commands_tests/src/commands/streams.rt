@@ -91,8 +91,8 @@ const ERRORS: &[(ErrorKind, bool)] = &[
     (ErrorKind::Other, false),
 ];
 
-/// Runs a row's words on its input, which is given so many bytes at a time, with each of its reads failing in turn, in each way. It
-/// counts the reads.
+/// Runs a row's words on its input, which is given so many bytes at a time, with each of its reads failing in turn, in
+/// each way. It counts the reads.
 fn each_read_fails<R: Abort + Threads + Wait + Sync>(
     rt: &R,
     alloc: Global,
@@ -224,8 +224,8 @@ fn told_of<'a>(case: &Case<'a>, stream: Stream, at: u64) -> Told<'a> {
     }
 }
 
-/// A case of which one call fails so ends as it is to, and that call is not made again. Without a failure the calls of each kind are
-/// counted.
+/// A case of which one call fails so ends as it is to, and that call is not made again. Without a failure the calls of
+/// each kind are counted.
 fn calls_of<R: Abort + Threads + Wait + Sync>(
     rt: &R,
     alloc: Global,
@@ -293,8 +293,8 @@ fn a_failed_write_is_not_tried_again(rt: HostRuntime) -> Result<(), AllocError> 
 /// Words that `clap` explains.
 const USAGE: &[&str] = &["arachne", "arachne eval --cores 4", "arachne run --help"];
 
-/// The status of refused words stays where their text can't be written. The one error that is left out is an interruption that comes
-/// ever again, since `std` writes that text and goes on after each.
+/// The status of refused words stays where their text can't be written. The one error that is left out is an
+/// interruption that comes ever again, since `std` writes that text and goes on after each.
 #[test]
 fn a_usage_that_fails_changes_nothing(rt: HostRuntime) -> Result<(), AllocError> {
     let alloc = rt.alloc();

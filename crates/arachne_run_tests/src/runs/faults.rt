@@ -1,5 +1,5 @@
-//! Runs that end by a fault while their threads wait, or go on without end: the first fault that was recorded is told, and all kernel
-//! threads are joined.
+//! Runs that end by a fault while their threads wait, or go on without end: the first fault that was recorded is told,
+//! and all kernel threads are joined.
 use super::facts::{Telling, told};
 use super::programs::{SWEEP, SWEPT};
 use super::rows::{Row, row_holds};
@@ -83,7 +83,8 @@ const ROWS: &[Row] = &[
         telling: Telling::Nothing,
         told: "Token",
     },
-    // Of the root and its child on core 1 one holds the lock on and on, and the other waits for it. A child on core 2 ends.
+    // Of the root and its child on core 1 one holds the lock on and on, and the other waits for it. A child on core 2
+    // ends.
     Row {
         shows: "a thread that waits for a lock is left",
         source: Source {
@@ -215,7 +216,8 @@ const ROWS: &[Row] = &[
         telling: Telling::Nothing,
         told: "Memory",
     },
-    // The root's child ends on core 1 while the root asks for memory there. One fault is recorded first, and the other then.
+    // The root's child ends on core 1 while the root asks for memory there. One fault is recorded first, and the other
+    // then.
     Row {
         shows: "the first fault is told",
         source: Source {

@@ -1,4 +1,5 @@
-//! Runs in a process whose memory is used up, with a little more for each: all end by a fault that says so, until one has a report.
+//! Runs in a process whose memory is used up, with a little more for each: all end by a fault that says so, until one
+//! has a report.
 ghost use Rattle.arachne_lang.specs.Checked.{IsChecked};
 ghost use Rattle.arachne_lang.specs.Program.{source_of};
 
@@ -21,15 +22,15 @@ use std::thread::Threads;
 /// The most runs of a row on one core, which has a report at last.
 const RUNS: u64 = 2_000;
 
-/// The runs of one on several cores. Once all memory was used up the C library gives none to a kernel thread that has just begun, whatever
-/// was given back, so that none need have a report.
+/// The runs of one on several cores. Once all memory was used up the C library gives none to a kernel thread that has
+/// just begun, whatever was given back, so that none need have a report.
 const RUNS_ON_CORES: u64 = 200;
 
 /// How many bytes more there are for each run than for the one before.
 const BYTES: usize = 400;
 
-/// How often a run on one core is repeated with the memory of the first that had a report, and how many bytes more: the C library keeps some
-/// of what is given back for blocks of the same size, of each a few.
+/// How often a run on one core is repeated with the memory of the first that had a report, and how many bytes more: the
+/// C library keeps some of what is given back for blocks of the same size, of each a few.
 const REPEATED: usize = 1_000;
 
 const SLACK: usize = 100_000;
@@ -158,8 +159,8 @@ fn made_for(alloc: Global, row: &Row, count: usize) -> Result<Vec<Made>, AllocEr
     Ok(made)
 }
 
-/// Runs a row's program with no memory, and then with a little more each time, until that comes of it. It counts the runs before, and tells
-/// whether it came.
+/// Runs a row's program with no memory, and then with a little more each time, until that comes of it. It counts the
+/// runs before, and tells whether it came.
 fn refused<R: Abort + Threads + Wait + Sync>(
     rt: &R,
     alloc: Global,
@@ -189,8 +190,8 @@ fn refused<R: Abort + Threads + Wait + Sync>(
     (most, false)
 }
 
-/// Whether a row's program has a report again and again with the memory that there is. If each run left something behind, there would be none
-/// for the last ones.
+/// Whether a row's program has a report again and again with the memory that there is. If each run left something
+/// behind, there would be none for the last ones.
 fn repeats<R: Abort + Threads + Wait + Sync>(
     rt: &R,
     alloc: Global,
@@ -212,7 +213,8 @@ fn repeats<R: Abort + Threads + Wait + Sync>(
     true
 }
 
-/// A row's program over a form of table, as memory is used up: how many runs were refused it, and whether that came then which is to.
+/// A row's program over a form of table, as memory is used up: how many runs were refused it, and whether that came
+/// then which is to.
 fn without_memory<R: Abort + Threads + Wait + Sync>(
     rt: &R,
     alloc: Global,
@@ -235,7 +237,8 @@ fn without_memory<R: Abort + Threads + Wait + Sync>(
     Ok((runs, is_over && repeats))
 }
 
-/// Each row's program on at most so many cores over a form of table: with all memory, as it is used up, and with all again.
+/// Each row's program on at most so many cores over a form of table: with all memory, as it is used up, and with all
+/// again.
 fn rows_end<R: Abort + Threads + Wait + Sync>(
     rt: &R,
     alloc: Global,

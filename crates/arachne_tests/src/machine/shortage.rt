@@ -1,5 +1,5 @@
-//! A thread for which there is no memory at each call that grows: the same call is made again with a little, and the outcome is the one
-//! without refusals.
+//! A thread for which there is no memory at each call that grows: the same call is made again with a little, and the
+//! outcome is the one without refusals.
 use super::{COUNTING, all_in_place, join, parts, program, start, told};
 use arachne_lang::Program;
 use arachne_machine::{NotJoined, Outcome, Pause, Pending, Thread};
@@ -85,7 +85,8 @@ fn join_at_last<'p>(
     }
 }
 
-/// Threads that wait for a child, the last one for the thread that runs, and children that were given away and have not begun.
+/// Threads that wait for a child, the last one for the thread that runs, and children that were given away and have not
+/// begun.
 #[derive(Drop)]
 struct Family<'p> {
     parents: Vec<Thread<'p>>,
