@@ -18,6 +18,7 @@ use std::thread::Threads;
 
 mod cores;
 mod facts;
+mod faults;
 mod left;
 mod loads;
 mod locks;
@@ -26,6 +27,7 @@ mod places;
 mod programs;
 mod reports;
 mod rows;
+mod shortage;
 mod slices;
 mod tables;
 mod tickets;

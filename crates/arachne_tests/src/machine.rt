@@ -4,8 +4,10 @@ ghost use Rattle.arachne_lang.specs.Program.{source_of};
 ghost use Rattle.arachne_machine.specs.declared.pause.Pending.TheVariants as pause;
 ghost use Rattle.arachne_machine.specs.Nested.{Nested, IsAlone, IsChildOf, SameWhole, pending_in, whole};
 
+mod shortage;
 mod ways;
 
+use self::shortage::Memory;
 use arachne_lang::{Class, Meaning, Name, Program, TextFault, parse};
 use arachne_machine::{
     NotJoined, NotPlaced, Outcome, OutcomeParts, Pause, Pending, Placing, Ran, Spares, Thread,
@@ -30,12 +32,20 @@ fn program(alloc: Global, count: u8, expression: &str) -> Result<Program, Fail> 
 }
 
 /// The root thread of a program. Where memory is refused it is asked for once more.
-fn start<'p>(alloc: Global, program: &'p Program, tag: u64) -> Result<Thread<'p>, Fail>
+fn start<'p>(
+    alloc: Global,
+    program: &'p Program,
+    tag: u64,
+    memory: &mut Memory,
+) -> Result<Thread<'p>, Fail>
     ensures { IfOk result (λ thread. pending_in thread ≡ None) }
 {
     match Thread::start(alloc, program, tag) {
         Ok(thread) => Ok(thread),
-        Err(_) => Ok(Thread::start(alloc, program, tag)?),
+        Err(_) => {
+            memory.spare();
+            Ok(Thread::start(alloc, program, tag)?)
+        }
     }
 }
 
@@ -79,7 +89,12 @@ impl Heard {
 }
 
 /// Puts a child in its parent's place with the next tag. A call that is refused memory is made once more.
-fn place<'p>(thread: &mut Thread<'p>, mut child: Thread<'p>, heard: &mut Heard) -> Result<(), Fail>
+fn place<'p>(
+    thread: &mut Thread<'p>,
+    mut child: Thread<'p>,
+    heard: &mut Heard,
+    memory: &mut Memory,
+) -> Result<(), Fail>
     requires forks { pending_in thread.old ≡ Some pause.Forks }
     requires alone { child.parents ≡ [] }
     requires child { IsChildOf thread.old child }
@@ -87,11 +102,13 @@ fn place<'p>(thread: &mut Thread<'p>, mut child: Thread<'p>, heard: &mut Heard) 
 {
     child.set_tag(heard.next);
     heard.next = heard.next.wrapping_add(1);
+    memory.take_again()?;
     let child = match thread.in_place(child) {
         Ok(()) => return Ok(()),
         Err(NotPlaced::Memory(child)) => child,
         Err(NotPlaced::Foreign(_)) => return Err("refused as foreign at its fork")?,
     };
+    memory.spare();
     if thread.in_place(child).is_err() {
         return Err("memory was refused twice")?;
     }
@@ -99,7 +116,12 @@ fn place<'p>(thread: &mut Thread<'p>, mut child: Thread<'p>, heard: &mut Heard) 
 }
 
 /// Goes on to the next pause and answers it, with each child in place. It tells whether the thread has ended.
-fn turn(thread: &mut Thread, budget: u32, heard: &mut Heard) -> Result<bool, Fail>
+fn turn(
+    thread: &mut Thread,
+    budget: u32,
+    heard: &mut Heard,
+    memory: &mut Memory,
+) -> Result<bool, Fail>
     requires { pending_in thread.old ≡ None }
     ensures goes_on { IfOk result (λ ended. ended ≡ false → pending_in thread.new ≡ None) }
     ensures ended { IfOk result (λ ended. IsTrue ended → pending_in thread.new ≡ Some pause.Ended) }
@@ -107,14 +129,18 @@ fn turn(thread: &mut Thread, budget: u32, heard: &mut Heard) -> Result<bool, Fai
     if budget == 0 {
         return Err("no budget")?;
     }
+    memory.take_again()?;
     let pause = match thread.advance(budget) {
         Ok(pause) => pause,
-        Err(_) => thread.advance(budget)?,
+        Err(_) => {
+            memory.spare();
+            thread.advance(budget)?
+        }
     };
     heard.hear(&pause, thread.running_tag());
     match pause {
         Pause::Budget => {}
-        Pause::Forks(_, child) => place(thread, child, heard)?,
+        Pause::Forks(_, child) => place(thread, child, heard, memory)?,
         Pause::Asks(_) => thread.granted(),
         Pause::Frees(_) => thread.freed(),
         Pause::Tallies(_, _) => thread.tallied(),
@@ -131,8 +157,9 @@ fn all_in_place(
     program: &Program,
     first: u32,
     then: u32,
+    memory: &mut Memory,
 ) -> Result<(OutcomeParts, Heard), Fail> {
-    let mut thread = start(alloc, program, 9)?;
+    let mut thread = start(alloc, program, 9, memory)?;
     let mut heard = Heard {
         pauses: 0,
         asked: 0,
@@ -140,8 +167,8 @@ fn all_in_place(
     };
     let mut budget = first;
     for _ in 0..10000 {
-        if turn(&mut thread, budget, &mut heard)? {
-            return Ok((parts(thread.finish())?, heard));
+        if turn(&mut thread, budget, &mut heard, memory)? {
+            return Ok((parts(thread.finish(), memory)?, heard));
         }
         budget = then;
     }
@@ -149,13 +176,16 @@ fn all_in_place(
 }
 
 /// An outcome taken apart. A call that is refused memory is made once more.
-fn parts(outcome: Outcome) -> Result<OutcomeParts, Fail> {
+fn parts(outcome: Outcome, memory: &mut Memory) -> Result<OutcomeParts, Fail> {
+    memory.take_again()?;
+    let outcome = match outcome.into_parts() {
+        Ok(parts) => return Ok(parts),
+        Err(outcome) => outcome,
+    };
+    memory.spare();
     match outcome.into_parts() {
         Ok(parts) => Ok(parts),
-        Err(outcome) => match outcome.into_parts() {
-            Ok(parts) => Ok(parts),
-            Err(_) => Err("memory was refused twice")?,
-        },
+        Err(_) => Err("memory was refused twice")?,
     }
 }
 
@@ -225,7 +255,7 @@ const IN_PLACE: &[(u8, &str, u64, &str)] = &[
 
 /// What is told of a program's threads that all run in one place, and the sum of the tags that asked for a lock.
 fn told_in_place(alloc: Global, program: &Program, budget: u32) -> Result<(String, u64), Fail> {
-    let (parts, heard) = all_in_place(alloc, program, budget, budget)?;
+    let (parts, heard) = all_in_place(alloc, program, budget, budget, &mut Memory::ample())?;
     Ok((told(alloc, &parts)?, heard.asked))
 }
 
@@ -283,7 +313,7 @@ fn heard_within(
     then: u32,
 ) -> Result<(u64, u64), Fail> {
     let program = program(alloc, 1, expression)?;
-    let (parts, heard) = all_in_place(alloc, &program, first, then)?;
+    let (parts, heard) = all_in_place(alloc, &program, first, then, &mut Memory::ample())?;
     Ok((heard.pauses, parts.value))
 }
 
@@ -320,7 +350,7 @@ fn counts_on(parts: &OutcomeParts) -> bool {
 #[test]
 fn a_chain_in_place(rt: HostRuntime) -> Result<(), Fail> {
     let program = chain(rt.alloc())?;
-    let (parts, _) = all_in_place(rt.alloc(), &program, 3, 3)?;
+    let (parts, _) = all_in_place(rt.alloc(), &program, 3, 3, &mut Memory::ample())?;
     assert!(rt; parts.value == 61 && counts_on(&parts));
     Ok(())
 }
@@ -425,7 +455,7 @@ fn join_child<'p>(thread: &mut Thread<'p>, outcome: Outcome<'p>) {
 
 /// The outcome of the root of a program with one fork.
 fn root_outcome<'p>(alloc: Global, program: &'p Program, tag: u64) -> Result<Outcome<'p>, Fail> {
-    let mut thread = start(alloc, program, tag)?;
+    let mut thread = start(alloc, program, tag, &mut Memory::ample())?;
     let outcome = awaited(&mut thread)?;
     join_child(&mut thread, outcome);
     ended(thread)
@@ -455,9 +485,9 @@ fn refuses_and_joins<'p>(thread: &mut Thread<'p>, foreign: Outcome<'p>) -> Resul
 /// Whether a root with the tag 2 refuses the outcome of the root with the tag 1, and what is told of its own.
 fn second_root(alloc: Global, program: &Program) -> Result<(bool, String), Fail> {
     let foreign = root_outcome(alloc, program, 1)?;
-    let mut thread = start(alloc, program, 2)?;
+    let mut thread = start(alloc, program, 2, &mut Memory::ample())?;
     let is_refused = refuses_and_joins(&mut thread, foreign)?;
-    let parts = parts(ended(thread)?)?;
+    let parts = parts(ended(thread)?, &mut Memory::ample())?;
     Ok((is_refused, told(alloc, &parts)?))
 }
 
@@ -535,9 +565,9 @@ fn second_in_place<'p>(thread: &mut Thread<'p>) -> Result<(), Fail> {
 
 /// What is told of the threads of `TWO_FORKS`.
 fn told_of_two(alloc: Global, program: &Program) -> Result<String, Fail> {
-    let mut thread = start(alloc, program, 9)?;
+    let mut thread = start(alloc, program, 9, &mut Memory::ample())?;
     second_in_place(&mut thread)?;
-    let parts = parts(ended(thread)?)?;
+    let parts = parts(ended(thread)?, &mut Memory::ample())?;
     told(alloc, &parts)
 }
 
@@ -612,7 +642,7 @@ fn a_child_without_a_place_waits_for_one_that_has(rt: HostRuntime) -> Result<(),
 
 /// Whether a thread tells its tag and its program.
 fn tells_what_it_is(alloc: Global, program: &Program) -> Result<bool, Fail> {
-    let thread = start(alloc, program, 9)?;
+    let thread = start(alloc, program, 9, &mut Memory::ample())?;
     Ok(thread.tag() == 9 && thread.program().root == program.root)
 }
 
