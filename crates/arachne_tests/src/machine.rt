@@ -622,13 +622,14 @@ fn first_with_place<'p>(alloc: Global, thread: &mut Thread<'p>) -> Result<Thread
 
 /// What is told of the threads of `TWO_FORKS`, where there is a place for the second child alone, whose tag is 20.
 fn told_of_one_with_place(alloc: Global, program: &Program) -> Result<String, Fail> {
-    let mut thread = start(alloc, program, 9)?;
+    let mut memory = Memory::ample();
+    let mut thread = start(alloc, program, 9, &mut memory)?;
     let mut child = first_with_place(alloc, &mut thread)?;
     child.set_tag(20);
     go_on(&mut thread)?;
     let outcome = ended(child)?;
     join_child(&mut thread, outcome);
-    let parts = parts(ended(thread)?)?;
+    let parts = parts(ended(thread)?, &mut memory)?;
     told(alloc, &parts)
 }
 
