@@ -11,7 +11,6 @@ mod fault;
 mod numbers;
 
 pub use answer::ArachneAnswer;
-
 use answer::answer;
 use std::alloc::Global;
 

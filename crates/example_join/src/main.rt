@@ -51,11 +51,7 @@ fn square_beside<R: Threads + Wait + Sync>(
     ensures { IfOk result (λ square. square ≡ number * number % 2 ^ 64) }
 {
     let (cell, end) = JoinCell::new(alloc, &number)?;
-    let ((), square) = thread::join(
-        rt,
-        || leave(&cell, end, number),
-        || fetch(rt, &cell),
-    );
+    let ((), square) = thread::join(rt, || leave(&cell, end, number), || fetch(rt, &cell));
     Ok(square)
 }
 
