@@ -79,16 +79,15 @@ fn take_all<C: Contexts<Parcel>, R: Wait>(
 
 type Words = WordContexts<Parcel>;
 
-type Seat = WordSeat<Parcel>;
-
 fn main(rt: HostRuntime) -> Result<()> {
     let (table, seat) = Words::new(rt.alloc(), 1, PLACES, 0)?;
     let (first, second) = table.split(seat);
     let (first, second) = thread::join(
         &rt,
         || post_all::<Words, HostRuntime>(&rt, &table, first),
-        || -> Option<(Seat, u64)>
-            requires { (second.table ≡ table.now.table) × HasNothingOut second.known × (table.now.shape.cores ≡ 1) × (table.now.shape.places_per_core ≡ PLACES) }
+        || -> Option<(WordSeat<Parcel>, u64)>
+            requires seat { (second.table ≡ table.now.table) × HasNothingOut second.known }
+            requires core { (table.now.shape.cores ≡ 1) × (table.now.shape.places_per_core ≡ PLACES) }
             ensures { IfSome result (λ done. (done.0.table ≡ table.entry.now.table) × HasNothingOut done.0.known) }
         { take_all::<Words, HostRuntime>(&rt, &table, second) },
     );
