@@ -63,6 +63,21 @@ fn refusal(fault: Fault) -> ArachneAnswer
     }
 }
 
+/// A meaning, whose threads are in these numbers.
+fn summary(meaning: &Meaning, words: &[u64]) -> ArachneAnswer
+    requires { words.now ≡ words_in (Ok meaning.now) }
+    ensures { result ≡ told (Ok meaning.now) }
+{
+    ArachneAnswer {
+        fault: 0,
+        place: 0,
+        value: meaning.value,
+        ledgers: meaning.totals.as_slice().len() as u64,
+        threads: meaning.threads.as_slice().len() as u64,
+        words: words.len() as u64,
+    }
+}
+
 /// Writes the totals and the threads of a text's meaning into the caller's rooms, and answers the rest of it.
 pub(crate) fn answer(
     alloc: Global,
@@ -79,12 +94,5 @@ pub(crate) fn answer(
     };
     write_over(meaning.totals.as_slice(), totals);
     write_over(in_words.as_slice(), words);
-    ArachneAnswer {
-        fault: 0,
-        place: 0,
-        value: meaning.value,
-        ledgers: meaning.totals.as_slice().len() as u64,
-        threads: meaning.threads.as_slice().len() as u64,
-        words: in_words.len() as u64,
-    }
+    summary(&meaning, in_words.as_slice())
 }
