@@ -1,4 +1,5 @@
-/* Judges the samples on its input by the proved policy, one a line, and prints what `arachne policy` prints of them. */
+/* Judges the samples on its input by the proved policy, one a line, and prints what `arachne policy` prints of them; that
+ * prints no advice where a later sample is bad. */
 #include "arachne_policy.h"
 #include <inttypes.h>
 #include <stdio.h>

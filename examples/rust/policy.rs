@@ -1,4 +1,5 @@
-//! Judges the samples on its input by the proved policy, one a line, and prints what `arachne policy` prints of them.
+//! Judges the samples on its input by the proved policy, one a line, and prints what `arachne policy` prints of them;
+//! that prints no advice where a later sample is bad.
 mod arachne_policy;
 
 use arachne_policy::{Advice, Estimator, Sample};
