@@ -2,10 +2,9 @@
 #![tactic(auto)]
 
 ghost use Rattle.std.specs.Prelude.{◌≡◌, ◌<◌, IfSome};
-ghost use Rattle.arachne_words.specs.Seats.{HasNothingOut};
 
 use anyhow::{Result, bail};
-use arachne_table::{Claimed, Contexts, Tagged, Taken, WordContexts, WordSeat};
+use arachne_table::{Claimed, Contexts, Tagged, Taken, WordContexts};
 use std::sync::Wait;
 use std::thread;
 
@@ -77,24 +76,24 @@ fn take_all<C: Contexts<Parcel>, R: Wait>(
     unreachable!()
 }
 
-type Words = WordContexts<Parcel>;
-
 fn main(rt: HostRuntime) -> Result<()> {
-    let (table, seat) = Words::new(rt.alloc(), 1, PLACES, 0)?;
+    let (table, seat) = WordContexts::<Parcel>::new(rt.alloc(), 1, PLACES, 0)?;
     let (first, second) = table.split(seat);
     let (first, second) = thread::join(
         &rt,
-        || post_all::<Words, HostRuntime>(&rt, &table, first),
-        || -> Option<(WordSeat<Parcel>, u64)>
-            requires seat { (second.table ≡ table.now.table) × HasNothingOut second.known }
-            requires core { (table.now.shape.cores ≡ 1) × (table.now.shape.places_per_core ≡ PLACES) }
-            ensures { IfSome result (λ done. (done.0.table ≡ table.entry.now.table) × HasNothingOut done.0.known) }
-        { take_all::<Words, HostRuntime>(&rt, &table, second) },
+        || post_all::<WordContexts<Parcel>, HostRuntime>(&rt, &table, first),
+        || take_all::<WordContexts<Parcel>, HostRuntime>(&rt, &table, second),
     );
     let (Some(first), Some((second, sum))) = (first, second) else {
         bail!("memory was refused");
     };
     let seat = table.join_seats(first, second);
-    println!(rt; "{sum}, {}", table.is_whole(&seat))?;
+    if !table.is_whole(&seat) {
+        bail!("a seat is missing");
+    }
+    let Ok(left) = table.close(rt.alloc(), seat) else {
+        bail!("memory was refused");
+    };
+    println!(rt; "the sum is {sum}, and {} are left", left.len())?;
     Ok(())
 }
