@@ -1,36 +1,19 @@
-//! An evaluator of the task language over a boxed tree that forks by a pool of kernel threads with a deque each, or by rayon, and keeps sums, holds
-//! and lines.
+//! An evaluator of the task language over a boxed tree that forks by a pool of kernel threads with a deque each, or by
+//! rayon, and keeps sums, holds and lines.
 //! `peer FILE CORES` prints the first line of what `arachne run --cores CORES` prints.
 #![allow(unexpected_cfgs)]
 
+mod line;
 #[cfg_attr(rayon, path = "rayon_pool.rs")]
 mod pool;
 #[path = "../tree.rs"]
 mod tree;
 
+use line::Line;
 use pool::{Worker, on_cores};
 use std::sync::Mutex;
 use std::sync::atomic::{AtomicU64, Ordering::SeqCst};
 use tree::{Expr, Operation, Program, program};
-
-/// A thread's name, how often it held each lock, and the threads below it.
-#[allow(dead_code)]
-struct Line {
-    name: Vec<u64>,
-    holds: Vec<u64>,
-    below: Vec<Line>,
-}
-
-impl Line {
-    /// Puts the line and those below it at the end of a list.
-    fn listed(mut self, lines: &mut Vec<Line>) {
-        let below = std::mem::take(&mut self.below);
-        lines.push(self);
-        for line in below {
-            line.listed(lines);
-        }
-    }
-}
 
 /// What all threads share.
 struct Shared<'p> {
