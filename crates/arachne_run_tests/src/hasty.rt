@@ -1,5 +1,5 @@
 //! A job whose thread ends before it awaits what it has forked, so that the table has a thread left in the end.
-ghost use Rattle.std.specs.Prelude.{◌≡◌, false, true, Some};
+ghost use Rattle.std.specs.Prelude.{◌≡◌, false, if◌then◌else◌, true, Some};
 ghost use Rattle.arachne_machine.specs.declared.pause.Pending.TheVariants as pause;
 ghost use Rattle.arachne_jobs.specs.Threads.{IsForking, pause_of, running_tag_of, tag_of};
 
