@@ -13,7 +13,8 @@ ghost use Rattle.arachne_jobs.specs.Slices.{IsLeft, UsesSteps};
 use crate::ends::{Awaited, End};
 use crate::fault::JobFault;
 use crate::left::{Found, Waiting};
-use crate::openings::Openings;
+use crate::openings::{Asked, Openings};
+use crate::room::Room;
 use crate::slice::{JobOf, RunJob, RunThread, Slice};
 use crate::spares::Spares;
 use crate::waiting::{Ticket, WaitCell};
@@ -107,7 +108,8 @@ impl<'p> RunJob for Job<'p> {
         &mut self,
         left: &mut u32,
         spares: &mut Spares<'p>,
-        openings: &mut Openings<'_>,
+        room: &Room,
+        openings: &mut Openings,
     ) -> Result<Slice<Thread<'p>>, JobFault> {
         match self.thread.pending() {
             None => {}
@@ -119,7 +121,7 @@ impl<'p> RunJob for Job<'p> {
             Some(Pending::Asks(lock)) => return Ok(Slice::Awaits(lock)),
             _ => return Err(JobFault::Foreign),
         }
-        self.advance(left, spares, openings)
+        self.advance(left, spares, room, openings)
     }
 
     fn fork_off(
@@ -238,7 +240,8 @@ impl<'p> Job<'p> {
         &mut self,
         left: &mut u32,
         spares: &mut Spares<'p>,
-        openings: &mut Openings<'_>,
+        room: &Room,
+        openings: &mut Openings,
     ) -> Result<Slice<Thread<'p>>, JobFault>
         requires some { 1 ≤ left.old }
         requires going { IsGoing self.old.thread }
@@ -247,9 +250,10 @@ impl<'p> Job<'p> {
         ensures left { IfOk result (λ slice. IsLeft (λ j child. IsForking j.thread child) (λ j. pause_of j.thread) slice self.new) }
         ensures steps { IfOk result (λ slice. UsesSteps slice left.old left.new) }
     {
+        let mut asked = Asked { room, openings };
         match self
             .thread
-            .advance_within(left, &mut spares.threads, openings)?
+            .advance_within(left, &mut spares.threads, &mut asked)?
         {
             Pause::Budget => Ok(Slice::Goes),
             Pause::Forks(class, child) => Ok(Slice::Forks(class, child)),

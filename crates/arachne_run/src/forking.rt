@@ -13,12 +13,11 @@ use crate::fault::WorkerFault;
 use crate::machine::Machine;
 use crate::queue::Post;
 use arachne_contexts::{Claimed, Contexts, Held, Identified, Placed};
-use arachne_jobs::{Openings, RunJob, Slice, Tags};
+use arachne_jobs::{Openings, RunJob, Slice};
 use arachne_lang::Class;
 use arachne_spill::SpillPass;
 use rand_core::Rng;
 use std::alloc::Global;
-use std::mem::replace;
 use std::sync::Wait;
 
 /// The thread in hand goes on for at most as many steps as are left, and its fork, if it comes to one, is answered.
@@ -31,7 +30,7 @@ pub(crate) fn go_on<H: Wait, T: RunJob, C: Contexts<T>, R: Rng>(
     pass: &mut SpillPass<T::Ticket>,
     held: &mut Held<T, C::Hold>,
     chooser: &mut R,
-    tags: &mut Tags,
+    openings: &mut Openings,
     spares: &mut T::Spares,
     left: &mut u32,
 ) -> Result<Stop, WorkerFault>
@@ -45,15 +44,13 @@ pub(crate) fn go_on<H: Wait, T: RunJob, C: Contexts<T>, R: Rng>(
     ensures pass { IsPassOf machine.now.tickets pass.new }
 {
     let room = machine.shared.room();
-    let mut openings = Openings::new(room, replace(tags, Tags::new()));
-    let slice = held.value.slice(left, spares, &mut openings)?;
-    let (tags_left, draws) = openings.into_parts();
-    *tags = tags_left;
-    draw(chooser, draws);
+    let slice = held.value.slice(left, spares, room, openings)?;
+    draw(chooser, openings.draws);
+    openings.draws = 0;
     match slice {
         Slice::Goes => Ok(Stop::Goes),
         Slice::Forks(class, child) => {
-            let tag = tags.take(room);
+            let tag = openings.tags.take(room);
             let fork = Fork { class, child, tag };
             answer_fork::<H, T, C, R>(rt, alloc, machine, seat, pass, held, fork, chooser, spares)
         }

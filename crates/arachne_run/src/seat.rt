@@ -15,7 +15,7 @@ use crate::policy;
 use arachne_arbiter::{Arbiter, Cores};
 use arachne_contexts::{Claimed, Contexts, Held, Moved, Placed, Rested, Taken, Woken};
 use arachne_core::{MarkWord, OccWord, Place, Rest, SLOTS, ThreadId};
-use arachne_jobs::{RunJob, RunSpares, RunThread, RunTicket, Tags};
+use arachne_jobs::{Openings, RunJob, RunSpares, RunThread, RunTicket};
 use arachne_sleep::Who;
 use arachne_spill::SpillPass;
 use rand_core::Rng;
@@ -40,9 +40,10 @@ pub(crate) struct Seat<'a, H, T: RunJob, C: Contexts<T>, R> {
     pub(crate) kept: Claims<C::Claim>,
     pub(crate) pass: SpillPass<T::Ticket>,
     pub(crate) arbiter: Option<Arbiter>,
-    /// The core's chooser, and the tags for threads that are forked here.
+    /// The core's chooser.
     pub(crate) chooser: R,
-    pub(crate) tags: Tags,
+    /// What is here for the forks of threads.
+    pub(crate) openings: Openings,
     /// What is kept of ended threads for those that begin.
     pub(crate) spares: T::Spares,
 }
@@ -100,7 +101,7 @@ impl<'a, H: Wait, T: RunJob, C: Contexts<T>, R: Rng + Drop> Seat<'a, H, T, C, R>
             pass,
             arbiter,
             chooser,
-            tags: Tags::new(),
+            openings: Openings::new(),
             spares: T::Spares::none(alloc),
         }
     }
@@ -156,7 +157,7 @@ impl<'a, H: Wait, T: RunJob, C: Contexts<T>, R: Rng + Drop> Seat<'a, H, T, C, R>
             &mut self.pass,
             held,
             &mut self.chooser,
-            &mut self.tags,
+            &mut self.openings,
             &mut self.spares,
             left,
         )?;

@@ -6,7 +6,7 @@ ghost use Rattle.arachne_jobs.specs.Threads.{IsForking, pause_of, running_tag_of
 use arachne_contexts::Tagged;
 use arachne_core::{Rest, ThreadId};
 use arachne_jobs::{
-    Job, JobFault, JobOf, Openings, OutcomeReceiver, RunJob, RunThread, Slice, Spares, Ticket,
+    Job, JobFault, JobOf, Openings, OutcomeReceiver, Room, RunJob, RunThread, Slice, Spares, Ticket,
 };
 use arachne_lang::Program;
 use arachne_machine::Thread;
@@ -68,14 +68,15 @@ impl<'p> RunJob for Hasty<'p> {
         &mut self,
         left: &mut u32,
         spares: &mut Spares<'p>,
-        openings: &mut Openings<'_>,
+        room: &Room,
+        openings: &mut Openings,
     ) -> Result<Slice<Thread<'p>>, JobFault> {
         if self.has_forked || self.has_ended {
             *left -= 1;
             self.has_ended = true;
             return Ok(Slice::Ends);
         }
-        self.job.slice(left, spares, openings)
+        self.job.slice(left, spares, room, openings)
     }
 
     fn fork_off(
@@ -116,10 +117,16 @@ impl<'p> RunJob for Hasty<'p> {
     }
 
     fn leave(self, spares: &mut Spares<'p>) -> Result<Option<ThreadId>, JobFault> {
-        if !self.has_ended {
-            let _ = self.job.leave(spares)?;
+        let Hasty {
+            job,
+            parent,
+            has_forked: _,
+            has_ended,
+        } = self;
+        if !has_ended {
+            let _ = job.leave(spares)?;
         }
-        Ok(self.parent)
+        Ok(parent)
     }
 }
 
