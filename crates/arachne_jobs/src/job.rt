@@ -13,7 +13,8 @@ ghost use Rattle.arachne_jobs.specs.Slices.{IsLeft, UsesSteps};
 use crate::ends::{Awaited, End};
 use crate::fault::JobFault;
 use crate::left::{Found, Waiting};
-use crate::openings::Openings;
+use crate::openings::{Asked, Openings};
+use crate::room::Room;
 use crate::slice::{JobOf, RunJob, RunThread, Slice};
 use crate::spares::Spares;
 use crate::waiting::{Ticket, WaitCell};
@@ -32,6 +33,12 @@ use std::snapshot::Snapshot;
 /// Contracts see the thread and that id.
 #[derive(Drop)]
 pub struct Job<'p> {
+    inner: Box<Inner<'p>>,
+}
+
+/// The parts of a job.
+#[derive(Drop)]
+pub struct Inner<'p> {
     thread: Thread<'p>,
     end: End<'p>,
     awaited: Vec<Awaited<'p>>,
@@ -51,16 +58,16 @@ impl<'p> Model for Job<'p> {
 
     ghost coded = { Prim.hlevel (codes, expr.the_row.coded) };
 
-    ghost view = { λ j. record { thread = j.thread; parent = j.parent } };
+    ghost view = { λ j. record { thread = j.inner.value.thread; parent = j.inner.value.parent } };
 
-    ghost invariant = { λ j. IsFor j.thread (left_at j.end) × All (λ awaited. IsOf (program_of j.thread) (awaited_at awaited)) j.awaited.items };
+    ghost invariant = { λ j. IsFor j.inner.value.thread (left_at j.inner.value.end) × All (λ awaited. IsOf (program_of j.inner.value.thread) (awaited_at awaited)) j.inner.value.awaited.items };
 }
 
 impl<'p> Tagged for Job<'p> {
     ghost tag_of = { λ j. tag_of j.thread };
 
     fn tag(&self) -> u64 {
-        self.thread.tag()
+        self.inner.thread.tag()
     }
 }
 
@@ -72,11 +79,11 @@ impl<'p> RunThread for Job<'p> {
     ghost pause_of = { λ j. pause_of j.thread };
 
     fn running_tag(&self) -> u64 {
-        self.thread.running_tag()
+        self.inner.thread.running_tag()
     }
 
     fn rest(&self) -> Option<Rest> {
-        match self.thread.pending() {
+        match self.inner.thread.pending() {
             None => Some(Rest::Ready),
             Some(Pending::Joins | Pending::Asks(_)) => Some(Rest::Blocked),
             _ => None,
@@ -84,10 +91,10 @@ impl<'p> RunThread for Job<'p> {
     }
 
     fn answer(&mut self) -> Result<(), JobFault> {
-        match self.thread.pending() {
-            Some(Pending::Asks(_)) => self.thread.granted(),
-            Some(Pending::Frees(_)) => self.thread.freed(),
-            Some(Pending::Tallies(_, _)) => self.thread.tallied(),
+        match self.inner.thread.pending() {
+            Some(Pending::Asks(_)) => self.inner.thread.granted(),
+            Some(Pending::Frees(_)) => self.inner.thread.freed(),
+            Some(Pending::Tallies(_, _)) => self.inner.thread.tallied(),
             _ => return Err(JobFault::Foreign),
         }
         Ok(())
@@ -107,9 +114,10 @@ impl<'p> RunJob for Job<'p> {
         &mut self,
         left: &mut u32,
         spares: &mut Spares<'p>,
-        openings: &mut Openings<'_>,
+        room: &Room,
+        openings: &mut Openings,
     ) -> Result<Slice<Thread<'p>>, JobFault> {
-        match self.thread.pending() {
+        match self.inner.thread.pending() {
             None => {}
             Some(Pending::Joins) => {
                 if !self.join(spares)? {
@@ -119,7 +127,7 @@ impl<'p> RunJob for Job<'p> {
             Some(Pending::Asks(lock)) => return Ok(Slice::Awaits(lock)),
             _ => return Err(JobFault::Foreign),
         }
-        self.advance(left, spares, openings)
+        self.advance(left, spares, room, openings)
     }
 
     fn fork_off(
@@ -134,7 +142,7 @@ impl<'p> RunJob for Job<'p> {
         child.set_tag(tag);
         let (job, receiver) = Job::of(alloc, child, Some(me), spares)?;
         self.expect(Awaited::Block(receiver))?;
-        self.thread.forked();
+        self.inner.thread.forked();
         Ok(job)
     }
 
@@ -155,7 +163,7 @@ impl<'p> RunJob for Job<'p> {
         match WaitCell::wait(alloc, child, me) {
             Ok((cell, ticket)) => {
                 self.expect(Awaited::Own(cell))?;
-                self.thread.forked();
+                self.inner.thread.forked();
                 Ok(Some(ticket))
             }
             Err(child) => {
@@ -169,21 +177,25 @@ impl<'p> RunJob for Job<'p> {
         let (waiting, end) = ticket.take()?;
         let Waiting { mut thread, parent } = waiting;
         thread.set_spilled();
-        Some(Job {
+        let inner = Inner {
             thread,
             end: End::Own(end),
             awaited: spares.take_awaited(alloc),
             parent: Some(parent),
-        })
+        };
+        match Box::new(alloc, inner) {
+            Ok(inner) => Some(Job { inner }),
+            Err(_) => None,
+        }
     }
 
     fn leave(self, spares: &mut Spares<'p>) -> Result<Option<ThreadId>, JobFault> {
-        let Job {
+        let Inner {
             thread,
             end,
             awaited,
             parent,
-        } = self;
+        } = Box::into_inner(self.inner);
         if thread.pending() != Some(Pending::Ended) {
             return Err(JobFault::Foreign);
         }
@@ -224,11 +236,14 @@ impl<'p> Job<'p> {
             name: Snapshot::of(thread.name()),
         };
         let (receiver, end) = spares.cells.open(alloc, &wanted)?;
-        let job = Job {
+        let inner = Inner {
             thread,
             end: End::Block(end),
             awaited: spares.take_awaited(alloc),
             parent,
+        };
+        let job = Job {
+            inner: Box::new(alloc, inner)?,
         };
         Ok((job, receiver))
     }
@@ -238,7 +253,8 @@ impl<'p> Job<'p> {
         &mut self,
         left: &mut u32,
         spares: &mut Spares<'p>,
-        openings: &mut Openings<'_>,
+        room: &Room,
+        openings: &mut Openings,
     ) -> Result<Slice<Thread<'p>>, JobFault>
         requires some { 1 ≤ left.old }
         requires going { IsGoing self.old.thread }
@@ -247,9 +263,11 @@ impl<'p> Job<'p> {
         ensures left { IfOk result (λ slice. IsLeft (λ j child. IsForking j.thread child) (λ j. pause_of j.thread) slice self.new) }
         ensures steps { IfOk result (λ slice. UsesSteps slice left.old left.new) }
     {
+        let mut asked = Asked { room, openings };
         match self
+            .inner
             .thread
-            .advance_within(left, &mut spares.threads, openings)?
+            .advance_within(left, &mut spares.threads, &mut asked)?
         {
             Pause::Budget => Ok(Slice::Goes),
             Pause::Forks(class, child) => Ok(Slice::Forks(class, child)),
@@ -276,7 +294,7 @@ impl<'p> Job<'p> {
         ensures parent { self.new.parent ≡ self.old.parent }
         ensures answered { OnOk result (pause_of self.new.thread ≡ None) }
     {
-        match self.thread.in_place(child) {
+        match self.inner.thread.in_place(child) {
             Ok(()) => Ok(()),
             Err(NotPlaced::Memory(_)) => Err(JobFault::Memory),
             Err(NotPlaced::Foreign(_)) => Err(JobFault::Foreign),
@@ -288,7 +306,7 @@ impl<'p> Job<'p> {
         requires { IsOf (program_of self.old.thread) (awaited_at awaited) }
         ensures { self.new ≡ self.old }
     {
-        match self.awaited.push(awaited) {
+        match self.inner.awaited.push(awaited) {
             Ok(()) => Ok(()),
             Err(_) => Err(JobFault::Memory),
         }
@@ -303,7 +321,7 @@ impl<'p> Job<'p> {
         ensures awaits { IfOk result (λ joined. joined ≡ false → IsAwaiting self.new.thread) }
     {
         match self.find(spares)? {
-            Found::Outcome(outcome) => match self.thread.joined(outcome) {
+            Found::Outcome(outcome) => match self.inner.thread.joined(outcome) {
                 Ok(()) => Ok(true),
                 Err(NotJoined::Memory(_)) => Err(JobFault::Memory),
                 Err(NotJoined::Foreign(_)) => Err(JobFault::Foreign),
@@ -321,13 +339,13 @@ impl<'p> Job<'p> {
         ensures same { self.new ≡ self.old }
         ensures found { IfOk result (IsFoundOf (program_of self.old.thread)) }
     {
-        let Some(awaited) = self.awaited.pop() else {
+        let Some(awaited) = self.inner.awaited.pop() else {
             return Err(JobFault::Foreign);
         };
         match look_at(awaited, spares) {
             Ok(found) => Ok(found),
             Err(awaited) => {
-                self.awaited.push_reserved(awaited);
+                self.inner.awaited.push_reserved(awaited);
                 Ok(Found::Nothing)
             }
         }

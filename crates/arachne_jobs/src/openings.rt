@@ -1,39 +1,35 @@
 //! What a thread is told at its forks.
-ghost use Rattle.std.specs.Prelude.{◌≡◌};
-
 use crate::room::Room;
 use crate::tags::Tags;
 use arachne_lang::Class;
 use arachne_machine::Placing;
 
-/// What a thread is told at its forks: whether its child may get a place or wait for one, and else a tag for it.
+/// What a worker has for the forks of its threads: its tags, and for how many forks that were no pause the chooser's word
+/// is still to be drawn.
 #[derive(Drop)]
-pub struct Openings<'a> {
-    room: &'a Room,
-    tags: Tags,
-    /// For how many forks that were no pause the chooser's word is still to be drawn.
-    draws: u64,
+pub struct Openings {
+    pub tags: Tags,
+    pub draws: u64,
 }
 
-impl<'a> Openings<'a> {
-    /// By these words, with these tags.
-    #[inline(always)]
-    pub fn new(room: &'a Room, tags: Tags) -> Openings<'a> {
+impl Openings {
+    /// No tag is drawn yet, and no word is owed.
+    pub fn new() -> Openings {
         Openings {
-            room,
-            tags,
+            tags: Tags::new(),
             draws: 0,
         }
     }
-
-    /// The tags that are left, and how many words are to be drawn from the chooser: one for each fork that was no pause.
-    #[inline(always)]
-    pub fn into_parts(self) -> (Tags, u64) {
-        (self.tags, self.draws)
-    }
 }
 
-impl<'a> Placing for Openings<'a> {
+/// What a thread asks at its forks: whether its child may get a place or wait for one, and else a tag for it.
+#[derive(Drop)]
+pub(crate) struct Asked<'a> {
+    pub(crate) room: &'a Room,
+    pub(crate) openings: &'a mut Openings,
+}
+
+impl<'a> Placing for Asked<'a> {
     ghost use Rattle.std.specs.Prelude.{false};
 
     ghost gives_all = { false };
@@ -43,12 +39,12 @@ impl<'a> Placing for Openings<'a> {
         if class == Class::Exclusive || self.room.has_free_place() || self.room.may_wait() {
             return true;
         }
-        self.draws = self.draws.wrapping_add(1);
+        self.openings.draws = self.openings.draws.wrapping_add(1);
         false
     }
 
     #[inline(always)]
     fn tag(&mut self) -> u64 {
-        self.tags.take(self.room)
+        self.openings.tags.take(self.room)
     }
 }

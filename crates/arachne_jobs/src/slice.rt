@@ -10,6 +10,7 @@ ghost use Rattle.arachne_jobs.specs.Slices.{IsLeft, IsRequest, MayRest, UsesStep
 
 use crate::fault::JobFault;
 use crate::openings::Openings;
+use crate::room::Room;
 use crate::wanted::OutcomeReceiver;
 use arachne_contexts::Tagged;
 use arachne_core::{Rest, ThreadId};
@@ -97,7 +98,8 @@ pub trait RunJob: RunThread {
         &mut self,
         left: &mut u32,
         spares: &mut Self::Spares,
-        openings: &mut Openings<'_>,
+        room: &Room,
+        openings: &mut Openings,
     ) -> Result<Slice<Self::Child>, JobFault>
         requires { 1 ≤ left.old }
         ensures tag { Self.tag_of self.new ≡ Self.tag_of self.old }
