@@ -56,6 +56,27 @@ impl Estimator {
         }
     }
 
+    /// An estimator that goes on with the thresholds that another one had: that of n cores stands at n - 1.
+    pub fn resume(up: u64, hysteresis: u64, max: u8, thresholds: &[u64; MAX_CORES]) -> Self
+        requires { max ≤ most_cores }
+        ensures settings { result.settings ≡ record { up = up; hysteresis = hysteresis; max = max } }
+        ensures thresholds { result.thresholds ≡ thresholds.now }
+    {
+        Estimator {
+            up,
+            hysteresis,
+            max,
+            thresholds: *thresholds,
+        }
+    }
+
+    /// The thresholds, that of n cores at n - 1: what an estimator has learnt from its samples.
+    pub fn thresholds(&self) -> &[u64; MAX_CORES]
+        ensures { result.now ≡ self.now.thresholds }
+    {
+        &self.thresholds
+    }
+
     /// Judges a sample, and remembers its utilisation if the answer is `Add`. A bad sample changes nothing.
     pub fn estimate(&mut self, sample: Sample) -> Result<Advice, BadSample>
         ensures good { is_ok result ≡ is_good self.old.settings.max sample }
