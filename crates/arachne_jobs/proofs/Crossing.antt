@@ -9,13 +9,11 @@ use Rattle.arachne_join.proofs.Crossing.{sender_send, receiver_send, unused_send
 use Rattle.arachne_machine.proofs.Crossing.{thread_field_send, outcome_send, spares_field_send}
 use Rattle.arachne_join.proofs.cell.JoinCell.TheSendSync as cell
 use Rattle.arachne_join.proofs.sending_end.SendingEnd.TheSendSync as sending_end
-use Rattle.arachne_jobs.specs.contracts.ends.Awaited as awaited
-use Rattle.arachne_jobs.specs.contracts.ends.End as end
+use Rattle.arachne_jobs.specs.contracts.ends.Link as link
 use Rattle.arachne_jobs.specs.contracts.job.Job as job
 use Rattle.arachne_jobs.specs.contracts.left.Left as left
 use Rattle.arachne_jobs.specs.contracts.left.Waiting as waiting
 use Rattle.arachne_jobs.specs.contracts.spares.Spares as spares
-use Rattle.arachne_jobs.specs.contracts.waiting.SpilledEnd as spilled_end
 use Rattle.arachne_jobs.specs.contracts.waiting.Ticket as ticket
 use Rattle.arachne_jobs.specs.contracts.waiting.WaitCell as wait_cell
 use Rattle.arachne_jobs.specs.contracts.wanted.Wanted as wanted
@@ -39,17 +37,11 @@ wait_cell_send κ = search (sendable, std.crosses, cell.the_send, cell.the_sync,
 pub ticket_send : (κ : NamedLft) → IsSend (ticket.the_row κ)
 ticket_send κ = search (sendable, std.crosses, cell.the_send, cell.the_sync, left_send, wanted_send, wanted_sync) depth 30
 
-spilled_end_send : (κ : NamedLft) → IsSend (spilled_end.the_row κ)
-spilled_end_send κ = search (sendable, std.crosses, cell.the_send, cell.the_sync, sending_end.the_send, left_send, wanted_send, wanted_sync) depth 30
-
-end_send : (κ : NamedLft) → IsSend (end.the_field κ).row
-end_send κ = search (sendable, std.crosses, sender_send, outcome_send, spilled_end_send) depth 30
-
-awaited_send : (κ : NamedLft) → IsSend (awaited.the_row κ)
-awaited_send κ = search (sendable, std.crosses, receiver_send, outcome_send, wait_cell_send) depth 30
+link_send : (κ : NamedLft) → IsSend (link.the_row κ)
+link_send κ = search (sendable, std.crosses, sender_send, receiver_send, outcome_send, wait_cell_send, sending_end.the_send, left_send, wanted_send, wanted_sync) depth 40
 
 pub job_send : (κ : NamedLft) → IsSend (job.the_row κ)
-job_send κ = search (sendable, std.crosses, thread_field_send, end_send, awaited_send, id.the_field_send) depth 30
+job_send κ = search (sendable, std.crosses, thread_field_send, link_send, id.the_field_send) depth 30
 
 pub spares_send : (κ : NamedLft) → IsSend (spares.the_row κ)
-spares_send κ = search (sendable, std.crosses, spares_field_send, unused_send, awaited_send, outcome_send) depth 30
+spares_send κ = search (sendable, std.crosses, spares_field_send, unused_send, outcome_send) depth 30

@@ -1,2 +1,2 @@
 pub mod Crossing
-mod Awaiting
+mod Linking

@@ -1,17 +1,17 @@
-//! The two kinds of cell to which a thread's outcome comes.
-use crate::waiting::{SpilledEnd, WaitCell};
-use crate::wanted::{OutcomeReceiver, OutcomeSender};
+//! The ends of cells that a job has.
+use crate::left::Left;
+use crate::waiting::WaitCell;
+use crate::wanted::{OutcomeReceiver, OutcomeSender, Wanted};
+use arachne_join::SendingEnd;
 
-/// Where a thread leaves its outcome: in a cell of a block, or in that in which it has waited.
+/// An end of a cell: the one at which a thread leaves its outcome, or one to which the outcome of a child comes.
 #[derive(Drop)]
-pub enum End<'p> {
-    Block(OutcomeSender<'p>),
-    Own(SpilledEnd<'p>),
-}
-
-/// Where the outcome of a child comes to.
-#[derive(Drop)]
-pub enum Awaited<'p> {
-    Block(OutcomeReceiver<'p>),
-    Own(WaitCell<'p>),
+pub enum Link<'p> {
+    /// Here the thread leaves its outcome.
+    Leaves(OutcomeSender),
+    /// Here the outcome of a child comes.
+    Awaits(OutcomeReceiver),
+    /// The cell in which a child waits or has waited. The parent, which awaits its outcome, has no sending end; the child
+    /// has one once it was taken out of the cell.
+    Waits(WaitCell<'p>, Option<SendingEnd<Left<'p>, Wanted>>),
 }

@@ -1,16 +1,17 @@
 //! What a context holds in a run: a thread of the program.
-ghost use Rattle.std.specs.Prelude.{◌≡◌, ◌≤◌, false, true, [], IfErr, IfOk, OnOk, None, Some};
+ghost use Rattle.std.specs.Prelude.{◌≡◌, ◌≤◌, ℕ, List, false, true, [], IfErr, IfOk, OnOk, None, Some};
+ghost use Rattle.arachne_lang.specs.declared.program.Program.{Program};
 ghost use Rattle.arachne_lang.specs.Program.{source_of};
 ghost use Rattle.arachne_lang.specs.Checked.{IsChecked};
 ghost use Rattle.arachne_machine.specs.Nested.{IsPlacing, MayBePlaced};
 ghost use Rattle.arachne_machine.specs.Suspended.{awaited};
 ghost use Rattle.arachne_machine.specs.declared.pause.Pending.TheVariants as pause;
 ghost use Rattle.arachne_jobs.specs.Threads.{IsForking, IsGoing, IsAwaiting, name_of, pause_of, program_of, running_tag_of, tag_of};
-ghost use Rattle.arachne_jobs.specs.Cells.{IsFoundFor, IsFoundOf, IsOf, IsFor};
-ghost use Rattle.arachne_jobs.specs.Ends.{awaited_at};
+ghost use Rattle.arachne_jobs.specs.Cells.{IsFoundOf, IsFor, IsOf};
+ghost use Rattle.arachne_jobs.specs.Ends.{IsLinked};
 ghost use Rattle.arachne_jobs.specs.Slices.{IsLeft, UsesSteps};
 
-use crate::ends::{Awaited, End};
+use crate::ends::Link;
 use crate::fault::JobFault;
 use crate::left::{Found, Waiting};
 use crate::openings::{Asked, Openings};
@@ -27,23 +28,22 @@ use std::alloc::{AllocError, Global};
 use std::marker::Model;
 use std::snapshot::Snapshot;
 
-/// A thread of the program, with the end that leaves its outcome, the ends that await those of the children that it has
-/// forked and not joined, the newest last, and the id under which its parent runs.
+/// A thread of the program, with its links to the cells of outcomes: the first is the one at which it leaves its own, and
+/// the others await those of the children that it has forked and not joined, the newest last. The id is that under which
+/// its parent runs.
 ///
 /// Contracts see the thread and that id.
 #[derive(Drop)]
 pub struct Job<'p> {
     thread: Thread<'p>,
-    end: End<'p>,
-    awaited: Vec<Awaited<'p>>,
+    links: Vec<Link<'p>>,
     parent: Option<ThreadId>,
 }
 
 impl<'p> Model for Job<'p> {
     ghost use Rattle.std.specs.Prelude.{All};
-    ghost use Rattle.arachne_jobs.specs.Threads.{Posted, program_of};
-    ghost use Rattle.arachne_jobs.specs.Cells.{IsOf, IsFor};
-    ghost use Rattle.arachne_jobs.specs.Ends.{awaited_at, left_at};
+    ghost use Rattle.arachne_jobs.specs.Threads.{Posted, name_of, program_of};
+    ghost use Rattle.arachne_jobs.specs.Ends.{IsLinked};
 
     ghost Value = { Posted };
 
@@ -54,7 +54,7 @@ impl<'p> Model for Job<'p> {
 
     ghost view = { λ j. record { thread = j.thread; parent = j.parent } };
 
-    ghost invariant = { λ j. IsFor j.thread (left_at j.end) × All (λ awaited. IsOf (program_of j.thread) (awaited_at awaited)) j.awaited.items };
+    ghost invariant = { λ j. All (IsLinked (program_of j.thread) (name_of j.thread)) j.links.items };
 }
 
 impl<'p> Tagged for Job<'p> {
@@ -134,8 +134,8 @@ impl<'p> RunJob for Job<'p> {
     ) -> Result<Job<'p>, JobFault> {
         let mut child = child;
         child.set_tag(tag);
-        let (job, receiver) = Job::of(alloc, child, Some(me), spares)?;
-        self.expect(Awaited::Block(receiver))?;
+        let (job, receiver) = job_of(alloc, child, Some(me), spares)?;
+        self.expect(Link::Awaits(receiver))?;
         self.thread.forked();
         Ok(job)
     }
@@ -156,7 +156,7 @@ impl<'p> RunJob for Job<'p> {
         }
         match WaitCell::wait(alloc, child, me) {
             Ok((cell, ticket)) => {
-                self.expect(Awaited::Own(cell))?;
+                self.expect(Link::Waits(cell, None))?;
                 self.thread.forked();
                 Ok(Some(ticket))
             }
@@ -167,14 +167,15 @@ impl<'p> RunJob for Job<'p> {
         }
     }
 
-    fn of_ticket(alloc: Global, ticket: Ticket<'p>, spares: &mut Spares<'p>) -> Option<Job<'p>> {
-        let (waiting, end) = ticket.take()?;
+    fn of_ticket(alloc: Global, ticket: Ticket<'p>, _spares: &mut Spares<'p>) -> Option<Job<'p>> {
+        let mut links = Vec::with_capacity(alloc, 1).ok()?;
+        let (waiting, cell, end) = ticket.take()?;
         let Waiting { mut thread, parent } = waiting;
         thread.set_spilled();
+        links.push_reserved(Link::Waits(cell, Some(end)));
         Some(Job {
             thread,
-            end: End::Own(end),
-            awaited: spares.take_awaited(alloc),
+            links,
             parent: Some(parent),
         })
     }
@@ -182,18 +183,18 @@ impl<'p> RunJob for Job<'p> {
     fn leave(self, spares: &mut Spares<'p>) -> Result<Option<ThreadId>, JobFault> {
         let Job {
             thread,
-            end,
-            awaited,
+            mut links,
             parent,
         } = self;
         if thread.pending() != Some(Pending::Ended) {
             return Err(JobFault::Foreign);
         }
-        spares.keep_awaited(awaited);
+        let link = links.pop();
         let outcome = thread.finish_into(&mut spares.threads);
-        match end {
-            End::Block(end) => end.leave(outcome),
-            End::Own(end) => end.leave(outcome),
+        match link {
+            Some(Link::Leaves(end)) => end.leave(outcome),
+            Some(Link::Waits(cell, Some(end))) => cell.leave(end, outcome),
+            _ => return Err(JobFault::Foreign),
         }
         Ok(parent)
     }
@@ -204,37 +205,38 @@ impl<'p> JobOf<'p> for Job<'p> {
         alloc: Global,
         program: &'p Program,
         spares: &mut Spares<'p>,
-    ) -> Result<(Job<'p>, OutcomeReceiver<'p>), AllocError> {
+    ) -> Result<(Job<'p>, OutcomeReceiver), AllocError> {
         let thread = Thread::start(alloc, program, 0)?;
-        Job::of(alloc, thread, None, spares)
+        job_of(alloc, thread, None, spares)
     }
 }
 
-impl<'p> Job<'p> {
-    /// The job of this thread, and the end that its outcome comes to.
-    fn of(
-        alloc: Global,
-        thread: Thread<'p>,
-        parent: Option<ThreadId>,
-        spares: &mut Spares<'p>,
-    ) -> Result<(Job<'p>, OutcomeReceiver<'p>), AllocError>
-        ensures thread { IfOk result (λ made. made.0 ≡ record { thread = thread.entry; parent = parent }) }
-        ensures receiver { IfOk result (λ made. IsFor thread.entry made.1.opening.key) }
-    {
-        let wanted = Wanted {
-            program: Snapshot::of(thread.program()),
-            name: Snapshot::of(thread.name()),
-        };
-        let (receiver, end) = spares.cells.open(alloc, &wanted)?;
-        let job = Job {
-            thread,
-            end: End::Block(end),
-            awaited: spares.take_awaited(alloc),
-            parent,
-        };
-        Ok((job, receiver))
-    }
+/// The job of this thread, and the end that its outcome comes to.
+fn job_of<'p>(
+    alloc: Global,
+    thread: Thread<'p>,
+    parent: Option<ThreadId>,
+    spares: &mut Spares<'p>,
+) -> Result<(Job<'p>, OutcomeReceiver), AllocError>
+    ensures thread { IfOk result (λ made. made.0 ≡ record { thread = thread.entry; parent = parent }) }
+    ensures receiver { IfOk result (λ made. IsFor thread.entry made.1.opening.key) }
+{
+    let wanted = Wanted {
+        program: Snapshot::of(thread.program()),
+        name: Snapshot::of(thread.name()),
+    };
+    let mut links = Vec::with_capacity(alloc, 1)?;
+    let (receiver, end) = spares.cells.open(alloc, &wanted)?;
+    links.push_reserved(Link::Leaves(end));
+    let job = Job {
+        thread,
+        links,
+        parent,
+    };
+    Ok((job, receiver))
+}
 
+impl<'p> Job<'p> {
     /// Goes on for at most as many steps as are left.
     fn advance(
         &mut self,
@@ -287,12 +289,12 @@ impl<'p> Job<'p> {
         }
     }
 
-    /// Expects the outcome of a child.
-    fn expect(&mut self, awaited: Awaited<'p>) -> Result<(), JobFault>
-        requires { IsOf (program_of self.old.thread) (awaited_at awaited) }
+    /// Has this end of a cell too.
+    fn expect(&mut self, link: Link<'p>) -> Result<(), JobFault>
+        requires { IsLinked (program_of self.old.thread) (name_of self.old.thread) link }
         ensures { self.new ≡ self.old }
     {
-        match self.awaited.push(awaited) {
+        match self.links.push(link) {
             Ok(()) => Ok(()),
             Err(_) => Err(JobFault::Memory),
         }
@@ -325,35 +327,36 @@ impl<'p> Job<'p> {
         ensures same { self.new ≡ self.old }
         ensures found { IfOk result (IsFoundOf (program_of self.old.thread)) }
     {
-        let Some(awaited) = self.awaited.pop() else {
+        let Some(link) = self.links.pop() else {
             return Err(JobFault::Foreign);
         };
-        match look_at(awaited, spares) {
+        match look_at(link, spares) {
             Ok(found) => Ok(found),
-            Err(awaited) => {
-                self.awaited.push_reserved(awaited);
+            Err(link) => {
+                self.links.push_reserved(link);
                 Ok(Found::Nothing)
             }
         }
     }
 }
 
-/// What is in a cell, which is used up then. Where there is nothing the end comes back.
-fn look_at<'p>(awaited: Awaited<'p>, spares: &mut Spares<'p>) -> Result<Found<'p>, Awaited<'p>>
-    ensures found { IfOk result (λ found. IsFoundFor (awaited_at awaited.entry) found) }
-    ensures same { IfErr result (λ back. awaited_at back ≡ awaited_at awaited.entry) }
+/// What has come to an end of a cell, which is used up then. Where there is nothing the end comes back.
+fn look_at<'p>(link: Link<'p>, spares: &mut Spares<'p>) -> Result<Found<'p>, Link<'p>>
+    ensures found { IfOk result (λ found. (program : Program) → (name : List ℕ) → IsLinked program name link.entry → IsFoundOf program found) }
+    ensures same { IfErr result (λ back. (program : Program) → (name : List ℕ) → IsLinked program name link.entry → IsLinked program name back) }
 {
-    match awaited {
-        Awaited::Block(receiver) => match receiver.fetch() {
+    match link {
+        Link::Awaits(receiver) => match receiver.fetch() {
             Ok((outcome, cell)) => {
                 spares.cells.give(cell);
                 Ok(Found::Outcome(outcome))
             }
-            Err(receiver) => Err(Awaited::Block(receiver)),
+            Err(receiver) => Err(Link::Awaits(receiver)),
         },
-        Awaited::Own(cell) => match cell.find() {
-            Found::Nothing => Err(Awaited::Own(cell)),
+        Link::Waits(cell, None) => match cell.find() {
+            Found::Nothing => Err(Link::Waits(cell, None)),
             found => Ok(found),
         },
+        link => Err(link),
     }
 }

@@ -17,7 +17,7 @@ pub enum Left<'p> {
     /// The child, which has not begun.
     Child(Waiting<'p>),
     /// Its outcome.
-    Outcome(Outcome<'p>),
+    Outcome(Outcome),
 }
 
 impl<'p> Fits<Wanted> for Left<'p> {
@@ -32,7 +32,7 @@ impl<'p> Fits<Wanted> for Left<'p> {
 #[derive(Drop)]
 pub enum Found<'p> {
     /// The child has ended.
-    Outcome(Outcome<'p>),
+    Outcome(Outcome),
     /// The child waited still, and waits no longer.
     Child(Thread<'p>),
     /// The child is at a place of its own, or on the way to one.

@@ -18,7 +18,7 @@ use std::sync::Arc;
 
 type Cell<'p> = JoinCell<Left<'p>, Wanted>;
 
-/// The parent's part of a cell. Contracts see what the cell is for.
+/// A share of a cell. Contracts see the cell: what it is for, and its table.
 #[derive(Drop)]
 pub struct WaitCell<'p> {
     cell: Arc<Cell<'p>>,
@@ -26,16 +26,17 @@ pub struct WaitCell<'p> {
 
 impl<'p> Model for WaitCell<'p> {
     ghost use Rattle.std.specs.Arc.{arc_value};
+    ghost use Rattle.arachne_join.specs.Views.{Cell};
     ghost use Rattle.arachne_jobs.specs.declared.wanted.Wanted.{Wanted};
 
-    ghost Value = { Wanted };
+    ghost Value = { Cell Wanted };
 
     ghost use Rattle.std.specs.Coded.{codes};
     ghost use Rattle.arachne_lang.specs.contracts.program.Expr as expr;
 
     ghost coded = { Prim.hlevel (codes, expr.the_row.coded) };
 
-    ghost view = { λ c. (arc_value c.cell).key };
+    ghost view = { λ c. arc_value c.cell };
 }
 
 /// What lies in the queue for a child that waits: its cell and its tag.
@@ -53,30 +54,6 @@ impl<'p> Tagged for Ticket<'p> {
     }
 }
 
-/// The end at which a child that waited leaves its outcome. Contracts see what the cell is for.
-#[derive(Drop)]
-pub struct SpilledEnd<'p> {
-    cell: Arc<Cell<'p>>,
-    end: SendingEnd<Left<'p>, Wanted>,
-}
-
-impl<'p> Model for SpilledEnd<'p> {
-    ghost use Rattle.std.specs.Prelude.{◌≡◌};
-    ghost use Rattle.std.specs.Arc.{arc_value};
-    ghost use Rattle.arachne_jobs.specs.declared.wanted.Wanted.{Wanted};
-
-    ghost Value = { Wanted };
-
-    ghost use Rattle.std.specs.Coded.{codes};
-    ghost use Rattle.arachne_lang.specs.contracts.program.Expr as expr;
-
-    ghost coded = { Prim.hlevel (codes, expr.the_row.coded) };
-
-    ghost view = { λ s. (arc_value s.cell).key };
-
-    ghost invariant = { λ s. s.end ≡ (arc_value s.cell).table };
-}
-
 impl<'p> WaitCell<'p> {
     /// A child begins to wait, and the ticket for it. Where memory is refused the child comes back.
     pub(crate) fn wait(
@@ -85,7 +62,7 @@ impl<'p> WaitCell<'p> {
         parent: ThreadId,
     ) -> Result<(WaitCell<'p>, Ticket<'p>), Thread<'p>>
         requires { HasNotBegun child }
-        ensures cell { IfOk result (λ made. IsFor child.entry made.0) }
+        ensures cell { IfOk result (λ made. IsFor child.entry made.0.key) }
         ensures tag { IfOk result (λ made. made.1.tag ≡ tag_of child.entry) }
         ensures handed_back { IfErr result (λ back. back ≡ child.entry) }
     {
@@ -109,7 +86,7 @@ impl<'p> WaitCell<'p> {
 
     /// What the parent that awaits the child finds.
     pub(crate) fn find(&self) -> Found<'p>
-        ensures { IsFoundFor self.now result }
+        ensures { IsFoundFor self.now.key result }
     {
         let missed = match self.cell.fetch() {
             Ok((left, _)) => match left {
@@ -131,6 +108,16 @@ impl<'p> WaitCell<'p> {
     }
 }
 
+impl<'p> WaitCell<'p> {
+    /// Leaves the child's outcome, with the sending end of this cell.
+    pub(crate) fn leave(self, end: SendingEnd<Left<'p>, Wanted>, outcome: Outcome)
+        requires end { end ≡ self.table }
+        requires outcome { IsWanted self.key outcome }
+    {
+        end.leave(&self.cell, Left::Outcome(outcome));
+    }
+}
+
 impl<'p> RunTicket for Ticket<'p> {
     fn still_waits(&self) -> bool {
         let (state, _) = self.cell.seen();
@@ -139,28 +126,21 @@ impl<'p> RunTicket for Ticket<'p> {
 }
 
 impl<'p> Ticket<'p> {
-    /// The child, if it waits still, with the end at which it leaves its outcome.
-    pub(crate) fn take(self) -> Option<(Waiting<'p>, SpilledEnd<'p>)>
-        ensures { IfSome result (λ taken. IsFor taken.0.thread taken.1 × HasNotBegun taken.0.thread) }
+    /// The child, if it waits still, with its cell and the end with which it leaves its outcome there.
+    pub(crate) fn take(
+        self,
+    ) -> Option<(Waiting<'p>, WaitCell<'p>, SendingEnd<Left<'p>, Wanted>)>
+        ensures child { IfSome result (λ taken. IsFor taken.0.thread taken.1.key × HasNotBegun taken.0.thread) }
+        ensures end { IfSome result (λ taken. taken.2 ≡ taken.1.table) }
     {
         let Ticket { cell, tag: _ } = self;
         match cell.take_back() {
             Ok((left, end)) => match left {
-                Left::Child(waiting) => Some((waiting, SpilledEnd { cell, end })),
+                Left::Child(waiting) => Some((waiting, WaitCell { cell }, end)),
                 Left::Outcome(_) => unreachable!(),
             },
             Err(_) => None,
         }
-    }
-}
-
-impl<'p> SpilledEnd<'p> {
-    /// Leaves the child's outcome.
-    pub(crate) fn leave(self, outcome: Outcome<'p>)
-        requires { IsWanted self outcome }
-    {
-        let SpilledEnd { cell, end } = self;
-        end.leave(&cell, Left::Outcome(outcome));
     }
 }
 

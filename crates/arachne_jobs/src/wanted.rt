@@ -13,14 +13,14 @@ pub struct Wanted {
     pub name: Snapshot<Name>,
 }
 
-impl<'p> Fits<Wanted> for Outcome<'p> {
+impl Fits<Wanted> for Outcome {
     ghost use Rattle.arachne_jobs.specs.Cells.{IsWanted};
 
     ghost fits = { IsWanted };
 }
 
 /// The end that leaves the outcome of a thread.
-pub type OutcomeSender<'p> = Sender<Outcome<'p>, Wanted>;
+pub type OutcomeSender = Sender<Outcome, Wanted>;
 
 /// The end that the outcome of a thread comes to.
-pub type OutcomeReceiver<'p> = Receiver<Outcome<'p>, Wanted>;
+pub type OutcomeReceiver = Receiver<Outcome, Wanted>;

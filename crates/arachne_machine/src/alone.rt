@@ -35,7 +35,7 @@ pub fn run_alone(alloc: Global, program: &Program, budget: u32) -> Result<Meanin
 /// joins it. The outcomes that were brought last are those of the newest thread's children, and so on.
 fn take_turn<'p>(
     threads: &mut Vec<Thread<'p>>,
-    outcomes: &mut Vec<Outcome<'p>>,
+    outcomes: &mut Vec<Outcome>,
     spares: &mut Spares<'p>,
     mut thread: Thread<'p>,
     budget: u32,

@@ -162,7 +162,7 @@ impl<'p> State<'p> {
 
     /// Joins this outcome, where it is that of the child that is awaited. Where it answers an error nothing has changed
     /// but room, and the outcome comes back.
-    pub fn join(&mut self, outcome: Outcome<'p>) -> Result<(), NotJoined<'p>>
+    pub fn join(&mut self, outcome: Outcome) -> Result<(), NotJoined>
         requires joins { pending_of self.old.control ≡ Some pause.Joins }
         requires line { HasLine self.old }
         requires sums { length outcome.sums ≡ length self.old.sums.items }

@@ -11,6 +11,7 @@ use crate::tables::zeros;
 use arachne_lang::{Class, Expr, Name, Program, Sequence};
 use std::alloc::{AllocError, Global};
 use std::mem::replace;
+use std::snapshot::Snapshot;
 
 /// What becomes a thread's own line.
 #[derive(Drop)]
@@ -325,7 +326,7 @@ impl<'p> State<'p> {
 
     /// The outcome of a thread that has ended.
     #[inline(always)]
-    pub fn finish(&mut self) -> Outcome<'p>
+    pub fn finish(&mut self) -> Outcome
         requires ended { pending_of self.old.control ≡ Some pause.Ended }
         requires alone { self.old.parents.items ≡ [] }
         requires sound { IsSoundState self.old }
@@ -336,7 +337,7 @@ impl<'p> State<'p> {
     {
         let value = self.value();
         Outcome {
-            program: self.program,
+            program: Snapshot::of(self.program),
             value,
             sums: replace(&mut self.sums, Vec::new(self.alloc)),
             own: self.take_line(),

@@ -303,7 +303,7 @@ impl<'p> Thread<'p> {
 
     /// Joins the outcome of the child that is awaited. Where it answers an error nothing has changed, and the
     /// outcome comes back.
-    pub fn joined(&mut self, outcome: Outcome<'p>) -> Result<(), NotJoined<'p>>
+    pub fn joined(&mut self, outcome: Outcome) -> Result<(), NotJoined>
         requires pending { pending_in self.old ≡ Some pause.Joins }
         requires program { source_of outcome.program ≡ source_of (whole self.old).program }
         ensures whole { SameWhole self.old self.new }
@@ -321,7 +321,7 @@ impl<'p> Thread<'p> {
     }
 
     /// The outcome of a thread that has ended. It takes no memory.
-    pub fn finish(self) -> Outcome<'p>
+    pub fn finish(self) -> Outcome
         requires { pending_in self ≡ Some pause.Ended }
         ensures program { result.program ≡ (whole self.entry).program }
         ensures name { result.name ≡ (whole self.entry).name }
@@ -333,7 +333,7 @@ impl<'p> Thread<'p> {
     }
 
     /// The same. What the thread no longer needs is left to those that begin.
-    pub fn finish_into(self, spares: &mut Spares<'p>) -> Outcome<'p>
+    pub fn finish_into(self, spares: &mut Spares<'p>) -> Outcome
         requires { pending_in self ≡ Some pause.Ended }
         ensures program { result.program ≡ (whole self.entry).program }
         ensures name { result.name ≡ (whole self.entry).name }

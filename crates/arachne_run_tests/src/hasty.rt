@@ -135,7 +135,7 @@ impl<'p> JobOf<'p> for Hasty<'p> {
         alloc: Global,
         program: &'p Program,
         spares: &mut Spares<'p>,
-    ) -> Result<(Hasty<'p>, OutcomeReceiver<'p>), AllocError> {
+    ) -> Result<(Hasty<'p>, OutcomeReceiver), AllocError> {
         let (job, receiver) = Job::begin(alloc, program, spares)?;
         let hasty = Hasty {
             job,

@@ -14,6 +14,7 @@ use arachne_machine::{
     ThreadLine, run_alone,
 };
 use std::alloc::Global;
+use std::marker::Model;
 use std::process::Abort;
 use std::test::Fail;
 
@@ -397,13 +398,57 @@ fn go_on<'p>(thread: &mut Thread<'p>) -> Result<Pause<'p>, Fail> {
     }
 }
 
-/// The outcome of a thread that ends within so many steps, with no further fork or join.
-fn ended<'p>(mut thread: Thread<'p>) -> Result<Outcome<'p>, Fail> {
+/// An outcome, and a program that is equal to its own.
+#[derive(Drop)]
+struct Brought<'p> {
+    outcome: Outcome,
+    program: &'p Program,
+}
+
+impl<'p> Model for Brought<'p> {
+    ghost use Rattle.std.specs.Prelude.{◌≡◌};
+    ghost use Rattle.arachne_lang.specs.Program.{source_of};
+    ghost use Rattle.arachne_machine.specs.Outcome.{Finished};
+
+    ghost Value = { Finished };
+
+    ghost use Rattle.std.specs.Coded.{codes};
+    ghost use Rattle.arachne_lang.specs.contracts.program.Expr as expr;
+
+    ghost coded = { Prim.hlevel (codes, expr.the_row.coded) };
+
+    ghost view = { λ b. b.outcome };
+
+    ghost invariant = { λ b. source_of b.outcome.program ≡ source_of b.program.now };
+}
+
+/// Why an outcome was not joined. It comes back.
+#[derive(Drop)]
+enum Refused<'p> {
+    /// It is of another program, or none is awaited.
+    Untold,
+    Foreign(Brought<'p>),
+    Memory(Brought<'p>),
+}
+
+/// What a thread that has ended brings.
+fn bring<'p>(thread: Thread<'p>) -> Brought<'p>
+    requires { pending_in thread ≡ Some pause.Ended }
+{
+    let program = thread.program();
+    Brought {
+        outcome: thread.finish(),
+        program,
+    }
+}
+
+/// What a thread brings that ends within so many steps, with no further fork or join.
+fn ended<'p>(mut thread: Thread<'p>) -> Result<Brought<'p>, Fail> {
     go_on(&mut thread)?;
     let Some(Pending::Ended) = thread.pending() else {
         return Err("not ended")?;
     };
-    Ok(thread.finish())
+    Ok(bring(thread))
 }
 
 /// Says that the child of the thread's fork was given away, and goes on until it is awaited.
@@ -417,7 +462,7 @@ fn await_child(thread: &mut Thread) -> Result<(), Fail> {
 }
 
 /// The outcome of the child that a thread forks first, which the thread then awaits.
-fn awaited<'p>(thread: &mut Thread<'p>) -> Result<Outcome<'p>, Fail> {
+fn awaited<'p>(thread: &mut Thread<'p>) -> Result<Brought<'p>, Fail> {
     let Pause::Forks(Class::Exclusive, child) = go_on(thread)? else {
         return Err("no exclusive fork")?;
     };
@@ -433,28 +478,30 @@ fn are_same(some: &Program, other: &Program) -> bool
 }
 
 /// Hands an outcome of its program to a thread that awaits one. Where it is not that, nothing is told.
-fn join<'p>(thread: &mut Thread<'p>, outcome: Outcome<'p>) -> Result<(), Option<NotJoined<'p>>> {
+fn join<'p>(thread: &mut Thread<'p>, brought: Brought<'p>) -> Result<(), Refused<'p>> {
     let Some(Pending::Joins) = thread.pending() else {
-        return Err(None);
+        return Err(Refused::Untold);
     };
-    if !are_same(outcome.program(), thread.program()) {
-        return Err(None);
+    let Brought { outcome, program } = brought;
+    if !are_same(program, thread.program()) {
+        return Err(Refused::Untold);
     }
     match thread.joined(outcome) {
         Ok(()) => Ok(()),
-        Err(not_joined) => Err(Some(not_joined)),
+        Err(NotJoined::Foreign(outcome)) => Err(Refused::Foreign(Brought { outcome, program })),
+        Err(NotJoined::Memory(outcome)) => Err(Refused::Memory(Brought { outcome, program })),
     }
 }
 
 /// Hands its child's outcome to a thread. One that was refused for memory is joined once more.
-fn join_child<'p>(thread: &mut Thread<'p>, outcome: Outcome<'p>) {
-    if let Err(Some(NotJoined::Memory(outcome))) = join(thread, outcome) {
+fn join_child<'p>(thread: &mut Thread<'p>, outcome: Brought<'p>) {
+    if let Err(Refused::Memory(outcome)) = join(thread, outcome) {
         let _ = join(thread, outcome);
     }
 }
 
 /// The outcome of the root of a program with one fork.
-fn root_outcome<'p>(alloc: Global, program: &'p Program, tag: u64) -> Result<Outcome<'p>, Fail> {
+fn root_outcome<'p>(alloc: Global, program: &'p Program, tag: u64) -> Result<Brought<'p>, Fail> {
     let mut thread = start(alloc, program, tag, &mut Memory::ample())?;
     let outcome = awaited(&mut thread)?;
     join_child(&mut thread, outcome);
@@ -462,12 +509,12 @@ fn root_outcome<'p>(alloc: Global, program: &'p Program, tag: u64) -> Result<Out
 }
 
 /// Whether a thread that awaits its child gives the root's outcome back as foreign, and awaits its child still.
-fn refuses<'p>(thread: &mut Thread<'p>, outcome: Outcome<'p>) -> bool {
+fn refuses<'p>(thread: &mut Thread<'p>, outcome: Brought<'p>) -> bool {
     match join(thread, outcome) {
-        Err(Some(NotJoined::Foreign(back))) => {
-            back.value() == 5
-                && back.program().locks == 1
-                && back.name().len() == 0
+        Err(Refused::Foreign(back)) => {
+            back.outcome.value() == 5
+                && back.program.locks == 1
+                && back.outcome.name().len() == 0
                 && thread.pending() == Some(Pending::Joins)
         }
         _ => false,
@@ -475,7 +522,7 @@ fn refuses<'p>(thread: &mut Thread<'p>, outcome: Outcome<'p>) -> bool {
 }
 
 /// Whether a thread refuses another root's outcome while it awaits its child, whose outcome it then joins.
-fn refuses_and_joins<'p>(thread: &mut Thread<'p>, foreign: Outcome<'p>) -> Result<bool, Fail> {
+fn refuses_and_joins<'p>(thread: &mut Thread<'p>, foreign: Brought<'p>) -> Result<bool, Fail> {
     let child = awaited(thread)?;
     let is_refused = refuses(thread, foreign);
     join_child(thread, child);
@@ -487,7 +534,7 @@ fn second_root(alloc: Global, program: &Program) -> Result<(bool, String), Fail>
     let foreign = root_outcome(alloc, program, 1)?;
     let mut thread = start(alloc, program, 2, &mut Memory::ample())?;
     let is_refused = refuses_and_joins(&mut thread, foreign)?;
-    let parts = parts(ended(thread)?, &mut Memory::ample())?;
+    let parts = parts(ended(thread)?.outcome, &mut Memory::ample())?;
     Ok((is_refused, told(alloc, &parts)?))
 }
 
@@ -567,7 +614,7 @@ fn second_in_place<'p>(thread: &mut Thread<'p>) -> Result<(), Fail> {
 fn told_of_two(alloc: Global, program: &Program) -> Result<String, Fail> {
     let mut thread = start(alloc, program, 9, &mut Memory::ample())?;
     second_in_place(&mut thread)?;
-    let parts = parts(ended(thread)?, &mut Memory::ample())?;
+    let parts = parts(ended(thread)?.outcome, &mut Memory::ample())?;
     told(alloc, &parts)
 }
 
@@ -629,7 +676,7 @@ fn told_of_one_with_place(alloc: Global, program: &Program) -> Result<String, Fa
     go_on(&mut thread)?;
     let outcome = ended(child)?;
     join_child(&mut thread, outcome);
-    let parts = parts(ended(thread)?, &mut memory)?;
+    let parts = parts(ended(thread)?.outcome, &mut memory)?;
     told(alloc, &parts)
 }
 

@@ -1,8 +1,8 @@
 //! A thread for which there is no memory at each call that grows: the same call is made again with a little, and the
 //! outcome is the one without refusals.
-use super::{COUNTING, all_in_place, join, parts, program, start, told};
+use super::{Brought, COUNTING, Refused, all_in_place, bring, join, parts, program, start, told};
 use arachne_lang::Program;
-use arachne_machine::{NotJoined, Outcome, Pause, Pending, Thread};
+use arachne_machine::{Pause, Pending, Thread};
 use arachne_shortage::Hoard;
 use std::alloc::Global;
 use std::test::Fail;
@@ -69,13 +69,13 @@ fn go_on<'p>(thread: &mut Thread<'p>, budget: u32, memory: &mut Memory) -> Resul
 /// Hands its child's outcome to a thread. One that was refused for memory is joined once more.
 fn join_at_last<'p>(
     thread: &mut Thread<'p>,
-    outcome: Outcome<'p>,
+    outcome: Brought<'p>,
     memory: &mut Memory,
 ) -> Result<(), Fail> {
     memory.take_again()?;
     let outcome = match join(thread, outcome) {
         Ok(()) => return Ok(()),
-        Err(Some(NotJoined::Memory(outcome))) => outcome,
+        Err(Refused::Memory(outcome)) => outcome,
         Err(_) => return Err("another child was joined")?,
     };
     memory.spare();
@@ -110,7 +110,7 @@ fn step<'p>(
     family: &mut Family<'p>,
     budget: u32,
     memory: &mut Memory,
-) -> Result<Result<Thread<'p>, Outcome<'p>>, Fail> {
+) -> Result<Result<Thread<'p>, Brought<'p>>, Fail> {
     if let Pause::Forks(_, child) = go_on(&mut thread, budget, memory)? {
         family.children.push(child)?;
     }
@@ -123,7 +123,7 @@ fn step<'p>(
             Ok(Ok(child))
         }
         Some(Pending::Ended) => {
-            let outcome = thread.finish();
+            let outcome = bring(thread);
             let Some(mut parent) = family.parents.pop() else {
                 return Ok(Err(outcome));
             };
@@ -144,7 +144,7 @@ fn all_joined<'p>(
     mut family: Family<'p>,
     budget: u32,
     memory: &mut Memory,
-) -> Result<Outcome<'p>, Fail> {
+) -> Result<Brought<'p>, Fail> {
     let mut thread = start(alloc, program, 9, memory)?;
     for _ in 0..10_000 {
         match step(thread, &mut family, budget, memory)? {
@@ -178,8 +178,8 @@ fn told_with_none(
         let (parts, _) = all_in_place(alloc, program, budget, budget, &mut memory)?;
         parts
     } else {
-        let outcome = all_joined(alloc, program, family, budget, &mut memory)?;
-        parts(outcome, &mut memory)?
+        let brought = all_joined(alloc, program, family, budget, &mut memory)?;
+        parts(brought.outcome, &mut memory)?
     };
     let refused = memory.refused;
     drop(memory);
