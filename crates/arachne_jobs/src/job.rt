@@ -134,7 +134,7 @@ impl<'p> RunJob for Job<'p> {
     ) -> Result<Job<'p>, JobFault> {
         let mut child = child;
         child.set_tag(tag);
-        let (job, receiver) = job_of(alloc, child, Some(me), spares)?;
+        let (job, receiver) = Job::of(alloc, child, Some(me), spares)?;
         self.expect(Link::Awaits(receiver))?;
         self.thread.forked();
         Ok(job)
@@ -207,36 +207,36 @@ impl<'p> JobOf<'p> for Job<'p> {
         spares: &mut Spares<'p>,
     ) -> Result<(Job<'p>, OutcomeReceiver), AllocError> {
         let thread = Thread::start(alloc, program, 0)?;
-        job_of(alloc, thread, None, spares)
+        Job::of(alloc, thread, None, spares)
     }
 }
 
-/// The job of this thread, and the end that its outcome comes to.
-fn job_of<'p>(
-    alloc: Global,
-    thread: Thread<'p>,
-    parent: Option<ThreadId>,
-    spares: &mut Spares<'p>,
-) -> Result<(Job<'p>, OutcomeReceiver), AllocError>
-    ensures thread { IfOk result (λ made. made.0 ≡ record { thread = thread.entry; parent = parent }) }
-    ensures receiver { IfOk result (λ made. IsFor thread.entry made.1.opening.key) }
-{
-    let wanted = Wanted {
-        program: Snapshot::of(thread.program()),
-        name: Snapshot::of(thread.name()),
-    };
-    let mut links = Vec::with_capacity(alloc, 1)?;
-    let (receiver, end) = spares.cells.open(alloc, &wanted)?;
-    links.push_reserved(Link::Leaves(end));
-    let job = Job {
-        thread,
-        links,
-        parent,
-    };
-    Ok((job, receiver))
-}
-
 impl<'p> Job<'p> {
+    /// The job of this thread, and the end that its outcome comes to.
+    fn of(
+        alloc: Global,
+        thread: Thread<'p>,
+        parent: Option<ThreadId>,
+        spares: &mut Spares<'p>,
+    ) -> Result<(Job<'p>, OutcomeReceiver), AllocError>
+        ensures thread { IfOk result (λ made. made.0 ≡ record { thread = thread.entry; parent = parent }) }
+        ensures receiver { IfOk result (λ made. IsFor thread.entry made.1.opening.key) }
+    {
+        let wanted = Wanted {
+            program: Snapshot::of(thread.program()),
+            name: Snapshot::of(thread.name()),
+        };
+        let mut links = Vec::with_capacity(alloc, 1)?;
+        let (receiver, end) = spares.cells.open(alloc, &wanted)?;
+        links.push_reserved(Link::Leaves(end));
+        let job = Job {
+            thread,
+            links,
+            parent,
+        };
+        Ok((job, receiver))
+    }
+
     /// Goes on for at most as many steps as are left.
     fn advance(
         &mut self,

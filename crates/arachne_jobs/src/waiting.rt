@@ -127,9 +127,7 @@ impl<'p> RunTicket for Ticket<'p> {
 
 impl<'p> Ticket<'p> {
     /// The child, if it waits still, with its cell and the end with which it leaves its outcome there.
-    pub(crate) fn take(
-        self,
-    ) -> Option<(Waiting<'p>, WaitCell<'p>, SendingEnd<Left<'p>, Wanted>)>
+    pub(crate) fn take(self) -> Option<(Waiting<'p>, WaitCell<'p>, SendingEnd<Left<'p>, Wanted>)>
         ensures child { IfSome result (λ taken. IsFor taken.0.thread taken.1.key × HasNotBegun taken.0.thread) }
         ensures end { IfSome result (λ taken. taken.2 ≡ taken.1.table) }
     {

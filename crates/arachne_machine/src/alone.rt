@@ -80,8 +80,8 @@ fn take_turn<'p>(
 
 /// The meaning that an outcome has.
 fn meaning(alloc: Global, outcome: Outcome) -> Result<Meaning, AllocError>
-    ensures means { IfOk result (λ meaning. meaning ≡ meaning_in outcome.entry) }
-    ensures of_its_name { IsOfItsName outcome.entry }
+    ensures means { IfOk result (λ meaning. meaning ≡ meaning_in outcome) }
+    ensures of_its_name { IsOfItsName outcome }
 {
     let Ok(parts) = outcome.into_parts() else {
         return Err(AllocError);

@@ -166,10 +166,10 @@ impl<'p> State<'p> {
         requires joins { pending_of self.old.control ≡ Some pause.Joins }
         requires line { HasLine self.old }
         requires sums { length outcome.sums ≡ length self.old.sums.items }
-        ensures ok { OnOk result (JoinsOutcome self.old outcome.entry self.new) }
-        ensures foreign { IsForeign result ↔ (awaited (suspended (top self.old)) ≢ Some outcome.entry.name) }
+        ensures ok { OnOk result (JoinsOutcome self.old outcome self.new) }
+        ensures foreign { IsForeign result ↔ (awaited (suspended (top self.old)) ≢ Some outcome.name) }
         ensures err { OnErr result (IsSame self.old self.new) }
-        ensures handed_back { IfErr result (λ e. handed_back e ≡ outcome.entry) }
+        ensures handed_back { IfErr result (λ e. handed_back e ≡ outcome) }
     {
         if !self.awaits(&outcome.own.name) {
             return Err(NotJoined::Foreign(outcome));

@@ -65,11 +65,11 @@ impl Outcome {
     /// The value, the sums and the lines. It takes memory for the list of lines; where that is refused the outcome
     /// comes back.
     pub fn into_parts(self) -> Result<OutcomeParts, Outcome>
-        ensures value { IfOk result (λ parts. parts.value ≡ self.entry.value) }
-        ensures sums { IfOk result (λ parts. parts.sums ≡ self.entry.sums) }
-        ensures lines { IfOk result (λ parts. parts.lines ≡ self.entry.lines) }
-        ensures handed_back { IfErr result (λ outcome. outcome ≡ self.entry) }
-        ensures of_its_name { IsOfItsName self.entry }
+        ensures value { IfOk result (λ parts. parts.value ≡ self.value) }
+        ensures sums { IfOk result (λ parts. parts.sums ≡ self.sums) }
+        ensures lines { IfOk result (λ parts. parts.lines ≡ self.lines) }
+        ensures handed_back { IfErr result (λ outcome. outcome ≡ self) }
+        ensures of_its_name { IsOfItsName self }
     {
         let Outcome {
             program,

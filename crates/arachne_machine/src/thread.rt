@@ -307,14 +307,14 @@ impl<'p> Thread<'p> {
         requires pending { pending_in self.old ≡ Some pause.Joins }
         requires program { source_of outcome.program ≡ source_of (whole self.old).program }
         ensures whole { SameWhole self.old self.new }
-        ensures ok { OnOk result (Joined self.old.running outcome.entry self.new.running) }
-        ensures sums { OnOk result (self.new.sums ≡ added self.old.sums outcome.entry.sums) }
+        ensures ok { OnOk result (Joined self.old.running outcome self.new.running) }
+        ensures sums { OnOk result (self.new.sums ≡ added self.old.sums outcome.sums) }
         ensures others { self.new ≡ record self.old { running = self.new.running; sums = self.new.sums } }
         ensures pending { OnOk result (pending_in self.new ≡ None) }
         ensures work { work_in self.new ≡ work_in self.old }
-        ensures foreign { IsForeign result ↔ (awaited self.old.running ≢ Some outcome.entry.name) }
+        ensures foreign { IsForeign result ↔ (awaited self.old.running ≢ Some outcome.name) }
         ensures err { OnErr result (self.new ≡ self.old) }
-        ensures handed_back { IfErr result (λ e. handed_back e ≡ outcome.entry) }
+        ensures handed_back { IfErr result (λ e. handed_back e ≡ outcome) }
     {
         let _ = &outcome.value;
         self.state.join(outcome)

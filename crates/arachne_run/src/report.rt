@@ -38,7 +38,7 @@ impl Report {
         remains: Remains,
     ) -> Result<Report, WorkerFault>
         requires { outcome.name ≡ [] }
-        ensures meaning { IfOk result (λ report. meaning_in report ≡ meaning_of (source_of outcome.entry.program)) }
+        ensures meaning { IfOk result (λ report. meaning_in report ≡ meaning_of (source_of outcome.program)) }
         ensures tags { IfOk result (λ report. AreDistinct (tags_of report)) }
         ensures histories { IfOk result (λ report. report.histories ≡ remains.histories) }
         ensures grants { IfOk result (λ report. GrantsAreHolds report.threads (histories_in report)) }
