@@ -189,12 +189,17 @@ impl<'p> RunJob for Job<'p> {
         if thread.pending() != Some(Pending::Ended) {
             return Err(JobFault::Foreign);
         }
-        let link = links.pop();
+        let Some(link) = links.pop() else {
+            return Err(JobFault::Foreign);
+        };
         let outcome = thread.finish_into(&mut spares.threads);
         match link {
-            Some(Link::Leaves(end)) => end.leave(outcome),
-            Some(Link::Waits(cell, Some(end))) => cell.leave(end, outcome),
-            _ => return Err(JobFault::Foreign),
+            Link::Leaves(end) => end.leave(outcome),
+            Link::Waits(cell, end) => match end {
+                Some(end) => cell.leave(end, outcome),
+                None => return Err(JobFault::Foreign),
+            },
+            Link::Awaits(_) => return Err(JobFault::Foreign),
         }
         Ok(parent)
     }
