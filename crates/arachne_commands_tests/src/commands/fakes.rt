@@ -57,8 +57,10 @@ impl<'a> Script<'a> {
 impl Read for Script<'_> {
     fn read(&mut self, buf: &mut [u8]) -> io::Result<usize> {
         self.reads = self.reads.wrapping_add(1);
-        if let Some(result) = failed(self.failure, self.reads) {
-            return result;
+        match failed(self.failure, self.reads) {
+            Some(Ok(_)) => return Ok(0),
+            Some(Err(error)) => return Err(error),
+            None => {}
         }
         if self.bytes.is_empty() {
             self.bytes = self.again;
@@ -116,8 +118,10 @@ impl Tray {
 impl Write for Tray {
     fn write(&mut self, buf: &[u8]) -> io::Result<usize> {
         self.writes = self.writes.wrapping_add(1);
-        if let Some(result) = failed(self.failure, self.writes) {
-            return result;
+        match failed(self.failure, self.writes) {
+            Some(Ok(_)) => return Ok(0),
+            Some(Err(error)) => return Err(error),
+            None => {}
         }
         let count = buf.len().min(self.step);
         self.kept.extend_from_slice(&buf[..count])?;
