@@ -104,7 +104,8 @@ fn each_read_fails<R: Abort + Threads + Wait + Sync>(
     let mut whole = Script::of(input.as_bytes());
     whole.step = step;
     assert_ends(rt, alloc, words, &mut whole, told_by(told.as_str()))?;
-    for at in 1..=whole.reads {
+    for before in 0..whole.reads {
+        let at = before.wrapping_add(1);
         for &(error, once) in ERRORS {
             let mut input = Script::of(input.as_bytes());
             input.step = step;
@@ -180,7 +181,8 @@ enum Stream {
 struct Case<'a> {
     words: &'a str,
     input: &'a [u8],
-    told: Told<'a>,
+    /// What a row says of its end.
+    row: &'a str,
     step: usize,
 }
 
@@ -205,7 +207,7 @@ fn taken(bytes: &[u8], at: u64, step: usize) -> &[u8] {
 
 /// How a case ends of which this call fails.
 fn told_of<'a>(case: &Case<'a>, stream: Stream, at: u64) -> Told<'a> {
-    let told = case.told;
+    let told = told_by(case.row);
     match stream {
         Stream::Output => Told {
             status: 1,
@@ -237,7 +239,7 @@ fn calls_of<R: Abort + Threads + Wait + Sync>(
     let mut script = Script::of(case.input);
     let told = match failure {
         Some(failure) => told_of(case, stream, failure.at),
-        None => case.told,
+        None => told_by(case.row),
     };
     let (words, output_end, faults_end) = (case.words, &mut output, &mut faults);
     let is_right = ends(rt, alloc, words, &mut script, output_end, faults_end, told)?;
@@ -273,12 +275,12 @@ fn a_failed_write_is_not_tried_again(rt: HostRuntime) -> Result<(), AllocError> 
     let alloc = rt.alloc();
     for rows in [COMMANDS, REFUSED] {
         for &(words, input, told) in rows {
-            let (input, told) = (spelled(alloc, input)?, spelled(alloc, told)?);
+            let (input, text) = (spelled(alloc, input)?, spelled(alloc, told)?);
             for &step in STEPS {
                 let case = Case {
                     words,
                     input: input.as_bytes(),
-                    told: told_by(told.as_str()),
+                    row: text.as_str(),
                     step,
                 };
                 for stream in [Stream::Output, Stream::Flush, Stream::Faults] {
