@@ -1,1 +1,0 @@
-cd /work/p/crates/probe_calls && (time timeout 590 rt check --jobs 4 --allow-holes > /tmp/probe$1.log 2>&1); grep -E "^fn probe_(calls|traits)::(call|with)|could not" /tmp/probe$1.log | cut -c1-80; grep -nE "^src.*error" /tmp/probe$1.log | cut -c1-200
