@@ -5,7 +5,7 @@ use Rattle.std.proofs.lemmas.List.{length-set}
 use Rattle.std.proofs.lemmas.Grind.{common_steps}
 use Rattle.arachne_policy.specs.declared.orders.CoreOrder.{CoreOrder}
 use Rattle.arachne_policy.specs.Orders.{is_release}
-use Rattle.arachne_arbiter.specs.declared.orders.Effect.TheVariants.{Closes}
+use Rattle.arachne_arbiter.specs.declared.orders.Effect.TheVariants.{Closes, Opens}
 use Rattle.arachne_arbiter.specs.Orders.{Progress, is_closed_after, effect_of, next_order, next_effect, with_next, AreDraining}
 
 is_closed-next : (p : Progress) (core : ℕ)
@@ -28,4 +28,22 @@ AreDraining-closes p waiting core draining is = record {
       let next = is_closed-next p other in
       let was = draining.closed other below in
       grind (arith, common_steps, waits, release.0, release.1, next, was);
+}
+
+-- what opens its core is a grant of it
+grant-opens : (order : CoreOrder) (closed : Bool) (core : ℕ) → effect_of order closed ≡ Opens core
+    → (is_release order.kind ≡ false) × (order.core ≡ core)
+grant-opens order true core is = grind (arith, common_steps, is)
+grant-opens order false core is = grind (arith, common_steps, is)
+
+-- a core that an order opens is to be drained no more
+pub AreDraining-opens : (p : Progress) (waiting : List Bool) (core : ℕ) → AreDraining p waiting → next_effect p ≡ Opens core
+    → AreDraining (with_next p) (set waiting core false)
+AreDraining-opens p waiting core draining is = record {
+  sized = length-set waiting core false ∙ draining.sized;
+  closed = λ other below waits.
+      let grant = grant-opens (next_order p) _ core is in
+      let next = is_closed-next p other in
+      let was = draining.closed other below in
+      grind (arith, common_steps, waits, grant.0, grant.1, next, was);
 }

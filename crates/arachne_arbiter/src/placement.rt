@@ -29,10 +29,24 @@ impl<'a, H: Wait, T: Tagged, C: Contexts<T>> Cores<'a, H, T, C> {
         ensures drawn { R.stream chooser.new ≡ (next_u64 (R.stream chooser.old)).1 }
     {
         let word = chooser.next_u64();
+        if self.count == 1 {
+            return self.claim_on(seat, 0);
+        }
         // No core has a place for most forks of a large program. These keep nothing of what they look at.
-        if !self.is_any_free(seat) {
+        if !self.is_any_free() {
             return Ok(None);
         }
+        self.claim_on_chosen(seat, word)
+    }
+
+    /// A place on the core that two random choices of this word give, else on the first of the others that has one.
+    fn claim_on_chosen(&self, seat: &mut C::Seat, word: u64) -> Result<Option<C::Claim>, AllocError>
+        requires { C.sits self.now.table.now seat.old }
+        ensures seat { C.sits self.now.table.now seat.new }
+        ensures weight { C.weight seat.new ≡ C.weight seat.old }
+        ensures out { GetsPlace (C.has self.now.table.now) seat.old seat.new result }
+        ensures place { IsOnSomeCore C.Claim.place_of (C.core_count self.now.table.now) result }
+    {
         let mut occupancies = [OccWord::empty(); CORES as usize];
         self.look_at_all(seat, &mut occupancies);
         let Some(first) = first_core(word, &occupancies[..usize::from(self.count)]) else {
@@ -61,15 +75,14 @@ impl<'a, H: Wait, T: Tagged, C: Contexts<T>> Cores<'a, H, T, C> {
         Ok(None)
     }
 
-    /// Whether a core has a place for a thread that shares it. The first that has one is the last that is looked at.
-    fn is_any_free(&self, seat: &mut C::Seat) -> bool
-        requires { C.sits self.now.table.now seat.old }
-        ensures seat { C.sits self.now.table.now seat.new }
-        ensures weight { C.weight seat.new ≡ C.weight seat.old }
-        ensures out { KeepsOut (C.has self.now.table.now) seat.old seat.new }
-    {
+    /// Whether a core seems to have a place for a thread that shares it. The first that has one is the last that is looked at, and
+    /// with no seat: the claim decides.
+    pub(crate) fn is_any_free(&self) -> bool {
         for core in 0..self.count {
-            if has_place(self.look(seat, core), self.slots) {
+            let seen = OccWord::from_word(self.table.glance(self.rt, core));
+            if let Some(occupancy) = seen
+                && has_place(occupancy, self.slots)
+            {
                 return true;
             }
         }

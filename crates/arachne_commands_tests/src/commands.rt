@@ -15,6 +15,7 @@ mod orders;
 mod policy;
 mod running;
 mod samples;
+mod shortage;
 mod spelling;
 mod streams;
 

@@ -26,6 +26,10 @@ pub trait Contexts<T: Tagged>: Seats {
     /// What is out with the seat, in any order: what it has claimed or taken and not spent.
     ghost has: { Self → Self.Seat → List (Out Self.Claim Self.Hold) → Type 0 };
 
+    /// The occupancy word of a core, looked at with no seat. It tells nothing, and is for a choice alone.
+    fn glance<R: Wait>(&self, rt: &R, core: u8) -> u64
+        requires core { core < Self.core_count self.now };
+
     /// The occupancy word of a core.
     fn look<R: Wait>(&self, rt: &R, seat: &mut Self::Seat, core: u8) -> u64
         requires seat { Self.sits self.now seat.old }

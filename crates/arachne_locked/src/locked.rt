@@ -165,6 +165,10 @@ impl<T: Tagged + Drop> Contexts<T> for LockedContexts<T> {
 
     ghost has = { λ table seat outs. CountsOut seat outs };
 
+    fn glance<R: Wait>(&self, rt: &R, core: u8) -> u64 {
+        word_of(self.state.lock(rt).look(core))
+    }
+
     fn look<R: Wait>(&self, rt: &R, seat: &mut LockedSeat, core: u8) -> u64 {
         let _ = seat;
         word_of(self.state.lock(rt).look(core))

@@ -1,5 +1,5 @@
 -- What callers see of an advance.
-use Rattle.std.proofs.Common.{ℕ, ◌+◌, List, [], ◌∷◌, ◌++◌, Option, None, Some, inl, inr, ◌≡◌, refl, ap, sym, subst, ◌∙◌, arith}
+use Rattle.std.proofs.Common.{ℕ, ◌+◌, List, [], ◌∷◌, ◌++◌, Option, None, Some, inl, inr, ◌≡◌, refl, ap, sym, ◌∙◌, arith}
 use Rattle.std.specs.Prelude.{max}
 use Rattle.std.proofs.lemmas.Bool.{cases_lt}
 use Rattle.arachne_lang.specs.Tree.{Tree, Source, Number, Variable, Length, Item, Binary, Choose, Bind, Tally, Hold, Fork, Fold, Sweep}
@@ -12,75 +12,43 @@ use Rattle.arachne_machine.specs.declared.frame.Control.TheVariants.{Begin, Give
 use Rattle.arachne_machine.specs.declared.pause.Pending.TheVariants as pause
 use Rattle.arachne_machine.specs.Suspended.{IsNext}
 use Rattle.arachne_machine.specs.Ending.{stretch_task, begun, begun_trace, begun_work, resume_trace, resume_work, frames_left, trace_left, work_left}
-use Rattle.arachne_machine.specs.declared.state.State.{State}
-use Rattle.arachne_machine.specs.declared.state.Stop.{Stop}
-use Rattle.arachne_machine.specs.declared.state.Stop.TheVariants as stop
-use Rattle.arachne_machine.specs.Advance.{Advanced, IsSpentAt, TakesAllAt, pending_at, shown}
-use Rattle.arachne_machine.specs.Stops.{halt_of, IsSoundStop}
-use Rattle.arachne_machine.specs.Steps.{AfterSteps, IsSpent, TakesAll, pending_of, suspended}
+use Rattle.arachne_machine.specs.Strands.{Strand}
+use Rattle.arachne_machine.specs.declared.pause.Pending.{Pending}
+use Rattle.arachne_machine.specs.Advance.{Advanced, pause_at}
+use Rattle.arachne_machine.specs.Account.{Account}
+use Rattle.arachne_machine.specs.Steps.{AfterSteps, pending_of, suspended}
 use Rattle.arachne_lang.specs.Program.{source_of, tree_of}
 use Rattle.arachne_lang.specs.Checked.{IsChecked}
 use Rattle.arachne_machine.specs.Faultless.{PausesWithin}
 use Rattle.arachne_machine.specs.Sound.{IsSound}
 use Rattle.arachne_machine.proofs.Faultlessness.{pauses_within}
-use Rattle.arachne_machine.proofs.Soundness.{sound_goes, sound_fork, sound_child, same_thread, within_seen, forked_seen, stopped_seen}
+use Rattle.arachne_machine.proofs.Soundness.{sound_goes, same_thread, within_seen, stopped_seen}
 
-pub sound_after : (n : ℕ) (old new : State) (s : Option Stop) → IsSound old → AfterSteps n old s new → IsSound new
-sound_after n old new None s h = sound_goes n [] old new s h.0
-sound_after n old new (Some (stop.Forks class child)) s h = sound_fork n old new child.value _ s h
-sound_after n old new (Some stop.Joins) s h = sound_goes h.0.made [] old new s h.0.goes
-sound_after n old new (Some (stop.Asks lock)) s h = sound_goes h.0.made [] old new s h.0.goes
-sound_after n old new (Some (stop.Frees lock)) s h = sound_goes h.0.made [] old new s h.0.goes
-sound_after n old new (Some (stop.Tallies ledger amount)) s h = sound_goes h.0.made [] old new s h.0.goes
-sound_after n old new (Some stop.Ended) s h = sound_goes h.0.made [] old new s h.0.goes
+pub sound_after : (n : ℕ) (old new : Strand) (next : Option Pending) (account : Account) → IsSound old account → AfterSteps n old next new → IsSound new account
+sound_after n old new None account s h = sound_goes n [] old new account s h.0
+sound_after n old new (Some pause.Forks) account s h = absurd h
+sound_after n old new (Some pause.Joins) account s h = sound_goes h.0.made [] old new account s h.0.goes
+sound_after n old new (Some (pause.Asks lock)) account s h = sound_goes h.0.made [] old new account s h.0.goes
+sound_after n old new (Some (pause.Frees lock)) account s h = sound_goes h.0.made [] old new account s h.0.goes
+sound_after n old new (Some (pause.Tallies ledger amount)) account s h = sound_goes h.0.made [] old new account s h.0.goes
+sound_after n old new (Some pause.Ended) account s h = sound_goes h.0.made [] old new account s h.0.goes
 
-pub sound_stop : (n : ℕ) (old new : State) (s : Option Stop) → IsSound old → AfterSteps n old s new → IsSoundStop s
-sound_stop n old new (Some (stop.Forks class child)) s h = sound_child n old new child.value _ s h
-sound_stop n old new _ s h = tt
-
-pub advanced_seen : (n : ℕ) (old new : State) (s : Option Stop) → IsSound old → AfterSteps n old s new → Advanced n (suspended old) (shown (halt_of s)) (suspended new)
-advanced_seen n old new None s h =
+pub advanced_seen : (n : ℕ) (old new : Strand) (next : Option Pending) → AfterSteps n old next new → Advanced n (suspended old) (pause_at next) (suspended new)
+advanced_seen n old new None h =
     (same_thread n old new h.0, h.2, h.1, record { made = n; at_least = omega arith; at_most = omega arith; work = h.0.work; trace = sym h.0.trace })
-advanced_seen n old new (Some (stop.Forks class child)) s h = forked_seen n old new child.value _ s h
-advanced_seen n old new (Some stop.Joins) s h =
+advanced_seen n old new (Some pause.Forks) h = absurd h
+advanced_seen n old new (Some pause.Joins) h =
     (same_thread h.0.made old new h.0.goes, h.2, h.1, stopped_seen new h.1, within_seen 1 n old new h.0)
-advanced_seen n old new (Some (stop.Asks lock)) s h = (same_thread h.0.made old new h.0.goes, h.2, h.1, within_seen 1 n old new h.0)
-advanced_seen n old new (Some (stop.Frees lock)) s h =
+advanced_seen n old new (Some (pause.Asks lock)) h = (same_thread h.0.made old new h.0.goes, h.2, h.1, within_seen 1 n old new h.0)
+advanced_seen n old new (Some (pause.Frees lock)) h =
     (same_thread h.0.made old new h.0.goes, h.2, h.1, (h.3.0, sym h.2 ∙ h.3.1), within_seen 1 n old new h.0)
-advanced_seen n old new (Some (stop.Tallies ledger amount)) s h = (same_thread h.0.made old new h.0.goes, h.2, h.1, within_seen 1 n old new h.0)
-advanced_seen n old new (Some stop.Ended) s h =
+advanced_seen n old new (Some (pause.Tallies ledger amount)) h = (same_thread h.0.made old new h.0.goes, h.2, h.1, within_seen 1 n old new h.0)
+advanced_seen n old new (Some pause.Ended) h =
     (same_thread h.0.made old new h.0.goes, sym h.3 ∙ h.4, h.4, h.1, h.2, h.5, within_seen 1 n old new h.0)
 
-pub spent_seen : (had left : ℕ) (s : Option Stop) → IsSpent s had left → IsSpentAt (shown (halt_of s)) had left
-spent_seen had left None h = h
-spent_seen had left (Some (stop.Forks class child)) h = h
-spent_seen had left (Some stop.Joins) h = h
-spent_seen had left (Some (stop.Asks lock)) h = h
-spent_seen had left (Some (stop.Frees lock)) h = h
-spent_seen had left (Some (stop.Tallies ledger amount)) h = h
-spent_seen had left (Some stop.Ended) h = h
-
-pub takes_seen : (had left : ℕ) (old new : State) (s : Option Stop) → TakesAll s had left old new → TakesAllAt (shown (halt_of s)) had left (suspended old) (suspended new)
-takes_seen had left old new None h = h
-takes_seen had left old new (Some (stop.Forks class child)) h = tt
-takes_seen had left old new (Some stop.Joins) h = h
-takes_seen had left old new (Some (stop.Asks lock)) h = h
-takes_seen had left old new (Some (stop.Frees lock)) h = h
-takes_seen had left old new (Some (stop.Tallies ledger amount)) h = h
-takes_seen had left old new (Some stop.Ended) h = h
-
-program_after : (n : ℕ) (old new : State) (s : Option Stop) → AfterSteps n old s new → new.program ≡ old.program
-program_after n old new None h = h.0.program
-program_after n old new (Some (stop.Forks class child)) h = h.program
-program_after n old new (Some stop.Joins) h = h.0.goes.program
-program_after n old new (Some (stop.Asks lock)) h = h.0.goes.program
-program_after n old new (Some (stop.Frees lock)) h = h.0.goes.program
-program_after n old new (Some (stop.Tallies ledger amount)) h = h.0.goes.program
-program_after n old new (Some stop.Ended) h = h.0.goes.program
-
-pub within_after : (n : ℕ) (old new : State) (s : Option Stop) → IsSound old → AfterSteps n old s new → IsChecked (source_of old.program.now) → PausesWithin (suspended new)
-within_after n old new s sound h checked =
-    pauses_within new ((sound_after n old new s sound h).faultless (subst (λ p. IsChecked (source_of p.now)) (sym (program_after n old new s h)) checked))
+-- a sound thread's pause names what is there
+pub within_seen_sound : (t : Strand) (account : Account) → IsSound t account → IsChecked (source_of t.program.now) → PausesWithin (suspended t)
+within_seen_sound t account s checked = pauses_within t (s.faultless checked)
 
 -- a thread that goes on begins with a step
 trace_of-step : (arrays : List (List ℕ)) (tree : Tree) (env : List ℕ) → IsNext None (trace_of arrays tree env)
@@ -127,8 +95,8 @@ next_event source name fs env (Frees lock value) = (_, refl)
 next_event source name fs env (Tallies ledger amount body) = (_, refl)
 next_event source name fs env (Ended value) = (_, refl)
 
-pub trace_next : (t : State) → IsNext (pending_of t.control) (trace_left t)
-trace_next t = next_event (source_of t.program.now) t.own.name t.frames.items t.environment.items t.control
+pub trace_next : (t : Strand) → IsNext (pending_of t.control) (trace_left t)
+trace_next t = next_event (source_of t.program.now) t.own.name t.frames t.environment t.control
 
 -- a thread that has ended has nothing left
 ended_left : (source : Source) (name : List ℕ) (fs : List Frame) (env : List ℕ) (k : Control) → pending_of k ≡ Some pause.Ended →
@@ -145,14 +113,5 @@ ended_left source name fs env (Frees lock value) e = cc
 ended_left source name fs env (Tallies ledger amount body) e = cc
 ended_left source name fs env (Ended value) e = refl
 
-pub ended_work : (t : State) → pending_of t.control ≡ Some pause.Ended → work_left t ≡ 0
-ended_work t e = ended_left (source_of t.program.now) t.own.name t.frames.items t.environment.items t.control e
-
-pub pending_seen : (n : ℕ) (old new : State) (s : Option Stop) → AfterSteps n old s new → pending_of new.control ≡ pending_at (shown (halt_of s))
-pending_seen n old new None h = h.1
-pending_seen n old new (Some (stop.Forks class child)) h = h.pending
-pending_seen n old new (Some stop.Joins) h = h.1
-pending_seen n old new (Some (stop.Asks lock)) h = h.1
-pending_seen n old new (Some (stop.Frees lock)) h = h.1
-pending_seen n old new (Some (stop.Tallies ledger amount)) h = h.1
-pending_seen n old new (Some stop.Ended) h = h.1
+pub ended_work : (t : Strand) → pending_of t.control ≡ Some pause.Ended → work_left t ≡ 0
+ended_work t e = ended_left (source_of t.program.now) t.own.name t.frames t.environment t.control e

@@ -12,7 +12,7 @@ use Rattle.arachne_machine.specs.declared.frame.Frame.{Frame}
 use Rattle.arachne_machine.specs.declared.frame.Frame.TheVariants.{Release}
 use Rattle.arachne_machine.specs.declared.frame.Control.{Control}
 use Rattle.arachne_machine.specs.declared.frame.Control.TheVariants.{Begin, Give, Cover, Forked, Halved, Awaits, AwaitsHalf, Asks, Frees, Tallies, Ended}
-use Rattle.arachne_machine.specs.declared.state.State.{State}
+use Rattle.arachne_machine.specs.Strands.{Strand}
 use Rattle.arachne_machine.specs.Ending.{releases, lock_of, lock_freed}
 use Rattle.arachne_machine.specs.Steps.{pending_of, suspended}
 use Rattle.arachne_machine.specs.Faultless.{NoFaults, IsFaultless, IsFaultlessFrame, IsFaultlessNext, held_over, held_by, AreFaultless, GoesWithoutFault, IsWithoutFault, NamesWhatIsThere, PausesWithin}
@@ -126,8 +126,8 @@ one_lock : (source : Source) (fs : List Frame) (k : Control) → GoesWithoutFaul
 one_lock source fs (Frees lock value) (frames, next) = omega (arith, released source false fs frames, none_held (held_by false fs) next.0)
 one_lock source fs _ (frames, next) = omega (arith, released source false fs frames)
 
-pub pauses_within : (t : State) → IsWithoutFault t → PausesWithin (suspended t)
+pub pauses_within : (t : Strand) → IsWithoutFault t → PausesWithin (suspended t)
 pauses_within t h = record {
-  names = names (source_of t.program.now) t.frames.items t.control h;
-  one_lock = one_lock (source_of t.program.now) t.frames.items t.control h;
+  names = names (source_of t.program.now) t.frames t.control h;
+  one_lock = one_lock (source_of t.program.now) t.frames t.control h;
 }

@@ -4,9 +4,9 @@ use Rattle.std.proofs.lemmas.List.{append-nil}
 use Rattle.arachne_lang.specs.Tree.{Source}
 use Rattle.arachne_lang.specs.Effects.{Child, Effects, effects_of}
 use Rattle.arachne_machine.specs.declared.frame.Frame.{Frame}
-use Rattle.arachne_machine.specs.declared.frame.Frame.TheVariants.{Index, Right, Apply, Branch, Extend, Amount, Release, Join, Merge, FoldTo, FoldFirst, FoldStart, FoldTurn, SweepTo, SweepStart, SweepTurn, Restore}
+use Rattle.arachne_machine.specs.declared.frame.Frame.TheVariants.{Index, Right, Apply, Branch, Extend, Amount, Release, Join, Merge, JoinHere, MergeHere, FoldTo, FoldFirst, FoldStart, FoldTurn, SweepTo, SweepStart, SweepTurn, Restore}
 use Rattle.arachne_machine.specs.Account.{Account, after, with_join}
-use Rattle.arachne_machine.specs.Ending.{Status, unwind, accounted, account_joined, frame_work, frame_trace, resume, resume_account, resume_work, resume_trace, fork_of, forks_of, lock_of, releases}
+use Rattle.arachne_machine.specs.Ending.{Status, unwind, accounted, account_joined, frame_work, frame_trace, resume, resume_account, resume_work, resume_trace, fork_of, forks_of, fork_here, forks_here, lock_of, releases}
 use Rattle.arachne_lang.specs.Program.{tree_of}
 use Rattle.arachne_machine.specs.Trace.{Event, with_steps}
 
@@ -55,6 +55,10 @@ pub forks_of-append : (fs gs : List Frame) → forks_of (fs ++ gs) ≡ forks_of 
 forks_of-append [] gs = sym (append-nil (forks_of gs))
 forks_of-append (f ∷ fs) gs = ap (λ l. l ++ fork_of f) (forks_of-append fs gs) ∙ append_assoc (forks_of gs) (forks_of fs) (fork_of f)
 
+pub forks_here-append : (fs gs : List Frame) → forks_here (fs ++ gs) ≡ forks_here gs ++ forks_here fs
+forks_here-append [] gs = sym (append-nil (forks_here gs))
+forks_here-append (f ∷ fs) gs = ap (λ l. l ++ fork_here f) (forks_here-append fs gs) ∙ append_assoc (forks_here gs) (forks_here fs) (fork_here f)
+
 pub releases-append : (fs gs : List Frame) → releases (fs ++ gs) ≡ releases gs ++ releases fs
 releases-append [] gs = sym (append-nil (releases gs))
 releases-append (f ∷ fs) gs = ap (λ l. l ++ lock_of f) (releases-append fs gs) ∙ append_assoc (releases gs) (releases fs) (lock_of f)
@@ -94,6 +98,10 @@ Grows-frame source name (Join number next) s a =
     let joined = account_joined source name number a in
     grows_on a.children joined.children (accounted source name (Join number next) s a).children (grows_joined source name number a) (grows_after name _ joined)
 Grows-frame source name (Merge number reduction) s a = grows_joined source name number a
+Grows-frame source name (JoinHere number child next) s a =
+    let joined = account_joined source name number a in
+    grows_on a.children joined.children (accounted source name (JoinHere number child next) s a).children (grows_joined source name number a) (grows_after name _ joined)
+Grows-frame source name (MergeHere number left) s a = grows_joined source name number a
 Grows-frame source name (FoldTo to first body) s a =
     let once = after name (effects_of source.arrays source.locks (tree_of to.now) s.env) a in
     grows_on a.children once.children (accounted source name (FoldTo to first body) s a).children (grows_after name _ a) (grows_twice name _ _ once)
@@ -117,6 +125,8 @@ Grows-frames source name (frame ∷ frames) s a =
 at_most_one : (f : Frame) → length (fork_of f) ≤ 1
 at_most_one (Join number next) = omega arith
 at_most_one (Merge number reduction) = omega arith
+at_most_one (JoinHere number child next) = omega arith
+at_most_one (MergeHere number left) = omega arith
 at_most_one _ = omega arith
 
 -- there are no more forks than frames

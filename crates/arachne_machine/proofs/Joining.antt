@@ -16,31 +16,31 @@ use Rattle.arachne_machine.specs.declared.frame.Control.{Control}
 use Rattle.arachne_machine.specs.declared.frame.Control.TheVariants.{Begin, Give, Awaits, AwaitsHalf, Asks, Tallies}
 use Rattle.arachne_machine.specs.declared.pause.Pending.{Pending}
 use Rattle.arachne_machine.specs.declared.pause.Pending.TheVariants as pause
-use Rattle.arachne_machine.specs.declared.state.State.{State}
+use Rattle.arachne_machine.specs.Strands.{Strand}
 use Rattle.arachne_machine.specs.Trace.{At}
 use Rattle.arachne_machine.specs.Outcome.{Finished}
 use Rattle.arachne_machine.specs.Account.{after}
 use Rattle.arachne_machine.specs.Lines.{Gains}
-use Rattle.arachne_machine.specs.Ending.{child_task, joined_env, account_joined, fork_awaited, lock_freed, forks_of, releases, frames_left}
+use Rattle.arachne_machine.specs.Ending.{child_task, joined_env, account_joined, fork_awaited, lock_freed, forks_of, forks_here, releases, frames_left, AwaitsFork}
 use Rattle.arachne_machine.specs.Steps.{Joins, Counts, pending_of, suspended}
 use Rattle.arachne_machine.specs.Suspended.{awaited}
-use Rattle.arachne_machine.proofs.Outlooks.{SameOutlook, IsAt, Any, unjoined_at, locks_at, same_end}
+use Rattle.arachne_machine.proofs.Outlooks.{KeepsTop, SameOutlook, IsAt, Any, unjoined_at, here_at, locks_at, same_end}
 
-joins_by : (old new : State) (outcome : Finished) (n : ℕ) (k k' : Control) (gs' : List Frame) (env' : List ℕ) → old.control ≡ k → outcome.name ≡ old.own.name ++ n ∷ [] →
+joins_by : (old new : Strand) (outcome : Finished) (n : ℕ) (k k' : Control) (gs' : List Frame) (env' : List ℕ) → old.control ≡ k → outcome.name ≡ old.own.name ++ n ∷ [] →
     new.program ≡ old.program → new.own ≡ old.own → new.forks ≡ old.forks → new.control ≡ k' →
-    new.frames.items ≡ old.frames.items ++ gs' → new.environment.items ≡ env' →
+    new.frames ≡ old.frames ++ gs' → new.environment ≡ env' →
     Gains old.below outcome.lines new.below →
-    ((m : ℕ) (own childs : ℕ → ℕ) → old.sums.items ≡ tabulated m own → outcome.sums ≡ tabulated m childs → new.sums.items ≡ tabulated m (λ ledger. own ledger + childs ledger)) →
     ((fs : List Frame) → frames_left k fs ≡ fs) → ((fs : List Frame) → frames_left k' fs ≡ fs) →
-    fork_awaited k ++ [] ≡ n ∷ (fork_awaited k' ++ forks_of gs') → lock_freed k' ++ releases gs' ≡ lock_freed k ++ [] → pending_of k' ≡ None →
+    fork_awaited k ++ [] ≡ n ∷ (fork_awaited k' ++ forks_of gs') → forks_here gs' ≡ [] → lock_freed k' ++ releases gs' ≡ lock_freed k ++ [] → pending_of k' ≡ None →
+    KeepsTop (source_of old.program.now) old.own.name k' gs' env' →
     (outcome.value ≡ task_value (source_of old.program.now).arrays (child_task (source_of old.program.now) old.own.name n) →
-    SameOutlook 0 0 (At pause.Joins ∷ []) Any (account_joined (source_of old.program.now) old.own.name n) (source_of old.program.now) old.own.name k [] old.environment.items k' gs' env') →
+    SameOutlook 0 0 (At pause.Joins ∷ []) Any (account_joined (source_of old.program.now) old.own.name n) (source_of old.program.now) old.own.name k [] old.environment k' gs' env') →
     Joins old outcome new
-joins_by old new outcome n k k' gs' env' is_k is_name program own forks is_k' frames environment below sums left left' joined locks pending outlook =
+joins_by old new outcome n k k' gs' env' is_k is_name program own forks is_k' frames environment below left left' joined here locks pending keep outlook =
     let source = source_of old.program.now in
     let name = old.own.name in
-    let fs = old.frames.items in
-    let env = old.environment.items in
+    let fs = old.frames in
+    let env = old.environment in
     let at : IsAt source name k (fs ++ []) env old = record { source_is = refl; name_is = refl; control_is = is_k; frames_are = sym (append-nil fs); environment_is = refl } in
     let at' : IsAt source name k' (fs ++ gs') env' new = record {
       source_is = ap (λ p. source_of p.now) program;
@@ -57,12 +57,12 @@ joins_by old new outcome n k k' gs' env' is_k is_name program own forks is_k' fr
       number = n;
       name = is_name;
       unjoined = unjoined_at source name k fs [] env old at ∙ ap (λ l. l ++ forks_of fs) joined ∙ ap (λ l. n ∷ l) (sym (unjoined_at source name k' fs gs' env' new at'));
+      here = here_at source name k' fs gs' env' new at' ∙ ap (λ l. l ++ forks_here fs) here ∙ sym (here_at source name k fs [] env old at);
       locks = locks_at source name k' fs gs' env' new at' ∙ ap (λ l. l ++ releases fs) locks ∙ sym (locks_at source name k fs [] env old at);
       below = below;
-      sums = sums;
       keeps = λ is_value.
-          let end = same_end 0 0 (At pause.Joins ∷ []) Any (account_joined source name n) source name k k' fs [] gs' env env' old new at at' (left (fs ++ [])) (left' (fs ++ gs')) (outlook is_value) in
-          record { ending = end.ending; account = λ a. end.account a tt; work = omega (arith, end.work); trace = end.trace; faultless = end.faultless };
+          let end = same_end 0 0 (At pause.Joins ∷ []) Any (account_joined source name n) source name k k' fs [] gs' env env' old new at at' (left (fs ++ [])) (left' (fs ++ gs')) (λ h. keep) (outlook is_value) in
+          record { ending = end.ending; account = λ a. end.account a tt; work = omega (arith, end.work); trace = end.trace; faultless = end.faultless; keeps = end.keeps };
     }
 
 take-two : (env : List ℕ) (x y : ℕ) → take (length env) (with_newest (with_newest env x) y) ≡ env
@@ -84,34 +84,32 @@ join_outlook source name env n v next =
       faultless = λ held h. ((tt, tt), h.1.1);
     }
 
-pub joins_fork : (old new : State) (outcome : Finished) (n v : ℕ) (next : Bor Expr) → old.control ≡ Awaits n v next → outcome.name ≡ old.own.name ++ n ∷ [] →
+pub joins_fork : (old new : Strand) (outcome : Finished) (n v : ℕ) (next : Bor Expr) → old.control ≡ Awaits n v next → outcome.name ≡ old.own.name ++ n ∷ [] →
     new.program ≡ old.program → new.own ≡ old.own → new.forks ≡ old.forks → new.control ≡ Begin next →
-    new.frames.items ≡ old.frames.items ++ Restore (length old.environment.items) ∷ [] →
-    new.environment.items ≡ with_newest (with_newest old.environment.items outcome.value) v →
+    new.frames ≡ old.frames ++ Restore (length old.environment) ∷ [] →
+    new.environment ≡ with_newest (with_newest old.environment outcome.value) v →
     Gains old.below outcome.lines new.below →
-    ((m : ℕ) (own childs : ℕ → ℕ) → old.sums.items ≡ tabulated m own → outcome.sums ≡ tabulated m childs → new.sums.items ≡ tabulated m (λ ledger. own ledger + childs ledger)) →
     Joins old outcome new
-joins_fork old new outcome n v next awaits is_name program own forks control frames environment below sums =
+joins_fork old new outcome n v next awaits is_name program own forks control frames environment below =
     let source = source_of old.program.now in
     let name = old.own.name in
-    let env = old.environment.items in
+    let env = old.environment in
     joins_by old new outcome n (Awaits n v next) (Begin next) (Restore (length env) ∷ []) (with_newest (with_newest env outcome.value) v) awaits is_name
-    program own forks control frames environment below sums (λ fs. refl) (λ fs. refl) refl refl refl
+    program own forks control frames environment below (λ fs. refl) (λ fs. refl) refl refl refl refl (tt, (tt, tt))
     (λ is_value. subst (λ x. SameOutlook 0 0 (At pause.Joins ∷ []) Any (account_joined source name n) source name (Awaits n v next) [] env (Begin next) (Restore (length env) ∷ []) (with_newest (with_newest env x) v))
     (sym is_value) (join_outlook source name env n v next))
 
-pub joins_half : (old new : State) (outcome : Finished) (n right w : ℕ) (reduction : Reduction) → old.control ≡ AwaitsHalf n right reduction → outcome.name ≡ old.own.name ++ n ∷ [] →
+pub joins_half : (old new : Strand) (outcome : Finished) (n right w : ℕ) (reduction : Reduction) → old.control ≡ AwaitsHalf n right reduction → outcome.name ≡ old.own.name ++ n ∷ [] →
     new.program ≡ old.program → new.own ≡ old.own → new.forks ≡ old.forks → new.control ≡ Give w → w ≡ apply (operation_of reduction) outcome.value right →
-    new.frames.items ≡ old.frames.items → new.environment.items ≡ old.environment.items →
+    new.frames ≡ old.frames → new.environment ≡ old.environment →
     Gains old.below outcome.lines new.below →
-    ((m : ℕ) (own childs : ℕ → ℕ) → old.sums.items ≡ tabulated m own → outcome.sums ≡ tabulated m childs → new.sums.items ≡ tabulated m (λ ledger. own ledger + childs ledger)) →
     Joins old outcome new
-joins_half old new outcome n right w reduction awaits is_name program own forks control is frames environment below sums =
+joins_half old new outcome n right w reduction awaits is_name program own forks control is frames environment below =
     let source = source_of old.program.now in
     let name = old.own.name in
-    let env = old.environment.items in
+    let env = old.environment in
     joins_by old new outcome n (AwaitsHalf n right reduction) (Give w) [] env awaits is_name
-    program own forks control (frames ∙ sym (append-nil old.frames.items)) environment below sums (λ fs. refl) (λ fs. refl) refl refl refl
+    program own forks control (frames ∙ sym (append-nil old.frames)) environment below (λ fs. refl) (λ fs. refl) refl refl refl refl (tt, tt)
     (λ is_value. record {
       ending = ap (λ x. record { env = env; value = x }) (is ∙ ap (λ x. apply (operation_of reduction) x right) is_value);
       account = λ a any. refl;
@@ -126,27 +124,26 @@ written-back xs items n is same =
     ap (λ k. take n (xs ++ drop k items)) same ∙ ap (λ l. take n (xs ++ l)) (drop-length items) ∙ ap (take n) (append-nil xs) ∙ ap (λ k. take k xs) (is ∙ sym same) ∙ take-length xs
 
 -- the name of the child that is awaited
-pub awaited_child : (t : State) (n : ℕ) (k : Control) (name : List ℕ) → t.control ≡ k → fork_awaited k ≡ n ∷ [] → awaited (suspended t) ≡ Some name → name ≡ t.own.name ++ n ∷ []
+pub awaited_child : (t : Strand) (n : ℕ) (k : Control) (name : List ℕ) → t.control ≡ k → fork_awaited k ≡ n ∷ [] → awaited (suspended t) ≡ Some name → name ≡ t.own.name ++ n ∷ []
 awaited_child t n k name is_control one is_awaited =
     let e : Some (t.own.name ++ n ∷ []) ≡ Some name =
-    ap (λ l. option_map (λ number. t.own.name ++ number ∷ []) (slice_get (l ++ forks_of t.frames.items) 0)) (sym (ap fork_awaited is_control ∙ one)) ∙ is_awaited in
+    ap (λ l. option_map (λ number. t.own.name ++ number ∷ []) (slice_get (l ++ forks_of t.frames) 0)) (sym (ap fork_awaited is_control ∙ one)) ∙ is_awaited in
     cc
 
 -- An answer that counts, and goes on.
-counts_by : (old new : State) (answered : Pending) (effects : Effects) (k k' : Control) → old.control ≡ k → new.control ≡ k' →
+counts_by : (old new : Strand) (answered : Pending) (effects : Effects) (k k' : Control) → old.control ≡ k → new.control ≡ k' →
     new.program ≡ old.program → new.own.name ≡ old.own.name → new.own.label ≡ old.own.label → new.below ≡ old.below → new.forks ≡ old.forks →
-    new.frames.items ≡ old.frames.items → new.environment.items ≡ old.environment.items →
-    ((n : ℕ) (own : ℕ → ℕ) → old.sums.items ≡ tabulated n own → new.sums.items ≡ tabulated n (λ ledger. own ledger + effects.sums ledger)) →
-    ((n : ℕ) (own : ℕ → ℕ) → old.own.holds.items ≡ tabulated n own → new.own.holds.items ≡ tabulated n (λ lock. own lock + effects.holds lock)) →
+    new.frames ≡ old.frames → new.environment ≡ old.environment →
+    ((n : ℕ) (own : ℕ → ℕ) → old.own.holds ≡ tabulated n own → new.own.holds ≡ tabulated n (λ lock. own lock + effects.holds lock)) →
     ((fs : List Frame) → frames_left k fs ≡ fs) → ((fs : List Frame) → frames_left k' fs ≡ fs) →
-    fork_awaited k' ≡ fork_awaited k → lock_freed k' ≡ lock_freed k → pending_of k' ≡ None →
-    SameOutlook 0 0 (At answered ∷ []) Any (after old.own.name effects) (source_of old.program.now) old.own.name k [] old.environment.items k' [] old.environment.items →
+    fork_awaited k' ≡ fork_awaited k → lock_freed k' ≡ lock_freed k → pending_of k' ≡ None → AwaitsFork (source_of old.program.now) old.own.name k' old.environment →
+    SameOutlook 0 0 (At answered ∷ []) Any (after old.own.name effects) (source_of old.program.now) old.own.name k [] old.environment k' [] old.environment →
     Counts answered effects old new
-counts_by old new answered effects k k' is_k is_k' program is_name label below forks frames environment sums holds left left' awaits locks pending outlook =
+counts_by old new answered effects k k' is_k is_k' program is_name label below forks frames environment holds left left' awaits locks pending keep outlook =
     let source = source_of old.program.now in
     let name = old.own.name in
-    let fs = old.frames.items in
-    let env = old.environment.items in
+    let fs = old.frames in
+    let env = old.environment in
     let at : IsAt source name k (fs ++ []) env old = record { source_is = refl; name_is = refl; control_is = is_k; frames_are = sym (append-nil fs); environment_is = refl } in
     let at' : IsAt source name k' (fs ++ []) env new = record {
       source_is = ap (λ p. source_of p.now) program;
@@ -155,43 +152,42 @@ counts_by old new answered effects k k' is_k is_k' program is_name label below f
       frames_are = frames ∙ sym (append-nil fs);
       environment_is = environment;
     } in
-    let end = same_end 0 0 (At answered ∷ []) Any (after name effects) source name k k' fs [] [] env env old new at at' (left (fs ++ [])) (left' (fs ++ [])) outlook in
+    let end = same_end 0 0 (At answered ∷ []) Any (after name effects) source name k k' fs [] [] env env old new at at' (left (fs ++ [])) (left' (fs ++ [])) (λ h. (keep, tt)) outlook in
     record {
       program = program;
       name = is_name;
       label = label;
       below = below;
       forks = forks;
-      unjoined = ap (λ x. fork_awaited x ++ forks_of new.frames.items) is_k' ∙ ap (λ l. l ++ forks_of new.frames.items) awaits
+      unjoined = ap (λ x. fork_awaited x ++ forks_of new.frames) is_k' ∙ ap (λ l. l ++ forks_of new.frames) awaits
           ∙ ap (λ x. fork_awaited k ++ forks_of x) frames ∙ ap (λ x. fork_awaited x ++ forks_of fs) (sym is_k);
-      locks = ap (λ x. lock_freed x ++ releases new.frames.items) is_k' ∙ ap (λ l. l ++ releases new.frames.items) locks
+      here = ap forks_here frames;
+      locks = ap (λ x. lock_freed x ++ releases new.frames) is_k' ∙ ap (λ l. l ++ releases new.frames) locks
           ∙ ap (λ x. lock_freed k ++ releases x) frames ∙ ap (λ x. lock_freed x ++ releases fs) (sym is_k);
       pending = ap pending_of is_k' ∙ pending;
-      sums = sums;
       holds = holds;
       ending = end.ending;
       account = λ a. end.account a tt;
       work = omega (arith, end.work);
       trace = end.trace;
       faultless = end.faultless;
+      keeps = end.keeps;
     }
 
-pub counts_hold : (old new : State) (lock : ℕ) (body : Bor Expr) → old.control ≡ Asks lock body → new.control ≡ Begin body →
+pub counts_hold : (old new : Strand) (lock : ℕ) (body : Bor Expr) → old.control ≡ Asks lock body → new.control ≡ Begin body →
     new.program ≡ old.program → new.own.name ≡ old.own.name → new.own.label ≡ old.own.label → new.below ≡ old.below → new.forks ≡ old.forks →
-    new.frames.items ≡ old.frames.items → new.environment.items ≡ old.environment.items →
-    ((n : ℕ) (own : ℕ → ℕ) → old.sums.items ≡ tabulated n own → new.sums.items ≡ tabulated n (λ ledger. own ledger + (held lock).sums ledger)) →
-    ((n : ℕ) (own : ℕ → ℕ) → old.own.holds.items ≡ tabulated n own → new.own.holds.items ≡ tabulated n (λ other. own other + (held lock).holds other)) →
+    new.frames ≡ old.frames → new.environment ≡ old.environment →
+    ((n : ℕ) (own : ℕ → ℕ) → old.own.holds ≡ tabulated n own → new.own.holds ≡ tabulated n (λ other. own other + (held lock).holds other)) →
     Counts (pause.Asks lock) (held lock) old new
-counts_hold old new lock body asks begins program is_name label below forks frames environment sums holds =
-    counts_by old new (pause.Asks lock) (held lock) (Asks lock body) (Begin body) asks begins program is_name label below forks frames environment sums holds
-    (λ fs. refl) (λ fs. refl) refl refl refl (record { ending = refl; account = λ a any. refl; work = omega arith; trace = refl; faultless = λ held h. (tt, h.1.1) })
+counts_hold old new lock body asks begins program is_name label below forks frames environment holds =
+    counts_by old new (pause.Asks lock) (held lock) (Asks lock body) (Begin body) asks begins program is_name label below forks frames environment holds
+    (λ fs. refl) (λ fs. refl) refl refl refl tt (record { ending = refl; account = λ a any. refl; work = omega arith; trace = refl; faultless = λ held h. (tt, h.1.1) })
 
-pub counts_tally : (old new : State) (ledger amount : ℕ) (body : Bor Expr) → old.control ≡ Tallies ledger amount body → new.control ≡ Begin body →
+pub counts_tally : (old new : Strand) (ledger amount : ℕ) (body : Bor Expr) → old.control ≡ Tallies ledger amount body → new.control ≡ Begin body →
     new.program ≡ old.program → new.own.name ≡ old.own.name → new.own.label ≡ old.own.label → new.below ≡ old.below → new.forks ≡ old.forks →
-    new.frames.items ≡ old.frames.items → new.environment.items ≡ old.environment.items →
-    ((n : ℕ) (own : ℕ → ℕ) → old.sums.items ≡ tabulated n own → new.sums.items ≡ tabulated n (λ other. own other + (tallied ledger amount).sums other)) →
-    ((n : ℕ) (own : ℕ → ℕ) → old.own.holds.items ≡ tabulated n own → new.own.holds.items ≡ tabulated n (λ lock. own lock + (tallied ledger amount).holds lock)) →
+    new.frames ≡ old.frames → new.environment ≡ old.environment →
+    ((n : ℕ) (own : ℕ → ℕ) → old.own.holds ≡ tabulated n own → new.own.holds ≡ tabulated n (λ lock. own lock + (tallied ledger amount).holds lock)) →
     Counts (pause.Tallies ledger amount) (tallied ledger amount) old new
-counts_tally old new ledger amount body tallies begins program is_name label below forks frames environment sums holds =
-    counts_by old new (pause.Tallies ledger amount) (tallied ledger amount) (Tallies ledger amount body) (Begin body) tallies begins program is_name label below forks frames environment sums holds
-    (λ fs. refl) (λ fs. refl) refl refl refl (record { ending = refl; account = λ a any. refl; work = omega arith; trace = refl; faultless = λ held h. (tt, h.1.1) })
+counts_tally old new ledger amount body tallies begins program is_name label below forks frames environment holds =
+    counts_by old new (pause.Tallies ledger amount) (tallied ledger amount) (Tallies ledger amount body) (Begin body) tallies begins program is_name label below forks frames environment holds
+    (λ fs. refl) (λ fs. refl) refl refl refl tt (record { ending = refl; account = λ a any. refl; work = omega arith; trace = refl; faultless = λ held h. (tt, h.1.1) })

@@ -15,7 +15,7 @@ use Rattle.arachne_machine.specs.declared.frame.Frame.{Frame}
 use Rattle.arachne_machine.specs.declared.frame.Frame.TheVariants.{Index, Right, Apply, Branch, Extend, Amount, Release, FoldTo, SweepTo}
 use Rattle.arachne_machine.specs.declared.frame.Control.{Control}
 use Rattle.arachne_machine.specs.declared.frame.Control.TheVariants.{Begin, Give, Asks}
-use Rattle.arachne_machine.specs.declared.state.State.{State}
+use Rattle.arachne_machine.specs.Strands.{Strand}
 use Rattle.arachne_machine.specs.Work.{work_of}
 use Rattle.arachne_machine.specs.Trace.{with_steps, trace_of}
 use Rattle.arachne_machine.specs.Trace as event
@@ -29,8 +29,8 @@ use Rattle.arachne_machine.specs.Steps.{Becomes, AfterSteps}
 use Rattle.arachne_machine.proofs.Accounts.{after-nothing, after-sequence}
 use Rattle.arachne_machine.proofs.Faultlessness.{no_faults-append, unless_none, or_else_none, less}
 use Rattle.arachne_machine.proofs.Frames.{with_steps-add}
-use Rattle.arachne_machine.proofs.Purity.{leaf_pure, leaf_work, pure_effects, pure_trace}
-use Rattle.arachne_machine.proofs.Outlooks.{StepOutlook, Step, steps_by, as_it_is, framed_as, alone}
+use Rattle.arachne_machine.proofs.Purity.{binary_pure, leaf_pure, leaf_work}
+use Rattle.arachne_machine.proofs.Outlooks.{StepOutlook, Step, steps_by, as_it_is, framed_as, alone, none_here, none_kept, nothing_first}
 
 -- An expression of this tree comes to the same in so many steps, by these frames and this to do next.
 pub record Opens (steps : ℕ) (source : Source) (name : List ℕ) (tree : Tree) (env : List ℕ) (k' : Control) (gs' : List Frame) : Type 0 where
@@ -52,34 +52,35 @@ opened steps source name expr env k' gs' o = record {
 }
 
 -- so it goes in a thread
-pub begins_by : (steps : ℕ) (old new : State) (expr : Bor Expr) (tree : Tree) (k' : Control) (gs' : List Frame) → old.control ≡ Begin expr → tree_of expr.now ≡ tree →
-    Becomes old new old.environment.items (old.frames.items ++ gs') k' →
+pub begins_by : (steps : ℕ) (old new : Strand) (expr : Bor Expr) (tree : Tree) (k' : Control) (gs' : List Frame) → old.control ≡ Begin expr → tree_of expr.now ≡ tree →
+    Becomes old new old.environment (old.frames ++ gs') k' →
     ((fs : List Frame) → frames_left k' fs ≡ fs) →
     fork_awaited k' ++ forks_of gs' ≡ [] →
-    Opens steps (source_of old.program.now) old.own.name tree old.environment.items k' gs' → Step steps (Begin expr) k' old.frames.items [] gs' old new
+    Opens steps (source_of old.program.now) old.own.name tree old.environment k' gs' → Step steps (Begin expr) k' old.frames [] gs' old new
 begins_by steps old new expr tree k' gs' begins is_tree b left forks o =
     let source = source_of old.program.now in
     let name = old.own.name in
-    let fs = old.frames.items in
-    let env = old.environment.items in
+    let fs = old.frames in
+    let env = old.environment in
     let same = subst (λ t. Opens steps source name t env k' gs') (sym is_tree) o in
     steps_by steps old old new (Begin expr) k' fs [] gs' env env
     (framed_as old old env (fs ++ []) (fs ++ []) old.control (Begin expr) (alone old old env old.control (as_it_is old)) refl begins)
-    b refl (left (fs ++ gs')) forks (opened steps source name expr env k' gs' same)
+    b refl (left (fs ++ gs')) forks (none_here gs' (nothing_first (fork_awaited k') (forks_of gs') forks).1) (λ h. none_kept source name k' gs' env forks)
+    (opened steps source name expr env k' gs' same)
 
-pub goes_to_value : (steps : ℕ) (old new : State) (expr : Bor Expr) (tree : Tree) (v : ℕ) → old.control ≡ Begin expr → tree_of expr.now ≡ tree →
-    Becomes old new old.environment.items old.frames.items (Give v) →
-    Opens steps (source_of old.program.now) old.own.name tree old.environment.items (Give v) [] → AfterSteps steps old None new
+pub goes_to_value : (steps : ℕ) (old new : Strand) (expr : Bor Expr) (tree : Tree) (v : ℕ) → old.control ≡ Begin expr → tree_of expr.now ≡ tree →
+    Becomes old new old.environment old.frames (Give v) →
+    Opens steps (source_of old.program.now) old.own.name tree old.environment (Give v) [] → AfterSteps steps old None new
 goes_to_value steps old new expr tree v begins is_tree b o =
-    let s = begins_by steps old new expr tree (Give v) [] begins is_tree (alone old new old.environment.items (Give v) b) (λ fs. refl) refl o in
+    let s = begins_by steps old new expr tree (Give v) [] begins is_tree (alone old new old.environment (Give v) b) (λ fs. refl) refl o in
     (s.goes, s.pending, s.locks ∙ sym s.old_locks)
 
-pub goes_to_part : (steps : ℕ) (old new : State) (expr part : Bor Expr) (tree : Tree) (f : Frame) → old.control ≡ Begin expr → tree_of expr.now ≡ tree →
-    Becomes old new old.environment.items (old.frames.items ++ f ∷ []) (Begin part) → forks_of (f ∷ []) ≡ [] → releases (f ∷ []) ≡ [] →
-    Opens steps (source_of old.program.now) old.own.name tree old.environment.items (Begin part) (f ∷ []) → AfterSteps steps old None new
+pub goes_to_part : (steps : ℕ) (old new : Strand) (expr part : Bor Expr) (tree : Tree) (f : Frame) → old.control ≡ Begin expr → tree_of expr.now ≡ tree →
+    Becomes old new old.environment (old.frames ++ f ∷ []) (Begin part) → forks_of (f ∷ []) ≡ [] → releases (f ∷ []) ≡ [] →
+    Opens steps (source_of old.program.now) old.own.name tree old.environment (Begin part) (f ∷ []) → AfterSteps steps old None new
 goes_to_part steps old new expr part tree f begins is_tree b forks locks o =
     let s = begins_by steps old new expr tree (Begin part) (f ∷ []) begins is_tree b (λ fs. refl) forks o in
-    (s.goes, s.pending, s.locks ∙ ap (λ l. l ++ releases old.frames.items) locks ∙ sym s.old_locks)
+    (s.goes, s.pending, s.locks ∙ ap (λ l. l ++ releases old.frames) locks ∙ sym s.old_locks)
 
 pub open_number : (source : Source) (name : List ℕ) (env : List ℕ) (n : ℕ) → Opens 0 source name (Number n) env (Give n) []
 open_number source name env n = record { ending = refl; account = λ a. sym (after-nothing name a); work = omega arith; trace = refl; faultless = λ held h. (tt, tt) }
@@ -107,8 +108,8 @@ open_binary source name env operation left right = record {
 }
 
 -- where the left side is a leaf, and where both are
-leaf_traced : (A : List (List ℕ)) (t : Tree) (env : List ℕ) → IsLeaf t → trace_of A t env ≡ event.Step ∷ []
-leaf_traced A t env leaf = pure_trace A t env (leaf_pure t leaf) ∙ ap (λ n. with_steps n []) (leaf_work A t env leaf)
+leaf_traced : (source : Source) (t : Tree) (env : List ℕ) → IsLeaf t → trace_of source.arrays t env ≡ event.Step ∷ []
+leaf_traced source t env leaf = (leaf_pure source t env leaf).trace ∙ ap (λ n. with_steps n []) (leaf_work source.arrays t env leaf)
 
 pub open_right : (source : Source) (name : List ℕ) (env : List ℕ) (operation : Operation) (left right : Bor Expr) → IsLeaf (tree_of left.now) →
     Opens 2 source name (Binary operation (tree_of left.now) (tree_of right.now)) env (Begin right) (Apply operation (value_of source.arrays (tree_of left.now) env) ∷ [])
@@ -117,24 +118,24 @@ open_right source name env operation left right leaf =
     let y = effects_of source.arrays source.locks (tree_of right.now) env in
     record {
       ending = refl;
-      account = λ a. ap (after name y) (sym (after-nothing name a) ∙ ap (λ e. after name e a) (sym (pure_effects source.arrays source.locks (tree_of left.now) env (leaf_pure (tree_of left.now) leaf))))
+      account = λ a. ap (after name y) (sym (after-nothing name a) ∙ ap (λ e. after name e a) (sym (leaf_pure source (tree_of left.now) env leaf).effects))
           ∙ sym (after-sequence name x y a);
       work = omega (arith, leaf_work source.arrays (tree_of left.now) env leaf);
       trace = ap (with_steps 2) (append-nil (trace_of source.arrays (tree_of right.now) env))
-          ∙ ap (λ l. event.Step ∷ (l ++ trace_of source.arrays (tree_of right.now) env)) (sym (leaf_traced source.arrays (tree_of left.now) env leaf));
+          ∙ ap (λ l. event.Step ∷ (l ++ trace_of source.arrays (tree_of right.now) env)) (sym (leaf_traced source (tree_of left.now) env leaf));
       faultless = λ held h.
           let parts = no_faults-append (node_faults source held h.0 (tree_of left.now)) (node_faults source held h.0 (tree_of right.now)) h.1.1 in
           ((tt, tt), (h.0, parts.1));
     }
 
 -- what is pure comes to its value at once
-pub open_pure : (source : Source) (name : List ℕ) (env : List ℕ) (t : Tree) (steps : ℕ) → IsPure t → steps + 1 ≡ work_of source.arrays t env →
+pub open_pure : (source : Source) (name : List ℕ) (env : List ℕ) (t : Tree) (steps : ℕ) → IsPure source t env → steps + 1 ≡ work_of source.arrays t env →
     Opens steps source name t env (Give (value_of source.arrays t env)) []
 open_pure source name env t steps pure counted = record {
   ending = refl;
-  account = λ a. sym (after-nothing name a) ∙ ap (λ e. after name e a) (sym (pure_effects source.arrays source.locks t env pure));
+  account = λ a. sym (after-nothing name a) ∙ ap (λ e. after name e a) (sym pure.effects);
   work = omega (arith, counted);
-  trace = sym (with_steps-add steps 1 []) ∙ ap (λ n. with_steps n []) counted ∙ sym (pure_trace source.arrays t env pure);
+  trace = sym (with_steps-add steps 1 []) ∙ ap (λ n. with_steps n []) counted ∙ sym pure.trace;
   faultless = λ held h. (tt, tt);
 }
 
@@ -245,32 +246,32 @@ open_sweep source name env reduction grain from to body =
     }
 
 -- An operation is begun with its left side, which is a leaf, and with both.
-pub begins_right : (old new : State) (expr first second : Bor Expr) (operation : Operation) (x : ℕ) → old.control ≡ Begin expr →
+pub begins_right : (old new : Strand) (expr first second : Bor Expr) (operation : Operation) (x : ℕ) → old.control ≡ Begin expr →
     tree_of expr.now ≡ Binary operation (tree_of first.now) (tree_of second.now) → IsLeaf (tree_of first.now) →
-    x ≡ value_of (source_of old.program.now).arrays (tree_of first.now) old.environment.items →
-    Becomes old new old.environment.items (old.frames.items ++ Apply operation x ∷ []) (Begin second) → AfterSteps 2 old None new
+    x ≡ value_of (source_of old.program.now).arrays (tree_of first.now) old.environment →
+    Becomes old new old.environment (old.frames ++ Apply operation x ∷ []) (Begin second) → AfterSteps 2 old None new
 begins_right old new expr first second operation x begins is_tree leaf is b =
     let source = source_of old.program.now in
-    let env = old.environment.items in
-    let fs = old.frames.items in
+    let env = old.environment in
+    let fs = old.frames in
     let v = value_of source.arrays (tree_of first.now) env in
     goes_to_part 2 old new expr second (Binary operation (tree_of first.now) (tree_of second.now)) (Apply operation v) begins is_tree
     (framed_as old new env (fs ++ Apply operation x ∷ []) (fs ++ Apply operation v ∷ []) (Begin second) (Begin second) b (ap (λ n. fs ++ Apply operation n ∷ []) is) refl) refl refl
     (open_right source old.own.name env operation first second leaf)
 
-pub begins_both : (old new : State) (expr first second : Bor Expr) (operation : Operation) (x y v : ℕ) → old.control ≡ Begin expr →
+pub begins_both : (old new : Strand) (expr first second : Bor Expr) (operation : Operation) (x y v : ℕ) → old.control ≡ Begin expr →
     tree_of expr.now ≡ Binary operation (tree_of first.now) (tree_of second.now) → IsLeaf (tree_of first.now) → IsLeaf (tree_of second.now) →
-    x ≡ value_of (source_of old.program.now).arrays (tree_of first.now) old.environment.items →
-    y ≡ value_of (source_of old.program.now).arrays (tree_of second.now) old.environment.items → v ≡ apply operation x y →
-    Becomes old new old.environment.items old.frames.items (Give v) → AfterSteps 2 old None new
+    x ≡ value_of (source_of old.program.now).arrays (tree_of first.now) old.environment →
+    y ≡ value_of (source_of old.program.now).arrays (tree_of second.now) old.environment → v ≡ apply operation x y →
+    Becomes old new old.environment old.frames (Give v) → AfterSteps 2 old None new
 begins_both old new expr first second operation x y v begins is_tree one two is also made b =
     let source = source_of old.program.now in
     let A = source.arrays in
-    let env = old.environment.items in
-    let fs = old.frames.items in
+    let env = old.environment in
+    let fs = old.frames in
     let a = tree_of first.now in
     let c = tree_of second.now in
     let whole : v ≡ value_of A (Binary operation a c) env = made ∙ ap (λ n. apply operation n y) is ∙ ap (λ n. apply operation (value_of A a env) n) also in
     goes_to_value 2 old new expr (Binary operation a c) (value_of A (Binary operation a c) env) begins is_tree
     (framed_as old new env fs fs (Give v) (Give (value_of A (Binary operation a c) env)) b refl (ap Give whole))
-    (open_pure source old.own.name env (Binary operation a c) 2 (leaf_pure a one, leaf_pure c two) (omega (arith, leaf_work A a env one, leaf_work A c env two)))
+    (open_pure source old.own.name env (Binary operation a c) 2 (binary_pure source env operation a c (leaf_pure source a env one) (leaf_pure source c env two)) (omega (arith, leaf_work A a env one, leaf_work A c env two)))

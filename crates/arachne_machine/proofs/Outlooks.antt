@@ -6,17 +6,18 @@ use Rattle.arachne_lang.specs.declared.program.Expr.{Expr}
 use Rattle.arachne_lang.specs.Tree.{Source}
 use Rattle.arachne_lang.specs.Program.{source_of}
 use Rattle.arachne_machine.specs.declared.frame.Frame.{Frame}
+use Rattle.arachne_machine.specs.declared.frame.Frame.TheVariants.{Join, Merge, JoinHere, MergeHere}
 use Rattle.arachne_machine.specs.declared.frame.Control.{Control}
-use Rattle.arachne_machine.specs.declared.frame.Control.TheVariants.{Begin}
+use Rattle.arachne_machine.specs.declared.frame.Control.TheVariants.{Begin, Awaits, AwaitsHalf}
 use Rattle.arachne_machine.specs.Trace.{Event, At, with_steps}
 use Rattle.arachne_machine.specs.declared.pause.Pending.TheVariants as pause
-use Rattle.arachne_machine.specs.declared.state.State.{State}
+use Rattle.arachne_machine.specs.Strands.{Strand}
 use Rattle.arachne_machine.specs.Account.{Account}
-use Rattle.arachne_machine.specs.Ending.{Status, resume, resume_account, resume_work, resume_trace, begun, begun_account, begun_work, begun_trace, fork_awaited, lock_freed, forks_of, releases, frames_left, ending, account_at_end, work_left, trace_left, unjoined_of, locks_of}
+use Rattle.arachne_machine.specs.Ending.{Status, resume, resume_account, resume_work, resume_trace, begun, begun_account, begun_work, begun_trace, fork_awaited, lock_freed, forks_of, releases, frames_left, ending, account_at_end, work_left, trace_left, unjoined_of, here_of, locks_of, fork_of, fork_here, forks_here, AwaitsFork, KeepsFork, KeepForks, KeepsForks}
 use Rattle.arachne_machine.specs.Faultless.{GoesWithoutFault, IsWithoutFault}
 use Rattle.arachne_machine.specs.Steps.{Becomes, Goes, AfterSteps, pending_of, beginning, giving}
 use Rattle.arachne_machine.proofs.Faultlessness.{faultless_above}
-use Rattle.arachne_machine.proofs.Frames.{resume-append, resume_account-append, resume_work-append, resume_trace-append, with_steps-append, forks_of-append, releases-append}
+use Rattle.arachne_machine.proofs.Frames.{resume-append, resume_account-append, resume_work-append, resume_trace-append, with_steps-append, forks_of-append, forks_here-append, releases-append}
 
 -- From what comes next, the newest frames and the environment to the new ones the end is the same, if the accounts that fit are taken like this, and these
 -- pauses are answered. So many of the steps that were left are handed to a child.
@@ -34,38 +35,38 @@ pub record SameOutlook (steps handed : ℕ) (answered : List Event) (fits : Acco
   pub faultless : (held : Bool) → GoesWithoutFault source held gs k → GoesWithoutFault source held gs' k'
 
 -- the parts of a thread that its end depends on
-pub record IsAt (source : Source) (name : List ℕ) (k : Control) (fs : List Frame) (env : List ℕ) (t : State) : Type 0 where
+pub record IsAt (source : Source) (name : List ℕ) (k : Control) (fs : List Frame) (env : List ℕ) (t : Strand) : Type 0 where
   pub source_is : source_of t.program.now ≡ source
   pub name_is : t.own.name ≡ name
   pub control_is : t.control ≡ k
-  pub frames_are : t.frames.items ≡ fs
-  pub environment_is : t.environment.items ≡ env
+  pub frames_are : t.frames ≡ fs
+  pub environment_is : t.environment ≡ env
 
-pub ending_at : (source : Source) (name : List ℕ) (k : Control) (fs : List Frame) (env : List ℕ) (t : State) → IsAt source name k fs env t →
+pub ending_at : (source : Source) (name : List ℕ) (k : Control) (fs : List Frame) (env : List ℕ) (t : Strand) → IsAt source name k fs env t →
     ending t ≡ resume source name (frames_left k fs) (begun source name k env)
 ending_at source name k fs env t at =
-    ap (λ x. resume x t.own.name (frames_left t.control t.frames.items) (begun x t.own.name t.control t.environment.items)) at.source_is
-    ∙ ap (λ x. resume source x (frames_left t.control t.frames.items) (begun source x t.control t.environment.items)) at.name_is
-    ∙ ap (λ x. resume source name (frames_left x t.frames.items) (begun source name x t.environment.items)) at.control_is
-    ∙ ap (λ x. resume source name (frames_left k x) (begun source name k t.environment.items)) at.frames_are
+    ap (λ x. resume x t.own.name (frames_left t.control t.frames) (begun x t.own.name t.control t.environment)) at.source_is
+    ∙ ap (λ x. resume source x (frames_left t.control t.frames) (begun source x t.control t.environment)) at.name_is
+    ∙ ap (λ x. resume source name (frames_left x t.frames) (begun source name x t.environment)) at.control_is
+    ∙ ap (λ x. resume source name (frames_left k x) (begun source name k t.environment)) at.frames_are
     ∙ ap (λ x. resume source name (frames_left k fs) (begun source name k x)) at.environment_is
 
-pub account_at : (source : Source) (name : List ℕ) (k : Control) (fs : List Frame) (env : List ℕ) (t : State) (a : Account) → IsAt source name k fs env t →
+pub account_at : (source : Source) (name : List ℕ) (k : Control) (fs : List Frame) (env : List ℕ) (t : Strand) (a : Account) → IsAt source name k fs env t →
     account_at_end t a ≡ resume_account source name (frames_left k fs) (begun source name k env) (begun_account source name k env a)
 account_at source name k fs env t a at =
-    ap (λ x. resume_account x t.own.name (frames_left t.control t.frames.items) (begun x t.own.name t.control t.environment.items) (begun_account x t.own.name t.control t.environment.items a)) at.source_is
-    ∙ ap (λ x. resume_account source x (frames_left t.control t.frames.items) (begun source x t.control t.environment.items) (begun_account source x t.control t.environment.items a)) at.name_is
-    ∙ ap (λ x. resume_account source name (frames_left x t.frames.items) (begun source name x t.environment.items) (begun_account source name x t.environment.items a)) at.control_is
-    ∙ ap (λ x. resume_account source name (frames_left k x) (begun source name k t.environment.items) (begun_account source name k t.environment.items a)) at.frames_are
+    ap (λ x. resume_account x t.own.name (frames_left t.control t.frames) (begun x t.own.name t.control t.environment) (begun_account x t.own.name t.control t.environment a)) at.source_is
+    ∙ ap (λ x. resume_account source x (frames_left t.control t.frames) (begun source x t.control t.environment) (begun_account source x t.control t.environment a)) at.name_is
+    ∙ ap (λ x. resume_account source name (frames_left x t.frames) (begun source name x t.environment) (begun_account source name x t.environment a)) at.control_is
+    ∙ ap (λ x. resume_account source name (frames_left k x) (begun source name k t.environment) (begun_account source name k t.environment a)) at.frames_are
     ∙ ap (λ x. resume_account source name (frames_left k fs) (begun source name k x) (begun_account source name k x a)) at.environment_is
 
-pub work_at : (source : Source) (name : List ℕ) (k : Control) (fs : List Frame) (env : List ℕ) (t : State) → IsAt source name k fs env t →
+pub work_at : (source : Source) (name : List ℕ) (k : Control) (fs : List Frame) (env : List ℕ) (t : Strand) → IsAt source name k fs env t →
     work_left t ≡ begun_work source name k env + resume_work source name (frames_left k fs) (begun source name k env)
 work_at source name k fs env t at =
-    ap (λ x. begun_work x t.own.name t.control t.environment.items + resume_work x t.own.name (frames_left t.control t.frames.items) (begun x t.own.name t.control t.environment.items)) at.source_is
-    ∙ ap (λ x. begun_work source x t.control t.environment.items + resume_work source x (frames_left t.control t.frames.items) (begun source x t.control t.environment.items)) at.name_is
-    ∙ ap (λ x. begun_work source name x t.environment.items + resume_work source name (frames_left x t.frames.items) (begun source name x t.environment.items)) at.control_is
-    ∙ ap (λ x. begun_work source name k t.environment.items + resume_work source name (frames_left k x) (begun source name k t.environment.items)) at.frames_are
+    ap (λ x. begun_work x t.own.name t.control t.environment + resume_work x t.own.name (frames_left t.control t.frames) (begun x t.own.name t.control t.environment)) at.source_is
+    ∙ ap (λ x. begun_work source x t.control t.environment + resume_work source x (frames_left t.control t.frames) (begun source x t.control t.environment)) at.name_is
+    ∙ ap (λ x. begun_work source name x t.environment + resume_work source name (frames_left x t.frames) (begun source name x t.environment)) at.control_is
+    ∙ ap (λ x. begun_work source name k t.environment + resume_work source name (frames_left k x) (begun source name k t.environment)) at.frames_are
     ∙ ap (λ x. begun_work source name k x + resume_work source name (frames_left k fs) (begun source name k x)) at.environment_is
 
 -- the trace of what comes next and the newest frames, and that of the frames below
@@ -77,63 +78,171 @@ trace_by source name k fs gs env =
 in_two : (xs ys zs ends : List Event) → (xs ++ (ys ++ zs)) ++ ends ≡ (xs ++ ys) ++ (zs ++ ends)
 in_two xs ys zs ends = ap (λ l. l ++ ends) (sym (append_assoc xs ys zs)) ∙ append_assoc (xs ++ ys) zs ends
 
-pub trace_at : (source : Source) (name : List ℕ) (k : Control) (fs gs : List Frame) (env : List ℕ) (t : State) → IsAt source name k (fs ++ gs) env t →
+pub trace_at : (source : Source) (name : List ℕ) (k : Control) (fs gs : List Frame) (env : List ℕ) (t : Strand) → IsAt source name k (fs ++ gs) env t →
     frames_left k (fs ++ gs) ≡ fs ++ gs → trace_left t ≡ trace_by source name k fs gs env
 trace_at source name k fs gs env t at left =
     let s = begun source name k env in
     let b = begun_trace source name k env in
-    ap (λ x. begun_trace x t.own.name t.control t.environment.items
-    ++ resume_trace x t.own.name (frames_left t.control t.frames.items) (begun x t.own.name t.control t.environment.items) ++ At pause.Ended ∷ []) at.source_is
-    ∙ ap (λ x. begun_trace source x t.control t.environment.items
-    ++ resume_trace source x (frames_left t.control t.frames.items) (begun source x t.control t.environment.items) ++ At pause.Ended ∷ []) at.name_is
-    ∙ ap (λ x. begun_trace source name x t.environment.items
-    ++ resume_trace source name (frames_left x t.frames.items) (begun source name x t.environment.items) ++ At pause.Ended ∷ []) at.control_is
-    ∙ ap (λ x. begun_trace source name k t.environment.items
-    ++ resume_trace source name (frames_left k x) (begun source name k t.environment.items) ++ At pause.Ended ∷ []) at.frames_are
+    ap (λ x. begun_trace x t.own.name t.control t.environment
+    ++ resume_trace x t.own.name (frames_left t.control t.frames) (begun x t.own.name t.control t.environment) ++ At pause.Ended ∷ []) at.source_is
+    ∙ ap (λ x. begun_trace source x t.control t.environment
+    ++ resume_trace source x (frames_left t.control t.frames) (begun source x t.control t.environment) ++ At pause.Ended ∷ []) at.name_is
+    ∙ ap (λ x. begun_trace source name x t.environment
+    ++ resume_trace source name (frames_left x t.frames) (begun source name x t.environment) ++ At pause.Ended ∷ []) at.control_is
+    ∙ ap (λ x. begun_trace source name k t.environment
+    ++ resume_trace source name (frames_left k x) (begun source name k t.environment) ++ At pause.Ended ∷ []) at.frames_are
     ∙ ap (λ x. begun_trace source name k x ++ resume_trace source name (frames_left k (fs ++ gs)) (begun source name k x) ++ At pause.Ended ∷ []) at.environment_is
     ∙ ap (λ l. b ++ resume_trace source name l s ++ At pause.Ended ∷ []) left
     ∙ ap (λ l. b ++ l ++ At pause.Ended ∷ []) (resume_trace-append source name fs gs s)
     ∙ in_two b (resume_trace source name gs s) (resume_trace source name fs (resume source name gs s)) (At pause.Ended ∷ [])
 
 -- what goes without fault there, and the thread
-pub faultless_at : (source : Source) (name : List ℕ) (k : Control) (fs : List Frame) (env : List ℕ) (t : State) → IsAt source name k fs env t →
+pub faultless_at : (source : Source) (name : List ℕ) (k : Control) (fs : List Frame) (env : List ℕ) (t : Strand) → IsAt source name k fs env t →
     IsWithoutFault t → GoesWithoutFault source false fs k
 faultless_at source name k fs env t at h =
     subst (GoesWithoutFault source false fs) at.control_is
-    (subst (λ x. GoesWithoutFault source false x t.control) at.frames_are (subst (λ x. GoesWithoutFault x false t.frames.items t.control) at.source_is h))
+    (subst (λ x. GoesWithoutFault source false x t.control) at.frames_are (subst (λ x. GoesWithoutFault x false t.frames t.control) at.source_is h))
 
-pub at_faultless : (source : Source) (name : List ℕ) (k : Control) (fs : List Frame) (env : List ℕ) (t : State) → IsAt source name k fs env t →
+pub at_faultless : (source : Source) (name : List ℕ) (k : Control) (fs : List Frame) (env : List ℕ) (t : Strand) → IsAt source name k fs env t →
     GoesWithoutFault source false fs k → IsWithoutFault t
 at_faultless source name k fs env t at h =
-    subst (λ x. GoesWithoutFault x false t.frames.items t.control) (sym at.source_is)
+    subst (λ x. GoesWithoutFault x false t.frames t.control) (sym at.source_is)
     (subst (λ x. GoesWithoutFault source false x t.control) (sym at.frames_are) (subst (GoesWithoutFault source false fs) (sym at.control_is) h))
 
--- its forks that are not joined and its locks
-pub unjoined_at : (source : Source) (name : List ℕ) (k : Control) (fs gs : List Frame) (env : List ℕ) (t : State) → IsAt source name k (fs ++ gs) env t →
+-- The forks that the newest frames and what comes next join are those of the program.
+abbrev pub KeepsTop : Source → List ℕ → Control → List Frame → List ℕ → Type 0
+KeepsTop source name k gs env = AwaitsFork source name k env × KeepForks source name gs (begun source name k env)
+
+pub keeps-append : (source : Source) (name : List ℕ) (fs gs : List Frame) (s : Status) → KeepForks source name (fs ++ gs) s →
+    KeepForks source name gs s × KeepForks source name fs (resume source name gs s)
+keeps-append source name [] gs s h = (h, tt)
+keeps-append source name (f ∷ fs) gs s h =
+    let both = keeps-append source name fs gs s h.1 in
+    (both.0, (subst (KeepsFork source name f) (resume-append source name fs gs s) h.0, both.1))
+
+pub append-keeps : (source : Source) (name : List ℕ) (fs gs : List Frame) (s : Status) → KeepForks source name gs s → KeepForks source name fs (resume source name gs s) →
+    KeepForks source name (fs ++ gs) s
+append-keeps source name [] gs s p q = p
+append-keeps source name (f ∷ fs) gs s p q =
+    (subst (KeepsFork source name f) (sym (resume-append source name fs gs s)) q.0, append-keeps source name fs gs s p q.1)
+
+-- the forks that the parts of a thread join
+abbrev pub KeepsBy : Source → List ℕ → Control → List Frame → List Frame → List ℕ → Type 0
+KeepsBy source name k fs gs env =
+    let s = begun source name k env in
+    AwaitsFork source name k env × KeepForks source name gs s × KeepForks source name fs (resume source name gs s)
+
+-- the forks that a thread of these parts joins
+abbrev pub KeepsAt : Source → List ℕ → Control → List Frame → List ℕ → Type 0
+KeepsAt source name k fs env = AwaitsFork source name k env × KeepForks source name (frames_left k fs) (begun source name k env)
+
+pub keeps_there : (source : Source) (name : List ℕ) (k : Control) (fs : List Frame) (env : List ℕ) (t : Strand) → IsAt source name k fs env t →
+    KeepsForks t → KeepsAt source name k fs env
+keeps_there source name k fs env t at h =
+    subst (λ x. KeepsAt source name k fs x) at.environment_is
+    (subst (λ x. KeepsAt source name k x t.environment) at.frames_are
+    (subst (λ x. KeepsAt source name x t.frames t.environment) at.control_is
+    (subst (λ x. KeepsAt source x t.control t.frames t.environment) at.name_is
+    (subst (λ x. KeepsAt x t.own.name t.control t.frames t.environment) at.source_is h))))
+
+pub there_keeps : (source : Source) (name : List ℕ) (k : Control) (fs : List Frame) (env : List ℕ) (t : Strand) → IsAt source name k fs env t →
+    KeepsAt source name k fs env → KeepsForks t
+there_keeps source name k fs env t at h =
+    subst (λ x. KeepsAt x t.own.name t.control t.frames t.environment) (sym at.source_is)
+    (subst (λ x. KeepsAt source x t.control t.frames t.environment) (sym at.name_is)
+    (subst (λ x. KeepsAt source name x t.frames t.environment) (sym at.control_is)
+    (subst (λ x. KeepsAt source name k x t.environment) (sym at.frames_are)
+    (subst (λ x. KeepsAt source name k fs x) (sym at.environment_is) h))))
+
+pub keeps_at : (source : Source) (name : List ℕ) (k : Control) (fs gs : List Frame) (env : List ℕ) (t : Strand) → IsAt source name k (fs ++ gs) env t →
+    frames_left k (fs ++ gs) ≡ fs ++ gs → KeepsForks t → KeepsBy source name k fs gs env
+keeps_at source name k fs gs env t at left h =
+    let s = begun source name k env in
+    let here = keeps_there source name k (fs ++ gs) env t at h in
+    let both = keeps-append source name fs gs s (subst (λ l. KeepForks source name l s) left here.1) in
+    (here.0, both.0, both.1)
+
+pub at_keeps : (source : Source) (name : List ℕ) (k : Control) (fs gs : List Frame) (env : List ℕ) (t : Strand) → IsAt source name k (fs ++ gs) env t →
+    frames_left k (fs ++ gs) ≡ fs ++ gs → KeepsBy source name k fs gs env → KeepsForks t
+at_keeps source name k fs gs env t at left h =
+    let s = begun source name k env in
+    there_keeps source name k (fs ++ gs) env t at
+    (h.0, subst (λ l. KeepForks source name l s) (sym left) (append-keeps source name fs gs s h.1 h.2))
+
+-- Without forks there is nothing to keep.
+cons_nil : (x : ℕ) (xs : List ℕ) → ◌≡◌ {A = List ℕ} (x ∷ xs) [] → ⊥
+cons_nil x xs e = cc
+
+pub nothing_first : (xs ys : List ℕ) → xs ++ ys ≡ [] → (xs ≡ []) × (ys ≡ [])
+nothing_first [] ys e = (refl, e)
+nothing_first (x ∷ xs) ys e = absurd (cons_nil x (xs ++ ys) e)
+
+no_fork : (source : Source) (name : List ℕ) (f : Frame) (s : Status) → fork_of f ≡ [] → KeepsFork source name f s
+no_fork source name (Join number next) s e = absurd (cons_nil number [] e)
+no_fork source name (Merge number reduction) s e = absurd (cons_nil number [] e)
+no_fork source name (JoinHere number child next) s e = absurd (cons_nil number [] e)
+no_fork source name (MergeHere number left) s e = absurd (cons_nil number [] e)
+no_fork source name _ s e = tt
+
+no_forks : (source : Source) (name : List ℕ) (gs : List Frame) (s : Status) → forks_of gs ≡ [] → KeepForks source name gs s
+no_forks source name [] s e = tt
+no_forks source name (g ∷ gs) s e =
+    let both = nothing_first (forks_of gs) (fork_of g) e in
+    (no_fork source name g (resume source name gs s) both.1, no_forks source name gs s both.0)
+
+none_awaited : (source : Source) (name : List ℕ) (k : Control) (env : List ℕ) → fork_awaited k ≡ [] → AwaitsFork source name k env
+none_awaited source name (Awaits number during next) env e = absurd (cons_nil number [] e)
+none_awaited source name (AwaitsHalf number right reduction) env e = absurd (cons_nil number [] e)
+none_awaited source name _ env e = tt
+
+pub none_kept : (source : Source) (name : List ℕ) (k : Control) (gs : List Frame) (env : List ℕ) → fork_awaited k ++ forks_of gs ≡ [] → KeepsTop source name k gs env
+none_kept source name k gs env e =
+    let both = nothing_first (fork_awaited k) (forks_of gs) e in
+    (none_awaited source name k env both.0, no_forks source name gs (begun source name k env) both.1)
+
+not_here : (f : Frame) → fork_of f ≡ [] → fork_here f ≡ []
+not_here (JoinHere number child next) e = e
+not_here (MergeHere number left) e = e
+not_here _ e = refl
+
+pub none_here : (gs : List Frame) → forks_of gs ≡ [] → forks_here gs ≡ []
+none_here [] e = refl
+none_here (g ∷ gs) e =
+    let both = nothing_first (forks_of gs) (fork_of g) e in
+    ap (λ l. l ++ fork_here g) (none_here gs both.0) ∙ not_here g both.1
+
+-- its forks that are not joined, those of them whose children run here, and its locks
+pub here_at : (source : Source) (name : List ℕ) (k : Control) (fs gs : List Frame) (env : List ℕ) (t : Strand) → IsAt source name k (fs ++ gs) env t →
+    here_of t ≡ forks_here gs ++ forks_here fs
+here_at source name k fs gs env t at = ap forks_here at.frames_are ∙ forks_here-append fs gs
+
+pub unjoined_at : (source : Source) (name : List ℕ) (k : Control) (fs gs : List Frame) (env : List ℕ) (t : Strand) → IsAt source name k (fs ++ gs) env t →
     unjoined_of t ≡ (fork_awaited k ++ forks_of gs) ++ forks_of fs
 unjoined_at source name k fs gs env t at =
-    ap (λ x. fork_awaited x ++ forks_of t.frames.items) at.control_is ∙ ap (λ x. fork_awaited k ++ forks_of x) at.frames_are
+    ap (λ x. fork_awaited x ++ forks_of t.frames) at.control_is ∙ ap (λ x. fork_awaited k ++ forks_of x) at.frames_are
     ∙ ap (λ x. fork_awaited k ++ x) (forks_of-append fs gs) ∙ sym (append_assoc (fork_awaited k) (forks_of gs) (forks_of fs))
 
-pub locks_at : (source : Source) (name : List ℕ) (k : Control) (fs gs : List Frame) (env : List ℕ) (t : State) → IsAt source name k (fs ++ gs) env t →
+pub locks_at : (source : Source) (name : List ℕ) (k : Control) (fs gs : List Frame) (env : List ℕ) (t : Strand) → IsAt source name k (fs ++ gs) env t →
     locks_of t ≡ (lock_freed k ++ releases gs) ++ releases fs
 locks_at source name k fs gs env t at =
-    ap (λ x. lock_freed x ++ releases t.frames.items) at.control_is ∙ ap (λ x. lock_freed k ++ releases x) at.frames_are
+    ap (λ x. lock_freed x ++ releases t.frames) at.control_is ∙ ap (λ x. lock_freed k ++ releases x) at.frames_are
     ∙ ap (λ x. lock_freed k ++ x) (releases-append fs gs) ∙ sym (append_assoc (lock_freed k) (releases gs) (releases fs))
 
 -- So two threads that are at these parts come to the same.
-pub record SameEnd (steps handed : ℕ) (answered : List Event) (fits : Account → Type 0) (taken : Account → Account) (old new : State) : Type 0 where
+pub record SameEnd (steps handed : ℕ) (answered : List Event) (fits : Account → Type 0) (taken : Account → Account) (old new : Strand) : Type 0 where
   pub ending : ending new ≡ ending old
   pub account : (a : Account) → fits a → account_at_end new (taken a) ≡ account_at_end old a
   pub work : work_left new + handed + steps ≡ work_left old
   pub trace : with_steps steps (answered ++ trace_left new) ≡ trace_left old
   pub faultless : IsWithoutFault old → IsWithoutFault new
+  pub keeps : KeepsForks old → KeepsForks new
 
-pub same_end : (steps handed : ℕ) (answered : List Event) (fits : Account → Type 0) (taken : Account → Account) (source : Source) (name : List ℕ) (k k' : Control) (fs gs gs' : List Frame) (env env' : List ℕ) (old new : State) →
+pub same_end : (steps handed : ℕ) (answered : List Event) (fits : Account → Type 0) (taken : Account → Account) (source : Source) (name : List ℕ) (k k' : Control) (fs gs gs' : List Frame) (env env' : List ℕ) (old new : Strand) →
     IsAt source name k (fs ++ gs) env old → IsAt source name k' (fs ++ gs') env' new →
     frames_left k (fs ++ gs) ≡ fs ++ gs → frames_left k' (fs ++ gs') ≡ fs ++ gs' →
+    (KeepsTop source name k gs env → KeepsTop source name k' gs' env') →
     SameOutlook steps handed answered fits taken source name k gs env k' gs' env' → SameEnd steps handed answered fits taken old new
-same_end steps handed answered fits taken source name k k' fs gs gs' env env' old new at at' left left' same =
+same_end steps handed answered fits taken source name k k' fs gs gs' env env' old new at at' left left' keep same =
     let s = begun source name k env in
     let s' = begun source name k' env' in
     record {
@@ -170,6 +279,10 @@ same_end steps handed answered fits taken source name k k' fs gs gs' env env' ol
       faultless = λ h.
           at_faultless source name k' (fs ++ gs') env' new at'
           (faultless_above source fs gs gs' k k' same.faultless (faultless_at source name k (fs ++ gs) env old at h));
+      keeps = λ h.
+          let kept = keeps_at source name k fs gs env old at left h in
+          let now = keep (kept.0, kept.1) in
+          at_keeps source name k' fs gs' env' new at' left' (now.0, now.1, subst (KeepForks source name fs) (sym same.ending) kept.2);
     }
 
 abbrev pub Any : Account → Type 0
@@ -182,7 +295,7 @@ itself a = a
 abbrev pub StepOutlook : ℕ → Source → List ℕ → Control → List Frame → List ℕ → Control → List Frame → List ℕ → Type 0
 StepOutlook steps source name k gs env k' gs' env' = SameOutlook steps 0 [] Any itself source name k gs env k' gs' env'
 
-pub at_of : (mid t : State) (k : Control) (fs : List Frame) (env : List ℕ) → Becomes mid t env fs k → IsAt (source_of mid.program.now) mid.own.name k fs env t
+pub at_of : (mid t : Strand) (k : Control) (fs : List Frame) (env : List ℕ) → Becomes mid t env fs k → IsAt (source_of mid.program.now) mid.own.name k fs env t
 at_of mid t k fs env b = record {
   source_is = ap (λ p. source_of p.now) b.program;
   name_is = ap (λ o. o.name) b.own;
@@ -192,36 +305,38 @@ at_of mid t k fs env b = record {
 }
 
 -- a step of a thread, the frames below these being as before
-pub record Step (steps : ℕ) (k k' : Control) (fs gs gs' : List Frame) (old new : State) : Type 0 where
+pub record Step (steps : ℕ) (k k' : Control) (fs gs gs' : List Frame) (old new : Strand) : Type 0 where
   pub goes : Goes steps [] old new
   pub pending : pending_of new.control ≡ pending_of k'
   pub locks : locks_of new ≡ (lock_freed k' ++ releases gs') ++ releases fs
   pub old_locks : locks_of old ≡ (lock_freed k ++ releases gs) ++ releases fs
 
-pub steps_by : (steps : ℕ) (mid old new : State) (k k' : Control) (fs gs gs' : List Frame) (env env' : List ℕ) →
+pub steps_by : (steps : ℕ) (mid old new : Strand) (k k' : Control) (fs gs gs' : List Frame) (env env' : List ℕ) →
     Becomes mid old env (fs ++ gs) k → Becomes mid new env' (fs ++ gs') k' →
     frames_left k (fs ++ gs) ≡ fs ++ gs → frames_left k' (fs ++ gs') ≡ fs ++ gs' →
-    fork_awaited k' ++ forks_of gs' ≡ fork_awaited k ++ forks_of gs →
+    fork_awaited k' ++ forks_of gs' ≡ fork_awaited k ++ forks_of gs → forks_here gs' ≡ forks_here gs →
+    (KeepsTop (source_of mid.program.now) mid.own.name k gs env → KeepsTop (source_of mid.program.now) mid.own.name k' gs' env') →
     StepOutlook steps (source_of mid.program.now) mid.own.name k gs env k' gs' env' → Step steps k k' fs gs gs' old new
-steps_by steps mid old new k k' fs gs gs' env env' b b' left left' forks same =
+steps_by steps mid old new k k' fs gs gs' env env' b b' left left' forks here keep same =
     let source = source_of mid.program.now in
     let name = mid.own.name in
     let at = at_of mid old k (fs ++ gs) env b in
     let at' = at_of mid new k' (fs ++ gs') env' b' in
-    let end = same_end steps 0 [] Any itself source name k k' fs gs gs' env env' old new at at' left left' same in
+    let end = same_end steps 0 [] Any itself source name k k' fs gs gs' env env' old new at at' left left' keep same in
     record {
       goes = record {
         program = b'.program ∙ sym b.program;
         own = b'.own ∙ sym b.own;
         below = b'.below ∙ sym b.below;
-        sums = b'.sums ∙ sym b.sums;
         forks = b'.forks ∙ sym b.forks;
         unjoined = unjoined_at source name k' fs gs' env' new at' ∙ ap (λ l. l ++ forks_of fs) forks ∙ sym (unjoined_at source name k fs gs env old at);
+        here = here_at source name k' fs gs' env' new at' ∙ ap (λ l. l ++ forks_here fs) here ∙ sym (here_at source name k fs gs env old at);
         ending = end.ending;
         account = λ a. end.account a tt;
         work = omega (arith, end.work);
         trace = end.trace;
         faultless = end.faultless;
+        keeps = end.keeps;
       };
       pending = ap pending_of b'.control_is;
       locks = locks_at source name k' fs gs' env' new at';
@@ -229,41 +344,41 @@ steps_by steps mid old new k k' fs gs gs' env env' b b' left left' forks same =
     }
 
 -- steps that go on
-pub goes_on_by : (steps : ℕ) (mid old new : State) (k k' : Control) (fs gs gs' : List Frame) (env env' : List ℕ) →
+pub goes_on_by : (steps : ℕ) (mid old new : Strand) (k k' : Control) (fs gs gs' : List Frame) (env env' : List ℕ) →
     Becomes mid old env (fs ++ gs) k → Becomes mid new env' (fs ++ gs') k' →
     frames_left k (fs ++ gs) ≡ fs ++ gs → frames_left k' (fs ++ gs') ≡ fs ++ gs' →
-    fork_awaited k' ++ forks_of gs' ≡ fork_awaited k ++ forks_of gs → lock_freed k' ++ releases gs' ≡ lock_freed k ++ releases gs → pending_of k' ≡ None →
+    fork_awaited k ++ forks_of gs ≡ [] → fork_awaited k' ++ forks_of gs' ≡ [] → lock_freed k' ++ releases gs' ≡ lock_freed k ++ releases gs → pending_of k' ≡ None →
     StepOutlook steps (source_of mid.program.now) mid.own.name k gs env k' gs' env' → AfterSteps steps old None new
-goes_on_by steps mid old new k k' fs gs gs' env env' b b' left left' forks locks pending same =
-    let s = steps_by steps mid old new k k' fs gs gs' env env' b b' left left' forks same in
+goes_on_by steps mid old new k k' fs gs gs' env env' b b' left left' none none' locks pending same =
+    let here = none_here gs' (nothing_first (fork_awaited k') (forks_of gs') none').1 ∙ sym (none_here gs (nothing_first (fork_awaited k) (forks_of gs) none).1) in
+    let s = steps_by steps mid old new k k' fs gs gs' env env' b b' left left' (none' ∙ sym none) here
+    (λ h. none_kept (source_of mid.program.now) mid.own.name k' gs' env' none') same in
     (s.goes, s.pending ∙ pending, s.locks ∙ ap (λ l. l ++ releases fs) locks ∙ sym s.old_locks)
 
 -- a thread is what it is
-pub as_it_is : (t : State) → Becomes t t t.environment.items t.frames.items t.control
-as_it_is t = record { program = refl; own = refl; below = refl; sums = refl; forks = refl; environment_is = refl; frames_are = refl; control_is = refl }
+pub as_it_is : (t : Strand) → Becomes t t t.environment t.frames t.control
+as_it_is t = record { program = refl; own = refl; below = refl; forks = refl; environment_is = refl; frames_are = refl; control_is = refl }
 
-pub reshaped : (mid t : State) (env env' : List ℕ) (fs fs' : List Frame) (k k' : Control) → Becomes mid t env fs k → env ≡ env' → fs ≡ fs' → k ≡ k' → Becomes mid t env' fs' k'
+pub reshaped : (mid t : Strand) (env env' : List ℕ) (fs fs' : List Frame) (k k' : Control) → Becomes mid t env fs k → env ≡ env' → fs ≡ fs' → k ≡ k' → Becomes mid t env' fs' k'
 reshaped mid t env env' fs fs' k k' b d e f = record {
   program = b.program;
   own = b.own;
   below = b.below;
-  sums = b.sums;
   forks = b.forks;
   environment_is = b.environment_is ∙ d;
   frames_are = b.frames_are ∙ e;
   control_is = b.control_is ∙ f;
 }
 
-pub framed_as : (mid t : State) (env : List ℕ) (fs fs' : List Frame) (k k' : Control) → Becomes mid t env fs k → fs ≡ fs' → k ≡ k' → Becomes mid t env fs' k'
+pub framed_as : (mid t : Strand) (env : List ℕ) (fs fs' : List Frame) (k k' : Control) → Becomes mid t env fs k → fs ≡ fs' → k ≡ k' → Becomes mid t env fs' k'
 framed_as mid t env fs fs' k k' b e f = reshaped mid t env env fs fs' k k' b refl e f
 
 -- what it is to hand on does not matter to what it becomes
-pub as_giving : (t new : State) (v : ℕ) (env : List ℕ) (fs : List Frame) (k : Control) → Becomes t new env fs k → Becomes (giving t v) new env fs k
+pub as_giving : (t new : Strand) (v : ℕ) (env : List ℕ) (fs : List Frame) (k : Control) → Becomes t new env fs k → Becomes (giving t v) new env fs k
 as_giving t new v env fs k b = record {
   program = b.program;
   own = b.own;
   below = b.below;
-  sums = b.sums;
   forks = b.forks;
   environment_is = b.environment_is;
   frames_are = b.frames_are;
@@ -271,12 +386,11 @@ as_giving t new v env fs k b = record {
 }
 
 -- nor does what comes next before
-pub as_beginning : (t new : State) (e : Bor Expr) (env : List ℕ) (fs : List Frame) (k : Control) → Becomes t new env fs k → Becomes (beginning t e) new env fs k
+pub as_beginning : (t new : Strand) (e : Bor Expr) (env : List ℕ) (fs : List Frame) (k : Control) → Becomes t new env fs k → Becomes (beginning t e) new env fs k
 as_beginning t new e env fs k b = record {
   program = b.program;
   own = b.own;
   below = b.below;
-  sums = b.sums;
   forks = b.forks;
   environment_is = b.environment_is;
   frames_are = b.frames_are;
@@ -284,12 +398,11 @@ as_beginning t new e env fs k b = record {
 }
 
 -- it begins this expression next
-pub begins_with : (t new : State) (e : Bor Expr) (env : List ℕ) (fs : List Frame) (k : Control) → Becomes t new env fs k → Becomes t (beginning new e) env fs (Begin e)
+pub begins_with : (t new : Strand) (e : Bor Expr) (env : List ℕ) (fs : List Frame) (k : Control) → Becomes t new env fs k → Becomes t (beginning new e) env fs (Begin e)
 begins_with t new e env fs k b = record {
   program = b.program;
   own = b.own;
   below = b.below;
-  sums = b.sums;
   forks = b.forks;
   environment_is = b.environment_is;
   frames_are = b.frames_are;
@@ -297,16 +410,15 @@ begins_with t new e env fs k b = record {
 }
 
 -- and its control alone is new
-pub given_from : (t : State) (v : ℕ) (k k' : Control) → k ≡ k' → Becomes (giving t v) (record t { control = k }) t.environment.items t.frames.items k'
-given_from t v k k' e = record { program = refl; own = refl; below = refl; sums = refl; forks = refl; environment_is = refl; frames_are = refl; control_is = e }
+pub given_from : (t : Strand) (v : ℕ) (k k' : Control) → k ≡ k' → Becomes (giving t v) (record t { control = k }) t.environment t.frames k'
+given_from t v k k' e = record { program = refl; own = refl; below = refl; forks = refl; environment_is = refl; frames_are = refl; control_is = e }
 
 -- one change after another
-pub later : (mid outer new : State) (env env' : List ℕ) (fs fs' : List Frame) (k k' : Control) → Becomes mid outer env fs k → Becomes outer new env' fs' k' → Becomes mid new env' fs' k'
+pub later : (mid outer new : Strand) (env env' : List ℕ) (fs fs' : List Frame) (k k' : Control) → Becomes mid outer env fs k → Becomes outer new env' fs' k' → Becomes mid new env' fs' k'
 later mid outer new env env' fs fs' k k' b c = record {
   program = c.program ∙ b.program;
   own = c.own ∙ b.own;
   below = c.below ∙ b.below;
-  sums = c.sums ∙ b.sums;
   forks = c.forks ∙ b.forks;
   environment_is = c.environment_is;
   frames_are = c.frames_are;
@@ -314,9 +426,9 @@ later mid outer new env env' fs fs' k k' b c = record {
 }
 
 -- a thread at which nothing is taken apart
-pub alone : (mid t : State) (env : List ℕ) (k : Control) → Becomes mid t env mid.frames.items k → Becomes mid t env (mid.frames.items ++ []) k
-alone mid t env k b = framed_as mid t env mid.frames.items (mid.frames.items ++ []) k k b (sym (append-nil mid.frames.items)) refl
+pub alone : (mid t : Strand) (env : List ℕ) (k : Control) → Becomes mid t env mid.frames k → Becomes mid t env (mid.frames ++ []) k
+alone mid t env k b = framed_as mid t env mid.frames (mid.frames ++ []) k k b (sym (append-nil mid.frames)) refl
 
 -- a thread whose control alone is new
-pub given : (t : State) (k k' : Control) → k ≡ k' → Becomes t (record t { control = k }) t.environment.items t.frames.items k'
-given t k k' e = record { program = refl; own = refl; below = refl; sums = refl; forks = refl; environment_is = refl; frames_are = refl; control_is = e }
+pub given : (t : Strand) (k k' : Control) → k ≡ k' → Becomes t (record t { control = k }) t.environment t.frames k'
+given t k k' e = record { program = refl; own = refl; below = refl; forks = refl; environment_is = refl; frames_are = refl; control_is = e }

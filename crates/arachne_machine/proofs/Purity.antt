@@ -1,18 +1,19 @@
--- What is pure has no effects, and its trace is as many steps as its work.
-use Rattle.std.proofs.Common.{◌≡◌, ℕ, suc, ◌+◌, List, [], ◌∷◌, ◌++◌, Bool, true, false, refl, ap, sym, ◌∙◌, arith}
-use Rattle.std.specs.Prelude.{◌==◌, if◌then◌else◌}
-use Rattle.arachne_lang.specs.Tree.{Tree, Number, Variable, Length, Item, Binary, Choose}
-use Rattle.arachne_lang.specs.Value.{value_of}
+-- What is pure, and what it is worth.
+use Rattle.std.proofs.Common.{◌≡◌, ℕ, suc, ◌+◌, List, [], ◌∷◌, ◌++◌, length, Bool, true, false, refl, ap, sym, ◌∙◌, subst, arith}
+use Rattle.std.specs.Prelude.{◌==◌, if◌then◌else◌, slice_index}
+use Rattle.arachne_lang.specs.declared.program.Operation.{Operation}
+use Rattle.arachne_lang.specs.Tree.{Tree, Number, Variable, Length, Item, Binary, Choose, Bind, Source}
+use Rattle.arachne_lang.specs.Value.{apply, array_at, value_of, with_newest}
 use Rattle.arachne_lang.specs.Effects.{Effects, nothing, ◌⨾◌, effects_of}
-use Rattle.arachne_machine.specs.Pure.{IsLeaf, IsPure}
+use Rattle.arachne_machine.specs.Pure.{IsLeaf, IsPure, IsWorth}
 use Rattle.arachne_machine.specs.Work.{work_of}
 use Rattle.arachne_machine.specs.Trace.{Event, Step, with_steps, trace_of}
 use Rattle.arachne_machine.proofs.Frames.{with_steps-add, with_steps-append}
 
-pub leaf_pure : (t : Tree) → IsLeaf t → IsPure t
-leaf_pure (Number n) leaf = tt
-leaf_pure (Variable k) leaf = tt
-leaf_pure _ leaf = absurd leaf
+pub leaf_pure : (source : Source) (t : Tree) (env : List ℕ) → IsLeaf t → IsPure source t env
+leaf_pure source (Number n) env leaf = record { effects = refl; trace = refl }
+leaf_pure source (Variable k) env leaf = record { effects = refl; trace = refl }
+leaf_pure source _ env leaf = absurd leaf
 
 pub leaf_work : (A : List (List ℕ)) (t : Tree) (env : List ℕ) → IsLeaf t → work_of A t env ≡ 1
 leaf_work A (Number n) env leaf = refl
@@ -22,25 +23,6 @@ leaf_work A _ env leaf = absurd leaf
 both_nothing : (x y : Effects) → x ≡ nothing → y ≡ nothing → x ⨾ y ≡ nothing
 both_nothing x y p q = ap (λ e. e ⨾ y) p ∙ ap (λ e. nothing ⨾ e) q
 
-chosen_nothing : (x y : Effects) (c : Bool) → x ≡ nothing → y ≡ nothing → (if c then x else y) ≡ nothing
-chosen_nothing x y true p q = p
-chosen_nothing x y false p q = q
-
-pub pure_effects : (A : List (List ℕ)) (locks : ℕ) (t : Tree) (env : List ℕ) → IsPure t → effects_of A locks t env ≡ nothing
-pure_effects A locks (Number n) env pure = refl
-pure_effects A locks (Variable k) env pure = refl
-pure_effects A locks (Length a) env pure = refl
-pure_effects A locks (Item a index) env pure = pure_effects A locks index env pure
-pure_effects A locks (Binary operation a b) env pure =
-    both_nothing (effects_of A locks a env) (effects_of A locks b env) (pure_effects A locks a env pure.0) (pure_effects A locks b env pure.1)
-pure_effects A locks (Choose condition first second) env pure =
-    let v = value_of A condition env in
-    let e = effects_of A locks second env in
-    let f = effects_of A locks first env in
-    both_nothing (effects_of A locks condition env) (if v == 0 then e else f) (pure_effects A locks condition env pure.0)
-    (chosen_nothing e f (v == 0) (pure_effects A locks second env pure.2) (pure_effects A locks first env pure.1))
-pure_effects A locks _ env pure = absurd pure
-
 counted : (n : ℕ) → Step ∷ with_steps n [] ≡ with_steps (n + 1) []
 counted n = let e : suc n ≡ n + 1 = omega arith in ap (λ j. with_steps j []) e
 
@@ -49,23 +31,89 @@ steps_both xs ys m n p q =
     ap (λ l. Step ∷ (l ++ ys)) p ∙ ap (λ l. Step ∷ (with_steps m [] ++ l)) q
     ∙ ap (λ l. Step ∷ l) (sym (with_steps-append m [] (with_steps n [])) ∙ sym (with_steps-add m n [])) ∙ counted (m + n)
 
-chosen_steps : (xs ys : List Event) (m n : ℕ) (c : Bool) → xs ≡ with_steps m [] → ys ≡ with_steps n [] → (if c then xs else ys) ≡ with_steps (if c then m else n) []
-chosen_steps xs ys m n true p q = p
-chosen_steps xs ys m n false p q = q
+pub binary_pure : (source : Source) (env : List ℕ) (operation : Operation) (a b : Tree) → IsPure source a env → IsPure source b env →
+    IsPure source (Binary operation a b) env
+binary_pure source env operation a b p q =
+    let A = source.arrays in
+    record {
+      effects = both_nothing (effects_of A source.locks a env) (effects_of A source.locks b env) p.effects q.effects;
+      trace = steps_both (trace_of A a env) (trace_of A b env) (work_of A a env) (work_of A b env) p.trace q.trace;
+    }
 
-pub pure_trace : (A : List (List ℕ)) (t : Tree) (env : List ℕ) → IsPure t → trace_of A t env ≡ with_steps (work_of A t env) []
-pure_trace A (Number n) env pure = refl
-pure_trace A (Variable k) env pure = refl
-pure_trace A (Length a) env pure = refl
-pure_trace A (Item a index) env pure = ap (λ l. Step ∷ l) (pure_trace A index env pure) ∙ counted (work_of A index env)
-pure_trace A (Binary operation a b) env pure =
-    steps_both (trace_of A a env) (trace_of A b env) (work_of A a env) (work_of A b env) (pure_trace A a env pure.0) (pure_trace A b env pure.1)
-pure_trace A (Choose condition first second) env pure =
-    let c = value_of A condition env == 0 in
-    let x = trace_of A second env in
-    let y = trace_of A first env in
-    let m = work_of A second env in
-    let n = work_of A first env in
-    steps_both (trace_of A condition env) (if c then x else y) (work_of A condition env) (if c then m else n) (pure_trace A condition env pure.0)
-    (chosen_steps x y m n c (pure_trace A second env pure.2) (pure_trace A first env pure.1))
-pure_trace A _ env pure = absurd pure
+-- Each form that is worth its value.
+pub worth_number : (source : Source) (env : List ℕ) (n had : ℕ) → IsWorth source (Number n) env n had had
+worth_number source env n had = record { pure = record { effects = refl; trace = refl }; value_is = refl; steps = refl }
+
+pub worth_variable : (source : Source) (env : List ℕ) (n value had : ℕ) → value ≡ slice_index env n → IsWorth source (Variable n) env value had had
+worth_variable source env n value had is = record { pure = record { effects = refl; trace = refl }; value_is = is; steps = refl }
+
+pub worth_length : (source : Source) (env : List ℕ) (n value had : ℕ) → value ≡ length (array_at source.arrays n) → IsWorth source (Length n) env value had had
+worth_length source env n value had is = record { pure = record { effects = refl; trace = refl }; value_is = is; steps = refl }
+
+pub worth_item : (source : Source) (env : List ℕ) (array i value had rest left : ℕ) (index : Tree) → rest + 1 ≡ had → IsWorth source index env i rest left →
+    value ≡ slice_index (array_at source.arrays array) i → IsWorth source (Item array index) env value had left
+worth_item source env array i value had rest left index one w is = record {
+  pure = record {
+    effects = w.pure.effects;
+    trace = ap (λ l. Step ∷ l) w.pure.trace ∙ counted (work_of source.arrays index env);
+  };
+  value_is = is ∙ ap (slice_index (array_at source.arrays array)) w.value_is;
+  steps = omega (arith, w.steps, one);
+}
+
+pub worth_binary : (source : Source) (env env' : List ℕ) (t : Tree) (operation : Operation) (a b : Tree) (x y value had rest mid left : ℕ) →
+    t ≡ Binary operation a b → rest + 2 ≡ had → env' ≡ env → IsWorth source a env x rest mid → IsWorth source b env' y mid left → value ≡ apply operation x y →
+    IsWorth source t env value had left
+worth_binary source env env' t operation a b x y value had rest mid left is_tree two same v w' is =
+    let w = subst (λ e. IsWorth source b e y mid left) same w' in
+    subst (λ u. IsWorth source u env value had left) (sym is_tree) (record {
+      pure = binary_pure source env operation a b v.pure w.pure;
+      value_is = is ∙ ap (λ n. apply operation n y) v.value_is ∙ ap (λ n. apply operation (value_of source.arrays a env) n) w.value_is;
+      steps = omega (arith, v.steps, w.steps, two);
+    })
+
+of_chosen : {X : Type 0} (f : Tree → X) (c : Bool) (s t : Tree) → f (if c then s else t) ≡ (if c then f s else f t)
+of_chosen f true s t = refl
+of_chosen f false s t = refl
+
+-- A choice is worth what its part is worth that is chosen.
+pub worth_choice : (source : Source) (env env' : List ℕ) (t condition first second : Tree) (c : Bool) (x value had rest mid left : ℕ) →
+    t ≡ Choose condition first second → rest + 2 ≡ had → env' ≡ env → IsWorth source condition env x rest mid → (x == 0) ≡ c →
+    IsWorth source (if c then second else first) env' value mid left → IsWorth source t env value had left
+worth_choice source env env' t condition first second c x value had rest mid left is_tree two same v is w' =
+    let w = subst (λ e. IsWorth source (if c then second else first) e value mid left) same w' in
+    let A = source.arrays in
+    let chosen = value_of A condition env == 0 in
+    let e : chosen ≡ c = ap (λ n. n == 0) (sym v.value_is) ∙ is in
+    let work : (if chosen then work_of A second env else work_of A first env) ≡ work_of A (if c then second else first) env =
+    ap (λ b. if b then work_of A second env else work_of A first env) e ∙ sym (of_chosen (λ t. work_of A t env) c second first) in
+    subst (λ u. IsWorth source u env value had left) (sym is_tree) (record {
+      pure = record {
+        effects = both_nothing (effects_of A source.locks condition env) (if chosen then effects_of A source.locks second env else effects_of A source.locks first env)
+            v.pure.effects
+            (ap (λ b. if b then effects_of A source.locks second env else effects_of A source.locks first env) e
+            ∙ sym (of_chosen (λ t. effects_of A source.locks t env) c second first) ∙ w.pure.effects);
+        trace = steps_both (trace_of A condition env) (if chosen then trace_of A second env else trace_of A first env)
+            (work_of A condition env) (if chosen then work_of A second env else work_of A first env) v.pure.trace
+            (ap (λ b. if b then trace_of A second env else trace_of A first env) e ∙ sym (of_chosen (λ t. trace_of A t env) c second first)
+            ∙ w.pure.trace ∙ ap (λ n. with_steps n []) (sym work));
+      };
+      value_is = w.value_is ∙ of_chosen (λ t. value_of A t env) c second first ∙ sym (ap (λ b. if b then value_of A second env else value_of A first env) e);
+      steps = omega (arith, v.steps, w.steps, two, work);
+    })
+
+pub worth_binding : (source : Source) (env env' : List ℕ) (t bound body : Tree) (x value had rest mid left : ℕ) →
+    t ≡ Bind bound body → rest + 2 ≡ had → env' ≡ env → IsWorth source bound env x rest mid → IsWorth source body (with_newest env' x) value mid left →
+    IsWorth source t env value had left
+worth_binding source env env' t bound body x value had rest mid left is_tree two same v w' =
+    let A = source.arrays in
+    let env' = with_newest env (value_of A bound env) in
+    let w = subst (λ n. IsWorth source body (with_newest env n) value mid left) v.value_is (subst (λ e. IsWorth source body (with_newest e x) value mid left) same w') in
+    subst (λ u. IsWorth source u env value had left) (sym is_tree) (record {
+      pure = record {
+        effects = both_nothing (effects_of A source.locks bound env) (effects_of A source.locks body env') v.pure.effects w.pure.effects;
+        trace = steps_both (trace_of A bound env) (trace_of A body env') (work_of A bound env) (work_of A body env') v.pure.trace w.pure.trace;
+      };
+      value_is = w.value_is;
+      steps = omega (arith, v.steps, w.steps, two);
+    })

@@ -1,6 +1,6 @@
 -- A sound thread stays sound, and ends in the outcome of its name.
 use Rattle.std.proofs.Common.{◌≡◌, ◌≤◌, ℕ, ◌+◌, List, [], ◌∷◌, ◌++◌, length, map, Option, None, Some, refl, ap, sym, ◌∙◌, subst, arith, rules, length-append}
-use Rattle.std.specs.Prelude.{option_map, option_and_then, slice_get, IsSome, OnOk, OnErr, Result, Ok, Err}
+use Rattle.std.specs.Prelude.{option_map, option_and_then, slice_get, IsSome}
 use Rattle.std.proofs.lemmas.List.{append-nil, map-append}
 use Rattle.arachne_lang.specs.declared.program.Program.{Program}
 use Rattle.arachne_lang.specs.declared.meaning.Meaning.{Meaning}
@@ -14,42 +14,41 @@ use Rattle.arachne_machine.specs.declared.frame.Control.TheVariants.{Begin, Give
 use Rattle.arachne_machine.specs.declared.pause.Pending.{Pending}
 use Rattle.arachne_machine.specs.declared.pause.Pending.TheVariants as pause
 use Rattle.arachne_machine.specs.Suspended.{own_line_of, SameThread, MakesSteps, Forked, Joined, awaited}
-use Rattle.arachne_machine.specs.declared.state.State.{State}
-use Rattle.arachne_machine.specs.declared.state.Stop.{Stop}
-use Rattle.arachne_machine.specs.declared.state.Stop.TheVariants as stop
-use Rattle.arachne_machine.specs.Lines.{Gains}
+use Rattle.arachne_machine.specs.Strands.{Strand}
+use Rattle.arachne_machine.specs.declared.line.Label.{Label}
 use Rattle.arachne_machine.specs.Outcome.{Finished, named_holds, meaning_as, meaning_in, outcome_of, IsOfItsName}
 use Rattle.arachne_machine.specs.Account.{Account, untouched, after, with_fork, with_join}
-use Rattle.arachne_machine.specs.Ending.{child_task, account_joined, ending, account_at_end, trace_left, unjoined_of, locks_of, resume, resume_account, frames_left, begun, begun_account, fork_awaited, forks_of, lock_freed, releases}
-use Rattle.arachne_machine.specs.Steps.{Goes, GoesWithin, GoesToFork, IsNew, Joins, KeepsOverJoin, Counts, AfterSteps, TakesAll, IsUnchanged, pending_of, suspended}
+use Rattle.arachne_machine.specs.Ending.{child_task, account_joined, ending, account_at_end, work_left, trace_left, unjoined_of, locks_of, forks_here, KeepsForks, resume, resume_account, frames_left, begun, begun_account, fork_awaited, forks_of, lock_freed, releases}
+use Rattle.arachne_machine.specs.Steps.{Goes, GoesWithin, GoesToFork, GivesChild, PlacesChild, AwaitsHere, IsNew, IsNumbered, Joins, KeepsOverJoin, Counts, AfterSteps, IsUnchanged, pending_of, suspended, untagged}
 use Rattle.arachne_lang.specs.Checked.{IsChecked}
 use Rattle.arachne_machine.specs.Faultless.{IsWithoutFault}
 use Rattle.arachne_machine.specs.Sound.{IsSound}
-use Rattle.arachne_machine.specs.Trace.{Event, with_steps}
+use Rattle.arachne_machine.specs.Trace.{Event, At, with_steps}
 use Rattle.arachne_machine.proofs.Accounts.{after-children}
 use Rattle.arachne_machine.proofs.Frames.{with_steps-add}
 use Rattle.arachne_machine.proofs.Names.{task_below-child, slice_get-seam}
-use Rattle.arachne_machine.proofs.Outlooks.{at_of, ending_at, account_at, work_at, at_faultless}
+use Rattle.arachne_machine.proofs.Outlooks.{at_of, ending_at, account_at, work_at, at_faultless, there_keeps}
 use Rattle.arachne_machine.proofs.Splitting.{child_task-found}
-use Rattle.arachne_machine.proofs.Tabulated.{tabulated-same, length-tabulated, added_is}
+use Rattle.arachne_machine.proofs.Tabulated.{tabulated-same}
 
 -- steps after steps
-pub goes_on : (m n k : ℕ) (a b c : State) → Goes m [] a b → Goes n [] b c → k ≡ m + n → Goes k [] a c
+pub goes_on : (m n k : ℕ) (a b c : Strand) → Goes m [] a b → Goes n [] b c → k ≡ m + n → Goes k [] a c
 goes_on m n k a b c p q e = record {
   program = q.program ∙ p.program;
   own = q.own ∙ p.own;
   below = q.below ∙ p.below;
-  sums = q.sums ∙ p.sums;
   forks = q.forks ∙ p.forks;
   unjoined = q.unjoined ∙ p.unjoined;
+  here = q.here ∙ p.here;
   ending = q.ending ∙ p.ending;
   account = λ account. q.account account ∙ p.account account;
   work = omega (arith, p.work, q.work, e);
   trace = ap (λ j. with_steps j (trace_left c)) e ∙ with_steps-add m n (trace_left c) ∙ ap (with_steps m) q.trace ∙ p.trace;
   faultless = λ h. q.faultless (p.faultless h);
+  keeps = λ h. q.keeps (p.keeps h);
 }
 
-pub goes_on_within : (m least most : ℕ) (a b c : State) → Goes m [] a b → GoesWithin least most b c → GoesWithin least (m + most) a c
+pub goes_on_within : (m least most : ℕ) (a b c : Strand) → Goes m [] a b → GoesWithin least most b c → GoesWithin least (m + most) a c
 goes_on_within m least most a b c p q = record {
   made = m + q.made;
   at_least = omega (arith, q.at_least);
@@ -58,29 +57,25 @@ goes_on_within m least most a b c p q = record {
 }
 
 -- no fewer, and no more
-pub within_more : (least most more : ℕ) (a b : State) → GoesWithin least most a b → most ≤ more → GoesWithin least more a b
+pub within_more : (least most more : ℕ) (a b : Strand) → GoesWithin least most a b → most ≤ more → GoesWithin least more a b
 within_more least most more a b w le = record { made = w.made; at_least = w.at_least; at_most = omega (arith, w.at_most, le); goes = w.goes }
 
-forks_after : (m n k : ℕ) (a b c child : State) (made : Child) → Goes m [] a b → locks_of b ≡ locks_of a → GoesToFork n b c child made → m + n ≤ k → GoesToFork k a c child made
-forks_after m n k a b c child made p locks q le =
+forks_after : (m n k handed : ℕ) (answered : List Event) (here : List ℕ) (a b c : Strand) (made : Child) → Goes m [] a b → locks_of b ≡ locks_of a →
+    GoesToFork n handed answered here b c made → m + n ≤ k → GoesToFork k handed answered here a c made
+forks_after m n k handed answered here a b c made p locks q le =
     let source_is = ap (λ g. source_of g.now) p.program in
     let name_is = ap (λ o. o.name) p.own in
     let named : (task_of (source_of a.program.now) (a.own.name ++ a.forks ∷ []) ≡ Some made.task) → task_of (source_of b.program.now) (b.own.name ++ b.forks ∷ []) ≡ Some made.task =
     λ h. ap (λ s. task_of s (b.own.name ++ b.forks ∷ [])) source_is ∙ ap (λ n. task_of (source_of a.program.now) (n ++ b.forks ∷ [])) name_is
     ∙ ap (λ k. task_of (source_of a.program.now) (a.own.name ++ k ∷ [])) p.forks ∙ h in
-    let new1 = subst (λ x. IsNew x (b.own.name ++ b.forks ∷ []) 0 made.task child) (ap (λ g. g.now) p.program) q.fresh in
-    let new2 = subst (λ x. IsNew a.program.now (x ++ b.forks ∷ []) 0 made.task child) name_is new1 in
-    let new3 = subst (λ x. IsNew a.program.now (a.own.name ++ x ∷ []) 0 made.task child) p.forks new2 in
     record {
       program = q.program ∙ p.program;
       own = q.own ∙ p.own;
       below = q.below ∙ p.below;
-      sums = q.sums ∙ p.sums;
       forks = q.forks ∙ ap (λ k. k + 1) p.forks;
       unjoined = q.unjoined ∙ ap (λ k. k ∷ unjoined_of b) p.forks ∙ ap (λ l. a.forks ∷ l) p.unjoined;
+      here_is = q.here_is ∙ ap (λ l. here ++ l) p.here;
       locks = q.locks ∙ locks;
-      pending = q.pending;
-      fresh = new3;
       next_child = λ account. let next = q.next_child account in (next.0, ap (λ x. x.children) (sym (p.account account)) ∙ next.1);
       keeps = λ h. let kept = q.keeps (named h) in record {
         ending = kept.ending ∙ p.ending;
@@ -89,93 +84,147 @@ forks_after m n k a b c child made p locks q le =
         at_least = omega (arith, kept.at_least);
         at_most = omega (arith, kept.at_most, le);
         work = omega (arith, kept.work, p.work);
-        trace = with_steps-add m kept.taken (trace_left c) ∙ ap (with_steps m) kept.trace ∙ p.trace;
+        trace = with_steps-add m kept.taken (answered ++ trace_left c) ∙ ap (with_steps m) kept.trace ∙ p.trace;
         faultless = λ h. kept.faultless (p.faultless h);
+        keeps = λ h. kept.keeps (p.keeps h);
       };
     }
 
--- so it is where the thread stops
-pub goes_then_stops : (m n k : ℕ) (a b c : State) (s : Stop) → Goes m [] a b → locks_of b ≡ locks_of a → AfterSteps n b (Some s) c → m + n ≤ k → AfterSteps k a (Some s) c
-goes_then_stops m n k a b c (stop.Forks class child) p l q le = forks_after m n k a b c child.value _ p l q le
-goes_then_stops m n k a b c stop.Joins p l q le = (within_more 1 (m + n) k a c (goes_on_within m 1 n a b c p q.0) le, q.1, q.2 ∙ l)
-goes_then_stops m n k a b c (stop.Asks lock) p l q le = (within_more 1 (m + n) k a c (goes_on_within m 1 n a b c p q.0) le, q.1, q.2 ∙ ap (λ x. lock ∷ x) l)
-goes_then_stops m n k a b c (stop.Frees lock) p l q le = (within_more 1 (m + n) k a c (goes_on_within m 1 n a b c p q.0) le, q.1, q.2 ∙ l, q.3)
-goes_then_stops m n k a b c (stop.Tallies ledger amount) p l q le = (within_more 1 (m + n) k a c (goes_on_within m 1 n a b c p q.0) le, q.1, q.2 ∙ l)
-goes_then_stops m n k a b c stop.Ended p l q le = (within_more 1 (m + n) k a c (goes_on_within m 1 n a b c p q.0) le, q.1, q.2, q.3 ∙ l, q.4, q.5)
+-- a child that was made then
+pub gives_after : (m n k : ℕ) (a b c child : Strand) (made : Child) → Goes m [] a b → locks_of b ≡ locks_of a → GivesChild n b c child made → m + n ≤ k → GivesChild k a c child made
+gives_after m n k a b c child made p locks q le =
+    let new1 = subst (λ x. IsNew x (b.own.name ++ b.forks ∷ []) untagged made.task child) (ap (λ g. g.now) p.program) q.fresh in
+    let new2 = subst (λ x. IsNew a.program.now (x ++ b.forks ∷ []) untagged made.task child) (ap (λ o. o.name) p.own) new1 in
+    record {
+      forked = forks_after m n k (work_left child) [] [] a b c made p locks q.forked le;
+      pending = q.pending;
+      fresh = subst (λ x. IsNew a.program.now (a.own.name ++ x ∷ []) untagged made.task child) p.forks new2;
+      faultless = λ h. q.faultless (p.faultless h);
+    }
 
--- the steps that were made are those that are not left any more
-pub takes_all : (m had left : ℕ) (a b c : State) (s : Stop) → Goes m [] a b → AfterSteps 1 b (Some s) c → left + (m + 1) ≡ had → TakesAll (Some s) had left a c
-takes_all m had left a b c (stop.Forks class child) p q e = tt
-takes_all m had left a b c stop.Joins p q e = omega (arith, p.work, q.0.goes.work, q.0.at_least, q.0.at_most, e)
-takes_all m had left a b c (stop.Asks lock) p q e = omega (arith, p.work, q.0.goes.work, q.0.at_least, q.0.at_most, e)
-takes_all m had left a b c (stop.Frees lock) p q e = omega (arith, p.work, q.0.goes.work, q.0.at_least, q.0.at_most, e)
-takes_all m had left a b c (stop.Tallies ledger amount) p q e = omega (arith, p.work, q.0.goes.work, q.0.at_least, q.0.at_most, e)
-takes_all m had left a b c stop.Ended p q e = omega (arith, p.work, q.0.goes.work, q.0.at_least, q.0.at_most, e)
+-- or placed
+pub places_after : (m n k : ℕ) (a b c : Strand) (made : Child) → Goes m [] a b → locks_of b ≡ locks_of a → PlacesChild n b c made → m + n ≤ k → PlacesChild k a c made
+places_after m n k a b c made p locks q le = record {
+  forked = subst (λ l. GoesToFork k 0 (At pause.Forks ∷ []) l a c made) (ap (λ x. x ∷ []) p.forks)
+      (forks_after m n k 0 (At pause.Forks ∷ []) (b.forks ∷ []) a b c made p locks q.forked le);
+  pending = q.pending;
+}
+
+-- so it is where the thread stops
+pub goes_then_stops : (m n k : ℕ) (a b c : Strand) (next : Pending) → Goes m [] a b → locks_of b ≡ locks_of a → AfterSteps n b (Some next) c → m + n ≤ k → AfterSteps k a (Some next) c
+goes_then_stops m n k a b c pause.Forks p l q le = q
+goes_then_stops m n k a b c pause.Joins p l q le = (within_more 1 (m + n) k a c (goes_on_within m 1 n a b c p q.0) le, q.1, q.2 ∙ l)
+goes_then_stops m n k a b c (pause.Asks lock) p l q le = (within_more 1 (m + n) k a c (goes_on_within m 1 n a b c p q.0) le, q.1, q.2 ∙ ap (λ x. lock ∷ x) l)
+goes_then_stops m n k a b c (pause.Frees lock) p l q le = (within_more 1 (m + n) k a c (goes_on_within m 1 n a b c p q.0) le, q.1, q.2 ∙ l, q.3)
+goes_then_stops m n k a b c (pause.Tallies ledger amount) p l q le = (within_more 1 (m + n) k a c (goes_on_within m 1 n a b c p q.0) le, q.1, q.2 ∙ l)
+goes_then_stops m n k a b c pause.Ended p l q le = (within_more 1 (m + n) k a c (goes_on_within m 1 n a b c p q.0) le, q.1, q.2, q.3 ∙ l, q.4, q.5)
 
 -- the same, with or without a reason to stop
-pub goes_then_made : (a b c : State) (s : Option Stop) → Goes 0 [] a b → locks_of b ≡ locks_of a → AfterSteps 1 b s c → AfterSteps 1 a s c
+pub goes_then_made : (a b c : Strand) (next : Option Pending) → Goes 0 [] a b → locks_of b ≡ locks_of a → AfterSteps 1 b next c → AfterSteps 1 a next c
 goes_then_made a b c None p l q = (goes_on 0 1 1 a b c p q.0 refl, q.1, q.2 ∙ l)
-goes_then_made a b c (Some s) p l q = goes_then_stops 0 1 1 a b c s p l q (omega arith)
+goes_then_made a b c (Some next) p l q = goes_then_stops 0 1 1 a b c next p l q (omega arith)
 
 -- a new thread of the task of its name is sound
-pub sound_new : (program : Program) (name : List ℕ) (tag : ℕ) (task : Task) (t : State) →
-    IsNew program name tag task t → task_of (source_of program) name ≡ Some task → (IsChecked (source_of program) → IsWithoutFault t) → IsSound t
-sound_new program name tag task t new has faultless =
+pub sound_new : (program : Program) (name : List ℕ) (label : Label) (task : Task) (t : Strand) →
+    IsNew program name label task t → task_of (source_of program) name ≡ Some task → (IsChecked (source_of program) → IsWithoutFault t) → IsSound t untouched
+sound_new program name label task t new has faultless =
     let program_is = sym new.same_program in
     let name_is = sym new.has_name in
     record {
       task = task;
       has_task = subst (λ x. task_of (source_of t.program.now) x ≡ Some task) name_is (subst (λ x. task_of (source_of x) name ≡ Some task) program_is has);
-      account = untouched;
-      sums = subst (λ x. t.sums.items ≡ tabulated (source_of x).ledgers (λ ledger. 0)) program_is new.sums;
-      holds = subst (λ x. t.own.holds.items ≡ tabulated (source_of x).locks (λ lock. 0)) program_is new.holds;
+      holds = subst (λ x. t.own.holds ≡ tabulated (source_of x).locks (λ lock. 0)) program_is new.holds;
       lines = ap (map named_holds) new.below;
       forks = new.forks;
       value = subst (λ x. (ending t).value ≡ task_value (source_of x).arrays task) program_is new.value;
+      environment = new.environment;
       whole = subst (λ x. account_at_end t untouched ≡ after x (task_effects (source_of t.program.now).arrays (source_of t.program.now).locks task) untouched) name_is
           (subst (λ x. account_at_end t untouched ≡ after name (task_effects (source_of x).arrays (source_of x).locks task) untouched) program_is new.account);
       numbered = (omega (arith, new.forks), omega (arith, ap length new.below));
       faultless = λ checked. faultless (subst (λ x. IsChecked (source_of x)) new.same_program checked);
+      keeps = new.keeps;
     }
 
-pub sound_goes : (n : ℕ) (answered : List Event) (old new : State) → IsSound old → Goes n answered old new → IsSound new
-sound_goes n answered old new s g =
-    let program_is = sym (ap (λ x. source_of x.now) g.program) in
-    let own_is = sym g.own in
+-- A thread whose end is the same as that of a sound one, with this account, is sound.
+pub record SameSound (old new : Strand) (account account' : Account) : Type 0 where
+  pub program : source_of new.program.now ≡ source_of old.program.now
+  pub name : new.own.name ≡ old.own.name
+  pub holds : (locks : ℕ) → old.own.holds ≡ tabulated locks account.holds → new.own.holds ≡ tabulated locks account'.holds
+  pub lines : map named_holds old.below ≡ account.lines → map named_holds new.below ≡ account'.lines
+  pub forks : old.forks ≡ length account.children → new.forks ≡ length account'.children
+  pub ending : ending new ≡ ending old
+  pub whole : account_at_end new account' ≡ account_at_end old account
+  pub numbered : IsNumbered old → IsNumbered new
+  pub faultless : IsWithoutFault old → IsWithoutFault new
+  pub keeps : KeepsForks old → KeepsForks new
+
+pub sound_same : (old new : Strand) (account account' : Account) → IsSound old account → SameSound old new account account' → IsSound new account'
+sound_same old new account account' s g =
+    let program_is = sym g.program in
+    let name_is = sym g.name in
     record {
       task = s.task;
-      has_task = subst (λ x. task_of (source_of new.program.now) x.name ≡ Some s.task) own_is (subst (λ x. task_of x old.own.name ≡ Some s.task) program_is s.has_task);
-      account = s.account;
-      sums = g.sums ∙ subst (λ x. old.sums.items ≡ tabulated x.ledgers s.account.sums) program_is s.sums;
-      holds = subst (λ x. x.holds.items ≡ tabulated (source_of new.program.now).locks s.account.holds) own_is (subst (λ x. old.own.holds.items ≡ tabulated x.locks s.account.holds) program_is s.holds);
-      lines = ap (map named_holds) g.below ∙ s.lines;
-      forks = g.forks ∙ s.forks;
+      has_task = subst (λ x. task_of (source_of new.program.now) x ≡ Some s.task) name_is (subst (λ x. task_of x old.own.name ≡ Some s.task) program_is s.has_task);
+      holds = subst (λ x. new.own.holds ≡ tabulated x.locks account'.holds) program_is (g.holds (source_of old.program.now).locks s.holds);
+      lines = g.lines s.lines;
+      forks = g.forks s.forks;
       value = ap (λ x. x.value) g.ending ∙ subst (λ x. (ending old).value ≡ task_value x.arrays s.task) program_is s.value;
-      whole = g.account s.account ∙ subst (λ x. account_at_end old s.account ≡ after x.name (task_effects (source_of new.program.now).arrays (source_of new.program.now).locks s.task) untouched) own_is
-          (subst (λ x. account_at_end old s.account ≡ after old.own.name (task_effects x.arrays x.locks s.task) untouched) program_is s.whole);
-      numbered = (omega (arith, s.numbered.0, g.forks, ap length g.below, ap length g.unjoined), omega (arith, s.numbered.1, ap length g.below));
+      environment = ap (λ x. x.env) g.ending ∙ s.environment;
+      whole = g.whole ∙ subst (λ x. account_at_end old account ≡ after x (task_effects (source_of new.program.now).arrays (source_of new.program.now).locks s.task) untouched) name_is
+          (subst (λ x. account_at_end old account ≡ after old.own.name (task_effects x.arrays x.locks s.task) untouched) program_is s.whole);
+      numbered = g.numbered s.numbered;
       faultless = λ checked. g.faultless (s.faultless (subst IsChecked (sym program_is) checked));
+      keeps = g.keeps s.keeps;
     }
 
+pub sound_goes : (n : ℕ) (answered : List Event) (old new : Strand) (account : Account) → IsSound old account → Goes n answered old new → IsSound new account
+sound_goes n answered old new account s g = sound_same old new account account s (record {
+  program = ap (λ p. source_of p.now) g.program;
+  name = ap (λ o. o.name) g.own;
+  holds = λ locks h. ap (λ o. o.holds) g.own ∙ h;
+  lines = λ h. ap (map named_holds) g.below ∙ h;
+  forks = λ h. g.forks ∙ h;
+  ending = g.ending;
+  whole = g.account account;
+  numbered = λ h. (omega (arith, h.0, g.forks, ap length g.below, ap length g.unjoined), omega (arith, h.1, ap length g.below));
+  faultless = g.faultless;
+  keeps = g.keeps;
+})
+
+-- so is one that awaits a child that runs here
+pub sound_awaits : (number handed : ℕ) (old new : Strand) (account : Account) → IsSound old account → AwaitsHere number handed old new → IsSound new account
+sound_awaits number handed old new account s g = sound_same old new account account s (record {
+  program = ap (λ p. source_of p.now) g.program;
+  name = ap (λ o. o.name) g.own;
+  holds = λ locks h. ap (λ o. o.holds) g.own ∙ h;
+  lines = λ h. ap (map named_holds) g.below ∙ h;
+  forks = λ h. g.forks ∙ h;
+  ending = g.ending;
+  whole = g.account account;
+  numbered = λ h. (omega (arith, h.0, g.forks, ap length g.below, ap length g.unjoined), omega (arith, h.1, ap length g.below));
+  faultless = g.faultless;
+  keeps = g.keeps;
+})
+
 -- the child that a thread forks next is the child of that number of its task
-next_made : (t : State) (s : IsSound t) (made : Child) (rest : List Child) → (account_at_end t s.account).children ≡ s.account.children ++ made ∷ rest →
+next_made : (t : Strand) (account : Account) (s : IsSound t account) (made : Child) (rest : List Child) → (account_at_end t account).children ≡ account.children ++ made ∷ rest →
     slice_get (task_effects (source_of t.program.now).arrays (source_of t.program.now).locks s.task).children t.forks ≡ Some made
-next_made t s made rest e =
+next_made t account s made rest e =
     let source = source_of t.program.now in
     let effects = task_effects source.arrays source.locks s.task in
-    let children : effects.children ≡ s.account.children ++ made ∷ rest =
+    let children : effects.children ≡ account.children ++ made ∷ rest =
     sym (after-children t.own.name effects untouched) ∙ sym (ap (λ a. a.children) s.whole) ∙ e in
-    ap (λ l. slice_get l t.forks) children ∙ ap (λ k. slice_get (s.account.children ++ made ∷ rest) k) s.forks
-    ∙ slice_get-seam s.account.children made rest
+    ap (λ l. slice_get l t.forks) children ∙ ap (λ k. slice_get (account.children ++ made ∷ rest) k) s.forks
+    ∙ slice_get-seam account.children made rest
 
-next_task : (t : State) (s : IsSound t) (made : Child) (rest : List Child) → (account_at_end t s.account).children ≡ s.account.children ++ made ∷ rest →
+next_task : (t : Strand) (account : Account) (s : IsSound t account) (made : Child) (rest : List Child) → (account_at_end t account).children ≡ account.children ++ made ∷ rest →
     task_of (source_of t.program.now) (t.own.name ++ t.forks ∷ []) ≡ Some made.task
-next_task t s made rest e =
+next_task t account s made rest e =
     let source = source_of t.program.now in
     task_below-child source.arrays source.locks (Evaluate source.root []) t.own.name t.forks s.task s.has_task
-    ∙ ap (option_map (λ child. child.task)) (next_made t s made rest e)
+    ∙ ap (option_map (λ child. child.task)) (next_made t account s made rest e)
 
-with_fork-sums : (task : Child) (a : Account) → (with_fork task a).sums ≡ a.sums
+pub with_fork-sums : (task : Child) (a : Account) → (with_fork task a).sums ≡ a.sums
 unfolding with_fork
 with_fork-sums task a = refl
 
@@ -192,35 +241,31 @@ unfolding with_fork
 with_fork-children task a = refl
 
 -- the child that a sound thread forks has its task
-pub fork_has_task : (n : ℕ) (old new child : State) (made : Child) → IsSound old → GoesToFork n old new child made →
-    task_of (source_of old.program.now) (old.own.name ++ old.forks ∷ []) ≡ Some made.task
-fork_has_task n old new child made s g = next_task old s made (g.next_child s.account).0 (g.next_child s.account).1
+pub fork_has_task : (n handed : ℕ) (answered : List Event) (here : List ℕ) (old new : Strand) (made : Child) (account : Account) → IsSound old account →
+    GoesToFork n handed answered here old new made → task_of (source_of old.program.now) (old.own.name ++ old.forks ∷ []) ≡ Some made.task
+fork_has_task n handed answered here old new made account s g = next_task old account s made (g.next_child account).0 (g.next_child account).1
 
-pub sound_child : (n : ℕ) (old new child : State) (made : Child) → IsSound old → GoesToFork n old new child made → IsSound child
-sound_child n old new child made s g =
-    sound_new old.program.now (old.own.name ++ old.forks ∷ []) 0 made.task child g.fresh (fork_has_task n old new child made s g)
-    (λ checked. ((g.keeps (fork_has_task n old new child made s g)).faultless (s.faultless checked)).1)
+pub sound_child : (n : ℕ) (old new child : Strand) (made : Child) (account : Account) → IsSound old account → GivesChild n old new child made → IsSound child untouched
+sound_child n old new child made account s g =
+    sound_new old.program.now (old.own.name ++ old.forks ∷ []) untagged made.task child g.fresh (fork_has_task n (work_left child) [] [] old new made account s g.forked)
+    (λ checked. g.faultless (s.faultless checked))
 
-pub sound_fork : (n : ℕ) (old new child : State) (made : Child) → IsSound old → GoesToFork n old new child made → IsSound new
-sound_fork n old new child made s g =
-    let kept = g.keeps (fork_has_task n old new child made s g) in
-    let program_is = sym (ap (λ x. source_of x.now) g.program) in
-    let own_is = sym g.own in
-    record {
-      task = s.task;
-      has_task = subst (λ x. task_of (source_of new.program.now) x.name ≡ Some s.task) own_is (subst (λ x. task_of x old.own.name ≡ Some s.task) program_is s.has_task);
-      account = with_fork made s.account;
-      sums = g.sums ∙ subst (λ x. old.sums.items ≡ tabulated x.ledgers s.account.sums) program_is s.sums ∙ ap (tabulated (source_of new.program.now).ledgers) (sym (with_fork-sums made s.account));
-      holds = subst (λ x. x.holds.items ≡ tabulated (source_of new.program.now).locks s.account.holds) own_is (subst (λ x. old.own.holds.items ≡ tabulated x.locks s.account.holds) program_is s.holds)
-          ∙ ap (tabulated (source_of new.program.now).locks) (sym (with_fork-holds made s.account));
-      lines = ap (map named_holds) g.below ∙ s.lines ∙ sym (with_fork-lines made s.account);
-      forks = omega (arith, g.forks, s.forks, length-append s.account.children (made ∷ []), ap length (with_fork-children made s.account));
-      value = ap (λ x. x.value) kept.ending ∙ subst (λ x. (ending old).value ≡ task_value x.arrays s.task) program_is s.value;
-      whole = kept.account s.account (sym s.forks) ∙ subst (λ x. account_at_end old s.account ≡ after x.name (task_effects (source_of new.program.now).arrays (source_of new.program.now).locks s.task) untouched) own_is
-          (subst (λ x. account_at_end old s.account ≡ after old.own.name (task_effects x.arrays x.locks s.task) untouched) program_is s.whole);
-      numbered = (omega (arith, s.numbered.0, g.forks, ap length g.below, ap length g.unjoined), omega (arith, s.numbered.1, ap length g.below));
-      faultless = λ checked. (kept.faultless (s.faultless (subst IsChecked (sym program_is) checked))).0;
-    }
+pub sound_fork : (n handed : ℕ) (answered : List Event) (here : List ℕ) (old new : Strand) (made : Child) (account : Account) → IsSound old account →
+    GoesToFork n handed answered here old new made → IsSound new (with_fork made account)
+sound_fork n handed answered here old new made account s g =
+    let kept = g.keeps (fork_has_task n handed answered here old new made account s g) in
+    sound_same old new account (with_fork made account) s (record {
+      program = ap (λ p. source_of p.now) g.program;
+      name = ap (λ o. o.name) g.own;
+      holds = λ locks h. ap (λ o. o.holds) g.own ∙ h ∙ ap (tabulated locks) (sym (with_fork-holds made account));
+      lines = λ h. ap (map named_holds) g.below ∙ h ∙ sym (with_fork-lines made account);
+      forks = λ h. omega (arith, g.forks, h, length-append account.children (made ∷ []), ap length (with_fork-children made account));
+      ending = kept.ending;
+      whole = kept.account account (sym s.forks);
+      numbered = λ h. (omega (arith, h.0, g.forks, ap length g.below, ap length g.unjoined), omega (arith, h.1, ap length g.below));
+      faultless = kept.faultless;
+      keeps = kept.keeps;
+    })
 
 none_some : (m : Meaning) → None ≡ Some m → ⊥
 none_some m h = cc
@@ -229,7 +274,7 @@ same_some : (x y : Meaning) → Some x ≡ Some y → x ≡ y
 same_some x y h = cc
 
 -- what an outcome's name and meaning say of its task
-outcome_task : (source : Source) (name : List ℕ) (m : Meaning) → outcome_of source name ≡ Some m →
+pub outcome_task : (source : Source) (name : List ℕ) (m : Meaning) → outcome_of source name ≡ Some m →
     (t : Task) × (task_of source name ≡ Some t) × (meaning_as source name t ≡ m)
 outcome_task source name m h =
     elim (task_of source name) as (λ o. option_map (meaning_as source name) o ≡ Some m → (t : Task) × (o ≡ Some t) × (meaning_as source name t ≡ m)) [
@@ -237,7 +282,7 @@ outcome_task source name m h =
       | Some t ↦ λ e. (t, refl, same_some (meaning_as source name t) m e)
     ] h
 
-with_join-sums : (locks : ℕ) (name : List ℕ) (n : ℕ) (e : Effects) (a : Account) → (with_join locks name n e a).sums ≡ (λ l. a.sums l + e.sums l)
+pub with_join-sums : (locks : ℕ) (name : List ℕ) (n : ℕ) (e : Effects) (a : Account) → (with_join locks name n e a).sums ≡ (λ l. a.sums l + e.sums l)
 unfolding with_join
 with_join-sums locks name n e a = refl
 
@@ -255,7 +300,7 @@ unfolding with_join
 with_join-lines locks name n e a = refl
 
 -- the outcome is what the awaited child means
-join_means : (old new : State) (outcome : Finished) → IsOfItsName outcome → source_of outcome.program ≡ source_of old.program.now → (j : Joins old outcome new) →
+join_means : (old new : Strand) (outcome : Finished) → IsOfItsName outcome → source_of outcome.program ≡ source_of old.program.now → (j : Joins old outcome new) →
     meaning_as (source_of old.program.now) (old.own.name ++ j.number ∷ []) (child_task (source_of old.program.now) old.own.name j.number) ≡ meaning_in outcome
 join_means old new outcome of_name same_source j =
     let source = source_of old.program.now in
@@ -266,45 +311,52 @@ join_means old new outcome of_name same_source j =
     ap (meaning_as source name) (child_task-found source old.own.name j.number found.0 found.1) ∙ found.2
 
 -- the join keeps what the thread comes to
-pub join_keeps : (old new : State) (outcome : Finished) → IsOfItsName outcome → source_of outcome.program ≡ source_of old.program.now →
+pub join_keeps : (old new : Strand) (outcome : Finished) → IsOfItsName outcome → source_of outcome.program ≡ source_of old.program.now →
     (j : Joins old outcome new) → KeepsOverJoin old new j.number
 join_keeps old new outcome of_name same_source j = j.keeps (sym (ap (λ m. m.value) (join_means old new outcome of_name same_source j)))
 
+-- the account after the join
+abbrev pub joined_account : Strand → ℕ → Account → Account
+joined_account t number account = account_joined (source_of t.program.now) t.own.name number account
+
 -- A sound thread that joins an outcome of the awaited child stays sound.
-pub sound_join : (old new : State) (outcome : Finished) → IsSound old → IsOfItsName outcome → source_of outcome.program ≡ source_of old.program.now →
-    Joins old outcome new → IsSound new
-sound_join old new outcome s of_name same_source j =
+pub sound_join : (old new : Strand) (outcome : Finished) (account : Account) → IsSound old account → IsOfItsName outcome → source_of outcome.program ≡ source_of old.program.now →
+    (j : Joins old outcome new) → IsSound new (joined_account old j.number account)
+sound_join old new outcome account s of_name same_source j =
     let source = source_of old.program.now in
     let name = old.own.name in
     let n = j.number in
     let effects = task_effects source.arrays source.locks (child_task source name n) in
     let means = join_means old new outcome of_name same_source j in
     let kept = join_keeps old new outcome of_name same_source j in
-    let childs : outcome.sums ≡ tabulated source.ledgers effects.sums = sym (ap (λ m. m.totals) means) in
     let lines : map named_holds outcome.lines ≡ line_of source.locks (name ++ n ∷ []) effects ∷ effects.lines (name ++ n ∷ []) 0 = sym (ap (λ m. m.threads) means) in
-    let program_is = sym (ap (λ x. source_of x.now) j.program) in
-    let own_is = sym j.own in
-    let account = with_join source.locks name n effects s.account in
-    record {
-      task = s.task;
-      has_task = subst (λ x. task_of (source_of new.program.now) x.name ≡ Some s.task) own_is (subst (λ x. task_of x name ≡ Some s.task) program_is s.has_task);
-      account = account;
-      sums = subst (λ x. new.sums.items ≡ tabulated x.ledgers account.sums) program_is
-          (j.sums source.ledgers s.account.sums effects.sums s.sums childs ∙ ap (tabulated source.ledgers) (sym (with_join-sums source.locks name n effects s.account)));
-      holds = subst (λ x. x.holds.items ≡ tabulated (source_of new.program.now).locks account.holds) own_is
-          (subst (λ x. old.own.holds.items ≡ tabulated x.locks account.holds) program_is (s.holds ∙ ap (tabulated source.locks) (sym (with_join-holds source.locks name n effects s.account))));
-      lines = ap (map named_holds) j.below.lines_are
-          ∙ map-append named_holds old.below outcome.lines ∙ ap (λ l. l ++ map named_holds outcome.lines) s.lines
-          ∙ ap (λ l. s.account.lines ++ l) lines ∙ sym (with_join-lines source.locks name n effects s.account);
-      forks = j.forks ∙ s.forks ∙ ap length (sym (with_join-children source.locks name n effects s.account));
-      value = ap (λ x. x.value) kept.ending ∙ subst (λ x. (ending old).value ≡ task_value x.arrays s.task) program_is s.value;
-      whole = kept.account s.account ∙ subst (λ x. account_at_end old s.account ≡ after x.name (task_effects (source_of new.program.now).arrays (source_of new.program.now).locks s.task) untouched) own_is
-          (subst (λ x. account_at_end old s.account ≡ after name (task_effects x.arrays x.locks s.task) untouched) program_is s.whole);
-      numbered = (omega (arith, s.numbered.0, j.forks, j.below.more, ap length j.unjoined), j.below.few);
-      faultless = λ checked. kept.faultless (s.faultless (subst IsChecked (sym program_is) checked));
-    }
+    sound_same old new account (with_join source.locks name n effects account) s (record {
+      program = ap (λ p. source_of p.now) j.program;
+      name = ap (λ o. o.name) j.own;
+      holds = λ locks h. ap (λ o. o.holds) j.own ∙ h ∙ ap (tabulated locks) (sym (with_join-holds source.locks name n effects account));
+      lines = λ h. ap (map named_holds) j.below.lines_are
+          ∙ map-append named_holds old.below outcome.lines ∙ ap (λ l. l ++ map named_holds outcome.lines) h
+          ∙ ap (λ l. account.lines ++ l) lines ∙ sym (with_join-lines source.locks name n effects account);
+      forks = λ h. j.forks ∙ h ∙ ap length (sym (with_join-children source.locks name n effects account));
+      ending = kept.ending;
+      whole = kept.account account;
+      numbered = λ h. (omega (arith, h.0, j.forks, j.below.more, ap length j.unjoined), j.below.few);
+      faultless = kept.faultless;
+      keeps = kept.keeps;
+    })
 
-after-sums : (name : List ℕ) (e : Effects) (a : Account) → (after name e a).sums ≡ (λ l. a.sums l + e.sums l)
+-- The sums of the account are raised by those of the child.
+pub join_sums : (old new : Strand) (outcome : Finished) (account : Account) → IsOfItsName outcome → source_of outcome.program ≡ source_of old.program.now → (j : Joins old outcome new) →
+    (childs : ℕ → ℕ) × (outcome.sums ≡ tabulated (source_of old.program.now).ledgers childs) × ((ledger : ℕ) → (joined_account old j.number account).sums ledger ≡ account.sums ledger + childs ledger)
+join_sums old new outcome account of_name same_source j =
+    let source = source_of old.program.now in
+    let effects = task_effects source.arrays source.locks (child_task source old.own.name j.number) in (
+      effects.sums,
+      sym (ap (λ m. m.totals) (join_means old new outcome of_name same_source j)),
+      λ ledger. ap (λ f. f ledger) (with_join-sums source.locks old.own.name j.number effects account),
+    )
+
+pub after-sums : (name : List ℕ) (e : Effects) (a : Account) → (after name e a).sums ≡ (λ l. a.sums l + e.sums l)
 unfolding after
 after-sums name e a = refl
 
@@ -324,117 +376,138 @@ same_meaning v v' t t' l l' p q r =
     let h : List Line → Meaning = λ x. record { value = v'; totals = t'; threads = x } in
     ap f p ∙ ap g q ∙ ap h r
 
--- A sound thread that has ended has the outcome of its name.
-pub sound_end : (t : State) (v : ℕ) → IsSound t → t.control ≡ Ended v →
-    IsOfItsName (record { program = t.program.now; name = t.own.name; value = v; sums = t.sums.items; lines = own_line_of (suspended t) ∷ t.below })
-sound_end t v s ended =
+-- A thread that comes to this value at once, and has no more to do.
+pub record IsOver (t : Strand) (value : ℕ) (account : Account) : Type 0 where
+  pub value_is : (ending t).value ≡ value
+  pub account_is : account_at_end t account ≡ account
+
+-- What such a sound thread brings is what its name means.
+pub over_means : (t : Strand) (v : ℕ) (account : Account) → IsSound t account → IsOver t v account →
+    outcome_of (source_of t.program.now) t.own.name
+    ≡ Some (record { value = v; totals = tabulated (source_of t.program.now).ledgers account.sums; threads = map named_holds (own_line_of (suspended t) ∷ t.below) })
+over_means t v account s over =
     let source = source_of t.program.now in
     let name = t.own.name in
     let effects = task_effects source.arrays source.locks s.task in
-    let value : v ≡ task_value source.arrays s.task =
-    subst (λ k. (resume source name (frames_left k t.frames.items) (begun source name k t.environment.items)).value ≡ task_value source.arrays s.task) ended s.value in
-    let whole : s.account ≡ after name effects untouched =
-    subst (λ k. resume_account source name (frames_left k t.frames.items) (begun source name k t.environment.items) (begun_account source name k t.environment.items s.account)
-    ≡ after name effects untouched) ended s.whole in
-    let sums : t.sums.items ≡ tabulated source.ledgers effects.sums =
-    s.sums ∙ ap (λ a. tabulated source.ledgers a.sums) whole ∙ ap (tabulated source.ledgers) (after-sums name effects untouched)
+    let value : v ≡ task_value source.arrays s.task = sym over.value_is ∙ s.value in
+    let whole : account ≡ after name effects untouched = sym over.account_is ∙ s.whole in
+    let sums : tabulated source.ledgers account.sums ≡ tabulated source.ledgers effects.sums =
+    ap (λ a. tabulated source.ledgers a.sums) whole ∙ ap (tabulated source.ledgers) (after-sums name effects untouched)
     ∙ tabulated-same source.ledgers (λ l. 0 + effects.sums l) effects.sums (λ k. omega arith) in
-    let holds : t.own.holds.items ≡ tabulated source.locks effects.holds =
+    let holds : t.own.holds ≡ tabulated source.locks effects.holds =
     s.holds ∙ ap (λ a. tabulated source.locks a.holds) whole ∙ ap (tabulated source.locks) (after-holds name effects untouched)
     ∙ tabulated-same source.locks (λ l. 0 + effects.holds l) effects.holds (λ k. omega arith) in
     let below : map named_holds t.below ≡ effects.lines name 0 = s.lines ∙ ap (λ a. a.lines) whole ∙ after-lines name effects untouched in
     let line : List ℕ → Line = λ h. record { name = name; holds = h } in
     ap (option_map (meaning_as source name)) s.has_task
-    ∙ ap (λ m. Some m) (same_meaning (task_value source.arrays s.task) v (tabulated source.ledgers effects.sums) t.sums.items
+    ∙ ap (λ m. Some m) (same_meaning (task_value source.arrays s.task) v (tabulated source.ledgers effects.sums) (tabulated source.ledgers account.sums)
     (line_of source.locks name effects ∷ effects.lines name 0) (map named_holds (own_line_of (suspended t) ∷ t.below))
     (sym value) (sym sums)
-    (ap (λ h. line h ∷ effects.lines name 0) (sym holds) ∙ ap (λ l. line t.own.holds.items ∷ l) (sym below)))
+    (ap (λ h. line h ∷ effects.lines name 0) (sym holds) ∙ ap (λ l. line t.own.holds ∷ l) (sym below)))
+
+-- what it has added to each ledger is what its task adds
+pub over_sums : (t : Strand) (v : ℕ) (account : Account) (s : IsSound t account) → IsOver t v account → (ledger : ℕ) →
+    account.sums ledger ≡ (task_effects (source_of t.program.now).arrays (source_of t.program.now).locks s.task).sums ledger
+over_sums t v account s over ledger =
+    let source = source_of t.program.now in
+    let effects = task_effects source.arrays source.locks s.task in
+    ap (λ a. a.sums ledger) (sym over.account_is ∙ s.whole) ∙ ap (λ f. f ledger) (after-sums t.own.name effects untouched) ∙ omega arith
+
+-- A sound thread that has ended has the outcome of its name.
+pub sound_end : (t : Strand) (v : ℕ) (sums : List ℕ) (account : Account) → IsSound t account → t.control ≡ Ended v → sums ≡ tabulated (source_of t.program.now).ledgers account.sums →
+    IsOfItsName (record { program = t.program.now; name = t.own.name; value = v; sums = sums; lines = own_line_of (suspended t) ∷ t.below })
+sound_end t v sums account s ended is =
+    let source = source_of t.program.now in
+    let name = t.own.name in
+    over_means t v account s (record {
+      value_is = ap (λ k. (resume source name (frames_left k t.frames) (begun source name k t.environment)).value) ended;
+      account_is = ap (λ k. resume_account source name (frames_left k t.frames) (begun source name k t.environment) (begun_account source name k t.environment account)) ended;
+    })
+    ∙ ap (λ l. Some (record { value = v; totals = l; threads = map named_holds (own_line_of (suspended t) ∷ t.below) })) (sym is)
 
 -- A sound thread that counts effects of its own stays sound.
-pub sound_counts : (old new : State) (answered : Pending) (effects : Effects) → IsSound old → effects.children ≡ [] → ((name : List ℕ) (next : ℕ) → effects.lines name next ≡ []) → Counts answered effects old new → IsSound new
-sound_counts old new answered effects s no_children no_lines g =
-    let program_is = sym (ap (λ x. source_of x.now) g.program) in
-    let name_is = sym g.name in
+pub sound_counts : (old new : Strand) (answered : Pending) (effects : Effects) (account : Account) → IsSound old account → effects.children ≡ [] → ((name : List ℕ) (next : ℕ) → effects.lines name next ≡ []) →
+    Counts answered effects old new → IsSound new (after old.own.name effects account)
+sound_counts old new answered effects account s no_children no_lines g =
     let name = old.own.name in
-    let account = after name effects s.account in
-    record {
-      task = s.task;
-      has_task = subst (λ x. task_of (source_of new.program.now) x ≡ Some s.task) name_is (subst (λ x. task_of x old.own.name ≡ Some s.task) program_is s.has_task);
-      account = account;
-      sums = subst (λ x. new.sums.items ≡ tabulated x.ledgers account.sums) program_is
-          (g.sums (source_of old.program.now).ledgers s.account.sums s.sums ∙ ap (tabulated (source_of old.program.now).ledgers) (sym (after-sums name effects s.account)));
-      holds = subst (λ x. new.own.holds.items ≡ tabulated x.locks account.holds) program_is
-          (g.holds (source_of old.program.now).locks s.account.holds s.holds ∙ ap (tabulated (source_of old.program.now).locks) (sym (after-holds name effects s.account)));
-      lines = ap (map named_holds) g.below ∙ s.lines ∙ sym (after-lines name effects s.account ∙ ap (λ l. s.account.lines ++ l) (no_lines name (length s.account.children)) ∙ append-nil s.account.lines);
-      forks = g.forks ∙ s.forks ∙ sym (ap length (after-children name effects s.account ∙ ap (λ l. s.account.children ++ l) no_children ∙ append-nil s.account.children));
-      value = ap (λ x. x.value) g.ending ∙ subst (λ x. (ending old).value ≡ task_value x.arrays s.task) program_is s.value;
-      whole = g.account s.account ∙ subst (λ x. account_at_end old s.account ≡ after x (task_effects (source_of new.program.now).arrays (source_of new.program.now).locks s.task) untouched) name_is
-          (subst (λ x. account_at_end old s.account ≡ after old.own.name (task_effects x.arrays x.locks s.task) untouched) program_is s.whole);
-      numbered = (omega (arith, s.numbered.0, g.forks, ap length g.below, ap length g.unjoined), omega (arith, s.numbered.1, ap length g.below));
-      faultless = λ checked. g.faultless (s.faultless (subst IsChecked (sym program_is) checked));
-    }
+    sound_same old new account (after name effects account) s (record {
+      program = ap (λ p. source_of p.now) g.program;
+      name = g.name;
+      holds = λ locks h. g.holds locks account.holds h ∙ ap (tabulated locks) (sym (after-holds name effects account));
+      lines = λ h. ap (map named_holds) g.below ∙ h ∙ sym (after-lines name effects account ∙ ap (λ l. account.lines ++ l) (no_lines name (length account.children)) ∙ append-nil account.lines);
+      forks = λ h. g.forks ∙ h ∙ sym (ap length (after-children name effects account ∙ ap (λ l. account.children ++ l) no_children ∙ append-nil account.children));
+      ending = g.ending;
+      whole = g.account account;
+      numbered = λ h. (omega (arith, h.0, g.forks, ap length g.below, ap length g.unjoined), omega (arith, h.1, ap length g.below));
+      faultless = g.faultless;
+      keeps = g.keeps;
+    })
 
-pub counted_seen : (old new : State) (answered : Pending) (effects : Effects) → Counts answered effects old new → SameThread (suspended old) (suspended new)
+pub counted_seen : (old new : Strand) (answered : Pending) (effects : Effects) → Counts answered effects old new → SameThread (suspended old) (suspended new)
 counted_seen old new answered effects g = record {
   program = ap (λ p. p.now) g.program;
   name = g.name;
   label = g.label;
   forks = g.forks;
   unjoined = g.unjoined;
+  here = g.here;
   below = g.below;
 }
 
 -- What callers see of these steps.
-pub same_thread : (n : ℕ) (old new : State) → Goes n [] old new → SameThread (suspended old) (suspended new)
+pub same_thread : (n : ℕ) (old new : Strand) → Goes n [] old new → SameThread (suspended old) (suspended new)
 same_thread n old new g = record {
   program = ap (λ p. p.now) g.program;
   name = ap (λ o. o.name) g.own;
   label = ap (λ o. o.label) g.own;
   forks = g.forks;
   unjoined = g.unjoined;
+  here = g.here;
   below = g.below;
 }
 
-pub within_seen : (least most : ℕ) (old new : State) → GoesWithin least most old new → MakesSteps least most (suspended old) (suspended new)
+pub within_seen : (least most : ℕ) (old new : Strand) → GoesWithin least most old new → MakesSteps least most (suspended old) (suspended new)
 within_seen least most old new w = record { made = w.made; at_least = w.at_least; at_most = w.at_most; work = w.goes.work; trace = sym w.goes.trace }
 
 -- the child that it forks is the one that the program has there
-child_made : (old new child : State) (n : ℕ) (made : Child) (s : IsSound old) → GoesToFork n old new child made →
-    child_of (source_of old.program.now) old.own.name old.forks ≡ Some made
-child_made old new child n made s g =
+child_made : (n handed : ℕ) (answered : List Event) (here : List ℕ) (old new : Strand) (made : Child) (account : Account) → IsSound old account →
+    GoesToFork n handed answered here old new made → child_of (source_of old.program.now) old.own.name old.forks ≡ Some made
+child_made n handed answered here old new made account s g =
     let source = source_of old.program.now in
     let forks : Task → Option Child = λ task. slice_get (task_effects source.arrays source.locks task).children old.forks in
-    ap (option_and_then forks) s.has_task ∙ next_made old s made (g.next_child s.account).0 (g.next_child s.account).1
+    ap (option_and_then forks) s.has_task ∙ next_made old account s made (g.next_child account).0 (g.next_child account).1
 
-pub forked_seen : (n : ℕ) (old new child : State) (made : Child) → IsSound old → GoesToFork n old new child made →
+pub forked_seen : (n : ℕ) (old new child : Strand) (made : Child) (account : Account) → IsSound old account → GivesChild n old new child made →
     Forked n made.class (suspended old) (suspended new) (suspended child)
-forked_seen n old new child made s g =
-    let kept = g.keeps (fork_has_task n old new child made s g) in
+forked_seen n old new child made account s given =
+    let g = given.forked in
+    let kept = g.keeps (fork_has_task n (work_left child) [] [] old new made account s g) in
     record {
       program = ap (λ p. p.now) g.program;
       name = ap (λ o. o.name) g.own;
       label = ap (λ o. o.label) g.own;
       forks = g.forks;
       unjoined = g.unjoined;
+      here = g.here_is;
       locks = g.locks;
       below = g.below;
-      pending = g.pending;
+      pending = given.pending;
       fresh = record {
-        same_program = g.fresh.same_program;
-        has_name = g.fresh.has_name;
-        has_label = g.fresh.has_label;
-        no_forks = g.fresh.forks;
-        none_unjoined = g.fresh.unjoined;
-        no_sums = g.fresh.sums;
-        no_holds = g.fresh.holds;
-        no_locks = g.fresh.locks;
-        none_below = g.fresh.below;
-        not_paused = g.fresh.pending;
+        same_program = given.fresh.same_program;
+        has_name = given.fresh.has_name;
+        has_label = given.fresh.has_label;
+        no_forks = given.fresh.forks;
+        none_unjoined = given.fresh.unjoined;
+        none_here = given.fresh.here;
+        no_holds = given.fresh.holds;
+        no_locks = given.fresh.locks;
+        none_below = given.fresh.below;
+        not_paused = given.fresh.pending;
       };
       task = made.task;
-      is_child = child_made old new child n made s g;
-      childs_work = g.fresh.work;
-      childs_trace = g.fresh.trace;
+      is_child = child_made n (work_left child) [] [] old new made account s g;
+      childs_work = given.fresh.work;
+      childs_trace = given.fresh.trace;
       made = kept.taken;
       at_least = kept.at_least;
       at_most = kept.at_most;
@@ -469,17 +542,12 @@ awaits_some (Frees lock value) name frames h = absurd (not_another (pause.Frees 
 awaits_some (Tallies ledger amount body) name frames h = absurd (not_another (pause.Tallies ledger amount) IsJoins tt (λ x. x) h)
 awaits_some (Ended value) name frames h = absurd (not_another pause.Ended IsJoins tt (λ x. x) h)
 
-pub stopped_seen : (t : State) → pending_of t.control ≡ Some pause.Joins → IsSome (awaited (suspended t))
-stopped_seen t h = awaits_some t.control t.own.name (forks_of t.frames.items) h
+pub stopped_seen : (t : Strand) → pending_of t.control ≡ Some pause.Joins → IsSome (awaited (suspended t))
+stopped_seen t h = awaits_some t.control t.own.name (forks_of t.frames) h
 
-pub joined_seen : (old new : State) (outcome : Finished) → IsSound old → IsOfItsName outcome → source_of outcome.program ≡ source_of old.program.now →
+pub joined_seen : (old new : Strand) (outcome : Finished) → IsOfItsName outcome → source_of outcome.program ≡ source_of old.program.now →
     Joins old outcome new → Joined (suspended old) outcome (suspended new)
-joined_seen old new outcome s of_name same_source j =
-    let source = source_of outcome.program in
-    let found = outcome_task source outcome.name (meaning_in outcome) of_name in
-    let effects = task_effects source.arrays source.locks found.0 in
-    let childs = sym (ap (λ m. m.totals) found.2) ∙ ap (λ x. tabulated x.ledgers effects.sums) same_source in
-    let n = (source_of old.program.now).ledgers in
+joined_seen old new outcome of_name same_source j =
     record {
       of_child = ap (λ l. option_map (λ k. old.own.name ++ k ∷ []) (slice_get l 0)) j.unjoined ∙ ap (λ n. Some n) (sym j.name);
       program = ap (λ p. p.now) j.program;
@@ -487,89 +555,43 @@ joined_seen old new outcome s of_name same_source j =
       label = ap (λ o. o.label) j.own;
       forks = j.forks;
       unjoined = (j.number, j.unjoined);
+      here = j.here;
       locks = j.locks;
-      sums = added_is n s.account.sums effects.sums _ _ _ s.sums childs (j.sums n s.account.sums effects.sums s.sums childs);
-      holds = ap (λ o. o.holds.items) j.own;
+      holds = ap (λ o. o.holds) j.own;
       below = j.below.lines_are;
       pending = j.pending;
       work = (join_keeps old new outcome of_name same_source j).work;
       trace = sym (join_keeps old new outcome of_name same_source j).trace;
     }
 
--- both sums have an item for each ledger
-pub same_length : (t : State) (outcome : Finished) → IsSound t → IsOfItsName outcome → source_of outcome.program ≡ source_of t.program.now →
-    length outcome.sums ≡ length t.sums.items
-same_length t outcome s of_name same_source =
-    let source = source_of outcome.program in
-    let found = outcome_task source outcome.name (meaning_in outcome) of_name in
-    let effects = task_effects source.arrays source.locks found.0 in
-    sym (ap (λ m. length m.totals) found.2) ∙ length-tabulated source.ledgers effects.sums ∙ ap (λ x. x.ledgers) same_source
-    ∙ sym (length-tabulated (source_of t.program.now).ledgers s.account.sums) ∙ sym (ap length s.sums)
-
 -- a thread in which nothing has changed but room looks the same
-pub unchanged_seen : (old new : State) → IsUnchanged old new → suspended new ≡ suspended old
+pub unchanged_seen : (old new : Strand) → IsUnchanged old new → suspended new ≡ suspended old
 unchanged_seen old new u = cc
 
 -- and has made no step
-pub goes_nowhere : (old new : State) → IsUnchanged old new → Goes 0 [] old new
+pub goes_nowhere : (old new : Strand) → IsUnchanged old new → Goes 0 [] old new
 goes_nowhere old new u =
     let source = source_of old.program.now in
     let name = old.own.name in
     let k = old.control in
-    let fs = old.frames.items in
-    let env = old.environment.items in
+    let fs = old.frames in
+    let env = old.environment in
     let at = at_of old new k fs env u in
     record {
       program = u.program;
       own = u.own;
       below = u.below;
-      sums = u.sums;
       forks = u.forks;
-      unjoined = ap (λ x. fork_awaited x ++ forks_of new.frames.items) u.control_is ∙ ap (λ x. fork_awaited k ++ forks_of x) u.frames_are;
+      unjoined = ap (λ x. fork_awaited x ++ forks_of new.frames) u.control_is ∙ ap (λ x. fork_awaited k ++ forks_of x) u.frames_are;
+      here = ap forks_here u.frames_are;
       ending = ending_at source name k fs env new at;
       account = λ a. account_at source name k fs env new a at;
       work = omega (arith, work_at source name k fs env new at);
       trace = ap (λ t. t.trace) (unchanged_seen old new u);
       faultless = at_faultless source name k fs env new at;
+      keeps = there_keeps source name k fs env new at;
     }
 
 -- nor have its locks
-pub locks_unchanged : (old new : State) → IsUnchanged old new → locks_of new ≡ locks_of old
-locks_unchanged old new u = ap (λ x. lock_freed x ++ releases new.frames.items) u.control_is ∙ ap (λ x. lock_freed old.control ++ releases x) u.frames_are
-
--- a join after room was made
-pub joins_after : (a b c : State) (outcome : Finished) → IsUnchanged a b → Joins b outcome c → Joins a outcome c
-joins_after a b c outcome u j =
-    let g = goes_nowhere a b u in
-    let source_is = ap (λ p. source_of p.now) u.program in
-    let name_is = ap (λ o. o.name) u.own in
-    record {
-      program = j.program ∙ u.program;
-      own = j.own ∙ u.own;
-      forks = j.forks ∙ u.forks;
-      pending = j.pending;
-      number = j.number;
-      name = j.name ∙ ap (λ n. n ++ j.number ∷ []) name_is;
-      unjoined = sym g.unjoined ∙ j.unjoined;
-      locks = j.locks ∙ locks_unchanged a b u;
-      below = subst (λ b. Gains b outcome.lines c.below) u.below j.below;
-      sums = λ n own childs e f. j.sums n own childs (u.sums ∙ e) f;
-      keeps = λ h.
-          let value : outcome.value ≡ task_value (source_of b.program.now).arrays (child_task (source_of b.program.now) b.own.name j.number) =
-          h ∙ ap (λ s. task_value s.arrays (child_task s a.own.name j.number)) (sym source_is) ∙ ap (λ n. task_value (source_of b.program.now).arrays (child_task (source_of b.program.now) n j.number)) (sym name_is) in
-          let k = j.keeps value in
-          record {
-            ending = k.ending ∙ g.ending;
-            account = λ account. ap (λ s. account_at_end c (account_joined s a.own.name j.number account)) (sym source_is)
-                ∙ ap (λ n. account_at_end c (account_joined (source_of b.program.now) n j.number account)) (sym name_is) ∙ k.account account ∙ g.account account;
-            work = omega (arith, k.work, g.work);
-            trace = k.trace ∙ g.trace;
-            faultless = λ f. k.faultless (g.faultless f);
-          };
-    }
-
--- the join of the outcome of a child, or none
-pub sound_joined : {E : Type 0} (r : Result (Unit {0}) E) (old new : State) (outcome : Finished) → IsSound old → IsOfItsName outcome → source_of outcome.program ≡ source_of old.program.now →
-    OnOk r (Joins old outcome new) → OnErr r (IsUnchanged old new) → IsSound new
-sound_joined (Ok done) old new outcome s of_name same_source j u = sound_join old new outcome s of_name same_source j
-sound_joined (Err e) old new outcome s of_name same_source j u = sound_goes 0 [] old new s (goes_nowhere old new u)
+pub locks_unchanged : (old new : Strand) → IsUnchanged old new → locks_of new ≡ locks_of old
+locks_unchanged old new u = ap (λ x. lock_freed x ++ releases new.frames) u.control_is ∙ ap (λ x. lock_freed old.control ++ releases x) u.frames_are

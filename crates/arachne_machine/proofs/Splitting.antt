@@ -13,24 +13,24 @@ use Rattle.arachne_lang.specs.Effects.{Task, Evaluate, Reduce, Child, forked, ha
 use Rattle.arachne_lang.specs.Meaning.{task_of}
 use Rattle.arachne_machine.specs.declared.frame.Stretch.{Stretch}
 use Rattle.arachne_machine.specs.declared.frame.Frame.{Frame}
-use Rattle.arachne_machine.specs.declared.frame.Frame.TheVariants.{Join, Merge}
+use Rattle.arachne_machine.specs.declared.frame.Frame.TheVariants.{Join, Merge, JoinHere, MergeHere}
 use Rattle.arachne_machine.specs.declared.frame.Control.{Control}
 use Rattle.arachne_machine.specs.declared.frame.Control.TheVariants.{Begin, Cover, Forked, Halved}
 use Rattle.arachne_machine.specs.declared.pause.Pending.TheVariants as pause
-use Rattle.arachne_machine.specs.declared.state.State.{State}
+use Rattle.arachne_machine.specs.Strands.{Strand}
 use Rattle.arachne_machine.specs.Account.{Account, after, with_fork, with_join}
 use Rattle.arachne_machine.specs.Work.{work_of, task_work}
-use Rattle.arachne_machine.specs.Trace.{Step, At, trace_of, task_trace}
-use Rattle.arachne_machine.specs.Ending.{child_task, stretch_task, resume_account, begun, begun_account, fork_awaited, lock_freed, forks_of, releases, frames_left}
+use Rattle.arachne_machine.specs.Trace.{Event, Step, At, trace_of, task_trace}
+use Rattle.arachne_machine.specs.Ending.{child_task, stretch_task, resume_account, begun, begun_account, fork_awaited, lock_freed, forks_of, forks_here, releases, frames_left, work_left}
 use Rattle.arachne_lang.specs.Checked.{node_faults}
 use Rattle.arachne_lang.specs.declared.check_fault.CheckFault.TheVariants as fault
 use Rattle.arachne_machine.specs.Faultless.{IsFaultless, IsFaultlessNext, held_by}
-use Rattle.arachne_machine.specs.Steps.{PushesFork, GoesToFork, beginning, task_begun, pending_of}
+use Rattle.arachne_machine.specs.Steps.{PushesFork, SpawnsChild, GoesToFork, GivesChild, PlacesChild, task_begun, pending_of}
 use Rattle.arachne_machine.proofs.Accounts.{after-sequence, after-forked, after-children}
 use Rattle.arachne_machine.proofs.Frames.{Grows-frames}
 use Rattle.arachne_machine.proofs.Halves.{value_split, effects_split, work_split, trace_split}
 use Rattle.arachne_machine.proofs.Faultlessness.{no_faults-append, within_none}
-use Rattle.arachne_machine.proofs.Outlooks.{SameOutlook, IsAt, account_at, faultless_at, unjoined_at, locks_at, same_end}
+use Rattle.arachne_machine.proofs.Outlooks.{KeepsTop, SameOutlook, IsAt, account_at, faultless_at, unjoined_at, here_at, locks_at, same_end}
 
 -- the task of a child that is there
 pub child_task-found : (source : Source) (name : List ℕ) (n : ℕ) (task : Task) → task_of source (name ++ n ∷ []) ≡ Some task → child_task source name n ≡ task
@@ -41,8 +41,9 @@ child_task-found source name n task h = ap (λ o. unwrap_or o (Evaluate (Number 
 abbrev pub HasForked : ℕ → Account → Type 0
 HasForked n a = length a.children ≡ n
 
-abbrev pub ForkOutlook : Source → List ℕ → ℕ → Child → Control → List ℕ → Control → Frame → Type 0
-ForkOutlook source name n made k env k' f = SameOutlook 1 (task_work source.arrays made.task) [] (HasForked n) (with_fork made) source name k [] env k' (f ∷ []) env
+-- The child's steps are another state's, and the fork is a pause; or they are this one's, and it is none.
+abbrev pub ForkOutlook : Source → List ℕ → ℕ → ℕ → List Event → Child → Control → List ℕ → Control → Frame → Type 0
+ForkOutlook source name n handed answered made k env k' f = SameOutlook 1 handed answered (HasForked n) (with_fork made) source name k [] env k' (f ∷ []) env
 
 -- This is the next of the children that are still to come.
 abbrev pub ForksNext : Source → List ℕ → Child → Control → List ℕ → Type 0
@@ -52,19 +53,20 @@ ForksNext source name made k env = (a : Account) → (rest : List Child) × ((be
 abbrev pub made_as : Class → Control → List ℕ → Child
 made_as class begins env = record { class = class; task = task_begun begins env }
 
-pub forks_by : (class : Class) (old new child : State) (begins k k' : Control) (f : Frame) → old.control ≡ k → PushesFork old new child begins f k' →
+pub forks_by : (class : Class) (handed : ℕ) (answered : List Event) (old new : Strand) (begins k k' : Control) (f : Frame) → old.control ≡ k → PushesFork old new f k' →
     ((fs : List Frame) → frames_left k fs ≡ fs) → ((fs : List Frame) → frames_left k' fs ≡ fs) →
-    fork_awaited k' ++ forks_of (f ∷ []) ≡ old.forks ∷ (fork_awaited k ++ []) → lock_freed k' ++ releases (f ∷ []) ≡ lock_freed k ++ [] → pending_of k' ≡ Some pause.Forks →
-    ((held : Bool) → IsFaultlessNext (source_of old.program.now) held k → IsFaultlessNext (source_of old.program.now) false begins) →
-    ForksNext (source_of old.program.now) old.own.name (made_as class begins old.environment.items) k old.environment.items →
-    (child_task (source_of old.program.now) old.own.name old.forks ≡ task_begun begins old.environment.items →
-    ForkOutlook (source_of old.program.now) old.own.name old.forks (made_as class begins old.environment.items) k old.environment.items k' f) →
-    GoesToFork 1 old new child (made_as class child.control child.environment.items)
-forks_by class old new child begins k k' f is_k pushed left left' forks locks pending childs next outlook =
+    fork_awaited k' ++ forks_of (f ∷ []) ≡ old.forks ∷ (fork_awaited k ++ []) → lock_freed k' ++ releases (f ∷ []) ≡ lock_freed k ++ [] →
+    (task_of (source_of old.program.now) (old.own.name ++ old.forks ∷ []) ≡ Some (task_begun begins old.environment) →
+    KeepsTop (source_of old.program.now) old.own.name k' (f ∷ []) old.environment) →
+    ForksNext (source_of old.program.now) old.own.name (made_as class begins old.environment) k old.environment →
+    (child_task (source_of old.program.now) old.own.name old.forks ≡ task_begun begins old.environment →
+    ForkOutlook (source_of old.program.now) old.own.name old.forks handed answered (made_as class begins old.environment) k old.environment k' f) →
+    GoesToFork 1 handed answered (forks_here (f ∷ [])) old new (made_as class begins old.environment)
+forks_by class handed answered old new begins k k' f is_k pushed left left' forks locks keep next outlook =
     let source = source_of old.program.now in
     let name = old.own.name in
-    let fs = old.frames.items in
-    let env = old.environment.items in
+    let fs = old.frames in
+    let env = old.environment in
     let n = old.forks in
     let task = task_begun begins env in
     let made = made_as class begins env in
@@ -76,17 +78,14 @@ forks_by class old new child begins k k' f is_k pushed left left' forks locks pe
       frames_are = pushed.frames;
       environment_is = pushed.environment;
     } in
-    subst (λ t. GoesToFork 1 old new child (record { class = class; task = t })) (sym pushed.begun)
-    (record {
+    record {
       program = pushed.program;
       own = pushed.own;
       below = pushed.below;
-      sums = pushed.sums;
       forks = pushed.forks;
       unjoined = unjoined_at source name k' fs (f ∷ []) env new at' ∙ ap (λ l. l ++ forks_of fs) forks ∙ ap (λ l. n ∷ l) (sym (unjoined_at source name k fs [] env old at));
+      here_is = here_at source name k' fs (f ∷ []) env new at';
       locks = locks_at source name k' fs (f ∷ []) env new at' ∙ ap (λ l. l ++ releases fs) locks ∙ sym (locks_at source name k fs [] env old at);
-      pending = ap pending_of pushed.control_is ∙ pending;
-      fresh = pushed.fresh;
       next_child = λ a.
           let s = begun source name k env in
           let b = begun_account source name k env a in
@@ -97,21 +96,50 @@ forks_by class old new child begins k k' f is_k pushed left left' forks locks pe
                 ∙ grown.is ∙ ap (λ l. l ++ grown.more) one.1 ∙ append_assoc a.children (made ∷ one.0) grown.more,
           );
       keeps = λ has.
-          let end = same_end 1 (task_work source.arrays task) [] (HasForked n) (with_fork made) source name k k' fs [] (f ∷ []) env env old new at at' (left (fs ++ [])) (left' (fs ++ f ∷ []))
-          (outlook (child_task-found source name n task has)) in
+          let end = same_end 1 handed answered (HasForked n) (with_fork made) source name k k' fs [] (f ∷ []) env env old new at at' (left (fs ++ [])) (left' (fs ++ f ∷ []))
+          (λ h. keep has) (outlook (child_task-found source name n task has)) in
           record {
             ending = end.ending;
             account = end.account;
             taken = 1;
             at_least = omega arith;
             at_most = omega arith;
-            work = omega (arith, end.work, pushed.fresh.work);
+            work = omega (arith, end.work);
             trace = end.trace;
-            faultless = λ h. (
-              end.faultless h,
-              pushed.faultless (childs (held_by false (fs ++ [])) (faultless_at source name k (fs ++ []) env old at h).1),
-            );
+            faultless = end.faultless;
+            keeps = end.keeps;
           };
+    }
+
+-- A child that was made in a state of its own.
+pub gives_by : (class : Class) (old new child : Strand) (begins k k' : Control) (f : Frame) → old.control ≡ k → SpawnsChild old new child begins f k' →
+    ((fs : List Frame) → frames_left k fs ≡ fs) → ((fs : List Frame) → frames_left k' fs ≡ fs) →
+    fork_awaited k' ++ forks_of (f ∷ []) ≡ old.forks ∷ (fork_awaited k ++ []) → forks_here (f ∷ []) ≡ [] → lock_freed k' ++ releases (f ∷ []) ≡ lock_freed k ++ [] →
+    pending_of k' ≡ Some pause.Forks →
+    ((held : Bool) → IsFaultlessNext (source_of old.program.now) held k → IsFaultlessNext (source_of old.program.now) false begins) →
+    (task_of (source_of old.program.now) (old.own.name ++ old.forks ∷ []) ≡ Some (task_begun begins old.environment) →
+    KeepsTop (source_of old.program.now) old.own.name k' (f ∷ []) old.environment) →
+    ForksNext (source_of old.program.now) old.own.name (made_as class begins old.environment) k old.environment →
+    (child_task (source_of old.program.now) old.own.name old.forks ≡ task_begun begins old.environment →
+    ForkOutlook (source_of old.program.now) old.own.name old.forks (task_work (source_of old.program.now).arrays (task_begun begins old.environment)) []
+    (made_as class begins old.environment) k old.environment k' f) →
+    GivesChild 1 old new child (made_as class child.control child.environment)
+gives_by class old new child begins k k' f is_k spawned left left' forks here locks pending childs keep next outlook =
+    let source = source_of old.program.now in
+    let name = old.own.name in
+    let fs = old.frames in
+    let env = old.environment in
+    let task = task_begun begins env in
+    let at : IsAt source name k (fs ++ []) env old = record { source_is = refl; name_is = refl; control_is = is_k; frames_are = sym (append-nil fs); environment_is = refl } in
+    let forked = forks_by class (task_work source.arrays task) [] old new begins k k' f is_k spawned.pushed left left' forks locks keep next outlook in
+    let counted = subst (λ w. GoesToFork 1 w [] (forks_here (f ∷ [])) old new (made_as class begins env)) (sym spawned.fresh.work) forked in
+    let elsewhere = subst (λ l. GoesToFork 1 (work_left child) [] l old new (made_as class begins env)) here counted in
+    subst (λ t. GivesChild 1 old new child (record { class = class; task = t })) (sym spawned.begun)
+    (record {
+      forked = elsewhere;
+      pending = ap pending_of spawned.pushed.control_is ∙ pending;
+      fresh = spawned.fresh;
+      faultless = λ h. spawned.faultless (childs (held_by false (fs ++ [])) (faultless_at source name k (fs ++ []) env old at h).1);
     })
 
 -- the parts of a fork that has no fault
@@ -128,7 +156,7 @@ fork_parts source held child during next class h =
 -- The fork of an expression.
 fork_outlook : (source : Source) (name env : List ℕ) (n : ℕ) (expr child during next : Bor Expr) (class : Class) → tree_of expr.now ≡ Fork class (tree_of child.now) (tree_of during.now) (tree_of next.now) →
     child_task source name n ≡ Evaluate (tree_of child.now) env →
-    ForkOutlook source name n (record { class = class; task = Evaluate (tree_of child.now) env }) (Begin expr) env (Forked during) (Join n next)
+    ForkOutlook source name n (work_of source.arrays (tree_of child.now) env) [] (record { class = class; task = Evaluate (tree_of child.now) env }) (Begin expr) env (Forked during) (Join n next)
 fork_outlook source name env n expr child during next class h found =
     let A = source.arrays in
     let L = source.locks in
@@ -159,52 +187,75 @@ fork_outlook source name env n expr child during next class h found =
           (((parts.0, parts.3), tt), (parts.0, parts.2));
     }
 
--- what comes next before a fork does not matter to it
-pub pushed_from : (old new child : State) (expr : Bor Expr) (begins : Control) (frame : Frame) (control : Control) → PushesFork old new child begins frame control →
-    PushesFork (beginning old expr) new child begins frame control
-pushed_from old new child expr begins frame control p = record {
-  program = p.program;
-  own = p.own;
-  below = p.below;
-  sums = p.sums;
-  forks = p.forks;
-  environment = p.environment;
-  frames = p.frames;
-  control_is = p.control_is;
-  fresh = p.fresh;
-  begun = p.begun;
-  faultless = p.faultless;
-}
+-- The child of one that is no pause stays here.
+fork_here_outlook : (source : Source) (name env : List ℕ) (n : ℕ) (expr child during next : Bor Expr) (class : Class) →
+    tree_of expr.now ≡ Fork class (tree_of child.now) (tree_of during.now) (tree_of next.now) → child_task source name n ≡ Evaluate (tree_of child.now) env →
+    ForkOutlook source name n 0 (At pause.Forks ∷ []) (record { class = class; task = Evaluate (tree_of child.now) env }) (Begin expr) env (Begin during) (JoinHere n child next)
+fork_here_outlook source name env n expr child during next class h found =
+    let given = fork_outlook source name env n expr child during next class h found in
+    record {
+      ending = given.ending;
+      account = given.account;
+      work = omega (arith, given.work);
+      trace = given.trace;
+      faultless = λ held free.
+          let parts = fork_parts source held child during next class (subst (IsFaultless source held) h free.1) in
+          (((parts.0, parts.1, parts.3), tt), parts.2);
+    }
 
-pub goes_to_fork : (old new child : State) (expr first during next : Bor Expr) (class : Class) → old.control ≡ Begin expr →
+fork_next : (source : Source) (name env : List ℕ) (expr first during next : Bor Expr) (class : Class) →
     tree_of expr.now ≡ Fork class (tree_of first.now) (tree_of during.now) (tree_of next.now) →
-    PushesFork old new child (Begin first) (Join old.forks next) (Forked during) →
-    GoesToFork 1 old new child (made_as class child.control child.environment.items)
-goes_to_fork old new child expr first during next class begins h pushed =
-    let source = source_of old.program.now in
-    let name = old.own.name in
-    let env = old.environment.items in
+    ForksNext source name (record { class = class; task = Evaluate (tree_of first.now) env }) (Begin expr) env
+fork_next source name env expr first during next class h a =
     let A = source.arrays in
     let meanwhile = effects_of A source.locks (tree_of during.now) env in
-    let last = effects_of A source.locks (tree_of next.now) (with_newest (with_newest env (value_of A (tree_of first.now) env)) (value_of A (tree_of during.now) env)) in
-    forks_by class old new child (Begin first) (Begin expr) (Forked during) (Join old.forks next) begins pushed
-    (λ fs. refl) (λ fs. refl) refl refl refl
-    (λ held free.
-    let parts = fork_parts source held first during next class (subst (IsFaultless source held) h free) in
-    subst (λ b. IsFaultless source b (tree_of first.now)) parts.0 parts.1)
-    (λ a. (
+    let last = effects_of A source.locks (tree_of next.now) (with_newest (with_newest env (value_of A (tree_of first.now) env)) (value_of A (tree_of during.now) env)) in (
       meanwhile.children ++ last.children,
       ap (λ t. (after name (effects_of A source.locks t env) a).children) h
           ∙ after-children name (effects_of A source.locks (Fork class (tree_of first.now) (tree_of during.now) (tree_of next.now)) env) a,
-    ))
+    )
+
+pub goes_to_fork : (old new child : Strand) (expr first during next : Bor Expr) (class : Class) → old.control ≡ Begin expr →
+    tree_of expr.now ≡ Fork class (tree_of first.now) (tree_of during.now) (tree_of next.now) →
+    SpawnsChild old new child (Begin first) (Join old.forks next) (Forked during) →
+    GivesChild 1 old new child (made_as class child.control child.environment)
+goes_to_fork old new child expr first during next class begins h spawned =
+    let source = source_of old.program.now in
+    let name = old.own.name in
+    let env = old.environment in
+    gives_by class old new child (Begin first) (Begin expr) (Forked during) (Join old.forks next) begins spawned
+    (λ fs. refl) (λ fs. refl) refl refl refl refl
+    (λ held free.
+    let parts = fork_parts source held first during next class (subst (IsFaultless source held) h free) in
+    subst (λ b. IsFaultless source b (tree_of first.now)) parts.0 parts.1)
+    (λ has. (tt, (record { task = Evaluate (tree_of first.now) env; has_task = has; environment = refl }, tt)))
+    (fork_next source name env expr first during next class h)
     (fork_outlook source name env old.forks expr first during next class h)
+
+-- A fork whose child will run here.
+pub places_fork : (old new : Strand) (expr first during next : Bor Expr) (class : Class) → old.control ≡ Begin expr →
+    tree_of expr.now ≡ Fork class (tree_of first.now) (tree_of during.now) (tree_of next.now) →
+    PushesFork old new (JoinHere old.forks first next) (Begin during) →
+    PlacesChild 1 old new (made_as class (Begin first) old.environment)
+places_fork old new expr first during next class begins h pushed =
+    let source = source_of old.program.now in
+    let name = old.own.name in
+    let env = old.environment in
+    record {
+      forked = forks_by class 0 (At pause.Forks ∷ []) old new (Begin first) (Begin expr) (Begin during) (JoinHere old.forks first next) begins pushed
+          (λ fs. refl) (λ fs. refl) refl refl
+          (λ has. (tt, (has, tt)))
+          (fork_next source name env expr first during next class h)
+          (fork_here_outlook source name env old.forks expr first during next class h);
+      pending = ap pending_of pushed.control_is;
+    }
 
 -- The split of a part of a sweep.
 half_outlook : (source : Source) (name env : List ℕ) (n : ℕ) (stretch : Stretch) (middle : ℕ) → max 1 stretch.grain < stretch.end - stretch.first →
     middle ≡ stretch.first + (stretch.end - stretch.first) / 2 →
     child_task source name n ≡ stretch_task (record stretch { end = middle }) env →
-    ForkOutlook source name n (record { class = Normal; task = stretch_task (record stretch { end = middle }) env }) (Cover stretch) env
-    (Halved (record stretch { first = middle })) (Merge n stretch.reduction)
+    ForkOutlook source name n (task_work source.arrays (stretch_task (record stretch { end = middle }) env)) []
+    (record { class = Normal; task = stretch_task (record stretch { end = middle }) env }) (Cover stretch) env (Halved (record stretch { first = middle })) (Merge n stretch.reduction)
 half_outlook source name env n stretch middle lt is found =
     let A = source.arrays in
     let L = source.locks in
@@ -242,14 +293,26 @@ half_outlook source name env n stretch middle lt is found =
       faultless = λ held h. ((h.1.0, tt), h.1);
     }
 
-pub goes_to_half : (old new child : State) (stretch : Stretch) (middle : ℕ) → old.control ≡ Cover stretch → max 1 stretch.grain < stretch.end - stretch.first →
+-- The left half stays here.
+half_here_outlook : (source : Source) (name env : List ℕ) (n : ℕ) (stretch : Stretch) (middle : ℕ) → max 1 stretch.grain < stretch.end - stretch.first →
     middle ≡ stretch.first + (stretch.end - stretch.first) / 2 →
-    PushesFork old new child (Cover (record stretch { end = middle })) (Merge old.forks stretch.reduction) (Halved (record stretch { first = middle })) →
-    GoesToFork 1 old new child (made_as Normal child.control child.environment.items)
-goes_to_half old new child stretch middle covers lt is pushed =
-    let source = source_of old.program.now in
-    let name = old.own.name in
-    let env = old.environment.items in
+    child_task source name n ≡ stretch_task (record stretch { end = middle }) env →
+    ForkOutlook source name n 0 (At pause.Forks ∷ []) (record { class = Normal; task = stretch_task (record stretch { end = middle }) env }) (Cover stretch) env
+    (Cover (record stretch { first = middle })) (MergeHere n (record stretch { end = middle }))
+half_here_outlook source name env n stretch middle lt is found =
+    let given = half_outlook source name env n stretch middle lt is found in
+    record {
+      ending = given.ending;
+      account = given.account;
+      work = omega (arith, given.work);
+      trace = given.trace;
+      faultless = λ held h. (((h.1.0, h.1.1), tt), h.1);
+    }
+
+half_next : (source : Source) (name env : List ℕ) (stretch : Stretch) (middle : ℕ) → max 1 stretch.grain < stretch.end - stretch.first →
+    middle ≡ stretch.first + (stretch.end - stretch.first) / 2 →
+    ForksNext source name (record { class = Normal; task = stretch_task (record stretch { end = middle }) env }) (Cover stretch) env
+half_next source name env stretch middle lt is a =
     let A = source.arrays in
     let L = source.locks in
     let r = stretch.reduction in
@@ -258,14 +321,44 @@ goes_to_half old new child stretch middle covers lt is pushed =
     let m = count / 2 in
     let R : ℕ → ℕ → Task = Reduce r stretch.grain t env in
     let left : middle - stretch.first ≡ m = omega (arith, is) in
-    let rest = (task_effects A L (R (stretch.first + m) (count - m))).children in
-    forks_by Normal old new child (Cover (record stretch { end = middle })) (Cover stretch) (Halved (record stretch { first = middle })) (Merge old.forks r) covers pushed
-    (λ fs. refl) (λ fs. refl) refl refl refl
-    (λ held free. (refl, subst (λ b. IsFaultless source b t) free.0 free.1))
-    (λ a. (
+    let rest = (task_effects A L (R (stretch.first + m) (count - m))).children in (
       rest,
       after-children name (task_effects A L (R stretch.first count)) a
           ∙ ap (λ e. a.children ++ e.children) (effects_split A L r stretch.grain t env stretch.first count lt)
           ∙ ap (λ k. a.children ++ half r stretch.grain t env stretch.first k ∷ rest) (sym left),
-    ))
+    )
+
+pub goes_to_half : (old new child : Strand) (stretch : Stretch) (middle : ℕ) → old.control ≡ Cover stretch → max 1 stretch.grain < stretch.end - stretch.first →
+    middle ≡ stretch.first + (stretch.end - stretch.first) / 2 →
+    SpawnsChild old new child (Cover (record stretch { end = middle })) (Merge old.forks stretch.reduction) (Halved (record stretch { first = middle })) →
+    GivesChild 1 old new child (made_as Normal child.control child.environment)
+goes_to_half old new child stretch middle covers lt is spawned =
+    let source = source_of old.program.now in
+    let name = old.own.name in
+    let env = old.environment in
+    let t = tree_of stretch.body.now in
+    gives_by Normal old new child (Cover (record stretch { end = middle })) (Cover stretch) (Halved (record stretch { first = middle })) (Merge old.forks stretch.reduction) covers spawned
+    (λ fs. refl) (λ fs. refl) refl refl refl refl
+    (λ held free. (refl, subst (λ b. IsFaultless source b t) free.0 free.1))
+    (λ has. (tt, (record { task = stretch_task (record stretch { end = middle }) env; has_task = has; environment = refl }, tt)))
+    (half_next source name env stretch middle lt is)
     (half_outlook source name env old.forks stretch middle lt is)
+
+-- A split whose left half will run here.
+pub places_half : (old new : Strand) (stretch : Stretch) (middle : ℕ) → old.control ≡ Cover stretch → max 1 stretch.grain < stretch.end - stretch.first →
+    middle ≡ stretch.first + (stretch.end - stretch.first) / 2 →
+    PushesFork old new (MergeHere old.forks (record stretch { end = middle })) (Cover (record stretch { first = middle })) →
+    PlacesChild 1 old new (made_as Normal (Cover (record stretch { end = middle })) old.environment)
+places_half old new stretch middle covers lt is pushed =
+    let source = source_of old.program.now in
+    let name = old.own.name in
+    let env = old.environment in
+    record {
+      forked = forks_by Normal 0 (At pause.Forks ∷ []) old new (Cover (record stretch { end = middle })) (Cover stretch) (Cover (record stretch { first = middle }))
+          (MergeHere old.forks (record stretch { end = middle })) covers pushed
+          (λ fs. refl) (λ fs. refl) refl refl
+          (λ has. (tt, (has, tt)))
+          (half_next source name env stretch middle lt is)
+          (half_here_outlook source name env old.forks stretch middle lt is);
+      pending = ap pending_of pushed.control_is;
+    }

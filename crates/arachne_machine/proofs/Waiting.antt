@@ -7,7 +7,6 @@ use Rattle.arachne_lang.specs.declared.program.Program.{Program}
 use Rattle.arachne_machine.specs.Outcome.{Finished}
 use Rattle.arachne_machine.specs.Suspended.{Suspended, SameThread, IsFresh, Forked, Joined, awaited}
 use Rattle.arachne_machine.specs.Nested.{Nested, IsAlone, pending_in}
-use Rattle.arachne_machine.proofs.Nesting.{pending_none}
 use Rattle.arachne_machine.specs.Alone.{key, childs_keys, Waits, Rests}
 
 pub waits_same : (program : Program) (name name' : List ℕ) (threads : List Nested) (keys : List (Program × List ℕ)) → name' ≡ name →
@@ -21,6 +20,7 @@ same_on a b c p q = record {
   label = q.label ∙ p.label;
   forks = q.forks ∙ p.forks;
   unjoined = q.unjoined ∙ p.unjoined;
+  here = q.here ∙ p.here;
   below = q.below ∙ p.below;
 }
 
@@ -147,12 +147,16 @@ rests_root program tag thread alone fresh = (
   record {
     alone = alone;
     same_program = fresh.same_program;
-    running = pending_none thread.running.pending thread.parents fresh.not_paused;
+    running = fresh.not_paused;
     rest = [];
     brought = ap (λ l. childs_keys program thread.running.name l ++ []) (sym fresh.none_unjoined);
   },
   (fresh.has_name, refl),
 )
+
+-- an answer leaves a thread by itself
+pub alone_on : (old new : Nested) → IsAlone old → new.parents ≡ old.parents → new.placed ≡ old.placed → new.running.here ≡ old.running.here → IsAlone new
+alone_on old new alone parents placed here = (parents ∙ alone.0, placed ∙ alone.1, here ∙ alone.2)
 
 pub pushed : {A : Type 0} → (xs ys : List A) (x : A) → ys ≡ xs ++ x ∷ [] → reverse ys ≡ x ∷ reverse xs
 pushed xs ys x e = ap reverse e ∙ reverse-append xs (x ∷ [])

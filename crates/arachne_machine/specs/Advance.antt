@@ -8,10 +8,12 @@ use Rattle.arachne_machine.specs.declared.pause.NotJoined.{NotJoined}
 use Rattle.arachne_machine.specs.declared.pause.NotJoined.TheVariants as refused
 use Rattle.arachne_machine.specs.declared.pause.NotPlaced.{NotPlaced}
 use Rattle.arachne_machine.specs.declared.pause.NotPlaced.TheVariants as unplaced
-use Rattle.arachne_machine.specs.declared.strand.Halt.{Halt}
-use Rattle.arachne_machine.specs.declared.strand.Halt.TheVariants as halts
+use Rattle.std.specs.Global.{Box}
+use Rattle.arachne_lang.specs.declared.program.Class.{Class}
+use Rattle.arachne_machine.specs.declared.state.State.{State}
+use Rattle.arachne_machine.specs.Kept.{nested}
 use Rattle.arachne_machine.specs.Faultless.{PausesWithin}
-use Rattle.arachne_machine.specs.Nested.{Nested, AwaitsElsewhere, FallsBy, IsAlone, IsChildOf, IsForked, SameWhole, Stops, alone, pending_in, work_in}
+use Rattle.arachne_machine.specs.Nested.{Nested, AwaitsElsewhere, FallsBy, IsAlone, IsChildOf, IsForked, SameWhole, Stops, pending_in, whole, work_in}
 use Rattle.arachne_machine.specs.Outcome.{Finished}
 use Rattle.arachne_machine.specs.Suspended.{Suspended, SameThread, MakesSteps, Forked, awaited}
 
@@ -44,15 +46,20 @@ Advanced budget old pauses.Ended new =
 pub record AdvancedAlone (budget : ℕ) (old : Nested) (gives : Pause) (new : Nested) : Type 0 where
   pub does : Advanced budget old.running gives new.running
   pub alone : IsAlone new
-  pub sums : new.running.sums ≡ old.running.sums
+  pub sums : new.sums ≡ old.sums
   pub holds : new.running.holds ≡ old.running.holds
+
+-- No child was placed: each fork was a pause.
+abbrev pub PlacesNone : Nested → Pause → Nested → Type 0
+PlacesNone old (pauses.Forks class child) new = (new.parents ≡ []) × ((whole new).forks ≡ (whole old).forks + 1)
+PlacesNone old _ new = (whole new).forks ≡ (whole old).forks
 
 -- An advance of such a thread was refused memory.
 pub record RefusedAlone (budget : ℕ) (old new : Nested) : Type 0 where
   pub same : SameThread old.running new.running
   pub steps : MakesSteps 0 (budget - 1) old.running new.running
   pub locks : new.running.locks ≡ old.running.locks
-  pub sums : new.running.sums ≡ old.running.sums
+  pub sums : new.sums ≡ old.sums
   pub holds : new.running.holds ≡ old.running.holds
 
 -- What an advance does to a thread with others in its place. The budget counts the steps of all of them.
@@ -77,15 +84,15 @@ abbrev pub PausesAt : Pause → Suspended → Type 0
 PausesAt pauses.Budget thread = Unit {0}
 PausesAt _ thread = PausesWithin thread
 
--- the pause that callers see where a thread by itself stops
-abbrev pub shown : Halt → Pause
-shown halts.Budget = pauses.Budget
-shown (halts.Forks class child) = pauses.Forks class (alone child)
-shown halts.Joins = pauses.Joins
-shown (halts.Asks lock) = pauses.Asks lock
-shown (halts.Frees lock) = pauses.Frees lock
-shown (halts.Tallies ledger amount) = pauses.Tallies ledger amount
-shown halts.Ended = pauses.Ended
+-- the pause that callers see, for which no child is given
+abbrev pub pause_at : Option Pending → Pause
+pause_at None = pauses.Budget
+pause_at (Some pause.Forks) = pauses.Budget
+pause_at (Some pause.Joins) = pauses.Joins
+pause_at (Some (pause.Asks lock)) = pauses.Asks lock
+pause_at (Some (pause.Frees lock)) = pauses.Frees lock
+pause_at (Some (pause.Tallies ledger amount)) = pauses.Tallies ledger amount
+pause_at (Some pause.Ended) = pauses.Ended
 
 -- what is to be answered then
 abbrev pub pending_at : Pause → Option Pending
@@ -97,22 +104,10 @@ pending_at (pauses.Frees lock) = Some (pause.Frees lock)
 pending_at (pauses.Tallies ledger amount) = Some (pause.Tallies ledger amount)
 pending_at pauses.Ended = Some pause.Ended
 
--- it may be one after which another thread goes on in the same place
-abbrev pub IsPassed : Pause → Type 0
-IsPassed pauses.Budget = Unit {0}
-IsPassed pauses.Joins = Unit {0}
-IsPassed pauses.Ended = Unit {0}
-IsPassed _ = ⊥
-
 -- So many steps were left and so many are: none where the budget is used, else fewer.
 abbrev pub IsSpentAt : Pause → ℕ → ℕ → Type 0
 IsSpentAt pauses.Budget had left = left ≡ 0
 IsSpentAt _ had left = left < had
-
--- The steps that were made are those that are not left any more.
-abbrev pub TakesAllAt : Pause → ℕ → ℕ → Suspended → Suspended → Type 0
-TakesAllAt (pauses.Forks class child) had left old new = Unit {0}
-TakesAllAt _ had left old new = new.work + had ≡ old.work + left
 
 -- the outcome that was refused
 abbrev pub handed_back : NotJoined → Finished
@@ -135,3 +130,8 @@ abbrev pub IsNotAwaited : Result (Unit {0}) NotPlaced → Type 0
 IsNotAwaited (Ok done) = ⊥
 IsNotAwaited (Err (unplaced.Foreign child)) = Unit {0}
 IsNotAwaited (Err (unplaced.Memory child)) = ⊥
+
+-- the pause that callers see, by the child that was forked or what is not answered
+abbrev pub pause_seen : Option (Class × Box State) → Option Pending → Pause
+pause_seen (Some forked) pending = pauses.Forks forked.0 (nested forked.1.value [])
+pause_seen None pending = pause_at pending

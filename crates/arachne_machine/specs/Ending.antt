@@ -1,5 +1,5 @@
 -- What a suspended thread will come to.
-use Rattle.std.specs.Prelude.{ℕ, ◌+◌, ◌-◌, ◌==◌, if◌then◌else◌, List, [], ◌∷◌, ◌++◌, unwrap_or, take, length, slice_index}
+use Rattle.std.specs.Prelude.{◌≡◌, ℕ, ◌+◌, ◌-◌, ◌==◌, if◌then◌else◌, List, [], ◌∷◌, ◌++◌, Some, unwrap_or, take, length, slice_index}
 use Rattle.arachne_lang.specs.declared.program.Operation.{Operation}
 use Rattle.arachne_lang.specs.Tree.{Tree, Source, Number}
 use Rattle.arachne_lang.specs.Program.{source_of, tree_of}
@@ -8,10 +8,10 @@ use Rattle.arachne_lang.specs.Effects.{Task, Evaluate, Reduce, task_value, task_
 use Rattle.arachne_lang.specs.Meaning.{task_of}
 use Rattle.arachne_machine.specs.declared.frame.Stretch.{Stretch}
 use Rattle.arachne_machine.specs.declared.frame.Frame.{Frame}
-use Rattle.arachne_machine.specs.declared.frame.Frame.TheVariants.{Index, Right, Apply, Branch, Extend, Amount, Release, Join, Merge, FoldTo, FoldFirst, FoldStart, FoldTurn, SweepTo, SweepStart, SweepTurn, Restore}
+use Rattle.arachne_machine.specs.declared.frame.Frame.TheVariants.{Index, Right, Apply, Branch, Extend, Amount, Release, Join, Merge, JoinHere, MergeHere, FoldTo, FoldFirst, FoldStart, FoldTurn, SweepTo, SweepStart, SweepTurn, Restore}
 use Rattle.arachne_machine.specs.declared.frame.Control.{Control}
 use Rattle.arachne_machine.specs.declared.frame.Control.TheVariants.{Begin, Give, Cover, Forked, Halved, Awaits, AwaitsHalf, Asks, Frees, Tallies, Ended}
-use Rattle.arachne_machine.specs.declared.state.State.{State}
+use Rattle.arachne_machine.specs.Strands.{Strand}
 use Rattle.arachne_machine.specs.declared.pause.Pending.TheVariants as pause
 use Rattle.arachne_machine.specs.Work.{work_of, task_work}
 use Rattle.arachne_machine.specs.Trace.{Event, Step, At, trace_of, task_trace}
@@ -76,6 +76,8 @@ unwind source name (Amount ledger body) s = record { env = s.env; value = value_
 unwind source name (Release lock) s = s
 unwind source name (Join number next) s = status_after_join source name number (tree_of next.now) s
 unwind source name (Merge number reduction) s = status_merged source name number (operation_of reduction) s
+unwind source name (JoinHere number child next) s = status_after_join source name number (tree_of next.now) s
+unwind source name (MergeHere number left) s = status_merged source name number (operation_of left.reduction) s
 unwind source name (FoldTo to first body) s = record {
   env = s.env;
   value = folded source.arrays (tree_of body.now) s.env s.value (value_of source.arrays (tree_of to.now) s.env - s.value)
@@ -118,6 +120,8 @@ accounted source name (Amount ledger body) s account =
     after name (effects_of source.arrays source.locks (tree_of body.now) s.env) (after name (tallied ledger s.value) account)
 accounted source name (Join number next) s account = account_after_join source name number (tree_of next.now) s account
 accounted source name (Merge number reduction) s account = account_joined source name number account
+accounted source name (JoinHere number child next) s account = account_after_join source name number (tree_of next.now) s account
+accounted source name (MergeHere number left) s account = account_joined source name number account
 accounted source name (FoldTo to first body) s account =
     after name (folded_effects source.arrays source.locks (tree_of body.now) s.env s.value
     (value_of source.arrays (tree_of to.now) s.env - s.value) (value_of source.arrays (tree_of first.now) s.env))
@@ -156,6 +160,9 @@ frame_work source name (Amount ledger body) s = work_of source.arrays (tree_of b
 frame_work source name (Release lock) s = 1
 frame_work source name (Join number next) s = work_of source.arrays (tree_of next.now) (joined_env source name number s)
 frame_work source name (Merge number reduction) s = 1
+frame_work source name (JoinHere number child next) s =
+    work_of source.arrays (tree_of child.now) s.env + work_of source.arrays (tree_of next.now) (joined_env source name number s)
+frame_work source name (MergeHere number left) s = task_work source.arrays (stretch_task left s.env) + 1
 frame_work source name (FoldTo to first body) s =
     work_of source.arrays (tree_of to.now) s.env + work_of source.arrays (tree_of first.now) s.env
     + folded_work source.arrays (tree_of body.now) s.env s.value (value_of source.arrays (tree_of to.now) s.env - s.value)
@@ -187,6 +194,8 @@ frame_trace source name (Amount ledger body) s = At (pause.Tallies ledger s.valu
 frame_trace source name (Release lock) s = At (pause.Frees lock) ∷ Step ∷ []
 frame_trace source name (Join number next) s = At pause.Joins ∷ trace_of source.arrays (tree_of next.now) (joined_env source name number s)
 frame_trace source name (Merge number reduction) s = At pause.Joins ∷ Step ∷ []
+frame_trace source name (JoinHere number child next) s = At pause.Joins ∷ trace_of source.arrays (tree_of next.now) (joined_env source name number s)
+frame_trace source name (MergeHere number left) s = At pause.Joins ∷ Step ∷ []
 frame_trace source name (FoldTo to first body) s =
     trace_of source.arrays (tree_of to.now) s.env ++ (trace_of source.arrays (tree_of first.now) s.env
     ++ (folded_trace source.arrays (tree_of body.now) s.env s.value (value_of source.arrays (tree_of to.now) s.env - s.value)
@@ -228,11 +237,52 @@ resume_trace source name (frame ∷ frames) s = resume_trace source name frames 
 abbrev pub fork_of : Frame → List ℕ
 fork_of (Join number next) = number ∷ []
 fork_of (Merge number reduction) = number ∷ []
+fork_of (JoinHere number child next) = number ∷ []
+fork_of (MergeHere number left) = number ∷ []
 fork_of _ = []
 
 abbrev pub forks_of : List Frame → List ℕ
 forks_of [] = []
 forks_of (frame ∷ frames) = forks_of frames ++ fork_of frame
+
+-- those among them whose children will run here
+abbrev pub fork_here : Frame → List ℕ
+fork_here (JoinHere number child next) = number ∷ []
+fork_here (MergeHere number left) = number ∷ []
+fork_here _ = []
+
+abbrev pub forks_here : List Frame → List ℕ
+forks_here [] = []
+forks_here (frame ∷ frames) = forks_here frames ++ fork_here frame
+
+-- the environment in which a task is done
+abbrev pub environment_of : Task → Environment
+environment_of (Evaluate tree env) = env
+environment_of (Reduce reduction grain body env first n) = env
+
+-- The child of this number is that of the program, and was forked in this environment.
+pub record IsForkedIn (source : Source) (name : List ℕ) (number : ℕ) (env : Environment) : Type 0 where
+  pub task : Task
+  pub has_task : task_of source (name ++ number ∷ []) ≡ Some task
+  pub environment : environment_of task ≡ env
+
+-- The child that a frame joins was forked in the environment that the frame is left with, and one that is to run here has its task.
+abbrev pub KeepsFork : Source → List ℕ → Frame → Status → Type 0
+KeepsFork source name (Join number next) s = IsForkedIn source name number s.env
+KeepsFork source name (Merge number reduction) s = IsForkedIn source name number s.env
+KeepsFork source name (JoinHere number child next) s = task_of source (name ++ number ∷ []) ≡ Some (Evaluate (tree_of child.now) s.env)
+KeepsFork source name (MergeHere number left) s = task_of source (name ++ number ∷ []) ≡ Some (stretch_task left s.env)
+KeepsFork source name _ s = Unit {0}
+
+abbrev pub KeepForks : Source → List ℕ → List Frame → Status → Type 0
+KeepForks source name [] s = Unit {0}
+KeepForks source name (frame ∷ frames) s = KeepsFork source name frame (resume source name frames s) × KeepForks source name frames s
+
+-- So was the one that is awaited.
+abbrev pub AwaitsFork : Source → List ℕ → Control → Environment → Type 0
+AwaitsFork source name (Awaits number during next) env = IsForkedIn source name number env
+AwaitsFork source name (AwaitsHalf number right reduction) env = IsForkedIn source name number env
+AwaitsFork source name _ env = Unit {0}
 
 -- the locks that are freed by frames, the newest first
 abbrev pub lock_of : Frame → List ℕ
@@ -326,37 +376,48 @@ frames_left (Ended value) frames = []
 frames_left _ frames = frames
 
 -- what the thread ends with
-abbrev pub ending : State → Status
+abbrev pub ending : Strand → Status
 ending t =
     let source = source_of t.program.now in
-    resume source t.own.name (frames_left t.control t.frames.items) (begun source t.own.name t.control t.environment.items)
+    resume source t.own.name (frames_left t.control t.frames) (begun source t.own.name t.control t.environment)
 
 -- its account in the end, from its account so far
-abbrev pub account_at_end : State → Account → Account
+abbrev pub account_at_end : Strand → Account → Account
 account_at_end t account =
     let source = source_of t.program.now in
-    resume_account source t.own.name (frames_left t.control t.frames.items) (begun source t.own.name t.control t.environment.items)
-    (begun_account source t.own.name t.control t.environment.items account)
+    resume_account source t.own.name (frames_left t.control t.frames) (begun source t.own.name t.control t.environment)
+    (begun_account source t.own.name t.control t.environment account)
 
 -- the steps that are left
-abbrev pub work_left : State → ℕ
+abbrev pub work_left : Strand → ℕ
 work_left t =
     let source = source_of t.program.now in
-    begun_work source t.own.name t.control t.environment.items
-    + resume_work source t.own.name (frames_left t.control t.frames.items) (begun source t.own.name t.control t.environment.items)
+    begun_work source t.own.name t.control t.environment
+    + resume_work source t.own.name (frames_left t.control t.frames) (begun source t.own.name t.control t.environment)
 
 -- what is left of its trace; at the last it has ended
-abbrev pub trace_left : State → List Event
+abbrev pub trace_left : Strand → List Event
 trace_left t =
     let source = source_of t.program.now in
-    begun_trace source t.own.name t.control t.environment.items
-    ++ resume_trace source t.own.name (frames_left t.control t.frames.items) (begun source t.own.name t.control t.environment.items)
+    begun_trace source t.own.name t.control t.environment
+    ++ resume_trace source t.own.name (frames_left t.control t.frames) (begun source t.own.name t.control t.environment)
     ++ At pause.Ended ∷ []
 
 -- its forks that are not joined, the newest first
-abbrev pub unjoined_of : State → List ℕ
-unjoined_of t = fork_awaited t.control ++ forks_of t.frames.items
+abbrev pub unjoined_of : Strand → List ℕ
+unjoined_of t = fork_awaited t.control ++ forks_of t.frames
 
 -- the locks that it has asked for and not freed, the newest first
-abbrev pub locks_of : State → List ℕ
-locks_of t = lock_freed t.control ++ releases t.frames.items
+abbrev pub locks_of : Strand → List ℕ
+locks_of t = lock_freed t.control ++ releases t.frames
+
+-- its forks whose children will run here, the newest first
+abbrev pub here_of : Strand → List ℕ
+here_of t = forks_here t.frames
+
+-- Its forks that are not joined are those of the program.
+abbrev pub KeepsForks : Strand → Type 0
+KeepsForks t =
+    let source = source_of t.program.now in
+    AwaitsFork source t.own.name t.control t.environment
+    × KeepForks source t.own.name (frames_left t.control t.frames) (begun source t.own.name t.control t.environment)

@@ -4,12 +4,12 @@ use Rattle.arachne_lang.specs.Tree.{Tree, Source}
 use Rattle.arachne_lang.specs.Program.{source_of, tree_of}
 use Rattle.arachne_lang.specs.Checked.{NodeFault, node_faults}
 use Rattle.arachne_machine.specs.declared.frame.Frame.{Frame}
-use Rattle.arachne_machine.specs.declared.frame.Frame.TheVariants.{Index, Right, Apply, Branch, Extend, Amount, Release, Join, Merge, FoldTo, FoldFirst, FoldStart, FoldTurn, SweepTo, SweepStart, SweepTurn, Restore}
+use Rattle.arachne_machine.specs.declared.frame.Frame.TheVariants.{Index, Right, Apply, Branch, Extend, Amount, Release, Join, Merge, JoinHere, MergeHere, FoldTo, FoldFirst, FoldStart, FoldTurn, SweepTo, SweepStart, SweepTurn, Restore}
 use Rattle.arachne_machine.specs.declared.frame.Control.{Control}
 use Rattle.arachne_machine.specs.declared.frame.Control.TheVariants.{Begin, Give, Cover, Forked, Halved, Awaits, AwaitsHalf, Asks, Frees, Tallies, Ended}
 use Rattle.arachne_machine.specs.declared.pause.Pending.{Pending}
 use Rattle.arachne_machine.specs.declared.pause.Pending.TheVariants as pause
-use Rattle.arachne_machine.specs.declared.state.State.{State}
+use Rattle.arachne_machine.specs.Strands.{Strand}
 use Rattle.arachne_machine.specs.Suspended.{Suspended}
 
 -- no node of these has a fault
@@ -32,6 +32,9 @@ IsFaultlessFrame source held (Amount ledger body) = (ledger < source.ledgers) ×
 IsFaultlessFrame source held (Release lock) = (held ≡ false) × (lock < source.locks)
 IsFaultlessFrame source held (Join number next) = (held ≡ false) × IsFaultless source held (tree_of next.now)
 IsFaultlessFrame source held (Merge number reduction) = held ≡ false
+IsFaultlessFrame source held (JoinHere number child next) =
+    (held ≡ false) × IsFaultless source held (tree_of child.now) × IsFaultless source held (tree_of next.now)
+IsFaultlessFrame source held (MergeHere number left) = (held ≡ false) × IsFaultless source held (tree_of left.body.now)
 IsFaultlessFrame source held (FoldTo to first body) =
     IsFaultless source held (tree_of to.now) × IsFaultless source held (tree_of first.now) × IsFaultless source held (tree_of body.now)
 IsFaultlessFrame source held (FoldFirst from first body) = IsFaultless source held (tree_of first.now) × IsFaultless source held (tree_of body.now)
@@ -74,8 +77,8 @@ AreFaultless source held (frame ∷ frames) = IsFaultlessFrame source held frame
 abbrev pub GoesWithoutFault : Source → Bool → List Frame → Control → Type 0
 GoesWithoutFault source held frames control = AreFaultless source held frames × IsFaultlessNext source (held_by held frames) control
 
-abbrev pub IsWithoutFault : State → Type 0
-IsWithoutFault t = GoesWithoutFault (source_of t.program.now) false t.frames.items t.control
+abbrev pub IsWithoutFault : Strand → Type 0
+IsWithoutFault t = GoesWithoutFault (source_of t.program.now) false t.frames t.control
 
 -- What a pause names is there, and no lock is held where a child is forked or awaited.
 abbrev pub NamesWhatIsThere : Source → List ℕ → Option Pending → Type 0

@@ -1,31 +1,31 @@
 -- What callers see of a thread with the threads that run in its place.
-use Rattle.std.specs.Prelude.{◌≡◌, ◌≢◌, ◌≤◌, ◌<◌, ℕ, ◌+◌, ◌^◌, List, [], ◌∷◌, ◌++◌, length, Option, None, Some}
+use Rattle.std.specs.Prelude.{◌≡◌, ◌≢◌, ◌≤◌, ℕ, ◌+◌, List, [], ◌∷◌, ◌++◌, Option, None, Some}
 use Rattle.arachne_lang.specs.declared.program.Class.{Class}
-use Rattle.arachne_lang.specs.Effects.{Task}
+use Rattle.arachne_lang.specs.Effects.{Task, tabulated}
 use Rattle.arachne_lang.specs.Meaning.{child_of}
 use Rattle.arachne_lang.specs.Tree.{Source}
 use Rattle.arachne_lang.specs.Program.{source_of}
-use Rattle.arachne_machine.specs.declared.line.ThreadLine.{ThreadLine}
 use Rattle.arachne_machine.specs.declared.line.Ran.TheVariants as ways
-use Rattle.arachne_machine.specs.Lines.{Lined}
 use Rattle.arachne_machine.specs.declared.pause.Pending.{Pending}
 use Rattle.arachne_machine.specs.declared.pause.Pending.TheVariants as pause
-use Rattle.arachne_machine.specs.Suspended.{Suspended, IsAnswered, IsFresh, SameThread, awaited}
+use Rattle.arachne_machine.specs.Suspended.{Suspended, IsAnswered, IsFresh, SameThread, added, awaited}
 
 pub record Nested : Type 0 where
   -- the innermost thread, which goes on next
   pub running : Suspended
   -- Each of these awaits the one before it, and the first the innermost thread. The last is the one in whose place all the others run.
   pub parents : List Suspended
-  -- the children that were placed here and have not begun, the newest first
+  -- the children that were handed back to run here and have not begun, the newest first
   pub placed : List Suspended
+  -- for each ledger, what all that have begun here and the threads that they have joined have added to it, modulo 2 ^ 64
+  pub sums : List ℕ
 
 -- a thread in whose place no other is
-abbrev pub alone : Suspended → Nested
-alone thread = record { running = thread; parents = []; placed = [] }
+abbrev pub alone : Suspended → List ℕ → Nested
+alone thread sums = record { running = thread; parents = []; placed = []; sums = sums }
 
 abbrev pub IsAlone : Nested → Type 0
-IsAlone t = (t.parents ≡ []) × (t.placed ≡ [])
+IsAlone t = (t.parents ≡ []) × (t.placed ≡ []) × (t.running.here ≡ [])
 
 -- the last of a thread and those that wait for it
 abbrev pub outermost : Suspended → List Suspended → Suspended
@@ -36,13 +36,9 @@ outermost thread (parent ∷ parents) = outermost parent parents
 abbrev pub whole : Nested → Suspended
 whole t = outermost t.running t.parents
 
--- The pause that is not answered is the innermost thread's. One that ran in place and has ended is joined by the next advance.
-abbrev pub pending_below : Option Pending → List Suspended → Option Pending
-pending_below (Some pause.Ended) (parent ∷ parents) = None
-pending_below next parents = next
-
+-- The pause that is not answered is the innermost thread's.
 abbrev pub pending_in : Nested → Option Pending
-pending_in t = pending_below t.running.pending t.parents
+pending_in t = t.running.pending
 
 abbrev pub works : List Suspended → ℕ
 works [] = 0
@@ -101,27 +97,6 @@ abbrev pub AwaitsElsewhere : Suspended → List Suspended → Type 0
 AwaitsElsewhere thread [] = Unit {0}
 AwaitsElsewhere thread (child ∷ children) = awaited thread ≢ Some child.name
 
--- The lines of the threads that were joined are in one list: behind those below a thread come a place for the line of the one that runs in its place, and those below that one.
-abbrev pub Laid : Suspended → List Suspended → List ThreadLine → Type 0
-Laid thread [] lines = lines ≡ thread.below
-Laid thread (parent ∷ parents) lines = (before : List ThreadLine) × (place : ThreadLine) × (lines ≡ before ++ place ∷ thread.below) × Laid parent parents before
-
--- how many lines are below these threads
-abbrev pub lines_below : List Suspended → ℕ
-lines_below [] = 0
-lines_below (thread ∷ threads) = length thread.below + lines_below threads
-
--- what is so of a thread with its lines, between two calls
-pub record IsKept (t : Nested) (lines : Lined) (parents placed aside capacity : ℕ) : Type 0 where
-  pub nested : IsNested t
-  pub laid : Laid t.running t.parents lines.lines
-  -- so many lines are below the children that were placed
-  pub counted : aside ≡ lines_below t.placed
-  -- there is room for the beginning of each of them, for its line and for those below it
-  pub room : parents + placed ≤ capacity
-  pub places : placed + aside ≤ lines.room
-  pub few : placed + aside < 2 ^ 63
-
 -- both are of one program, and have one name and label
 pub record SameWhole (old new : Nested) : Type 0 where
   pub program : (whole new).program ≡ (whole old).program
@@ -150,16 +125,16 @@ IsPlacing _ = ⊥
 -- The innermost thread goes on with what is done meanwhile, and the child is placed.
 pub record PlacesAtFork (old child new : Nested) : Type 0 where
   pub same : SameThread old.running new.running
-  pub sums : new.running.sums ≡ old.running.sums
+  pub sums : new.sums ≡ old.sums
   pub holds : new.running.holds ≡ old.running.holds
   pub locks : new.running.locks ≡ old.running.locks
   pub parents : new.parents ≡ old.parents
   pub placed : new.placed ≡ in_place_of child.running ∷ old.placed
   pub trace : IsAnswered old.running new.running
 
--- the child goes on in the place of the innermost thread, which awaits it
+-- the child goes on in the place of the innermost thread, which awaits it, as a thread of its program
 abbrev pub begun_in : Nested → Nested → Nested
-begun_in t child = record { running = in_place_of child.running; parents = t.running ∷ t.parents; placed = t.placed }
+begun_in t child = record { running = record (in_place_of child.running) { program = t.running.program }; parents = t.running ∷ t.parents; placed = t.placed; sums = added t.sums child.sums }
 
 -- The child is new, and its class and task are those that the program gives to the thread's newest fork.
 pub record IsForked (class : Class) (thread : Suspended) (child : Nested) : Type 0 where
@@ -168,6 +143,7 @@ pub record IsForked (class : Class) (thread : Suspended) (child : Nested) : Type
   pub unjoined : thread.unjoined ≡ number ∷ others
   pub alone : IsAlone child
   pub fresh : IsFresh thread.program (thread.name ++ number ∷ []) 0 (whole child)
+  pub no_sums : child.sums ≡ tabulated thread.program.ledgers (λ ledger. 0)
   pub task : Task
   pub is_child : child_of (source_of thread.program) thread.name number ≡ Some (record { class = class; task = task })
 

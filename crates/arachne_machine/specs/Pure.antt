@@ -1,5 +1,10 @@
 -- Expressions that fork, hold and tally nothing.
-use Rattle.arachne_lang.specs.Tree.{Tree, Number, Variable, Length, Item, Binary, Choose}
+use Rattle.std.specs.Prelude.{◌≡◌, ℕ, ◌+◌, []}
+use Rattle.arachne_lang.specs.Tree.{Tree, Number, Variable, Source}
+use Rattle.arachne_lang.specs.Value.{Environment, value_of}
+use Rattle.arachne_lang.specs.Effects.{nothing, effects_of}
+use Rattle.arachne_machine.specs.Work.{work_of}
+use Rattle.arachne_machine.specs.Trace.{with_steps, trace_of}
 
 -- a number or a variable
 abbrev pub IsLeaf : Tree → Type 0
@@ -7,12 +12,13 @@ IsLeaf (Number n) = Unit {0}
 IsLeaf (Variable k) = Unit {0}
 IsLeaf _ = ⊥
 
--- operations, items and choices over numbers, variables and lengths
-abbrev pub IsPure : Tree → Type 0
-IsPure (Number n) = Unit {0}
-IsPure (Variable k) = Unit {0}
-IsPure (Length a) = Unit {0}
-IsPure (Item a index) = IsPure index
-IsPure (Binary operation a b) = IsPure a × IsPure b
-IsPure (Choose condition first second) = IsPure condition × IsPure first × IsPure second
-IsPure _ = ⊥
+-- With these variables it has no effects, and its trace is as many steps as its work.
+pub record IsPure (source : Source) (tree : Tree) (env : Environment) : Type 0 where
+  pub effects : effects_of source.arrays source.locks tree env ≡ nothing
+  pub trace : trace_of source.arrays tree env ≡ with_steps (work_of source.arrays tree env) []
+
+-- It is pure and has this value, and so many of the steps that were left beside its own are left then.
+pub record IsWorth (source : Source) (tree : Tree) (env : Environment) (value had left : ℕ) : Type 0 where
+  pub pure : IsPure source tree env
+  pub value_is : value ≡ value_of source.arrays tree env
+  pub steps : left + work_of source.arrays tree env ≡ had + 1

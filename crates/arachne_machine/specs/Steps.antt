@@ -1,5 +1,5 @@
 -- What the steps of a thread do.
-use Rattle.std.specs.Prelude.{◌≡◌, ◌≤◌, ◌<◌, ℕ, ◌+◌, ◌^◌, ◌==◌, if◌then◌else◌, false, List, [], ◌∷◌, ◌++◌, length, Option, None, Some}
+use Rattle.std.specs.Prelude.{◌≡◌, ◌≤◌, ◌<◌, ℕ, ◌+◌, ◌^◌, false, List, [], ◌∷◌, ◌++◌, length, reverse, take, vec_len, vec_capacity, Option, None, Some}
 use Rattle.arachne_lang.specs.declared.program.Program.{Program}
 use Rattle.arachne_lang.specs.declared.program.Reduction.{Reduction}
 use Rattle.arachne_lang.specs.declared.program.Expr.{Expr}
@@ -10,27 +10,28 @@ use Rattle.arachne_lang.specs.Value.{Environment, with_newest}
 use Rattle.arachne_lang.specs.Effects.{Task, Evaluate, Child, Effects, task_value, task_effects, tabulated}
 use Rattle.arachne_lang.specs.Meaning.{task_of}
 use Rattle.arachne_machine.specs.declared.frame.Frame.{Frame}
-use Rattle.arachne_machine.specs.declared.frame.Frame.TheVariants.{FoldTo, FoldFirst, FoldStart, FoldTurn, SweepTo, SweepStart, SweepTurn, Amount, Release, Join, Merge}
+use Rattle.arachne_machine.specs.declared.frame.Frame.TheVariants.{FoldTo, FoldFirst, FoldStart, FoldTurn, SweepTo, SweepStart, SweepTurn, Amount, Release, Join, Merge, JoinHere, MergeHere}
 use Rattle.arachne_machine.specs.declared.frame.Control.{Control}
 use Rattle.arachne_machine.specs.declared.frame.Control.TheVariants.{Begin, Give, Cover, Forked, Halved, Awaits, AwaitsHalf, Asks, Frees, Tallies, Ended}
 use Rattle.arachne_machine.specs.declared.pause.Pending.{Pending}
 use Rattle.arachne_machine.specs.declared.pause.Pending.TheVariants as pause
 use Rattle.arachne_machine.specs.declared.state.Own.{Own}
 use Rattle.arachne_machine.specs.declared.state.State.{State}
-use Rattle.arachne_machine.specs.declared.state.Stop.{Stop}
-use Rattle.arachne_machine.specs.declared.state.Stop.TheVariants as stop
 use Rattle.arachne_machine.specs.declared.state.Progress.{Progress}
 use Rattle.arachne_machine.specs.declared.state.Progress.TheVariants as part
+use Rattle.arachne_machine.specs.declared.line.Ran.TheVariants as ways
+use Rattle.arachne_machine.specs.declared.level.Parent.{Parent}
+use Rattle.arachne_machine.specs.declared.line.Label.{Label}
+use Rattle.arachne_machine.specs.Strands.{Owned, Strand, strand_at}
 use Rattle.arachne_machine.specs.Lines.{Gains}
 use Rattle.arachne_machine.specs.Outcome.{Finished}
 use Rattle.arachne_machine.specs.Account.{Account, untouched, after, with_fork}
 use Rattle.arachne_machine.specs.declared.line.ThreadLine.{ThreadLine}
-use Rattle.arachne_machine.specs.declared.line.Ran.TheVariants as ways
-use Rattle.arachne_machine.specs.Suspended.{Suspended, awaited}
+use Rattle.arachne_machine.specs.Suspended.{Suspended}
 use Rattle.arachne_machine.specs.Work.{task_work}
 use Rattle.arachne_machine.specs.Trace.{Event, At, with_steps, task_trace}
 use Rattle.arachne_machine.specs.Faultless.{IsFaultlessNext, IsWithoutFault}
-use Rattle.arachne_machine.specs.Ending.{child_task, stretch_task, account_joined, ending, account_at_end, work_left, trace_left, unjoined_of, locks_of}
+use Rattle.arachne_machine.specs.Ending.{child_task, stretch_task, account_joined, ending, account_at_end, work_left, trace_left, unjoined_of, here_of, locks_of, fork_awaited, environment_of, KeepsForks}
 
 -- the pause that is not answered
 abbrev pub pending_of : Control → Option Pending
@@ -47,24 +48,24 @@ pending_of (Tallies ledger amount body) = Some (pause.Tallies ledger amount)
 pending_of (Ended value) = Some pause.Ended
 
 -- what callers see
-abbrev pub suspended : State → Suspended
+abbrev pub suspended : Strand → Suspended
 suspended t = record {
   program = t.program.now;
   name = t.own.name;
   label = t.own.label;
   forks = t.forks;
   unjoined = unjoined_of t;
+  here = here_of t;
   locks = locks_of t;
   pending = pending_of t.control;
-  sums = t.sums.items;
-  holds = t.own.holds.items;
+  holds = t.own.holds;
   below = t.below;
   work = work_left t;
   trace = trace_left t;
 }
 
 -- A fork's number fits, since each fork that was joined has its line, and each other one its frame.
-abbrev pub IsNumbered : State → Type 0
+abbrev pub IsNumbered : Strand → Type 0
 IsNumbered t = (t.forks ≤ length t.below + length (unjoined_of t)) × (length t.below < 2 ^ 63)
 
 -- a thread may begin like this
@@ -79,155 +80,248 @@ task_begun (Begin expr) env = Evaluate (tree_of expr.now) env
 task_begun (Cover stretch) env = stretch_task stretch env
 task_begun _ env = Evaluate (Number 0) env
 
--- The environment, the frames and what comes next are now these; the rest is as before, but room.
-pub record Becomes (old new : State) (environment : Environment) (frames : List Frame) (control : Control) : Type 0 where
+-- the innermost thread of a state, with this environment
+abbrev pub top : State → Strand
+top t = strand_at t.program t.own (reverse t.parents.items) t.lines t.level t.environment.items t.frames.items t.control
+
+-- Those that wait, the innermost first, where the frames and the lines of the one that they wait for begin there, and it leaves this environment: each goes on
+-- in what the one that runs in its place leaves.
+abbrev pub waiting : Bor Program → Own → List Parent → List ThreadLine → List Frame → ℕ → ℕ → Environment → List Strand
+waiting program own [] lines frames start place env = []
+waiting program own (parent ∷ parents) lines frames start place env =
+    let t = strand_at program own parents (take place lines) parent.level env (take start frames) parent.control in
+    t ∷ waiting program own parents (take place lines) (take start frames) parent.level.start parent.level.place (ending t).env
+
+abbrev pub waiting_in : State → List Strand
+waiting_in t =
+    waiting t.program t.own (reverse t.parents.items) t.lines t.frames.items t.level.start t.level.place (ending (top t)).env
+
+-- the environment, all frames and what comes next are now these; the rest is as before, but room
+pub record Changes (old new : State) (environment : Environment) (frames : List Frame) (control : Control) : Type 0 where
   pub program : new.program ≡ old.program
   pub own : new.own ≡ old.own
-  pub below : new.below ≡ old.below
+  pub lines : new.lines ≡ old.lines
   pub sums : new.sums.items ≡ old.sums.items
-  pub forks : new.forks ≡ old.forks
+  pub parents : new.parents.items ≡ old.parents.items
+  pub level : new.level ≡ old.level
   pub environment_is : new.environment.items ≡ environment
   pub frames_are : new.frames.items ≡ frames
   pub control_is : new.control ≡ control
 
+-- the innermost thread's line is there
+abbrev pub IsLineOf : List Parent → ℕ → ℕ → Type 0
+IsLineOf [] place lines = Unit {0}
+IsLineOf (parent ∷ parents) place lines = place < lines
+
+abbrev pub HasLine : State → Type 0
+HasLine t = IsLineOf (reverse t.parents.items) t.level.place (length t.lines)
+
 -- nothing has changed but room
-abbrev pub IsUnchanged : State → State → Type 0
-IsUnchanged old new = Becomes old new old.environment.items old.frames.items old.control
+abbrev pub IsSame : State → State → Type 0
+IsSame old new = Changes old new old.environment.items old.frames.items old.control
 
--- a part is begun, with a frame for what comes after it
-abbrev pub Enters : State → State → Frame → Control → Type 0
-Enters old new frame control = Becomes old new old.environment.items (old.frames.items ++ frame ∷ []) control
+-- there is one frame more
+abbrev pub Pushes : State → State → Frame → Type 0
+Pushes old new frame = Changes old new old.environment.items (old.frames.items ++ frame ∷ []) old.control
 
--- The first has this newest frame, and the second is without it.
-abbrev pub IsPopped : Frame → State → State → Type 0
-IsPopped frame before popped = Becomes popped before popped.environment.items (popped.frames.items ++ frame ∷ []) popped.control
+-- what comes next has changed
+abbrev pub Turns : State → State → Control → Type 0
+Turns old new control = Changes old new old.environment.items old.frames.items control
 
--- A fold that has this value so far goes on from a number to below an end: with a turn, or not at all.
-pub record TurnsFold (old new : State) (next end : ℕ) (body : Bor Expr) (so_far : ℕ) : Type 0 where
-  pub turn : next < end →
-      Becomes old new (with_newest (with_newest old.environment.items next) so_far) (old.frames.items ++ FoldTurn (next + 1) end body ∷ []) (Begin body)
-  pub done : end ≤ next → Becomes old new old.environment.items old.frames.items (Give so_far)
+-- The innermost thread has made a fork: there is one frame more, and this is next.
+pub record CountsFork (old new : State) (frame : Frame) (control : Control) : Type 0 where
+  pub program : new.program ≡ old.program
+  pub own : new.own ≡ old.own
+  pub lines : new.lines ≡ old.lines
+  pub sums : new.sums.items ≡ old.sums.items
+  pub parents : new.parents.items ≡ old.parents.items
+  pub level : new.level ≡ record old.level { forks = old.level.forks + 1 }
+  pub environment : new.environment.items ≡ old.environment.items
+  pub frames : new.frames.items ≡ old.frames.items ++ frame ∷ []
+  pub control_is : new.control ≡ control
 
--- and so does a sweep
-pub record TurnsSweep (old new : State) (reduction : Reduction) (next end : ℕ) (body : Bor Expr) (so_far : ℕ) : Type 0 where
-  pub turn : next < end →
-      Becomes old new (with_newest old.environment.items next) (old.frames.items ++ SweepTurn reduction (next + 1) end so_far body ∷ []) (Begin body)
-  pub done : end ≤ next → Becomes old new old.environment.items old.frames.items (Give so_far)
+-- The innermost thread alone has changed.
+pub record LeavesOthers (old new : State) : Type 0 where
+  pub program : new.program ≡ old.program
+  pub own : new.own ≡ old.own
+  pub lines : new.lines ≡ old.lines
+  pub sums : new.sums.items ≡ old.sums.items
+  pub parents : new.parents.items ≡ old.parents.items
+  pub start : new.level.start ≡ old.level.start
+  pub place : new.level.place ≡ old.level.place
+  pub frames : take old.level.start new.frames.items ≡ take old.level.start old.frames.items
+  pub more : old.level.start ≤ length new.frames.items
 
--- So many steps made neither forks nor joins, and what the thread comes to is the same. Behind them these pauses were answered.
-pub record Goes (steps : ℕ) (answered : List Event) (old new : State) : Type 0 where
+-- The environment, the frames and what comes next are now these; the rest is as before.
+pub record Becomes (old new : Strand) (environment : Environment) (frames : List Frame) (control : Control) : Type 0 where
   pub program : new.program ≡ old.program
   pub own : new.own ≡ old.own
   pub below : new.below ≡ old.below
-  pub sums : new.sums.items ≡ old.sums.items
+  pub forks : new.forks ≡ old.forks
+  pub environment_is : new.environment ≡ environment
+  pub frames_are : new.frames ≡ frames
+  pub control_is : new.control ≡ control
+
+-- nothing has changed
+abbrev pub IsUnchanged : Strand → Strand → Type 0
+IsUnchanged old new = Becomes old new old.environment old.frames old.control
+
+-- a part is begun, with a frame for what comes after it
+abbrev pub Enters : Strand → Strand → Frame → Control → Type 0
+Enters old new frame control = Becomes old new old.environment (old.frames ++ frame ∷ []) control
+
+-- The first has this newest frame, and the second is without it.
+abbrev pub IsPopped : Frame → Strand → Strand → Type 0
+IsPopped frame before popped = Becomes popped before popped.environment (popped.frames ++ frame ∷ []) popped.control
+
+-- A fold that has this value so far goes on from a number to below an end: with a turn, or not at all.
+pub record TurnsFold (old new : Strand) (next end : ℕ) (body : Bor Expr) (so_far : ℕ) : Type 0 where
+  pub turn : next < end →
+      Becomes old new (with_newest (with_newest old.environment next) so_far) (old.frames ++ FoldTurn (next + 1) end body ∷ []) (Begin body)
+  pub done : end ≤ next → Becomes old new old.environment old.frames (Give so_far)
+
+-- and so does a sweep
+pub record TurnsSweep (old new : Strand) (reduction : Reduction) (next end : ℕ) (body : Bor Expr) (so_far : ℕ) : Type 0 where
+  pub turn : next < end →
+      Becomes old new (with_newest old.environment next) (old.frames ++ SweepTurn reduction (next + 1) end so_far body ∷ []) (Begin body)
+  pub done : end ≤ next → Becomes old new old.environment old.frames (Give so_far)
+
+-- So many steps made neither forks nor joins, and what the thread comes to is the same. Behind them these pauses were answered.
+pub record Goes (steps : ℕ) (answered : List Event) (old new : Strand) : Type 0 where
+  pub program : new.program ≡ old.program
+  pub own : new.own ≡ old.own
+  pub below : new.below ≡ old.below
   pub forks : new.forks ≡ old.forks
   pub unjoined : unjoined_of new ≡ unjoined_of old
+  pub here : here_of new ≡ here_of old
   pub ending : ending new ≡ ending old
   pub account : (account : Account) → account_at_end new account ≡ account_at_end old account
   pub work : work_left new + steps ≡ work_left old
   pub trace : with_steps steps (answered ++ trace_left new) ≡ trace_left old
   pub faultless : IsWithoutFault old → IsWithoutFault new
+  pub keeps : KeepsForks old → KeepsForks new
 
 -- at least so many such steps were made, and at most so many
-pub record GoesWithin (least most : ℕ) (old new : State) : Type 0 where
+pub record GoesWithin (least most : ℕ) (old new : Strand) : Type 0 where
   pub made : ℕ
   pub at_least : least ≤ made
   pub at_most : made ≤ most
   pub goes : Goes made [] old new
 
--- it has not begun, and has these as its own
+-- it has not begun, is by itself, and has these as its own
 pub record IsRenewed (program : Bor Program) (own : Own) (sums : List ℕ) (control : Control) (environment : Environment) (t : State) : Type 0 where
   pub program_is : t.program ≡ program
   pub own_is : t.own ≡ own
-  pub below : t.below ≡ []
+  pub lines : t.lines ≡ []
   pub sums_are : t.sums.items ≡ sums
-  pub forks : t.forks ≡ 0
+  pub parents : t.parents.items ≡ []
+  pub level : t.level ≡ record { start = 0; forks = 0; place = 0 }
   pub environment_is : t.environment.items ≡ environment
   pub frames : t.frames.items ≡ []
   pub control_is : t.control ≡ control
 
+-- a thread that begins like this has not begun
+pub record HasNotBegun (program : Bor Program) (own : Owned) (control : Control) (environment : Environment) (t : Strand) : Type 0 where
+  pub program_is : t.program ≡ program
+  pub own_is : t.own ≡ own
+  pub below : t.below ≡ []
+  pub forks : t.forks ≡ 0
+  pub environment_is : t.environment ≡ environment
+  pub frames : t.frames ≡ []
+  pub control_is : t.control ≡ control
+
+-- the label of a thread that was forked and has no tag yet
+abbrev pub untagged : Label
+untagged = record { tag = 0; ran = ways.Slot }
+
+-- a child of the innermost thread's next fork, in a state of its own, that begins like this
+pub record IsSpawned (old : State) (begins : Control) (child : State) : Type 0 where
+  pub renewed : IsRenewed old.program child.own child.sums.items begins old.environment.items child
+  pub named : child.own.name ≡ (top old).own.name ++ old.level.forks ∷ []
+  pub label : child.own.label ≡ untagged
+  pub holds : child.own.holds.items ≡ tabulated old.program.now.locks (λ lock. 0)
+  pub sums : child.sums.items ≡ tabulated old.program.now.ledgers (λ ledger. 0)
+
 -- a thread of a task that has not begun
-pub record IsNew (program : Program) (name : List ℕ) (tag : ℕ) (task : Task) (t : State) : Type 0 where
+pub record IsNew (program : Program) (name : List ℕ) (label : Label) (task : Task) (t : Strand) : Type 0 where
   pub same_program : t.program.now ≡ program
   pub has_name : t.own.name ≡ name
-  pub has_label : t.own.label ≡ record { tag = tag; ran = ways.Slot }
-  pub holds : t.own.holds.items ≡ tabulated program.locks (λ lock. 0)
+  pub has_label : t.own.label ≡ label
+  pub holds : t.own.holds ≡ tabulated program.locks (λ lock. 0)
   pub below : t.below ≡ []
-  pub sums : t.sums.items ≡ tabulated program.ledgers (λ ledger. 0)
   pub forks : t.forks ≡ 0
   pub unjoined : unjoined_of t ≡ []
+  pub here : here_of t ≡ []
   pub locks : locks_of t ≡ []
   pub pending : pending_of t.control ≡ None
   pub work : work_left t ≡ task_work (source_of program).arrays task
   pub trace : trace_left t ≡ task_trace (source_of program).arrays task ++ At pause.Ended ∷ []
   pub value : (ending t).value ≡ task_value (source_of program).arrays task
+  pub environment : (ending t).env ≡ environment_of task
+  pub keeps : KeepsForks t
   pub account : account_at_end t untouched ≡ after name (task_effects (source_of program).arrays program.locks task) untouched
 
--- The thread comes to the same, if the child is counted with it until the join, at least one step and at most so many having been made.
-pub record KeepsOverFork (steps : ℕ) (old new child : State) (made : Child) : Type 0 where
+-- The thread comes to the same, if the child is counted with it until the join, at least one step and at most so many having been made. So many of its steps
+-- are another state's.
+pub record KeepsOverFork (steps handed : ℕ) (answered : List Event) (old new : Strand) (made : Child) : Type 0 where
   pub ending : ending new ≡ ending old
   pub account : (account : Account) → length account.children ≡ old.forks → account_at_end new (with_fork made account) ≡ account_at_end old account
   pub taken : ℕ
   pub at_least : 1 ≤ taken
   pub at_most : taken ≤ steps
-  pub work : work_left new + work_left child + taken ≡ work_left old
-  pub trace : with_steps taken (trace_left new) ≡ trace_left old
-  pub faultless : IsWithoutFault old → IsWithoutFault new × IsWithoutFault child
+  pub work : work_left new + handed + taken ≡ work_left old
+  pub trace : with_steps taken (answered ++ trace_left new) ≡ trace_left old
+  pub faultless : IsWithoutFault old → IsWithoutFault new
+  pub keeps : KeepsForks old → KeepsForks new
 
--- At most so many steps were made, the last of which forked this child. What the thread comes to is the same, if the child is the one of the fork's number,
--- and the fork is one of those that were still to come.
-pub record GoesToFork (steps : ℕ) (old new child : State) (made : Child) : Type 0 where
+-- At most so many steps were made, the last of which made a fork. What the thread comes to is the same, if the child is the one of the fork's number, and the
+-- fork is one of those that were still to come. The child is to run here, or it is not.
+pub record GoesToFork (steps handed : ℕ) (answered : List Event) (here : List ℕ) (old new : Strand) (made : Child) : Type 0 where
   pub program : new.program ≡ old.program
   pub own : new.own ≡ old.own
   pub below : new.below ≡ old.below
-  pub sums : new.sums.items ≡ old.sums.items
   pub forks : new.forks ≡ old.forks + 1
   pub unjoined : unjoined_of new ≡ old.forks ∷ unjoined_of old
+  pub here_is : here_of new ≡ here ++ here_of old
   pub locks : locks_of new ≡ locks_of old
-  pub pending : pending_of new.control ≡ Some pause.Forks
-  pub fresh : IsNew old.program.now (old.own.name ++ old.forks ∷ []) 0 made.task child
   pub next_child : (account : Account) → (rest : List Child) × ((account_at_end old account).children ≡ account.children ++ made ∷ rest)
-  pub keeps : task_of (source_of old.program.now) (old.own.name ++ old.forks ∷ []) ≡ Some made.task → KeepsOverFork steps old new child made
+  pub keeps : task_of (source_of old.program.now) (old.own.name ++ old.forks ∷ []) ≡ Some made.task → KeepsOverFork steps handed answered old new made
 
--- What is so after so many steps, or once the thread has stopped in one of them, at the latest in the last.
-abbrev pub AfterSteps : ℕ → State → Option Stop → State → Type 0
+-- The child was made in a state of its own, and the fork is a pause.
+pub record GivesChild (steps : ℕ) (old new child : Strand) (made : Child) : Type 0 where
+  pub forked : GoesToFork steps (work_left child) [] [] old new made
+  pub pending : pending_of new.control ≡ Some pause.Forks
+  pub fresh : IsNew old.program.now (old.own.name ++ old.forks ∷ []) untagged made.task child
+  pub faultless : IsWithoutFault old → IsWithoutFault child
+
+-- The child will run here, and the fork is no pause.
+pub record PlacesChild (steps : ℕ) (old new : Strand) (made : Child) : Type 0 where
+  pub forked : GoesToFork steps 0 (At pause.Forks ∷ []) (old.forks ∷ []) old new made
+  pub pending : pending_of new.control ≡ None
+
+-- What is so after so many steps, or once the thread has paused in one of them, at the latest in the last, for no fork.
+abbrev pub AfterSteps : ℕ → Strand → Option Pending → Strand → Type 0
 AfterSteps steps old None new = Goes steps [] old new × (pending_of new.control ≡ None) × (locks_of new ≡ locks_of old)
-AfterSteps steps old (Some (stop.Forks class child)) new =
-    GoesToFork steps old new child.value (record { class = class; task = task_begun child.value.control child.value.environment.items })
-AfterSteps steps old (Some stop.Joins) new = GoesWithin 1 steps old new × (pending_of new.control ≡ Some pause.Joins) × (locks_of new ≡ locks_of old)
-AfterSteps steps old (Some (stop.Asks lock)) new =
+AfterSteps steps old (Some pause.Forks) new = ⊥
+AfterSteps steps old (Some pause.Joins) new = GoesWithin 1 steps old new × (pending_of new.control ≡ Some pause.Joins) × (locks_of new ≡ locks_of old)
+AfterSteps steps old (Some (pause.Asks lock)) new =
     GoesWithin 1 steps old new × (pending_of new.control ≡ Some (pause.Asks lock)) × (locks_of new ≡ lock ∷ locks_of old)
-AfterSteps steps old (Some (stop.Frees lock)) new =
+AfterSteps steps old (Some (pause.Frees lock)) new =
     GoesWithin 1 steps old new × (pending_of new.control ≡ Some (pause.Frees lock)) × (locks_of new ≡ locks_of old)
     × ((others : List ℕ) × (locks_of new ≡ lock ∷ others))
-AfterSteps steps old (Some (stop.Tallies ledger amount)) new =
+AfterSteps steps old (Some (pause.Tallies ledger amount)) new =
     GoesWithin 1 steps old new × (pending_of new.control ≡ Some (pause.Tallies ledger amount)) × (locks_of new ≡ locks_of old)
-AfterSteps steps old (Some stop.Ended) new =
+AfterSteps steps old (Some pause.Ended) new =
     GoesWithin 1 steps old new × (pending_of new.control ≡ Some pause.Ended) × (unjoined_of new ≡ []) × (locks_of new ≡ locks_of old) × (locks_of new ≡ [])
     × (work_left new ≡ 0)
 
--- So many steps were left and so many are: all where the thread has not stopped, else at least one.
-abbrev pub IsSpent : Option Stop → ℕ → ℕ → Type 0
-IsSpent None old new = new ≡ 0
-IsSpent (Some s) old new = new < old
-
--- The steps that were made are those that are not left any more.
-abbrev pub TakesAll : Option Stop → ℕ → ℕ → State → State → Type 0
-TakesAll (Some (stop.Forks class child)) had left old new = Unit {0}
-TakesAll _ had left old new = work_left new + had ≡ work_left old + left
-
 -- the thread that hands on this value next
-abbrev pub giving : State → ℕ → State
+abbrev pub giving : Strand → ℕ → Strand
 giving t value = record t { control = Give value }
 
 -- the thread that begins this expression next
-abbrev pub beginning : State → Bor Expr → State
+abbrev pub beginning : Strand → Bor Expr → Strand
 beginning t expr = record t { control = Begin expr }
-
--- the thread, which begins this expression next where there is one
-abbrev pub current : Option (Bor Expr) → State → State
-current None t = t
-current (Some expr) t = beginning t expr
 
 -- a value that was left over, or a part of a sweep
 abbrev pub IsLeftOver : Control → Type 0
@@ -235,67 +329,93 @@ IsLeftOver (Give value) = Unit {0}
 IsLeftOver (Cover stretch) = Unit {0}
 IsLeftOver _ = ⊥
 
--- The steps that were made are those that are not left any more, and so many beside them; the thread has not stopped.
-pub record Makes (had left beside : ℕ) (old new : State) : Type 0 where
+-- The steps that were made are those that are not left any more, and so many beside them; the thread has not paused.
+pub record Makes (had left beside : ℕ) (old new : Strand) : Type 0 where
   pub made : ℕ
   pub fewer : left ≤ had
   pub counted : left + made ≡ had + beside
   pub goes : AfterSteps made old None new
 
--- The same, and then it stops in one step more.
-pub record MakesStop (had left : ℕ) (old : State) (s : Stop) (new : State) : Type 0 where
-  pub last : State
-  pub makes : Makes had left 0 old last
-  pub stops : AfterSteps 1 last (Some s) new
+-- The first comes to where a fold of the second goes on from this number with this value so far, and so many steps are left then.
+abbrev pub ComesToFold : Strand → Strand → ℕ → ℕ → ℕ → ℕ → Bor Expr → ℕ → Type 0
+ComesToFold before t had left next end body so_far = (on : Strand) → TurnsFold t on next end body so_far → Makes had left 1 before on
 
--- What comes of a step, with those that were left beside it before and after: a value that is to be handed on in the step, or what is next once it is made.
-abbrev pub Reaches : ℕ → ℕ → State → Progress → State → Type 0
+-- and where a sweep does
+abbrev pub ComesToSweep : Strand → Strand → ℕ → ℕ → Reduction → ℕ → ℕ → Bor Expr → ℕ → Type 0
+ComesToSweep before t had left reduction next end body so_far = (on : Strand) → TurnsSweep t on reduction next end body so_far → Makes had left 1 before on
+
+-- a pause with more to come
+abbrev pub IsNotEnd : Pending → Type 0
+IsNotEnd pause.Ended = ⊥
+IsNotEnd _ = Unit {0}
+
+-- What comes of a step of a thread by itself, with those that were left beside it before and after: a value that is to be handed on in the step, or what is
+-- next once it is made.
+abbrev pub Reaches : ℕ → ℕ → Strand → Progress → Strand → Type 0
 Reaches had left old (part.Value value) new = Makes had left 0 old (giving new value)
 Reaches had left old (part.Begin expr) new = Makes had left 1 old (beginning new expr)
-Reaches had left old (part.Made None) new = Makes had left 1 old new × IsLeftOver new.control
-Reaches had left old (part.Made (Some s)) new = MakesStop had left old s new
+Reaches had left old part.Goes new = Makes had left 1 old new × IsLeftOver new.control
+Reaches had left old part.Stops new = (left ≡ had) × ((next : Pending) × IsNotEnd next × AfterSteps 1 old (Some next) new)
+Reaches had left old (part.Forks class child) new = ⊥
+
+abbrev pub OnStops : Progress → Type 0 → Type 0
+OnStops part.Stops A = A
+OnStops _ A = Unit {0}
+
+-- there is room for a frame
+abbrev pub HasRoom : State → Type 0
+HasRoom t = vec_len t.frames + 1 ≤ vec_capacity t.frames
 
 abbrev pub OnValue : Progress → Type 0 → Type 0
 OnValue (part.Value value) A = A
 OnValue _ A = Unit {0}
 
--- the thread as it is then
-abbrev pub seen : Progress → State → State
-seen (part.Value value) t = giving t value
-seen (part.Begin expr) t = beginning t expr
-seen (part.Made s) t = t
-
--- One step was made, and the thread has not stopped. A value is then handed on in a further one.
-abbrev pub IsOneStep : ℕ → ℕ → Progress → State → Type 0
-IsOneStep had left (part.Value value) new = left + 1 ≡ had
-IsOneStep had left (part.Begin expr) new = left ≡ had
-IsOneStep had left (part.Made None) new = (left ≡ had) × IsLeftOver new.control
-IsOneStep had left (part.Made (Some s)) new = ⊥
-
--- a child thread was made for a task, and the thread has this newest frame and this to do next
-pub record PushesFork (old new child : State) (begins : Control) (frame : Frame) (control : Control) : Type 0 where
+-- a fork was made: the thread has this newest frame and this to do next
+pub record PushesFork (old new : Strand) (frame : Frame) (control : Control) : Type 0 where
   pub program : new.program ≡ old.program
   pub own : new.own ≡ old.own
   pub below : new.below ≡ old.below
-  pub sums : new.sums.items ≡ old.sums.items
   pub forks : new.forks ≡ old.forks + 1
-  pub environment : new.environment.items ≡ old.environment.items
-  pub frames : new.frames.items ≡ old.frames.items ++ frame ∷ []
+  pub environment : new.environment ≡ old.environment
+  pub frames : new.frames ≡ old.frames ++ frame ∷ []
   pub control_is : new.control ≡ control
-  pub fresh : IsNew old.program.now (old.own.name ++ old.forks ∷ []) 0 (task_begun begins old.environment.items) child
-  pub begun : task_begun child.control child.environment.items ≡ task_begun begins old.environment.items
+
+-- and a child was made that begins like this
+pub record SpawnsChild (old new child : Strand) (begins : Control) (frame : Frame) (control : Control) : Type 0 where
+  pub pushed : PushesFork old new frame control
+  pub fresh : IsNew old.program.now (old.own.name ++ old.forks ∷ []) untagged (task_begun begins old.environment) child
+  pub begun : task_begun child.control child.environment ≡ task_begun begins old.environment
   pub faultless : IsFaultlessNext (source_of old.program.now) false begins → IsWithoutFault child
 
+-- A value was handed to the frame of a child that is to run here: it is awaited now, and its steps are its own from now on.
+pub record AwaitsHere (number handed : ℕ) (old new : Strand) : Type 0 where
+  pub program : new.program ≡ old.program
+  pub own : new.own ≡ old.own
+  pub below : new.below ≡ old.below
+  pub forks : new.forks ≡ old.forks
+  pub unjoined : unjoined_of new ≡ unjoined_of old
+  pub here : here_of old ≡ number ∷ here_of new
+  pub locks : locks_of new ≡ locks_of old
+  pub pending : pending_of new.control ≡ Some pause.Joins
+  pub awaited_is : fork_awaited new.control ≡ number ∷ []
+  pub ending : ending new ≡ ending old
+  pub account : (account : Account) → account_at_end new account ≡ account_at_end old account
+  pub work : work_left new + handed + 1 ≡ work_left old
+  pub trace : with_steps 1 (trace_left new) ≡ trace_left old
+  pub faultless : IsWithoutFault old → IsWithoutFault new
+  pub keeps : KeepsForks old → KeepsForks new
+
 -- The thread comes to the same, now that the child of this number is counted.
-pub record KeepsOverJoin (old new : State) (number : ℕ) : Type 0 where
+pub record KeepsOverJoin (old new : Strand) (number : ℕ) : Type 0 where
   pub ending : ending new ≡ ending old
   pub account : (account : Account) → account_at_end new (account_joined (source_of old.program.now) old.own.name number account) ≡ account_at_end old account
   pub work : work_left new ≡ work_left old
   pub trace : At pause.Joins ∷ trace_left new ≡ trace_left old
   pub faultless : IsWithoutFault old → IsWithoutFault new
+  pub keeps : KeepsForks old → KeepsForks new
 
 -- The awaited child was joined. What the thread comes to is the same, if the child brought the value of its task.
-pub record Joins (old : State) (outcome : Finished) (new : State) : Type 0 where
+pub record Joins (old : Strand) (outcome : Finished) (new : Strand) : Type 0 where
   pub program : new.program ≡ old.program
   pub own : new.own ≡ old.own
   pub forks : new.forks ≡ old.forks
@@ -303,63 +423,31 @@ pub record Joins (old : State) (outcome : Finished) (new : State) : Type 0 where
   pub number : ℕ
   pub name : outcome.name ≡ old.own.name ++ number ∷ []
   pub unjoined : unjoined_of old ≡ number ∷ unjoined_of new
+  pub here : here_of new ≡ here_of old
   pub locks : locks_of new ≡ locks_of old
   pub below : Gains old.below outcome.lines new.below
-  pub sums : (n : ℕ) (own childs : ℕ → ℕ) → old.sums.items ≡ tabulated n own → outcome.sums ≡ tabulated n childs → new.sums.items ≡ tabulated n (λ ledger. own ledger + childs ledger)
   pub keeps : outcome.value ≡ task_value (source_of old.program.now).arrays (child_task (source_of old.program.now) old.own.name number) → KeepsOverJoin old new number
 
--- The outcome is that of the child that is awaited, and its lines are the last of these, so many, behind those that were joined.
-pub record IsBrought (old : State) (value : ℕ) (sums : List ℕ) (lines : List ThreadLine) (count : ℕ) (outcome : Finished) : Type 0 where
-  pub of_child : awaited (suspended old) ≡ Some outcome.name
-  pub has_value : outcome.value ≡ value
-  pub has_sums : outcome.sums ≡ sums
-  pub as_many : length outcome.lines ≡ count
-  pub before : List ThreadLine
-  pub behind : lines ≡ before ++ old.below ++ outcome.lines
-
 -- This pause was answered: the thread has counted these effects of its own, which are neither forks nor lines, and goes on.
-pub record Counts (answered : Pending) (effects : Effects) (old new : State) : Type 0 where
+pub record Counts (answered : Pending) (effects : Effects) (old new : Strand) : Type 0 where
   pub program : new.program ≡ old.program
   pub name : new.own.name ≡ old.own.name
   pub label : new.own.label ≡ old.own.label
   pub below : new.below ≡ old.below
   pub forks : new.forks ≡ old.forks
   pub unjoined : unjoined_of new ≡ unjoined_of old
+  pub here : here_of new ≡ here_of old
   pub locks : locks_of new ≡ locks_of old
   pub pending : pending_of new.control ≡ None
-  pub sums : (n : ℕ) (own : ℕ → ℕ) → old.sums.items ≡ tabulated n own → new.sums.items ≡ tabulated n (λ ledger. own ledger + effects.sums ledger)
-  pub holds : (n : ℕ) (own : ℕ → ℕ) → old.own.holds.items ≡ tabulated n own → new.own.holds.items ≡ tabulated n (λ lock. own lock + effects.holds lock)
+  pub holds : (n : ℕ) (own : ℕ → ℕ) → old.own.holds ≡ tabulated n own → new.own.holds ≡ tabulated n (λ lock. own lock + effects.holds lock)
   pub ending : ending new ≡ ending old
   pub account : (account : Account) → account_at_end new (after old.own.name effects account) ≡ account_at_end old account
   pub work : work_left new ≡ work_left old
   pub trace : At answered ∷ trace_left new ≡ trace_left old
   pub faultless : IsWithoutFault old → IsWithoutFault new
+  pub keeps : KeepsForks old → KeepsForks new
 
--- a hold of this lock is counted, and the rest is as before
-pub record CountsHold (old new : State) (lock : ℕ) : Type 0 where
-  pub program : new.program ≡ old.program
-  pub name : new.own.name ≡ old.own.name
-  pub label : new.own.label ≡ old.own.label
-  pub below : new.below ≡ old.below
-  pub sums : new.sums.items ≡ old.sums.items
-  pub forks : new.forks ≡ old.forks
-  pub environment : new.environment.items ≡ old.environment.items
-  pub frames : new.frames.items ≡ old.frames.items
-  pub control : new.control ≡ old.control
-  pub holds : (n : ℕ) (own : ℕ → ℕ) → old.own.holds.items ≡ tabulated n own → new.own.holds.items ≡ tabulated n (λ other. own other + (if other == lock then 1 else 0))
-
--- an amount is added to the sum for this ledger, and the rest is as before
-pub record CountsTally (old new : State) (ledger amount : ℕ) : Type 0 where
-  pub program : new.program ≡ old.program
-  pub own : new.own ≡ old.own
-  pub below : new.below ≡ old.below
-  pub forks : new.forks ≡ old.forks
-  pub environment : new.environment.items ≡ old.environment.items
-  pub frames : new.frames.items ≡ old.frames.items
-  pub control : new.control ≡ old.control
-  pub sums : (n : ℕ) (own : ℕ → ℕ) → old.sums.items ≡ tabulated n own → new.sums.items ≡ tabulated n (λ other. own other + (if other == ledger then amount else 0))
-
--- a frame of the beginning of a fold or a sweep
+-- a frame of a fold or a sweep
 abbrev pub IsOfRange : Frame → Type 0
 IsOfRange (FoldTo to first body) = Unit {0}
 IsOfRange (FoldFirst from first body) = Unit {0}
@@ -375,3 +463,9 @@ IsPauseOrRange (Release lock) = Unit {0}
 IsPauseOrRange (Join number after) = Unit {0}
 IsPauseOrRange (Merge number reduction) = Unit {0}
 IsPauseOrRange frame = IsOfRange frame
+
+-- a frame that begins no child
+abbrev pub IsWithin : Frame → Type 0
+IsWithin (JoinHere number child after) = ⊥
+IsWithin (MergeHere number left) = ⊥
+IsWithin _ = Unit {0}

@@ -18,18 +18,18 @@ use Rattle.arachne_machine.specs.Trace.{Event, Step, At, with_steps, task_trace}
 pub record Suspended : Type 0 where
   pub program : Program
   pub name : List ℕ
-  -- its tag, and whether it runs in its parent's place
+  -- its tag, and where it runs
   pub label : Label
   -- how many threads it has forked
   pub forks : ℕ
   -- the numbers of its forks that are not joined, the newest first
   pub unjoined : List ℕ
+  -- those of them whose children will run in its place, and have not begun
+  pub here : List ℕ
   -- the locks that it has asked for and not freed, the newest first
   pub locks : List ℕ
   -- the pause that is not answered
   pub pending : Option Pending
-  -- for each ledger, what it and the threads that it has joined have added to it, modulo 2 ^ 64
-  pub sums : List ℕ
   -- for each lock, how often it was granted, modulo 2 ^ 64
   pub holds : List ℕ
   -- the lines of the threads below it, as far as they were joined
@@ -84,6 +84,7 @@ pub record SameThread (old new : Suspended) : Type 0 where
   pub label : new.label ≡ old.label
   pub forks : new.forks ≡ old.forks
   pub unjoined : new.unjoined ≡ old.unjoined
+  pub here : new.here ≡ old.here
   pub below : new.below ≡ old.below
 
 -- at least so many steps were made, and at most so many, and nothing else
@@ -101,8 +102,8 @@ pub record IsFresh (program : Program) (name : List ℕ) (tag : ℕ) (thread : S
   pub has_label : thread.label ≡ record { tag = tag; ran = ways.Slot }
   pub no_forks : thread.forks ≡ 0
   pub none_unjoined : thread.unjoined ≡ []
+  pub none_here : thread.here ≡ []
   pub no_locks : thread.locks ≡ []
-  pub no_sums : thread.sums ≡ tabulated program.ledgers (λ ledger. 0)
   pub no_holds : thread.holds ≡ tabulated program.locks (λ lock. 0)
   pub none_below : thread.below ≡ []
   pub not_paused : thread.pending ≡ None
@@ -115,6 +116,7 @@ pub record Forked (budget : ℕ) (class : Class) (old new child : Suspended) : T
   pub label : new.label ≡ old.label
   pub forks : new.forks ≡ old.forks + 1
   pub unjoined : new.unjoined ≡ old.forks ∷ old.unjoined
+  pub here : new.here ≡ old.here
   pub locks : new.locks ≡ old.locks
   pub below : new.below ≡ old.below
   pub pending : new.pending ≡ Some pause.Forks
@@ -137,8 +139,8 @@ pub record Joined (old : Suspended) (outcome : Finished) (new : Suspended) : Typ
   pub label : new.label ≡ old.label
   pub forks : new.forks ≡ old.forks
   pub unjoined : (number : ℕ) × (old.unjoined ≡ number ∷ new.unjoined)
+  pub here : new.here ≡ old.here
   pub locks : new.locks ≡ old.locks
-  pub sums : new.sums ≡ added old.sums outcome.sums
   pub holds : new.holds ≡ old.holds
   pub below : new.below ≡ old.below ++ outcome.lines
   pub pending : new.pending ≡ None

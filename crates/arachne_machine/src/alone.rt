@@ -8,6 +8,7 @@ ghost use Rattle.arachne_machine.specs.Alone.{Rests, key, turns_left};
 use crate::line::ThreadLine;
 use crate::outcome::Outcome;
 use crate::pause::{NotJoined, Pause};
+use crate::placing::Everywhere;
 use crate::spares::Spares;
 use crate::thread::Thread;
 use arachne_lang::{Line, Meaning, Program, Sequence};
@@ -34,7 +35,7 @@ pub fn run_alone(alloc: Global, program: &Program, budget: u32) -> Result<Meanin
 /// joins it. The outcomes that were brought last are those of the newest thread's children, and so on.
 fn take_turn<'p>(
     threads: &mut Vec<Thread<'p>>,
-    outcomes: &mut Vec<Outcome<'p>>,
+    outcomes: &mut Vec<Outcome>,
     spares: &mut Spares<'p>,
     mut thread: Thread<'p>,
     budget: u32,
@@ -45,7 +46,7 @@ fn take_turn<'p>(
     ensures falls { OnOk result (sum_by turns_left threads.new.items < sum_by turns_left threads.old.items + turns_left thread.entry) }
 {
     let mut left = budget;
-    match thread.advance_within(&mut left, spares)? {
+    match thread.advance_within(&mut left, spares, &mut Everywhere)? {
         Pause::Budget => threads.push(thread)?,
         Pause::Forks(_, child) => {
             thread.forked();
@@ -79,8 +80,8 @@ fn take_turn<'p>(
 
 /// The meaning that an outcome has.
 fn meaning(alloc: Global, outcome: Outcome) -> Result<Meaning, AllocError>
-    ensures means { IfOk result (λ meaning. meaning ≡ meaning_in outcome.entry) }
-    ensures of_its_name { IsOfItsName outcome.entry }
+    ensures means { IfOk result (λ meaning. meaning ≡ meaning_in outcome) }
+    ensures of_its_name { IsOfItsName outcome }
 {
     let Ok(parts) = outcome.into_parts() else {
         return Err(AllocError);

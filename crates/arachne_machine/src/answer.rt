@@ -5,20 +5,20 @@ use crate::tables::add_at;
 
 /// The answers to pauses that need no outcome. They take no memory.
 impl<'p> State<'p> {
-    ghost use Rattle.std.specs.Prelude.{◌≡◌, [], ◌∷◌, ℕ, None, Some};
-    ghost use Rattle.arachne_lang.specs.Effects.{held, tallied};
+    ghost use Rattle.std.specs.Prelude.{◌≡◌, ℕ, Some};
+    ghost use Rattle.std.specs.Borrow.{Bor};
+    ghost use Rattle.arachne_lang.specs.declared.program.Expr.{Expr};
+    ghost use Rattle.arachne_machine.specs.declared.state.State.{State as TheState};
     ghost use Rattle.arachne_machine.specs.declared.pause.Pending.TheVariants as pause;
-    ghost use Rattle.arachne_machine.specs.Ending.{locks_of};
+    ghost use Rattle.arachne_machine.specs.declared.frame.Control.TheVariants as control;
     ghost use Rattle.arachne_machine.specs.Suspended.{IsAsk, IsFree, IsTally};
-    ghost use Rattle.arachne_machine.specs.Trace.{At};
-    ghost use Rattle.arachne_machine.specs.Steps.{pending_of, Goes, Counts, CountsHold, CountsTally};
+    ghost use Rattle.arachne_machine.specs.Steps.{HasLine, Turns, pending_of};
+    ghost use Rattle.arachne_machine.specs.Runs.{CountsHold, CountsTally, after_fork};
 
     /// The child was taken: goes on with what is done meanwhile.
     pub fn forked(&mut self)
         requires { pending_of self.old.control ≡ Some pause.Forks }
-        ensures goes { Goes 0 (At pause.Forks ∷ []) self.old self.new }
-        ensures locks { locks_of self.new ≡ locks_of self.old }
-        ensures pending { pending_of self.new.control ≡ None }
+        ensures { Turns self.old self.new (after_fork self.old.control) }
     {
         match self.control {
             Control::Forked(during) => self.control = Control::Begin(during),
@@ -29,8 +29,10 @@ impl<'p> State<'p> {
 
     /// It holds the lock that it asked for, and goes on.
     pub fn granted(&mut self)
-        requires { IsAsk (pending_of self.old.control) }
-        ensures { (lock : ℕ) × (pending_of self.old.control ≡ Some (pause.Asks lock)) × Counts (pause.Asks lock) (held lock) self.old self.new }
+        requires asks { IsAsk (pending_of self.old.control) }
+        requires line { HasLine self.old }
+        ensures { (lock : ℕ) × (body : Bor Expr) × (counted : TheState) × (self.old.control ≡ control.Asks lock body) × CountsHold self.old counted lock
+            × (self.new ≡ record counted { control = control.Begin body }) }
     {
         let Control::Asks { lock, body } = self.control else {
             unreachable!()
@@ -41,17 +43,20 @@ impl<'p> State<'p> {
 
     /// Counts that it held this lock once more.
     fn count_hold(&mut self, lock: u64)
+        requires { HasLine self.old }
         ensures { CountsHold self.old self.new lock }
     {
-        add_at(&mut self.own.holds, lock, 1);
+        if self.parents.is_empty() {
+            add_at(&mut self.own.holds, lock, 1);
+        } else {
+            self.lines.count_hold(self.alloc, self.level.place, lock);
+        }
     }
 
     /// It has freed the lock, and goes on.
     pub fn freed(&mut self)
         requires { IsFree (pending_of self.old.control) }
-        ensures goes { (lock : ℕ) × (pending_of self.old.control ≡ Some (pause.Frees lock)) × Goes 0 (At (pause.Frees lock) ∷ []) self.old self.new }
-        ensures locks { (lock : ℕ) × (pending_of self.old.control ≡ Some (pause.Frees lock)) × (locks_of self.old ≡ lock ∷ locks_of self.new) }
-        ensures pending { pending_of self.new.control ≡ None }
+        ensures { (lock value : ℕ) × (self.old.control ≡ control.Frees lock value) × Turns self.old self.new (control.Give value) }
     {
         let Control::Frees { lock: _, value } = self.control else {
             unreachable!()
@@ -62,7 +67,8 @@ impl<'p> State<'p> {
     /// The amount was added to the ledger: adds it to the own sums, and goes on.
     pub fn tallied(&mut self)
         requires { IsTally (pending_of self.old.control) }
-        ensures { (ledger amount : ℕ) × (pending_of self.old.control ≡ Some (pause.Tallies ledger amount)) × Counts (pause.Tallies ledger amount) (tallied ledger amount) self.old self.new }
+        ensures { (ledger amount : ℕ) × (body : Bor Expr) × (counted : TheState) × (self.old.control ≡ control.Tallies ledger amount body) × CountsTally self.old counted ledger amount
+            × (self.new ≡ record counted { control = control.Begin body }) }
     {
         let Control::Tallies {
             ledger,

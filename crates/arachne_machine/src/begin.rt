@@ -1,13 +1,15 @@
 //! The steps that begin an expression.
 use crate::frame::{Control, Frame};
+use crate::lookup::{length_in, variable_in};
+use crate::placing::Placing;
 use crate::spares::Spares;
-use crate::state::{Progress, State, Stop};
+use crate::state::{Progress, State};
 use arachne_lang::{Expr, Operation};
 use std::alloc::AllocError;
 
 /// How an expression is begun.
 impl<'p> State<'p> {
-    ghost use Rattle.std.specs.Prelude.{◌≡◌, ◌≤◌, length, slice_index, IfOk, IfSome, OnOk, OnErr};
+    ghost use Rattle.std.specs.Prelude.{true, ◌≡◌, ◌≤◌, ◌∷◌, ◌++◌, [], length, slice_index, IfOk, IfSome, OnOk, OnErr};
     ghost use Rattle.std.specs.Borrow.{Bor};
     ghost use Rattle.arachne_lang.specs.declared.program.Expr.{Expr as Expression};
     ghost use Rattle.arachne_lang.specs.Tree.{Binary};
@@ -16,26 +18,31 @@ impl<'p> State<'p> {
     ghost use Rattle.arachne_machine.specs.declared.frame.Frame.TheVariants as frames;
     ghost use Rattle.arachne_machine.specs.declared.frame.Control.TheVariants as control;
     ghost use Rattle.arachne_machine.specs.Pure.{IsLeaf};
-    ghost use Rattle.arachne_machine.specs.Steps.{beginning, IsNumbered, IsUnchanged, Enters, OnValue, Reaches};
+    ghost use Rattle.arachne_machine.specs.Sound.{IsSoundState};
+    ghost use Rattle.arachne_machine.specs.Steps.{beginning, Changes, IsSame, LeavesOthers, OnStops, Pushes, Reaches, top};
+    ghost use Rattle.arachne_machine.specs.Runs.{beginning_in, Comes};
 
     /// Begins this expression. Where its value is known at once nothing else has changed.
     #[inline(always)]
-    pub fn begin(
+    pub fn begin<P: Placing>(
         &mut self,
         expr: &'p Expr,
         left: &mut u32,
         spares: &mut Spares<'p>,
+        places: &mut P,
     ) -> Result<Progress<'p>, AllocError>
-        requires numbered { IsNumbered (beginning self.old expr) }
-        ensures ok { IfOk result (λ progress. Reaches left.old left.new (beginning self.old expr.entry) progress self.new) }
-        ensures same { IfOk result (λ progress. OnValue progress (IsUnchanged self.old self.new)) }
+        requires sound { IsSoundState (beginning_in self.old expr) }
+        ensures ok { IfOk result (λ progress. Comes (P.gives_all ≡ true) left.old left.new (beginning_in self.old expr.entry) progress self.new) }
         ensures fewer { left.new ≤ left.old }
-        ensures err { OnErr result (IsUnchanged self.old self.new) }
+        ensures err { OnErr result (IsSame self.old self.new) }
     {
         let part = match expr {
             Expr::Num(number) => return Ok(Progress::Value(*number)),
-            Expr::Var(variable) => return Ok(Progress::Value(self.variable(*variable))),
-            Expr::Len(array) => return Ok(Progress::Value(self.length(*array))),
+            Expr::Var(variable) => return Ok(Progress::Value(variable_in(
+                self.environment.as_slice(),
+                *variable,
+            ))),
+            Expr::Len(array) => return Ok(Progress::Value(length_in(self.program, *array))),
             Expr::Item(array, index) => self.enter(Frame::Index(*array), index)?,
             Expr::Binary(operation, first, second) => {
                 return self.operate(*operation, first, second, left);
@@ -53,11 +60,15 @@ impl<'p> State<'p> {
             )?,
             Expr::Hold(lock, body) => {
                 self.ask(*lock, body)?;
-                return Ok(Progress::Made(Some(Stop::Asks(*lock))));
+                return Ok(Progress::Stops);
             }
             Expr::Fork(class, child, during, after) => {
+                if !places.is_any(*class) {
+                    self.fork_here(child, during, after)?;
+                    return Ok(Progress::Begin(during));
+                }
                 let child = self.fork(child, during, after, spares)?;
-                return Ok(Progress::Made(Some(Stop::Forks(*class, child))));
+                return Ok(Progress::Forks(*class, child));
             }
         };
         Ok(Progress::Begin(part))
@@ -72,11 +83,12 @@ impl<'p> State<'p> {
         second: &'p Expr,
         left: &mut u32,
     ) -> Result<Progress<'p>, AllocError>
+        requires start { self.old.level.start ≤ length self.old.frames.items }
         ensures ok { (expr : Bor Expression) → tree_of expr.now ≡ Binary operation (tree_of first.now) (tree_of second.now) →
-            IfOk result (λ progress. Reaches left.old left.new (beginning self.old expr) progress self.new) }
-        ensures same { IfOk result (λ progress. OnValue progress (IsUnchanged self.old self.new)) }
+            IfOk result (λ progress. Reaches left.old left.new (beginning (top self.old) expr) progress (top self.new)) }
+        ensures leaves { IfOk result (λ progress. LeavesOthers self.old self.new × OnStops progress ⊥) }
         ensures fewer { left.new ≤ left.old }
-        ensures err { OnErr result (IsUnchanged self.old self.new) }
+        ensures err { OnErr result (IsSame self.old self.new) }
     {
         if *left >= 2
             && let Some(x) = self.leaf(first)
@@ -101,7 +113,7 @@ impl<'p> State<'p> {
     {
         match expr {
             Expr::Num(number) => Some(*number),
-            Expr::Var(variable) => Some(self.variable(*variable)),
+            Expr::Var(variable) => Some(variable_in(self.environment.as_slice(), *variable)),
             _ => None,
         }
     }
@@ -110,8 +122,8 @@ impl<'p> State<'p> {
     #[inline(always)]
     fn enter(&mut self, frame: Frame<'p>, part: &'p Expr) -> Result<&'p Expr, AllocError>
         ensures part { IfOk result (λ begun. begun ≡ part.entry) }
-        ensures ok { OnOk result (Enters self.old self.new frame.entry self.old.control) }
-        ensures err { OnErr result (IsUnchanged self.old self.new) }
+        ensures ok { OnOk result (Pushes self.old self.new frame.entry) }
+        ensures err { OnErr result (IsSame self.old self.new) }
     {
         self.frames.push(frame)?;
         Ok(part)
@@ -120,33 +132,11 @@ impl<'p> State<'p> {
     /// Asks for a lock. It is freed once the value of the expression is known.
     #[inline(always)]
     fn ask(&mut self, lock: u64, body: &'p Expr) -> Result<(), AllocError>
-        ensures ok { OnOk result (Enters self.old self.new (frames.Release lock) (control.Asks lock body.entry)) }
-        ensures err { OnErr result (IsUnchanged self.old self.new) }
+        ensures ok { OnOk result (Changes self.old self.new self.old.environment.items (self.old.frames.items ++ frames.Release lock ∷ []) (control.Asks lock body.entry)) }
+        ensures err { OnErr result (IsSame self.old self.new) }
     {
         self.frames.push(Frame::Release(lock))?;
         self.control = Control::Asks { lock, body };
         Ok(())
-    }
-
-    /// The value of a variable.
-    #[inline(always)]
-    fn variable(&self, variable: u64) -> u64
-        ensures { result ≡ slice_index self.now.environment.items variable }
-    {
-        match self.environment.get(variable as usize) {
-            Some(value) => *value,
-            None => 0,
-        }
-    }
-
-    /// How many items an array has.
-    #[inline(always)]
-    fn length(&self, array: u64) -> u64
-        ensures { result ≡ length (array_at (source_of self.now.program.now).arrays array) }
-    {
-        match self.program.arrays.get(array as usize) {
-            Some(items) => items.len() as u64,
-            None => 0,
-        }
     }
 }

@@ -1,18 +1,24 @@
 //! The steps that fork a child or split a sweep.
 use crate::frame::{Control, Frame, Stretch};
+use crate::placing::Placing;
 use crate::spares::Spares;
-use crate::state::{Progress, State, Stop};
+use crate::state::{Progress, State};
 use arachne_lang::{Class, Expr};
 use std::alloc::AllocError;
 
 /// The steps that fork a child, and those that begin a part of a sweep.
 impl<'p> State<'p> {
-    ghost use Rattle.std.specs.Prelude.{◌≡◌, ◌≤◌, ◌+◌, ◌<◌, ◌^◌, IfOk, OnErr};
+    ghost use Rattle.std.specs.Prelude.{true, ◌≡◌, ◌≤◌, ◌+◌, ◌<◌, ◌^◌, ◌∷◌, ◌++◌, [], IfOk, OnOk, OnErr};
+    ghost use Rattle.arachne_lang.specs.Effects.{tabulated};
+    ghost use Rattle.arachne_machine.specs.declared.line.Ran.TheVariants as ways;
     ghost use Rattle.arachne_machine.specs.declared.frame.Frame.TheVariants as frames;
     ghost use Rattle.arachne_machine.specs.declared.frame.Control.TheVariants as control;
-    ghost use Rattle.arachne_machine.specs.Steps.{IsBeginning, IsNumbered, IsUnchanged, OnValue, PushesFork, Reaches};
+    ghost use Rattle.arachne_machine.specs.declared.state.Progress.TheVariants as progress;
+    ghost use Rattle.arachne_machine.specs.Sound.{IsSoundState};
+    ghost use Rattle.arachne_machine.specs.Runs.{Comes};
+    ghost use Rattle.arachne_machine.specs.Steps.{CountsFork, HasLine, IsSame, IsSpawned};
 
-    /// A new child, whose number is the fork's. The own thread goes on with what it does meanwhile.
+    /// A new child, whose number is the fork's. The thread goes on with what it does meanwhile.
     pub fn fork(
         &mut self,
         child: &'p Expr,
@@ -20,12 +26,13 @@ impl<'p> State<'p> {
         after: &'p Expr,
         spares: &mut Spares<'p>,
     ) -> Result<Box<State<'p>>, AllocError>
-        requires { self.old.forks + 1 < 2 ^ 64 }
-        ensures ok { IfOk result (λ t. PushesFork self.old self.new t.value (control.Begin child.entry)
-            (frames.Join self.old.forks after.entry) (control.Forked during.entry)) }
-        ensures err { OnErr result (IsUnchanged self.old self.new) }
+        requires number { self.old.level.forks + 1 < 2 ^ 64 }
+        requires line { HasLine self.old }
+        ensures counts { OnOk result (CountsFork self.old self.new (frames.Join self.old.level.forks after.entry) (control.Forked during.entry)) }
+        ensures child { IfOk result (λ t. IsSpawned self.old (control.Begin child.entry) t.value) }
+        ensures err { OnErr result (IsSame self.old self.new) }
     {
-        let number = self.forks;
+        let number = self.level.forks;
         self.spawn(
             Control::Begin(child),
             Frame::Join { number, after },
@@ -34,7 +41,30 @@ impl<'p> State<'p> {
         )
     }
 
-    /// A new child that begins like this, the own thread's new frame, and what it does next.
+    /// A fork whose child will run here.
+    #[inline(always)]
+    pub fn fork_here(
+        &mut self,
+        child: &'p Expr,
+        during: &'p Expr,
+        after: &'p Expr,
+    ) -> Result<(), AllocError>
+        requires number { self.old.level.forks + 1 < 2 ^ 64 }
+        ensures counts { OnOk result (CountsFork self.old self.new (frames.JoinHere self.old.level.forks child.entry after.entry) self.old.control) }
+        ensures err { OnErr result (IsSame self.old self.new) }
+    {
+        let number = self.level.forks;
+        let frame = Frame::JoinHere {
+            number,
+            child,
+            after,
+        };
+        self.frames.push(frame)?;
+        self.level.forks += 1;
+        Ok(())
+    }
+
+    /// A new child that begins like this, the thread's new frame, and what it does next.
     fn spawn(
         &mut self,
         begins: Control<'p>,
@@ -42,12 +72,13 @@ impl<'p> State<'p> {
         next: Control<'p>,
         spares: &mut Spares<'p>,
     ) -> Result<Box<State<'p>>, AllocError>
-        requires number { self.old.forks + 1 < 2 ^ 64 }
-        requires begins { IsBeginning begins }
-        ensures ok { IfOk result (λ t. PushesFork self.old self.new t.value begins.entry frame.entry next.entry) }
-        ensures err { OnErr result (IsUnchanged self.old self.new) }
+        requires number { self.old.level.forks + 1 < 2 ^ 64 }
+        requires line { HasLine self.old }
+        ensures counts { OnOk result (CountsFork self.old self.new frame.entry next.entry) }
+        ensures child { IfOk result (λ t. IsSpawned self.old begins.entry t.value) }
+        ensures err { OnErr result (IsSame self.old self.new) }
     {
-        let name = self.own.name.child(self.alloc, self.forks)?;
+        let name = self.running_name().child(self.alloc, self.level.forks)?;
         let environment = self.environment.as_slice();
         let state = State::new(
             self.alloc,
@@ -59,29 +90,35 @@ impl<'p> State<'p> {
             spares,
         )?;
         self.frames.push(frame)?;
-        self.forks += 1;
+        self.level.forks += 1;
         self.control = next;
         Ok(state)
     }
 
     /// Begins a part of a sweep: where it is longer than the grain, its left half is forked.
-    pub fn cover(
+    #[inline(always)]
+    pub fn cover<P: Placing>(
         &mut self,
         stretch: Stretch<'p>,
         left: &mut u32,
         spares: &mut Spares<'p>,
+        places: &mut P,
     ) -> Result<Progress<'p>, AllocError>
         requires covers { self.old.control ≡ control.Cover stretch }
-        requires numbered { IsNumbered self.old }
-        ensures ok { IfOk result (λ progress. Reaches left.old left.new self.old progress self.new) }
-        ensures same { IfOk result (λ progress. OnValue progress (IsUnchanged self.old self.new)) }
+        requires sound { IsSoundState self.old }
+        ensures ok { IfOk result (λ progress. Comes (P.gives_all ≡ true) left.old left.new self.old progress self.new) }
         ensures fewer { left.new ≤ left.old }
-        ensures err { OnErr result (IsUnchanged self.old self.new) }
+        ensures err { OnErr result (IsSame self.old self.new) }
     {
         let count = stretch.end.saturating_sub(stretch.first);
         if count > stretch.grain.max(1) {
-            let child = self.halve(stretch, stretch.first + count / 2, spares)?;
-            return Ok(Progress::Made(Some(Stop::Forks(Class::Normal, child))));
+            let middle = stretch.first + count / 2;
+            if !places.is_any(Class::Normal) {
+                self.halve_here(stretch, middle)?;
+                return Ok(Progress::Goes);
+            }
+            let child = self.halve(stretch, middle, spares)?;
+            return Ok(Progress::Forks(Class::Normal, child));
         }
         self.reserve_turn()?;
         let unit = stretch.reduction.unit();
@@ -95,17 +132,18 @@ impl<'p> State<'p> {
         ))
     }
 
-    /// A new child for what is left of this middle. The own thread goes on with what is right of it.
+    /// A new child for what is left of this middle. The thread goes on with what is right of it.
     fn halve(
         &mut self,
         stretch: Stretch<'p>,
         middle: u64,
         spares: &mut Spares<'p>,
     ) -> Result<Box<State<'p>>, AllocError>
-        requires { self.old.forks + 1 < 2 ^ 64 }
-        ensures ok { IfOk result (λ t. PushesFork self.old self.new t.value (control.Cover (record stretch.entry { end = middle }))
-            (frames.Merge self.old.forks stretch.entry.reduction) (control.Halved (record stretch.entry { first = middle }))) }
-        ensures err { OnErr result (IsUnchanged self.old self.new) }
+        requires number { self.old.level.forks + 1 < 2 ^ 64 }
+        requires line { HasLine self.old }
+        ensures counts { OnOk result (CountsFork self.old self.new (frames.Merge self.old.level.forks stretch.entry.reduction) (control.Halved (record stretch.entry { first = middle }))) }
+        ensures child { IfOk result (λ t. IsSpawned self.old (control.Cover (record stretch.entry { end = middle })) t.value) }
+        ensures err { OnErr result (IsSame self.old self.new) }
     {
         let left = Stretch {
             end: middle,
@@ -116,9 +154,32 @@ impl<'p> State<'p> {
             ..stretch
         };
         let frame = Frame::Merge {
-            number: self.forks,
+            number: self.level.forks,
             reduction: stretch.reduction,
         };
         self.spawn(Control::Cover(left), frame, Control::Halved(right), spares)
+    }
+
+    /// A split whose left half will run here, as a child. The thread goes on with what is right of the middle.
+    #[inline(always)]
+    fn halve_here(&mut self, stretch: Stretch<'p>, middle: u64) -> Result<(), AllocError>
+        requires number { self.old.level.forks + 1 < 2 ^ 64 }
+        ensures counts { OnOk result (CountsFork self.old self.new (frames.MergeHere self.old.level.forks (record stretch.entry { end = middle }))
+            (control.Cover (record stretch.entry { first = middle }))) }
+        ensures err { OnErr result (IsSame self.old self.new) }
+    {
+        let left = Stretch {
+            end: middle,
+            ..stretch
+        };
+        let right = Stretch {
+            first: middle,
+            ..stretch
+        };
+        let number = self.level.forks;
+        self.frames.push(Frame::MergeHere { number, left })?;
+        self.level.forks += 1;
+        self.control = Control::Cover(right);
+        Ok(())
     }
 }

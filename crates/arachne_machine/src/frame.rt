@@ -84,6 +84,17 @@ pub enum Frame<'p> {
         number: u64,
         reduction: Reduction,
     },
+    /// The child of this number begins here, and once it has ended this expression goes on.
+    JoinHere {
+        number: u64,
+        child: &'p Expr,
+        after: &'p Expr,
+    },
+    /// The value is that of the right half of a part of a sweep; the child of this number begins the left one here.
+    MergeHere {
+        number: u64,
+        left: Stretch<'p>,
+    },
     /// The value is a fold's first number; then come its end, its first value and its body.
     FoldTo(&'p Expr, &'p Expr, &'p Expr),
     /// The value is the end of a fold from this number on; then come its first value and its body.

@@ -1,43 +1,96 @@
 //! Hands a value on from frame to frame.
 use crate::frame::{Control, Frame, Stretch};
-use crate::state::{Progress, State, Stop};
-use arachne_lang::{Expr, Reduction};
+use crate::lookup::item_in;
+use crate::placing::Placing;
+use crate::state::{Progress, State};
+use arachne_lang::Expr;
 use std::alloc::AllocError;
 
 /// How a value is handed on.
 impl<'p> State<'p> {
-    ghost use Rattle.std.specs.Prelude.{◌≡◌, ◌+◌, ◌≤◌, ◌++◌, ◌∷◌, [], length, slice_index, vec_len, vec_capacity, None, IfOk, OnOk, OnErr};
+    ghost use Rattle.std.specs.Prelude.{true, ◌≡◌, ◌+◌, ◌<◌, ◌≤◌, ◌++◌, ◌∷◌, [], length, slice_index, vec_len, vec_capacity, IfOk, IsErr, OnOk, OnErr};
     ghost use Rattle.arachne_lang.specs.Program.{source_of};
     ghost use Rattle.arachne_lang.specs.Value.{array_at, with_newest};
-    ghost use Rattle.arachne_machine.specs.declared.state.State.{State as Thread};
+    ghost use Rattle.arachne_machine.specs.declared.state.State.{State as Whole};
     ghost use Rattle.arachne_machine.specs.declared.frame.Frame.TheVariants as frames;
     ghost use Rattle.arachne_machine.specs.declared.frame.Control.TheVariants as control;
     ghost use Rattle.arachne_machine.specs.Ending.{without_newest};
-    ghost use Rattle.arachne_machine.specs.Steps.{Becomes, IsOneStep, IsUnchanged, IsPopped, IsPauseOrRange, IsOfRange, Enters, TurnsFold, TurnsSweep, OnValue, Reaches, giving, seen};
+    ghost use Rattle.arachne_machine.specs.Strands.{Strand};
+    ghost use Rattle.arachne_machine.specs.Sound.{IsSoundState};
+    ghost use Rattle.arachne_machine.specs.Steps.{Changes, HasLine, HasRoom, OnStops, IsPauseOrRange, IsOfRange, IsPopped, IsSame, IsWithin, LeavesOthers, OnValue, Pushes, Reaches, Turns, giving, top};
+    ghost use Rattle.arachne_machine.specs.Runs.{Comes, FoldsOn, HandsResult, IsOneStep, IsPoppedIn, RunsWithin, SweepsOn, giving_in, seen_in};
     ghost use Rattle.arachne_machine.specs.declared.state.Progress.TheVariants as ways;
 
-    /// Hands a value on from frame to frame, until one of them says what the thread does next, or none is left.
+    /// Hands a value on from frame to frame, and from a child that ran here to its parent, until one of them says what
+    /// comes next, or none is left. Where memory is refused the value is still to be handed on.
     #[inline(always)]
-    pub fn give(&mut self, mut value: u64, left: &mut u32) -> Result<Progress<'p>, AllocError>
-        ensures ok { IfOk result (λ progress. Reaches left.old left.new (giving self.old value) progress self.new) }
+    pub fn give<P: Placing>(
+        &mut self,
+        mut value: u64,
+        left: &mut u32,
+        places: &mut P,
+    ) -> Result<Progress<'p>, AllocError>
+        requires sound { IsSoundState (giving_in self.old value) }
+        ensures ok { IfOk result (λ progress. Comes (P.gives_all ≡ true) left.old left.new (giving_in self.old value) progress self.new) }
         ensures handed { IfOk result (λ progress. OnValue progress ⊥) }
         ensures fewer { left.new ≤ left.old }
-        ensures err { OnErr result (IsUnchanged self.old self.new) }
+        ensures err { OnErr result (RunsWithin (P.gives_all ≡ true) left.old (giving_in self.old value) self.new) }
     {
-        self.environment.try_reserve(2)?;
-        while let Some(frame) = self.frames.pop() {
-            match self.hand(frame, value, left) {
+        if self.environment.try_reserve(2).is_err() {
+            return self.refused(value);
+        }
+        loop {
+            match self.hand_newest(value, left, places)? {
                 Progress::Value(next) => value = next,
                 progress => return Ok(progress),
             }
         }
-        self.control = Control::Ended(value);
-        Ok(Progress::Made(Some(Stop::Ended)))
+    }
+
+    /// Hands a value to the newest frame of the innermost thread. Where it has none it has ended, and its parent goes
+    /// on.
+    #[inline(always)]
+    fn hand_newest<P: Placing>(
+        &mut self,
+        value: u64,
+        left: &mut u32,
+        places: &mut P,
+    ) -> Result<Progress<'p>, AllocError>
+        requires sound { IsSoundState (giving_in self.old value) }
+        requires environment { vec_len self.old.environment + 2 ≤ vec_capacity self.old.environment }
+        ensures ok { IfOk result (λ progress. Comes (P.gives_all ≡ true) left.old left.new (giving_in self.old value) progress self.new) }
+        ensures fewer { left.new ≤ left.old }
+        ensures room { IfOk result (λ progress. OnValue progress (vec_len self.new.environment + 2 ≤ vec_capacity self.new.environment)) }
+        ensures nearer { IfOk result (λ progress. OnValue progress (vec_len self.new.frames + vec_len self.new.parents < vec_len self.old.frames + vec_len self.old.parents)) }
+        ensures err { OnErr result (IsSame (giving_in self.old value) self.new) }
+    {
+        if self.frames.len() > self.level.start {
+            let Some(frame) = self.frames.pop() else {
+                unreachable!()
+            };
+            return self.hand(frame, value, left, places);
+        }
+        if self.parents.is_empty() {
+            self.control = Control::Ended(value);
+            return Ok(Progress::Stops);
+        }
+        self.join_here(value, left)
+    }
+
+    /// Memory was refused: the value is still to be handed on.
+    #[cold]
+    #[inline(never)]
+    pub fn refused(&mut self, value: u64) -> Result<Progress<'p>, AllocError>
+        ensures turns { Turns self.old self.new (control.Give value) }
+        ensures refused { IsErr result }
+    {
+        self.control = Control::Give(value);
+        Err(AllocError)
     }
 
     /// Room for what a value begins.
     pub fn reserve_turn(&mut self) -> Result<(), AllocError>
-        ensures same { IsUnchanged self.old self.new }
+        ensures same { IsSame self.old self.new }
         ensures environment { OnOk result (vec_len self.new.environment + 2 ≤ vec_capacity self.new.environment) }
         ensures frames { OnOk result (vec_len self.new.frames + 1 ≤ vec_capacity self.new.frames) }
     {
@@ -45,18 +98,87 @@ impl<'p> State<'p> {
         self.frames.try_reserve(1)
     }
 
-    /// Hands a value to this frame, which was the newest.
+    /// Hands a value to this frame, which was the newest. Where memory is refused it is that again.
     #[inline(always)]
-    fn hand(&mut self, frame: Frame<'p>, value: u64, left: &mut u32) -> Progress<'p>
+    fn hand<P: Placing>(
+        &mut self,
+        frame: Frame<'p>,
+        value: u64,
+        left: &mut u32,
+        places: &mut P,
+    ) -> Result<Progress<'p>, AllocError>
+        requires start { self.old.level.start ≤ length self.old.frames.items }
+        requires line { HasLine self.old }
         requires environment { vec_len self.old.environment + 2 ≤ vec_capacity self.old.environment }
         requires frames { vec_len self.old.frames + 1 ≤ vec_capacity self.old.frames }
-        ensures made { (before : Thread) → IsPopped frame.entry before (giving self.old value) → Reaches left.old left.new before result self.new }
+        ensures made { (before : Whole) → IsPoppedIn frame.entry before (giving_in self.old value) → IsSoundState before → IfOk result (λ progress. Comes (P.gives_all ≡ true) left.old left.new before progress self.new) }
+        ensures fewer { left.new ≤ left.old }
+        ensures room { IfOk result (λ progress. OnValue progress (vec_len self.new.environment + 2 ≤ vec_capacity self.new.environment)) }
+        ensures frames { IfOk result (λ progress. OnValue progress (vec_len self.new.frames ≤ vec_len self.old.frames)) }
+        ensures parents { IfOk result (λ progress. OnValue progress (vec_len self.new.parents ≤ vec_len self.old.parents)) }
+        ensures err { OnErr result (Changes self.old self.new self.old.environment.items (self.old.frames.items ++ frame.entry ∷ []) (control.Give value)) }
+    {
+        match frame {
+            Frame::JoinHere {
+                number,
+                child,
+                after,
+            } => {
+                let awaits = Control::Awaits {
+                    number,
+                    during: value,
+                    after,
+                };
+                if self.begin_here(number, awaits, places).is_err() {
+                    self.stand_before(frame, value);
+                    return Err(AllocError);
+                }
+                Ok(Progress::Begin(child))
+            }
+            Frame::MergeHere { number, left: half } => {
+                let awaits = Control::AwaitsHalf {
+                    number,
+                    right: value,
+                    reduction: half.reduction,
+                };
+                if self.begin_here(number, awaits, places).is_err() {
+                    self.stand_before(frame, value);
+                    return Err(AllocError);
+                }
+                self.control = Control::Cover(half);
+                Ok(Progress::Goes)
+            }
+            _ => Ok(self.hand_within(frame, value, left)),
+        }
+    }
+
+    /// It stands before the step in which this value was handed to this frame.
+    #[cold]
+    #[inline(never)]
+    fn stand_before(&mut self, frame: Frame<'p>, value: u64)
+        requires { vec_len self.old.frames + 1 ≤ vec_capacity self.old.frames }
+        ensures { Changes self.old self.new self.old.environment.items (self.old.frames.items ++ frame.entry ∷ []) (control.Give value) }
+    {
+        self.frames.push_reserved(frame);
+        self.control = Control::Give(value);
+    }
+
+    /// The same for a frame that begins no child.
+    #[inline(always)]
+    fn hand_within(&mut self, frame: Frame<'p>, value: u64, left: &mut u32) -> Progress<'p>
+        requires within { IsWithin frame }
+        requires start { self.old.level.start ≤ length self.old.frames.items }
+        requires environment { vec_len self.old.environment + 2 ≤ vec_capacity self.old.environment }
+        requires frames { vec_len self.old.frames + 1 ≤ vec_capacity self.old.frames }
+        ensures made { (before : Strand) → IsPopped frame.entry before (giving (top self.old) value) → Reaches left.old left.new before result (top self.new) }
+        ensures leaves { LeavesOthers self.old self.new }
+        ensures stops { OnStops result (HasRoom self.new) }
         ensures fewer { left.new ≤ left.old }
         ensures room { OnValue result (vec_len self.new.environment + 2 ≤ vec_capacity self.new.environment) }
         ensures frames { OnValue result (vec_len self.new.frames ≤ vec_len self.old.frames) }
     {
         match frame {
-            Frame::Index(array) => Progress::Value(self.item(array, value)),
+            Frame::Index(array) => Progress::Value(item_in(self.program, array, value)),
             Frame::Apply(operation, first) => Progress::Value(operation.apply(first, value)),
             Frame::Restore(length) => {
                 self.environment.truncate(length);
@@ -91,9 +213,12 @@ impl<'p> State<'p> {
     #[inline(always)]
     fn hand_on(&mut self, frame: Frame<'p>, value: u64, left: &mut u32) -> Progress<'p>
         requires later { IsPauseOrRange frame }
+        requires start { self.old.level.start ≤ length self.old.frames.items }
         requires environment { vec_len self.old.environment + 2 ≤ vec_capacity self.old.environment }
         requires frames { vec_len self.old.frames + 1 ≤ vec_capacity self.old.frames }
-        ensures made { (before : Thread) → IsPopped frame.entry before (giving self.old value) → Reaches left.old left.new before result self.new }
+        ensures made { (before : Strand) → IsPopped frame.entry before (giving (top self.old) value) → Reaches left.old left.new before result (top self.new) }
+        ensures leaves { LeavesOthers self.old self.new }
+        ensures stops { OnStops result (HasRoom self.new) }
         ensures fewer { left.new ≤ left.old }
         ensures room { OnValue result (vec_len self.new.environment + 2 ≤ vec_capacity self.new.environment) }
         ensures frames { OnValue result (vec_len self.new.frames ≤ vec_len self.old.frames) }
@@ -105,11 +230,11 @@ impl<'p> State<'p> {
                     amount: value,
                     body,
                 };
-                Progress::Made(Some(Stop::Tallies(ledger, value)))
+                Progress::Stops
             }
             Frame::Release(lock) => {
                 self.control = Control::Frees { lock, value };
-                Progress::Made(Some(Stop::Frees(lock)))
+                Progress::Stops
             }
             Frame::Join { number, after } => {
                 self.control = Control::Awaits {
@@ -117,7 +242,7 @@ impl<'p> State<'p> {
                     during: value,
                     after,
                 };
-                Progress::Made(Some(Stop::Joins))
+                Progress::Stops
             }
             Frame::Merge { number, reduction } => {
                 self.control = Control::AwaitsHalf {
@@ -125,7 +250,7 @@ impl<'p> State<'p> {
                     right: value,
                     reduction,
                 };
-                Progress::Made(Some(Stop::Joins))
+                Progress::Stops
             }
             _ => self.hand_to_range(frame, value, left),
         }
@@ -135,9 +260,12 @@ impl<'p> State<'p> {
     #[inline(always)]
     fn hand_to_range(&mut self, frame: Frame<'p>, value: u64, left: &mut u32) -> Progress<'p>
         requires range { IsOfRange frame }
+        requires start { self.old.level.start ≤ length self.old.frames.items }
         requires environment { vec_len self.old.environment + 2 ≤ vec_capacity self.old.environment }
         requires frames { vec_len self.old.frames + 1 ≤ vec_capacity self.old.frames }
-        ensures made { (before : Thread) → IsPopped frame.entry before (giving self.old value) → Reaches left.old left.new before result self.new }
+        ensures made { (before : Strand) → IsPopped frame.entry before (giving (top self.old) value) → Reaches left.old left.new before result (top self.new) }
+        ensures leaves { LeavesOthers self.old self.new }
+        ensures stops { OnStops result (HasRoom self.new) }
         ensures fewer { left.new ≤ left.old }
         ensures room { OnValue result (vec_len self.new.environment + 2 ≤ vec_capacity self.new.environment) }
         ensures frames { OnValue result (vec_len self.new.frames ≤ vec_len self.old.frames) }
@@ -159,7 +287,7 @@ impl<'p> State<'p> {
                     end: value,
                     body,
                 });
-                Progress::Made(None)
+                Progress::Goes
             }
             _ => unreachable!(),
         }
@@ -167,10 +295,10 @@ impl<'p> State<'p> {
 
     /// Begins an expression after a frame was taken away; this frame says what comes after it.
     #[inline(always)]
-    fn go_on(&mut self, frame: Frame<'p>, part: &'p Expr) -> Progress<'p>
+    pub fn go_on(&mut self, frame: Frame<'p>, part: &'p Expr) -> Progress<'p>
         requires { vec_len self.old.frames + 1 ≤ vec_capacity self.old.frames }
         ensures begins { result ≡ ways.Begin part.entry }
-        ensures same { Enters self.old self.new frame.entry self.old.control }
+        ensures same { Pushes self.old self.new frame.entry }
     {
         self.frames.push_reserved(frame);
         Progress::Begin(part)
@@ -182,7 +310,7 @@ impl<'p> State<'p> {
         requires environment { vec_len self.old.environment + 1 ≤ vec_capacity self.old.environment }
         requires frames { vec_len self.old.frames + 1 ≤ vec_capacity self.old.frames }
         ensures begins { result ≡ ways.Begin body.entry }
-        ensures same { Becomes self.old self.new (with_newest self.old.environment.items value)
+        ensures same { Changes self.old self.new (with_newest self.old.environment.items value)
             (self.old.frames.items ++ frames.Restore (length self.old.environment.items) ∷ []) self.old.control }
     {
         let length = self.environment.len();
@@ -191,17 +319,19 @@ impl<'p> State<'p> {
         Progress::Begin(body)
     }
 
-    /// What a fold or a part of a sweep comes to, which is handed on by a step of its own: at once where one is left.
+    /// What a fold, a part of a sweep or two halves come to, which is handed on by a step of its own: at once where one
+    /// is left.
     #[inline(always)]
-    fn hand_result(&mut self, value: u64, left: &mut u32) -> Progress<'p>
-        ensures same { Becomes self.old (seen result self.new) self.old.environment.items self.old.frames.items (control.Give value) }
+    pub fn hand_result(&mut self, value: u64, left: &mut u32) -> Progress<'p>
+        ensures same { Changes self.old (seen_in result self.new) self.old.environment.items self.old.frames.items (control.Give value) }
         ensures step { IsOneStep left.old left.new result self.new }
+        ensures hands { HandsResult self.old value left.old result left.new self.new }
         ensures fewer { left.new ≤ left.old }
         ensures room { OnValue result (self.new ≡ self.old) }
     {
         if *left == 0 {
             self.control = Control::Give(value);
-            return Progress::Made(None);
+            return Progress::Goes;
         }
         *left -= 1;
         Progress::Value(value)
@@ -212,87 +342,11 @@ impl<'p> State<'p> {
     fn drop_newest(&mut self, count: usize)
         requires environment { vec_len self.old.environment + 2 ≤ vec_capacity self.old.environment }
         requires frames { vec_len self.old.frames + 1 ≤ vec_capacity self.old.frames }
-        ensures same { Becomes self.old self.new (without_newest count self.old.environment.items) self.old.frames.items self.old.control }
+        ensures same { Changes self.old self.new (without_newest count self.old.environment.items) self.old.frames.items self.old.control }
         ensures environment { vec_len self.new.environment + 2 ≤ vec_capacity self.new.environment }
         ensures frames { vec_len self.new.frames + 1 ≤ vec_capacity self.new.frames }
     {
         let length = self.environment.len().saturating_sub(count);
         self.environment.truncate(length);
-    }
-
-    /// An item of an array, 0 outside it.
-    #[inline(always)]
-    fn item(&self, array: u64, index: u64) -> u64
-        ensures { result ≡ slice_index (array_at (source_of self.now.program.now).arrays array) index }
-    {
-        match self.program.arrays.get(array as usize) {
-            Some(items) => match items.get(index as usize) {
-                Some(item) => *item,
-                None => 0,
-            },
-            None => 0,
-        }
-    }
-
-    /// A fold that has this value so far goes on from a number to below an end.
-    #[inline(always)]
-    fn turn_fold(
-        &mut self,
-        next: u64,
-        end: u64,
-        body: &'p Expr,
-        so_far: u64,
-        left: &mut u32,
-    ) -> Progress<'p>
-        requires environment { vec_len self.old.environment + 2 ≤ vec_capacity self.old.environment }
-        requires frames { vec_len self.old.frames + 1 ≤ vec_capacity self.old.frames }
-        ensures turns { TurnsFold self.old (seen result self.new) next end body.entry so_far }
-        ensures step { IsOneStep left.old left.new result self.new }
-        ensures fewer { left.new ≤ left.old }
-        ensures room { OnValue result (self.new ≡ self.old) }
-    {
-        if next >= end {
-            return self.hand_result(so_far, left);
-        }
-        self.environment.push_reserved(next);
-        self.environment.push_reserved(so_far);
-        let turn = Frame::FoldTurn {
-            next: next + 1,
-            end,
-            body,
-        };
-        self.go_on(turn, body)
-    }
-
-    /// A sweep that has this value so far goes on from a number to below an end.
-    #[inline(always)]
-    pub fn turn_sweep(
-        &mut self,
-        reduction: Reduction,
-        next: u64,
-        end: u64,
-        body: &'p Expr,
-        so_far: u64,
-        left: &mut u32,
-    ) -> Progress<'p>
-        requires environment { vec_len self.old.environment + 2 ≤ vec_capacity self.old.environment }
-        requires frames { vec_len self.old.frames + 1 ≤ vec_capacity self.old.frames }
-        ensures turns { TurnsSweep self.old (seen result self.new) reduction next end body.entry so_far }
-        ensures step { IsOneStep left.old left.new result self.new }
-        ensures fewer { left.new ≤ left.old }
-        ensures room { OnValue result (self.new ≡ self.old) }
-    {
-        if end <= next {
-            return self.hand_result(so_far, left);
-        }
-        self.environment.push_reserved(next);
-        let turn = Frame::SweepTurn {
-            reduction,
-            next: next + 1,
-            end,
-            so_far,
-            body,
-        };
-        self.go_on(turn, body)
     }
 }

@@ -1,50 +1,215 @@
-//! Joins the outcome of a child.
+//! How children begin in their parent's place, and how they are joined.
 use crate::frame::{Control, Frame};
+use crate::level::{Level, Parent};
+use crate::line::{Ran, ThreadLine};
 use crate::lines::Lines;
-use crate::state::State;
-use crate::tables::add_each;
-use arachne_lang::Name;
+use crate::outcome::Outcome;
+use crate::pause::NotJoined;
+use crate::placing::Placing;
+use crate::state::{Progress, State};
+use crate::tables::{add_each, zeros};
+use arachne_lang::{Name, Sequence};
 use std::alloc::AllocError;
+use std::mem::{replace, swap};
 
-/// The join of a child's outcome.
+/// How children begin in their parent's place, and how they are joined.
 impl<'p> State<'p> {
-    ghost use Rattle.std.specs.Prelude.{◌≡◌, ◌↔◌, ◌+◌, ◌≤◌, length, vec_len, vec_capacity, IsTrue, Some, OnOk};
-    ghost use Rattle.arachne_machine.specs.declared.pause.Pending.TheVariants as pause;
+    ghost use Rattle.std.specs.Prelude.{◌≡◌, ◌≢◌, ◌+◌, ◌≤◌, ◌<◌, ◌∷◌, ◌++◌, ◌↔◌, [], length, vec_len, vec_capacity, Some, IsTrue, IfOk, IfErr, OnOk, OnErr};
+    ghost use Rattle.arachne_machine.specs.declared.frame.Frame.TheVariants as frames;
+    ghost use Rattle.arachne_machine.specs.declared.frame.Control.TheVariants as control;
+    ghost use Rattle.arachne_machine.specs.Steps.{Changes, HasLine, HasRoom, IsSame, OnValue, pending_of, suspended, top};
     ghost use Rattle.arachne_machine.specs.Suspended.{awaited};
-    ghost use Rattle.arachne_machine.specs.Outcome.{Finished};
-    ghost use Rattle.arachne_machine.specs.Steps.{suspended, pending_of, IsBrought, IsUnchanged, Joins};
+    ghost use Rattle.arachne_machine.specs.declared.pause.Pending.TheVariants as pause;
+    ghost use Rattle.arachne_machine.specs.Runs.{BeginsHere, Descends, HasParent, JoinsOutcome, KeepsRest, LooksSame, ResumesAs, ResumesParent, StandsBefore, TakesIn};
+    ghost use Rattle.arachne_machine.specs.Advance.{IsForeign, handed_back};
 
-    /// Whether it awaits the child of this name.
+    /// Whether the innermost thread awaits the child of this name.
     pub fn awaits(&self, name: &Name) -> bool
-        requires { pending_of self.now.control ≡ Some pause.Joins }
-        ensures { IsTrue result ↔ (awaited (suspended self.now) ≡ Some name.now) }
+        requires joins { pending_of self.now.control ≡ Some pause.Joins }
+        requires line { HasLine self.now }
+        ensures { IsTrue result ↔ (awaited (suspended (top self.now)) ≡ Some name.now) }
     {
         match self.control {
             Control::Awaits { number, .. } | Control::AwaitsHalf { number, .. } => {
-                name.is_child_of(&self.own.name, number)
+                name.is_child_of(self.running_name(), number)
             }
             _ => unreachable!(),
         }
     }
 
-    /// Joins the child that it awaits, whose lines are behind those that it has joined. There is room.
+    /// The child of this number begins here, and the innermost thread awaits it. Where memory is refused nothing has
+    /// changed but room.
     #[inline(always)]
-    pub fn join_with_room(&mut self, value: u64, sums: &[u64], lines: &Lines, count: usize)
-        requires awaits { pending_of self.old.control ≡ Some pause.Joins }
+    pub fn begin_here<P: Placing>(
+        &mut self,
+        number: u64,
+        awaits: Control<'p>,
+        places: &mut P,
+    ) -> Result<(), AllocError>
+        requires { HasLine self.old }
+        ensures ok { OnOk result (BeginsHere self.old self.new number awaits.entry self.old.control) }
+        ensures err { OnErr result (IsSame self.old self.new) }
+        ensures frames { OnErr result (self.new.frames ≡ self.old.frames) }
+    {
+        self.parents.try_reserve(1)?;
+        let name = self.running_name().child(self.alloc, number)?;
+        let holds = zeros(self.alloc, self.program.locks)?;
+        let place = self.lines.len();
+        self.lines.push(ThreadLine {
+            name,
+            tag: places.tag(),
+            holds: Sequence::from(holds),
+            ran: Ran::InPlace,
+        })?;
+        self.descend(awaits, place, 0);
+        Ok(())
+    }
+
+    /// The innermost thread waits, and one whose line is at this place, and that has forked so many, goes on here.
+    /// There is room.
+    #[inline(always)]
+    fn descend(&mut self, awaits: Control<'p>, place: usize, forks: u64)
+        requires { vec_len self.old.parents + 1 ≤ vec_capacity self.old.parents }
+        ensures descends { Descends self.old self.new awaits.entry place forks }
+        ensures frames { self.new.frames ≡ self.old.frames }
+    {
+        self.parents.push_reserved(Parent {
+            level: self.level,
+            control: awaits,
+        });
+        self.level = Level {
+            start: self.frames.len(),
+            forks,
+            place,
+        };
+    }
+
+    /// The child that is awaited, in whose place no other is, goes on here. Where memory is refused nothing has changed
+    /// but room.
+    pub fn take_in(&mut self, child: &mut State<'p>) -> Result<(), AllocError>
+        requires { length child.old.sums.items ≡ length self.old.sums.items }
+        ensures ok { OnOk result (TakesIn self.old child.old self.new) }
+        ensures err { OnErr result (IsSame self.old self.new) }
+        ensures childs { OnErr result (LooksSame child.old child.new) }
+        ensures room { OnErr result (HasRoom self.old → HasRoom self.new) }
+    {
+        self.parents.try_reserve(1)?;
+        self.frames.try_reserve(child.frames.len())?;
+        let place = self.lines.len();
+        let ran = child.own.label.ran;
+        child.own.label.ran = Ran::InPlace;
+        let below = replace(&mut child.lines, Lines::new(self.alloc));
+        if let Err((own, below)) = self.lines.append(child.take_line(), below) {
+            child.lines = below;
+            child.put_back_line(own);
+            child.own.label.ran = ran;
+            return Err(AllocError);
+        }
+        add_each(&mut self.sums, &child.sums);
+        self.descend(self.control, place, child.level.forks);
+        let _ = self.frames.append(&mut child.frames);
+        swap(&mut self.environment, &mut child.environment);
+        self.control = child.control;
+        Ok(())
+    }
+
+    /// The child that ran here has ended with this value: its parent joins it, and goes on. Where memory is refused the
+    /// value is still to be handed on.
+    #[inline(always)]
+    pub fn join_here(&mut self, value: u64, left: &mut u32) -> Result<Progress<'p>, AllocError>
+        requires parent { HasParent self.old }
+        requires room { vec_len self.old.environment + 2 ≤ vec_capacity self.old.environment }
+        ensures ok { IfOk result (λ progress. ResumesParent self.old value left.old progress left.new self.new) }
+        ensures fewer { left.new ≤ left.old }
+        ensures room { IfOk result (λ progress. OnValue progress (vec_len self.new.environment + 2 ≤ vec_capacity self.new.environment)) }
+        ensures nearer { IfOk result (λ progress. OnValue progress (vec_len self.new.frames + vec_len self.new.parents < vec_len self.old.frames + vec_len self.old.parents)) }
+        ensures err { OnErr result (Changes self.old self.new self.old.environment.items self.old.frames.items (control.Give value)) }
+    {
+        if self.frames.try_reserve(1).is_err() {
+            return self.refused(value);
+        }
+        let Some(parent) = self.parents.pop() else {
+            unreachable!()
+        };
+        self.level = parent.level;
+        match parent.control {
+            Control::Awaits { during, after, .. } => {
+                self.bind_joined(value, during);
+                Ok(Progress::Begin(after))
+            }
+            Control::AwaitsHalf {
+                right,
+                reduction,
+                ..
+            } => Ok(self.hand_result(reduction.operation().apply(value, right), left)),
+            _ => unreachable!(),
+        }
+    }
+
+    /// The child's value, and the one of what was done meanwhile, become the newest variables. There is room.
+    #[inline(always)]
+    fn bind_joined(&mut self, value: u64, during: u64)
         requires environment { vec_len self.old.environment + 2 ≤ vec_capacity self.old.environment }
         requires frames { vec_len self.old.frames + 1 ≤ vec_capacity self.old.frames }
-        requires count { (1 ≤ count) × (length self.old.below + count ≤ length lines.now.lines) }
-        requires sums { length sums.now ≡ length self.old.sums.items }
-        ensures { (outcome : Finished) → IsBrought self.old value sums.now lines.now.lines count outcome → Joins self.old outcome self.new }
+        ensures { Changes self.old self.new (self.old.environment.items ++ value ∷ during ∷ [])
+            (self.old.frames.items ++ frames.Restore (length self.old.environment.items) ∷ []) self.old.control }
     {
-        add_each(&mut self.sums, sums);
-        self.below.gain(lines, count);
+        let length = self.environment.len();
+        self.environment.push_reserved(value);
+        self.environment.push_reserved(during);
+        self.frames.push_reserved(Frame::Restore(length));
+    }
+
+    /// Joins this outcome, where it is that of the child that is awaited. Where it answers an error nothing has changed
+    /// but room, and the outcome comes back.
+    pub fn join(&mut self, outcome: Outcome) -> Result<(), NotJoined>
+        requires joins { pending_of self.old.control ≡ Some pause.Joins }
+        requires line { HasLine self.old }
+        requires sums { length outcome.sums ≡ length self.old.sums.items }
+        ensures ok { OnOk result (JoinsOutcome self.old outcome self.new) }
+        ensures foreign { IsForeign result ↔ (awaited (suspended (top self.old)) ≢ Some outcome.name) }
+        ensures err { OnErr result (IsSame self.old self.new) }
+        ensures handed_back { IfErr result (λ e. handed_back e ≡ outcome) }
+    {
+        if !self.awaits(&outcome.own.name) {
+            return Err(NotJoined::Foreign(outcome));
+        }
+        if self.reserve_turn().is_err() {
+            return Err(NotJoined::Memory(outcome));
+        }
+        let Outcome {
+            program,
+            value,
+            sums,
+            own,
+            below,
+        } = outcome;
+        if let Err((own, below)) = self.lines.append(own, below) {
+            return Err(NotJoined::Memory(Outcome {
+                program,
+                value,
+                sums,
+                own,
+                below,
+            }));
+        }
+        add_each(&mut self.sums, &sums);
+        self.resume_joined(value);
+        Ok(())
+    }
+
+    /// Goes on once the child that is awaited was joined, which ended with this value. There is room.
+    #[inline(always)]
+    fn resume_joined(&mut self, value: u64)
+        requires joins { pending_of self.old.control ≡ Some pause.Joins }
+        requires environment { vec_len self.old.environment + 2 ≤ vec_capacity self.old.environment }
+        requires frames { vec_len self.old.frames + 1 ≤ vec_capacity self.old.frames }
+        ensures resumes { ResumesAs self.old.control self.old.environment.items self.old.frames.items value self.new }
+        ensures rest { KeepsRest self.old self.new }
+    {
         match self.control {
             Control::Awaits { during, after, .. } => {
-                let length = self.environment.len();
-                self.environment.push_reserved(value);
-                self.environment.push_reserved(during);
-                self.frames.push_reserved(Frame::Restore(length));
+                self.bind_joined(value, during);
                 self.control = Control::Begin(after);
             }
             Control::AwaitsHalf {
@@ -58,12 +223,31 @@ impl<'p> State<'p> {
         }
     }
 
-    /// Room for what a join adds.
-    pub fn make_room(&mut self) -> Result<(), AllocError>
-        ensures same { IsUnchanged self.old self.new }
-        ensures environment { OnOk result (vec_len self.new.environment + 2 ≤ vec_capacity self.new.environment) }
-        ensures frames { OnOk result (vec_len self.new.frames + 1 ≤ vec_capacity self.new.frames) }
+    /// It stands before the step in which it came to await a child.
+    pub fn stand_before_join(&mut self)
+        requires joins { pending_of self.old.control ≡ Some pause.Joins }
+        requires room { HasRoom self.old }
+        ensures { StandsBefore self.old.control self.old self.new }
     {
-        self.reserve_turn()
+        match self.control {
+            Control::Awaits {
+                number,
+                during,
+                after,
+            } => {
+                self.frames.push_reserved(Frame::Join { number, after });
+                self.control = Control::Give(during);
+            }
+            Control::AwaitsHalf {
+                number,
+                right,
+                reduction,
+            } => {
+                self.frames
+                    .push_reserved(Frame::Merge { number, reduction });
+                self.control = Control::Give(right);
+            }
+            _ => unreachable!(),
+        }
     }
 }

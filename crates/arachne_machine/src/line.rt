@@ -1,6 +1,10 @@
 //! What is known of a thread that has ended.
+ghost use Rattle.arachne_machine.specs.Lines.{HoldsOnceMore};
+
+use crate::tables::add_at;
 use arachne_lang::{Name, Sequence};
 use std::alloc::Global;
+use std::mem::replace;
 
 /// Where a thread ran.
 #[derive(Clone, Copy, Debug, PartialEq, Eq)]
@@ -35,13 +39,12 @@ pub struct ThreadLine {
 }
 
 impl ThreadLine {
-    /// That of no thread. It allocates nothing.
-    pub(crate) fn vacant(alloc: Global) -> ThreadLine {
-        ThreadLine {
-            name: Name::root(alloc),
-            tag: 0,
-            holds: Sequence::from(Vec::new(alloc)),
-            ran: Ran::Slot,
-        }
+    /// Counts that it held this lock once more.
+    pub(crate) fn count_hold(&mut self, alloc: Global, lock: u64)
+        ensures { HoldsOnceMore self.old self.new lock }
+    {
+        let mut holds = replace(&mut self.holds, Sequence::from(Vec::new(alloc))).into_vec();
+        add_at(&mut holds, lock, 1);
+        self.holds = Sequence::from(holds);
     }
 }

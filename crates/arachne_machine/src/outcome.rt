@@ -6,19 +6,21 @@ use crate::line::ThreadLine;
 use crate::lines::Lines;
 use arachne_lang::{Name, Program, Sequence};
 use std::marker::Model;
+use std::snapshot::Snapshot;
 
 /// What a thread brings in the end: its value, the ledger sums, and the lines of itself and of all threads
 /// below it. It is what the program means for the thread of its name.
-#[derive(Debug, Drop)]
-pub struct Outcome<'p> {
-    pub(crate) program: &'p Program,
+#[derive(Drop)]
+pub struct Outcome {
+    /// It has no bytes.
+    pub(crate) program: Snapshot<Program>,
     pub(crate) value: u64,
     pub(crate) sums: Vec<u64>,
     pub(crate) own: ThreadLine,
     pub(crate) below: Lines,
 }
 
-impl<'p> Model for Outcome<'p> {
+impl Model for Outcome {
     ghost use Rattle.std.specs.Prelude.{◌∷◌};
     ghost use Rattle.arachne_machine.specs.Outcome.{Finished, IsOfItsName};
 
@@ -29,9 +31,9 @@ impl<'p> Model for Outcome<'p> {
 
     ghost coded = { Prim.hlevel (codes, expr.the_row.coded) };
 
-    ghost view = { λ o. record { program = o.program.now; name = o.own.name; value = o.value; sums = o.sums.items; lines = o.own ∷ o.below.lines } };
+    ghost view = { λ o. record { program = o.program.value; name = o.own.name; value = o.value; sums = o.sums.items; lines = o.own ∷ o.below } };
 
-    ghost invariant = { λ o. IsOfItsName (record { program = o.program.now; name = o.own.name; value = o.value; sums = o.sums.items; lines = o.own ∷ o.below.lines }) };
+    ghost invariant = { λ o. IsOfItsName (record { program = o.program.value; name = o.own.name; value = o.value; sums = o.sums.items; lines = o.own ∷ o.below }) };
 }
 
 /// An outcome taken apart.
@@ -44,14 +46,7 @@ pub struct OutcomeParts {
     pub lines: Sequence<ThreadLine>,
 }
 
-impl<'p> Outcome<'p> {
-    /// The program.
-    pub fn program(&self) -> &'p Program
-        ensures { result.now ≡ self.now.program }
-    {
-        self.program
-    }
-
+impl Outcome {
     /// The thread's name.
     pub fn name(&self) -> &Name
         ensures { result.now ≡ self.now.name }
@@ -69,12 +64,12 @@ impl<'p> Outcome<'p> {
 
     /// The value, the sums and the lines. It takes memory for the list of lines; where that is refused the outcome
     /// comes back.
-    pub fn into_parts(self) -> Result<OutcomeParts, Outcome<'p>>
-        ensures value { IfOk result (λ parts. parts.value ≡ self.entry.value) }
-        ensures sums { IfOk result (λ parts. parts.sums ≡ self.entry.sums) }
-        ensures lines { IfOk result (λ parts. parts.lines ≡ self.entry.lines) }
-        ensures handed_back { IfErr result (λ outcome. outcome ≡ self.entry) }
-        ensures of_its_name { IsOfItsName self.entry }
+    pub fn into_parts(self) -> Result<OutcomeParts, Outcome>
+        ensures value { IfOk result (λ parts. parts.value ≡ self.value) }
+        ensures sums { IfOk result (λ parts. parts.sums ≡ self.sums) }
+        ensures lines { IfOk result (λ parts. parts.lines ≡ self.lines) }
+        ensures handed_back { IfErr result (λ outcome. outcome ≡ self) }
+        ensures of_its_name { IsOfItsName self }
     {
         let Outcome {
             program,

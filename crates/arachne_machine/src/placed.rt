@@ -1,114 +1,92 @@
-//! A child that was placed in its parent's place and has not begun.
-ghost use Rattle.std.specs.Prelude.{◌≡◌, ◌+◌, ◌≤◌, ◌++◌, length, IfOk, IfErr};
-ghost use Rattle.arachne_machine.specs.Nested.{in_place_of};
+//! Children that were handed back to run in their parent's place, and have not begun there.
+use crate::frame::Control;
+use crate::placing::Placing;
+use crate::spares::Spares;
+use crate::state::State;
+use arachne_lang::Class;
+use std::alloc::AllocError;
 
-use crate::lines::Lines;
-use crate::strand::Strand;
-use arachne_lang::Name;
-use std::alloc::Global;
-use std::marker::Model;
+/// How a thread goes on with the children that were handed back to it, the newest of which is the last.
+impl<'p> State<'p> {
+    ghost use Rattle.std.specs.Prelude.{◌≡◌, ◌≤◌, ◌-◌, None, Some, true, All, length, IfOk, OnErr};
+    ghost use Rattle.arachne_machine.specs.declared.pause.Pending.TheVariants as pause;
+    ghost use Rattle.arachne_machine.specs.Steps.{HasLine, HasRoom, pending_of};
+    ghost use Rattle.arachne_machine.specs.Kept.{AdvancesWith, IsKept, StandsBack, TakesUp, WentWithin};
 
-/// A child that was placed in its parent's place and has not begun there.
-#[derive(Drop)]
-pub struct Placed<'p> {
-    strand: Strand<'p>,
-    /// The lines below it, where it has joined others before.
-    lines: Option<Box<Lines>>,
-}
-
-impl<'p> Model for Placed<'p> {
-    ghost use Rattle.std.specs.Prelude.{◌≡◌};
-    ghost use Rattle.arachne_machine.specs.Suspended.{Suspended};
-    ghost use Rattle.arachne_machine.specs.Lines.{lines_of};
-
-    ghost Value = { Suspended };
-
-    ghost use Rattle.std.specs.Coded.{codes};
-    ghost use Rattle.arachne_lang.specs.contracts.program.Expr as expr;
-
-    ghost coded = { Prim.hlevel (codes, expr.the_row.coded) };
-
-    ghost view = { λ c. c.strand };
-
-    ghost invariant = { λ c. lines_of c.lines ≡ c.strand.below };
-}
-
-impl<'p> Placed<'p> {
-    /// A child, with the lines below it. It takes memory only where there are some; where that is refused both come
-    /// back.
-    #[inline(always)]
-    pub fn new(
-        alloc: Global,
-        strand: Strand<'p>,
-        lines: Lines,
-    ) -> Result<Placed<'p>, (Strand<'p>, Lines)>
-        requires { lines.lines ≡ strand.below }
-        ensures ok { IfOk result (λ child. child ≡ strand.entry) }
-        ensures handed_back { IfErr result (λ back. (back.0 ≡ strand.entry) × (back.1 ≡ lines)) }
+    /// Goes on for at most as many steps as are left, until it pauses. Where the innermost thread comes to await the
+    /// newest of these children, that one goes on in its place. Gives the child where it pauses for a fork. Where
+    /// memory is refused it stands before the refused step.
+    pub fn advance_with<P: Placing>(
+        &mut self,
+        placed: &mut Vec<Box<State<'p>>>,
+        left: &mut u32,
+        spares: &mut Spares<'p>,
+        places: &mut P,
+    ) -> Result<Option<(Class, Box<State<'p>>)>, AllocError>
+        requires kept { IsKept self.old placed.old.items }
+        requires running { pending_of self.old.control ≡ None }
+        ensures ok { IfOk result (λ forked. AdvancesWith (P.gives_all ≡ true) left.old left.new self.old placed.old.items forked (pending_of self.new.control) self.new placed.new.items) }
+        ensures err { OnErr result (WentWithin (P.gives_all ≡ true) (left.old - 1) self.old placed.old.items self.new placed.new.items) }
     {
-        if lines.len() > 0 {
-            return with_lines(alloc, strand, lines);
+        while *left > 0 {
+            if let Some(forked) = self.advance(left, spares, places)? {
+                return Ok(Some(forked));
+            }
+            if !self.take_up(placed, spares)? {
+                return Ok(None);
+            }
         }
-        Ok(Placed {
-            strand,
-            lines: None,
-        })
+        Ok(None)
     }
 
-    /// Its name.
-    pub fn name(&self) -> &Name
-        ensures { result.now ≡ self.now.name }
-    {
-        self.strand.name()
-    }
-
-    /// Notes that it runs in its parent's place.
-    pub fn run_in_place(&mut self)
-        ensures { self.new ≡ in_place_of self.old }
-    {
-        self.strand.run_in_place();
-    }
-
-    /// It begins: the lines below it come behind the others, where there is room for them, and are set aside no longer.
+    /// Where the innermost thread awaits the newest of these children, that one goes on in its place.
     #[inline(always)]
-    pub fn begin(self, lines: &mut Lines, aside: &mut usize) -> Strand<'p>
-        requires room { length self.below ≤ lines.old.room }
-        requires aside { length self.below ≤ aside.old }
-        ensures same { result ≡ self.entry }
-        ensures lines { lines.new.lines ≡ lines.old.lines ++ self.entry.below }
-        ensures room { lines.old.room ≤ lines.new.room + length self.entry.below }
-        ensures aside { aside.new + length self.entry.below ≡ aside.old }
+    fn take_up(
+        &mut self,
+        placed: &mut Vec<Box<State<'p>>>,
+        spares: &mut Spares<'p>,
+    ) -> Result<bool, AllocError>
+        requires line { HasLine self.old }
+        requires room { pending_of self.old.control ≡ Some pause.Joins → HasRoom self.old }
+        requires sums { All (λ child. length child.value.sums.items ≡ length self.old.sums.items) placed.old.items }
+        ensures ok { IfOk result (λ taken. TakesUp taken self.old placed.old.items self.new placed.new.items) }
+        ensures err { OnErr result (StandsBack self.old placed.old.items self.new placed.new.items) }
     {
-        let Placed {
-            strand,
-            lines: below,
-        } = self;
-        let Some(below) = below else {
-            return strand;
-        };
-        *aside -= below.len();
-        lines.extend(Box::into_inner(below));
-        strand
+        match self.control {
+            Control::Awaits { .. } | Control::AwaitsHalf { .. } => self.take_newest(placed, spares),
+            _ => Ok(false),
+        }
     }
-}
 
-/// A child that has joined others.
-#[cold]
-#[inline(never)]
-fn with_lines<'p>(
-    alloc: Global,
-    strand: Strand<'p>,
-    lines: Lines,
-) -> Result<Placed<'p>, (Strand<'p>, Lines)>
-    requires { lines.lines ≡ strand.below }
-    ensures ok { IfOk result (λ child. child ≡ strand.entry) }
-    ensures handed_back { IfErr result (λ back. (back.0 ≡ strand.entry) × (back.1 ≡ lines)) }
-{
-    match Box::new(alloc, lines) {
-        Ok(lines) => Ok(Placed {
-            strand,
-            lines: Some(lines),
-        }),
-        Err(refused) => Err((strand, refused.value)),
+    /// The same for a thread that awaits a child. Where memory is refused it stands before the step in which it came to
+    /// await it.
+    #[cold]
+    #[inline(never)]
+    fn take_newest(
+        &mut self,
+        placed: &mut Vec<Box<State<'p>>>,
+        spares: &mut Spares<'p>,
+    ) -> Result<bool, AllocError>
+        requires joins { pending_of self.old.control ≡ Some pause.Joins }
+        requires line { HasLine self.old }
+        requires room { HasRoom self.old }
+        requires sums { All (λ child. length child.value.sums.items ≡ length self.old.sums.items) placed.old.items }
+        ensures ok { IfOk result (λ taken. TakesUp taken self.old placed.old.items self.new placed.new.items) }
+        ensures err { OnErr result (StandsBack self.old placed.old.items self.new placed.new.items) }
+    {
+        let Some(mut child) = placed.pop() else {
+            return Ok(false);
+        };
+        if !self.awaits(&child.own.name) {
+            placed.push_reserved(child);
+            return Ok(false);
+        }
+        if self.take_in(&mut child).is_err() {
+            placed.push_reserved(child);
+            self.stand_before_join();
+            return Err(AllocError);
+        }
+        spares.keep(child);
+        Ok(true)
     }
 }

@@ -1,14 +1,17 @@
 //! What a thread is between two steps.
 use crate::frame::{Control, Frame};
+use crate::level::{Level, Parent};
 use crate::line::{Label, Ran, ThreadLine};
-use crate::lines::{Below, Lines};
+use crate::lines::Lines;
 use crate::outcome::Outcome;
 use crate::pause::Pending;
+use crate::placing::Placing;
 use crate::spares::Spares;
 use crate::tables::zeros;
 use arachne_lang::{Class, Expr, Name, Program, Sequence};
 use std::alloc::{AllocError, Global};
 use std::mem::replace;
+use std::snapshot::Snapshot;
 
 /// What becomes a thread's own line.
 #[derive(Drop)]
@@ -33,39 +36,27 @@ impl Own {
     }
 }
 
-/// What a thread is between two steps.
+/// What a thread is between two steps, with those that run in its place.
 #[derive(Drop)]
 pub struct State<'p> {
     pub program: &'p Program,
     pub alloc: Global,
+    /// The outermost thread's.
     pub own: Own,
-    /// The lines of the threads that it has joined, in order, with those below them.
-    pub below: Below,
-    /// For each ledger the sum of what was tallied, modulo 2^64.
+    /// The lines below the outermost thread, in order: those of threads that were joined, and of those that run here,
+    /// each at its place.
+    pub lines: Lines,
+    /// For each ledger the sum of what all of them have tallied, modulo 2^64.
     pub sums: Vec<u64>,
-    /// How many threads it has forked.
-    pub forks: u64,
+    /// Those that wait, the outermost first.
+    pub parents: Vec<Parent<'p>>,
+    /// The innermost thread, which goes on.
+    pub level: Level,
+    /// Its environment. Each parent's is a part of it, from the first variable on.
     pub environment: Vec<u64>,
-    /// The newest is the last.
+    /// Those of all threads, the outermost's first. The newest is the last.
     pub frames: Vec<Frame<'p>>,
     pub control: Control<'p>,
-}
-
-/// Why a thread stops.
-#[derive(Drop)]
-pub enum Stop<'p> {
-    /// It forks this child.
-    Forks(Class, Box<State<'p>>),
-    /// It awaits a child.
-    Joins,
-    /// It asks for this lock.
-    Asks(u64),
-    /// It frees this lock.
-    Frees(u64),
-    /// It adds to this ledger this amount.
-    Tallies(u64, u64),
-    /// It has ended.
-    Ended,
 }
 
 /// What comes of a part of a step.
@@ -75,18 +66,22 @@ pub enum Progress<'p> {
     Value(u64),
     /// The step is made, and this expression is begun next.
     Begin(&'p Expr),
-    /// The step is made: the thread stops where there is a reason to, and else its control says what is next.
-    Made(Option<Stop<'p>>),
+    /// The step is made, and what comes next is in the state.
+    Goes,
+    /// The step is made, and the thread pauses, but not for a fork.
+    Stops,
+    /// The step is made, and has forked this child.
+    Forks(Class, Box<State<'p>>),
 }
 
 impl<'p> State<'p> {
-    ghost use Rattle.std.specs.Prelude.{◌≡◌, ◌≤◌, ◌-◌, ◌∷◌, IfOk, OnErr, OnOk, None, Some, false};
-    ghost use Rattle.arachne_lang.specs.Program.{source_of};
-    ghost use Rattle.arachne_machine.specs.Sound.{IsSound};
-    ghost use Rattle.arachne_machine.specs.Ending.{locks_of};
-    ghost use Rattle.arachne_machine.specs.Suspended.{own_line_of};
-    ghost use Rattle.arachne_machine.specs.Faultless.{IsFaultlessNext, IsWithoutFault};
-    ghost use Rattle.arachne_machine.specs.Steps.{current, pending_of, suspended, task_begun, IsBeginning, IsLeftOver, IsNumbered, IsRenewed, IsUnchanged, GoesWithin, IsNew, AfterSteps, IsSpent, OnValue, Reaches, TakesAll};
+    ghost use Rattle.std.specs.Prelude.{true, ◌≡◌, ◌≤◌, ◌-◌, ◌∷◌, ◌<◌, [], length, IfOk, OnOk, OnErr, None, Some};
+    ghost use Rattle.arachne_lang.specs.Effects.{tabulated};
+    ghost use Rattle.arachne_machine.specs.Sound.{IsSoundState};
+    ghost use Rattle.arachne_machine.specs.Strands.{owned_of, own_line};
+    ghost use Rattle.arachne_machine.specs.Steps.{pending_of, top, HasLine, IsLeftOver, IsRenewed, IsSame, OnValue};
+    ghost use Rattle.arachne_machine.specs.Runs.{Advances, Comes, RunsWithin, current_in};
+    ghost use Rattle.arachne_machine.specs.declared.line.Ran.TheVariants as ways;
     ghost use Rattle.arachne_machine.specs.declared.pause.Pending.TheVariants as pause;
     ghost use Rattle.arachne_machine.specs.declared.frame.Control.TheVariants as control;
 
@@ -100,11 +95,11 @@ impl<'p> State<'p> {
         environment: &[u64],
         spares: &mut Spares<'p>,
     ) -> Result<Box<State<'p>>, AllocError>
-        requires { IsBeginning control }
-        ensures fresh { IfOk result (λ t. IsNew program.now name tag (task_begun control.entry environment.now) t.value) }
-        ensures begins { IfOk result (λ t. task_begun t.value.control t.value.environment.items ≡ task_begun control.entry environment.now) }
-        ensures same { IfOk result (λ t. t.value.program ≡ program.entry) }
-        ensures faultless { IfOk result (λ t. IsFaultlessNext (source_of program.now) false control.entry → IsWithoutFault t.value) }
+        ensures name { IfOk result (λ t. t.value.own.name ≡ name) }
+        ensures label { IfOk result (λ t. t.value.own.label ≡ record { tag = tag; ran = ways.Slot }) }
+        ensures holds { IfOk result (λ t. t.value.own.holds.items ≡ tabulated program.now.locks (λ lock. 0)) }
+        ensures sums { IfOk result (λ t. t.value.sums.items ≡ tabulated program.now.ledgers (λ ledger. 0)) }
+        ensures begins { IfOk result (λ t. IsRenewed program.entry t.value.own t.value.sums.items control.entry environment.now t.value) }
     {
         let label = Label {
             tag,
@@ -126,9 +121,10 @@ impl<'p> State<'p> {
             program,
             alloc,
             own: Own::vacant(alloc),
-            below: Below::none(alloc),
+            lines: Lines::new(alloc),
             sums: Vec::new(alloc),
-            forks: 0,
+            parents: Vec::new(alloc),
+            level: Level::outermost(),
             environment: Vec::new(alloc),
             frames: Vec::new(alloc),
             control: Control::Ended(0),
@@ -151,50 +147,47 @@ impl<'p> State<'p> {
         self.environment.try_reserve(environment.len() + 3)?;
         self.environment.extend_from_slice(environment)?;
         self.frames.clear();
-        self.below.clear();
+        self.parents.clear();
+        self.lines = Lines::new(self.alloc);
         self.program = program;
         self.own = own;
         self.sums = sums;
-        self.forks = 0;
+        self.level = Level::outermost();
         self.control = control;
         Ok(())
     }
 
-    /// So many steps, if it does not stop before. Where memory is refused it stands before the refused step.
-    pub fn advance(
+    /// Goes on for at most as many steps as are left, until it pauses. Then fewer are left. Gives the child where it
+    /// pauses for a fork. Where memory is refused it stands before the refused step.
+    pub fn advance<P: Placing>(
         &mut self,
         left: &mut u32,
         spares: &mut Spares<'p>,
-    ) -> Result<Option<Stop<'p>>, AllocError>
+        places: &mut P,
+    ) -> Result<Option<(Class, Box<State<'p>>)>, AllocError>
         requires running { pending_of self.old.control ≡ None }
-        requires numbered { IsNumbered self.old }
-        ensures ok { IfOk result (λ stop. AfterSteps left.old self.old stop self.new) }
-        ensures spent { IfOk result (λ stop. IsSpent stop left.old left.new) }
-        ensures exact { IfOk result (λ stop. TakesAll stop left.old left.new self.old self.new) }
-        ensures err { OnErr result (GoesWithin 0 (left.old - 1) self.old self.new) }
-        ensures err_locks { OnErr result (locks_of self.new ≡ locks_of self.old) }
-        ensures running { OnErr result (pending_of self.new.control ≡ None) }
+        requires sound { IsSoundState self.old }
+        ensures ok { IfOk result (λ forked. Advances (P.gives_all ≡ true) left.old left.new self.old forked (pending_of self.new.control) self.new) }
+        ensures err { OnErr result (RunsWithin (P.gives_all ≡ true) (left.old - 1) self.old self.new) }
     {
         let mut rest = *left;
         let mut begins = self.beginning();
         while rest > 0 {
             rest -= 1;
-            let progress = match self.make(begins, &mut rest, spares) {
-                Ok(progress) => progress,
-                Err(refused) => {
-                    self.settle(begins);
-                    return Err(refused);
-                }
-            };
-            begins = match progress {
-                Progress::Begin(expr) => Some(expr),
-                Progress::Made(None) => None,
-                Progress::Made(Some(stop)) => {
+            let progress = self.make(begins, &mut rest, spares, places)?;
+            match progress {
+                Progress::Begin(expr) => begins = Some(expr),
+                Progress::Goes => begins = None,
+                Progress::Stops => {
                     *left = rest;
-                    return Ok(Some(stop));
+                    return Ok(None);
+                }
+                Progress::Forks(class, child) => {
+                    *left = rest;
+                    return Ok(Some((class, child)));
                 }
                 Progress::Value(_) => unreachable!(),
-            };
+            }
         }
         self.settle(begins);
         *left = 0;
@@ -204,7 +197,7 @@ impl<'p> State<'p> {
     /// The expression that is begun next, where one is.
     #[inline(always)]
     fn beginning(&self) -> Option<&'p Expr>
-        ensures current { current result self.now ≡ self.now }
+        ensures current { current_in result self.now ≡ self.now }
         ensures left_over { result ≡ None → pending_of self.now.control ≡ None → IsLeftOver self.now.control }
     {
         match self.control {
@@ -216,56 +209,79 @@ impl<'p> State<'p> {
     /// Writes down that this expression is begun next, where one is.
     #[inline(always)]
     fn settle(&mut self, begins: Option<&'p Expr>)
-        ensures { self.new ≡ current begins.entry self.old }
+        ensures { self.new ≡ current_in begins.entry self.old }
     {
         if let Some(expr) = begins {
             self.control = Control::Begin(expr);
         }
     }
 
-    /// A step, and with it further ones of those that are left, which need nothing but what is known then. It begins this expression,
-    /// or else a part of a sweep, or takes a value that was left over; and hands on the value that is known at once.
+    /// A step, and with it further ones of those that are left, which need nothing but what is known then. It begins
+    /// this expression, or else a part of a sweep, or takes a value that was left over; and hands on the value that is
+    /// known at once.
     #[inline(always)]
-    fn make(
+    fn make<P: Placing>(
         &mut self,
         begins: Option<&'p Expr>,
         left: &mut u32,
         spares: &mut Spares<'p>,
+        places: &mut P,
     ) -> Result<Progress<'p>, AllocError>
         requires left_over { begins ≡ None → IsLeftOver self.old.control }
-        requires numbered { IsNumbered (current begins self.old) }
-        ensures ok { IfOk result (λ progress. Reaches left.old left.new (current begins.entry self.old) progress self.new) }
+        requires sound { IsSoundState (current_in begins self.old) }
+        ensures ok { IfOk result (λ progress. Comes (P.gives_all ≡ true) left.old left.new (current_in begins.entry self.old) progress self.new) }
         ensures handed { IfOk result (λ progress. OnValue progress ⊥) }
         ensures fewer { left.new ≤ left.old }
-        ensures err { OnErr result (IsUnchanged self.old self.new) }
+        ensures err { OnErr result (RunsWithin (P.gives_all ≡ true) left.old (current_in begins.entry self.old) self.new) }
     {
-        let progress = match begins {
-            Some(expr) => self.begin(expr, left, spares)?,
-            None => self.resume(left, spares)?,
-        };
-        match progress {
-            Progress::Value(value) => self.give(value, left),
-            progress => Ok(progress),
+        match self.begin_next(begins, left, spares, places) {
+            Ok(Progress::Value(value)) => self.give(value, left, places),
+            Ok(progress) => Ok(progress),
+            Err(refused) => {
+                self.settle(begins);
+                Err(refused)
+            }
+        }
+    }
+
+    /// Begins this expression, or else a part of a sweep, or takes a value that was left over.
+    #[inline(always)]
+    fn begin_next<P: Placing>(
+        &mut self,
+        begins: Option<&'p Expr>,
+        left: &mut u32,
+        spares: &mut Spares<'p>,
+        places: &mut P,
+    ) -> Result<Progress<'p>, AllocError>
+        requires left_over { begins ≡ None → IsLeftOver self.old.control }
+        requires sound { IsSoundState (current_in begins self.old) }
+        ensures ok { IfOk result (λ progress. Comes (P.gives_all ≡ true) left.old left.new (current_in begins.entry self.old) progress self.new) }
+        ensures fewer { left.new ≤ left.old }
+        ensures err { OnErr result (IsSame self.old self.new) }
+    {
+        match begins {
+            Some(expr) => self.begin(expr, left, spares, places),
+            None => self.resume(left, spares, places),
         }
     }
 
     /// A value that was left over is taken, or a part of a sweep is begun.
     #[inline(always)]
-    fn resume(
+    fn resume<P: Placing>(
         &mut self,
         left: &mut u32,
         spares: &mut Spares<'p>,
+        places: &mut P,
     ) -> Result<Progress<'p>, AllocError>
         requires left_over { IsLeftOver self.old.control }
-        requires numbered { IsNumbered self.old }
-        ensures ok { IfOk result (λ progress. Reaches left.old left.new self.old progress self.new) }
-        ensures same { IfOk result (λ progress. OnValue progress (IsUnchanged self.old self.new)) }
+        requires sound { IsSoundState self.old }
+        ensures ok { IfOk result (λ progress. Comes (P.gives_all ≡ true) left.old left.new self.old progress self.new) }
         ensures fewer { left.new ≤ left.old }
-        ensures err { OnErr result (IsUnchanged self.old self.new) }
+        ensures err { OnErr result (IsSame self.old self.new) }
     {
         match self.control {
             Control::Give(value) => Ok(Progress::Value(value)),
-            Control::Cover(stretch) => self.cover(stretch, left, spares),
+            Control::Cover(stretch) => self.cover(stretch, left, spares, places),
             _ => unreachable!(),
         }
     }
@@ -285,31 +301,54 @@ impl<'p> State<'p> {
         }
     }
 
-    /// The outcome of a thread that has ended, with the lines below it.
+    /// The name of the innermost thread.
     #[inline(always)]
-    pub fn finish(&mut self, lines: Lines) -> Outcome<'p>
-        requires lines { lines.lines ≡ self.old.below }
+    pub fn running_name(&self) -> &Name
+        requires { HasLine self.now }
+        ensures { result.now ≡ (top self.now).own.name }
+    {
+        if self.parents.is_empty() {
+            return &self.own.name;
+        }
+        &self.lines.at(self.level.place).name
+    }
+
+    /// The tag of the innermost thread.
+    pub fn running_tag(&self) -> u64
+        requires { HasLine self.now }
+        ensures { result ≡ (top self.now).own.label.tag }
+    {
+        if self.parents.is_empty() {
+            return self.own.label.tag;
+        }
+        self.lines.at(self.level.place).tag
+    }
+
+    /// The outcome of a thread that has ended.
+    #[inline(always)]
+    pub fn finish(&mut self) -> Outcome
         requires ended { pending_of self.old.control ≡ Some pause.Ended }
-        requires sound { IsSound self.old }
+        requires alone { self.old.parents.items ≡ [] }
+        requires sound { IsSoundState self.old }
         ensures program { result.program ≡ self.old.program.now }
         ensures name { result.name ≡ self.old.own.name }
         ensures sums { result.sums ≡ self.old.sums.items }
-        ensures lines { result.lines ≡ own_line_of (suspended self.old) ∷ (suspended self.old).below }
+        ensures lines { result.lines ≡ own_line self.old.own ∷ self.old.lines }
     {
         let value = self.value();
         Outcome {
-            program: self.program,
+            program: Snapshot::of(self.program),
             value,
             sums: replace(&mut self.sums, Vec::new(self.alloc)),
             own: self.take_line(),
-            below: lines,
+            below: replace(&mut self.lines, Lines::new(self.alloc)),
         }
     }
 
-    /// The own line of a thread that has ended.
+    /// The own line of the outermost thread.
     #[inline(always)]
     pub fn take_line(&mut self) -> ThreadLine
-        ensures line { result ≡ own_line_of (suspended self.old) }
+        ensures line { result ≡ own_line self.old.own }
         ensures others { self.new ≡ record self.old { own = self.new.own } }
     {
         let vacant = Own::vacant(self.alloc);
@@ -322,8 +361,26 @@ impl<'p> State<'p> {
         }
     }
 
+    /// Takes back the own line.
+    pub fn put_back_line(&mut self, line: ThreadLine)
+        ensures line { own_line self.new.own ≡ line }
+        ensures others { self.new ≡ record self.old { own = self.new.own } }
+    {
+        let ThreadLine {
+            name,
+            tag,
+            holds,
+            ran,
+        } = line;
+        self.own = Own {
+            name,
+            label: Label { tag, ran },
+            holds: holds.into_vec(),
+        };
+    }
+
     /// The value of a thread that has ended.
-    pub fn value(&self) -> u64
+    fn value(&self) -> u64
         requires { pending_of self.now.control ≡ Some pause.Ended }
         ensures { self.now.control ≡ control.Ended result }
     {

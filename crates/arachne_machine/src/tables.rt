@@ -5,9 +5,13 @@ ghost use Rattle.arachne_lang.specs.Effects.{tabulated};
 use std::alloc::{AllocError, Global};
 
 /// So many zeros.
+#[inline(always)]
 pub fn zeros(alloc: Global, n: u8) -> Result<Vec<u64>, AllocError>
     ensures { IfOk result (λ v. v.items ≡ tabulated n (λ _. 0)) }
 {
+    if n == 0 {
+        return Ok(Vec::new(alloc));
+    }
     vec![in alloc; 0u64; usize::from(n)]
 }
 

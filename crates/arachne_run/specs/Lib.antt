@@ -1,6 +1,3 @@
-pub mod Threads
-pub mod Cells
-pub mod Slices
 pub mod Reports
 pub mod Setups
 pub mod Tokens

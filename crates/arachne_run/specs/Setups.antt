@@ -5,6 +5,8 @@ use Rattle.arachne_run.specs.declared.fault.RunFault.{RunFault}
 use Rattle.arachne_run.specs.declared.fault.RunFault.TheVariants.{Cores, Quantum, Slots, Choosers, Orders, Memory, Foreign, Threads, Ledgers, Token, KernelThread}
 use Rattle.arachne_run.specs.declared.fault.WorkerFault.{WorkerFault}
 use Rattle.arachne_run.specs.declared.fault.WorkerFault.TheVariants as worker
+use Rattle.arachne_jobs.specs.declared.fault.JobFault.{JobFault}
+use Rattle.arachne_jobs.specs.declared.fault.JobFault.TheVariants as job
 use Rattle.arachne_policy.specs.declared.orders.CoreOrder.{CoreOrder}
 use Rattle.arachne_policy.specs.declared.orders.OrderFault.{OrderFault}
 use Rattle.arachne_policy.specs.Orders.{IsFirstFault}
@@ -13,7 +15,8 @@ use Rattle.arachne_policy.specs.Orders.{IsFirstFault}
 abbrev pub is_within : ℕ → ℕ → ℕ → Bool
 is_within least most n = nat_le least n && nat_le n most
 
--- what is wrong with so many cores, this quantum, so many places a core and so many choosers: the first of these that is
+-- what is wrong with so many cores, this quantum, so many places a core and so many choosers: the first of these that
+-- is
 abbrev pub refusal_of : ℕ → ℕ → ℕ → ℕ → Option RunFault
 refusal_of cores quantum slots choosers =
     if is_within 1 CORES cores then
@@ -52,3 +55,8 @@ as_run_fault worker.Threads = Threads
 as_run_fault worker.Ledgers = Ledgers
 as_run_fault worker.Token = Token
 as_run_fault worker.KernelThread = KernelThread
+
+-- what a worker stops for where a job can't go on
+abbrev pub as_worker_fault : JobFault → WorkerFault
+as_worker_fault job.Memory = worker.Memory
+as_worker_fault job.Foreign = worker.Foreign

@@ -1,4 +1,5 @@
 //! Why a run has no report.
+use arachne_jobs::JobFault;
 use arachne_policy::OrderFault;
 use std::alloc::AllocError;
 use thiserror::Error;
@@ -35,7 +36,8 @@ pub enum RunFault {
     /// The word of a ledger is not the root's sum.
     #[error("a ledger's word is not the root's sum")]
     Ledgers,
-    /// The table didn't know a place or a thread that a worker had of it, or in the end a seat or a share was not whole.
+    /// The table didn't know a place or a thread that a worker had of it, or in the end a seat or a share was not
+    /// whole.
     #[error("the table knows no such token, or not all of a table came back")]
     Token,
     /// A kernel thread was refused.
@@ -56,7 +58,8 @@ pub enum WorkerFault {
     Threads,
     /// The word of a ledger is not the root's sum.
     Ledgers,
-    /// The table didn't know a place or a thread that a worker had of it, or in the end a seat or a share was not whole.
+    /// The table didn't know a place or a thread that a worker had of it, or in the end a seat or a share was not
+    /// whole.
     Token,
     /// A kernel thread was refused, or there was nothing for it to choose cores by.
     KernelThread,
@@ -76,6 +79,20 @@ impl From<WorkerFault> for RunFault {
             WorkerFault::Ledgers => RunFault::Ledgers,
             WorkerFault::Token => RunFault::Token,
             WorkerFault::KernelThread => RunFault::KernelThread,
+        }
+    }
+}
+
+impl From<JobFault> for WorkerFault {
+    ghost use Rattle.std.specs.Prelude.{◌≡◌};
+    ghost use Rattle.arachne_run.specs.Setups.{as_worker_fault};
+
+    ghost from_gives = { λ fault e. e ≡ as_worker_fault fault };
+
+    fn from(fault: JobFault) -> WorkerFault {
+        match fault {
+            JobFault::Memory => WorkerFault::Memory,
+            JobFault::Foreign => WorkerFault::Foreign,
         }
     }
 }

@@ -1,7 +1,7 @@
 //! What a caller may do before each slice, and be told of a run.
 
-/// Called before each slice, as by a test that watches or holds up the cores of a run. What it is told beside that may be
-/// left out.
+/// Called before each slice, as by a test that watches or holds up the cores of a run. What it is told beside that may
+/// be left out.
 pub trait Gate {
     /// Called by the kernel thread of a core before its slice of this number, from 0. The number stays at 2^64 - 1.
     fn slice(&self, core: u8, nth: u64);

@@ -3,27 +3,35 @@ ghost use Rattle.std.specs.Prelude.{◌≡◌, ◌≤◌, All, IfOk, IfSome, len
 ghost use Rattle.arachne_policy.specs.Orders.{AreInOrder};
 ghost use Rattle.arachne_sleep.specs.History.{IsSound};
 ghost use Rattle.arachne_sleep.specs.OneHolder.{HasOneHolderAtATime};
+ghost use Rattle.arachne_sleep.specs.SleepLocks.{AreSeatsOf};
+ghost use Rattle.arachne_spill.specs.Views.{IsPassOf};
 ghost use Rattle.arachne_run.specs.Tokens.{AreIdle, IsSetUp};
 
 use crate::fault::WorkerFault;
+use crate::policy::may_keep_places;
 use crate::shared::Shared;
 use crate::tokens::Tokens;
-use arachne_arbiter::Arbiter;
+use arachne_arbiter::{Arbiter, Cores};
 use arachne_contexts::{Contexts, Seats, Tagged};
 use arachne_core::{CORES, SLOTS};
+use arachne_jobs::has_exclusive;
 use arachne_lang::Program;
 use arachne_ledger::Ledgers;
 use arachne_policy::CoreOrder;
-use arachne_sleep::{LockEvent, SleepLocks};
+use arachne_sleep::{LockEvent, LockSeats, SleepLocks};
+use arachne_spill::{CAPACITY, SpillPass, SpillQueue};
 use std::alloc::{AllocError, Global};
+use std::marker::PhantomData;
 use std::sync::Wait;
 
 /// The table of contexts, the ledgers, the locks, and the words that all workers look at.
 #[derive(Drop)]
-pub(crate) struct Machine<C> {
+pub(crate) struct Machine<C, K: Tagged + Drop> {
     pub(crate) table: C,
     pub(crate) ledgers: Ledgers,
     pub(crate) locks: SleepLocks,
+    /// Children that wait for a place.
+    pub(crate) tickets: SpillQueue<K>,
     pub(crate) shared: Shared,
     pub(crate) cores: u8,
     /// How many places each core has.
@@ -31,6 +39,11 @@ pub(crate) struct Machine<C> {
     pub(crate) quantum: u32,
     /// How many orders there are.
     pub(crate) orders: usize,
+    /// Whether workers may keep places.
+    pub(crate) may_keep: bool,
+    /// Whether workers may move threads to their own cores: not where a thread may want a whole core, since a move takes
+    /// a place there while it is made.
+    pub(crate) may_pull: bool,
 }
 
 /// What is left of a machine once all workers have ended.
@@ -44,7 +57,24 @@ pub(crate) struct Remains {
     pub(crate) applied: usize,
 }
 
-impl<C: Seats + Drop> Machine<C> {
+impl<C: Seats, K: Tagged + Drop> Machine<C, K> {
+    /// The cores of the table.
+    pub(crate) fn cores<'a, H, T>(&'a self, rt: &'a H) -> Cores<'a, H, T, C>
+        requires { IsSetUp C.core_count C.slot_count self.now }
+        ensures table { result.table.now ≡ self.now.table }
+        ensures count { result.count ≡ self.now.cores }
+    {
+        Cores {
+            rt,
+            table: &self.table,
+            count: self.cores,
+            slots: self.slots,
+            of: PhantomData,
+        }
+    }
+}
+
+impl<C: Seats + Drop, K: Tagged + Drop> Machine<C, K> {
     /// A machine on which nothing runs, and all of its tokens.
     pub(crate) fn new(
         alloc: Global,
@@ -53,7 +83,7 @@ impl<C: Seats + Drop> Machine<C> {
         quantum: u32,
         orders: Vec<CoreOrder>,
         program: &Program,
-    ) -> Result<(Machine<C>, Tokens<C::Seat>), AllocError>
+    ) -> Result<(Machine<C, K>, Tokens<C::Seat, K>), AllocError>
         requires some { 1 ≤ cores }
         requires most { cores ≤ CORES }
         requires some_slots { 1 ≤ slots }
@@ -66,24 +96,30 @@ impl<C: Seats + Drop> Machine<C> {
         ensures locks { IfOk result (λ made. length made.0.locks ≡ program.now.locks) }
     {
         let count = orders.len();
+        let exclusive = has_exclusive(&program.root);
         let (table, seat) = C::new(alloc, cores, slots, 0)?;
         let (ledgers, share) = Ledgers::new(alloc, usize::from(program.ledgers))?;
         let (locks, lock_seats) = SleepLocks::new(alloc, program.locks)?;
+        let (tickets, pass) = SpillQueue::new(alloc)?;
         let arbiter = Arbiter::new(alloc, orders, cores)?;
         let machine = Machine {
             table,
             ledgers,
             locks,
-            shared: Shared::new(alloc, cores)?,
+            tickets,
+            shared: Shared::new(alloc, cores, u64::from(cores) * u64::from(slots))?,
             cores,
             slots,
             quantum,
             orders: count,
+            may_keep: may_keep_places(exclusive, count, program.locks > 0 && cores > 1),
+            may_pull: !exclusive,
         };
         let tokens = Tokens {
             seat,
             share,
             lock_seats,
+            pass,
             arbiter: Some(arbiter),
         };
         Ok((machine, tokens))
@@ -94,7 +130,7 @@ impl<C: Seats + Drop> Machine<C> {
         self,
         rt: &H,
         alloc: Global,
-        tokens: Option<Tokens<C::Seat>>,
+        tokens: Option<Tokens<C::Seat, K>>,
     ) -> Result<Remains, WorkerFault>
     where
         T: Tagged + Drop,
@@ -115,17 +151,21 @@ impl<C: Seats + Drop> Machine<C> {
             return Err(WorkerFault::Token);
         };
         let applied = arbiter.applied();
-        let is_all = self.table.is_whole(&tokens.seat) && self.table.out(&tokens.seat) == 0;
-        if !is_all || !tokens.share.is_whole() || !self.locks.are_whole(&tokens.lock_seats) {
+        if !are_tickets_back::<H, K>(rt, &self.tickets, tokens.pass) {
             return Err(WorkerFault::Token);
         }
-        if self.table.close(rt, alloc, tokens.seat).is_err() {
-            return Err(WorkerFault::Memory);
+        let is_all = self.table.is_whole(&tokens.seat) && self.table.out(&tokens.seat) == 0;
+        if !is_all || !tokens.share.is_whole() {
+            return Err(WorkerFault::Token);
         }
-        let Ok(words) = self.ledgers.close(alloc, tokens.share) else {
+        let histories = closed_locks(alloc, self.locks, tokens.lock_seats)?;
+        let Ok(rest) = self.table.close(rt, alloc, tokens.seat) else {
             return Err(WorkerFault::Memory);
         };
-        let Ok(histories) = self.locks.close(alloc, tokens.lock_seats) else {
+        if !rest.is_empty() {
+            return Err(WorkerFault::Token);
+        }
+        let Ok(words) = self.ledgers.close(alloc, tokens.share) else {
             return Err(WorkerFault::Memory);
         };
         Ok(Remains {
@@ -134,4 +174,41 @@ impl<C: Seats + Drop> Machine<C> {
             applied,
         })
     }
+}
+
+/// The history of each lock, in their order, if all of their seats are back.
+fn closed_locks(
+    alloc: Global,
+    locks: SleepLocks,
+    seats: LockSeats,
+) -> Result<Vec<Vec<LockEvent>>, WorkerFault>
+    requires { AreSeatsOf locks seats }
+    ensures count { IfOk result (λ histories. length histories.items ≡ length locks) }
+    ensures sound { IfOk result (λ histories. All (λ history. IsSound history.items) histories.items) }
+    ensures one_holder { IfOk result (λ histories. All (λ history. HasOneHolderAtATime history.items) histories.items) }
+{
+    if !locks.are_whole(&seats) {
+        return Err(WorkerFault::Token);
+    }
+    match locks.close(alloc, seats) {
+        Ok(histories) => Ok(histories),
+        Err(_) => Err(WorkerFault::Memory),
+    }
+}
+
+/// Empties the queue of tickets. Whether all of its passes are back.
+fn are_tickets_back<H: Wait, K: Tagged + Drop>(
+    rt: &H,
+    tickets: &SpillQueue<K>,
+    pass: SpillPass<K>,
+) -> bool
+    requires { IsPassOf tickets.now pass }
+{
+    let mut pass = pass;
+    for _ in 0..CAPACITY {
+        if tickets.pop(rt, &mut pass).is_none() {
+            break;
+        }
+    }
+    tickets.is_whole(&pass)
 }

@@ -30,15 +30,15 @@ pub struct Report {
 }
 
 impl Report {
-    /// What the root's outcome brings. Its sums have to be the words of the ledgers, no two threads may have one tag, and
-    /// the grants of the locks have to be the threads' holds.
+    /// What the root's outcome brings. Its sums have to be the words of the ledgers, no two threads may have one tag,
+    /// and the grants of the locks have to be the threads' holds.
     pub(crate) fn of(
         alloc: Global,
         outcome: Outcome,
         remains: Remains,
     ) -> Result<Report, WorkerFault>
         requires { outcome.name ≡ [] }
-        ensures meaning { IfOk result (λ report. meaning_in report ≡ meaning_of (source_of outcome.entry.program)) }
+        ensures meaning { IfOk result (λ report. meaning_in report ≡ meaning_of (source_of outcome.program)) }
         ensures tags { IfOk result (λ report. AreDistinct (tags_of report)) }
         ensures histories { IfOk result (λ report. report.histories ≡ remains.histories) }
         ensures grants { IfOk result (λ report. GrantsAreHolds report.threads (histories_in report)) }

@@ -12,22 +12,23 @@ ghost use Rattle.arachne_run.specs.Reports.{histories_in, meaning_in, tags_of};
 ghost use Rattle.arachne_run.specs.Setups.{IsFirstOrderFault, IsSetupFault, is_of_setup, refusal_of};
 ghost use Rattle.arachne_run.specs.declared.fault.RunFault.{RunFault};
 
-use crate::crew::work_all;
 use crate::fault::RunFault;
 use crate::gate::Gate;
 use crate::machine::Machine;
 use crate::report::Report;
 use crate::setup::Setup;
-use crate::slice::JobOf;
+use crate::workers::work_all;
 use arachne_contexts::Contexts;
+use arachne_jobs::{JobOf, RunSpares};
 use arachne_lang::Program;
 use rand_core::Rng;
 use std::alloc::Global;
 use std::sync::Wait;
 use std::thread::Threads;
 
-/// Runs a program on one kernel thread for each core, over a table of the type `C`. Each core draws from its own chooser.
-/// The orders take cores back and grant them again while it runs; those that are not reached before its end are not applied.
+/// Runs a program on one kernel thread for each core, over a table of the type `C`. Each core draws from its own
+/// chooser. The orders take cores back and grant them again while it runs; those that are not reached before its end
+/// are not applied.
 ///
 /// The program is unchanged. After an error nothing of the run is left.
 pub fn run<
@@ -61,8 +62,8 @@ pub fn run<
     setup.check(choosers.len())?;
     let mut choosers = choosers;
     choosers.reverse();
-    let (root, receiver) = T::begin(alloc, program, &mut T::spares(alloc))?;
-    let (machine, tokens) = Machine::<C>::new(
+    let (root, receiver) = T::begin(alloc, program, &mut T::Spares::none(alloc))?;
+    let (machine, tokens) = Machine::<C, T::Ticket>::new(
         alloc,
         setup.cores as u8,
         setup.slots as u8,
@@ -70,7 +71,9 @@ pub fn run<
         setup.orders,
         program,
     )?;
-    let tokens = work_all::<H, T, C, R, G>(rt, alloc, &machine, gate, root, choosers, tokens);
+    let tokens = work_all::<H, T, T::Ticket, C, R, G>(
+        rt, alloc, &machine, gate, root, choosers, tokens,
+    );
     let remains = machine.close::<H, T>(rt, alloc, tokens)?;
     let Ok((outcome, _)) = receiver.fetch() else {
         return Err(RunFault::Foreign);

@@ -4,29 +4,32 @@ ghost use Rattle.arachne_run.specs.Tokens.{AreIdle};
 
 use crate::machine::Machine;
 use arachne_arbiter::Arbiter;
-use arachne_contexts::Seats;
+use arachne_contexts::{Seats, Tagged};
 use arachne_ledger::Share;
 use arachne_sleep::LockSeats;
+use arachne_spill::SpillPass;
 use std::alloc::Global;
 use std::sync::Wait;
 
 /// A seat at the table, a share of the ledgers, a seat of each lock, and for one of the workers the arbiter.
 #[derive(Drop)]
-pub(crate) struct Tokens<S> {
+pub(crate) struct Tokens<S, K> {
     pub(crate) seat: S,
     pub(crate) share: Share,
     pub(crate) lock_seats: LockSeats,
+    /// A pass of the queue of tickets.
+    pub(crate) pass: SpillPass<K>,
     pub(crate) arbiter: Option<Arbiter>,
 }
 
-impl<S> Tokens<S> {
+impl<S, K: Tagged + Drop> Tokens<S, K> {
     /// Half for the worker, with the arbiter, and half for another. Where memory is refused they come back.
     pub(crate) fn split<H: Wait, C: Seats<Seat = S>>(
         self,
         rt: &H,
         alloc: Global,
-        machine: &Machine<C>,
-    ) -> Result<(Tokens<S>, Tokens<S>), Tokens<S>>
+        machine: &Machine<C, K>,
+    ) -> Result<(Tokens<S, K>, Tokens<S, K>), Tokens<S, K>>
         requires { AreIdle C.sits C.idle machine.now self }
         ensures own { IfOk result (λ parts. AreIdle C.sits C.idle machine.now parts.0) }
         ensures others { IfOk result (λ parts. AreIdle C.sits C.idle machine.now parts.1) }
@@ -38,16 +41,19 @@ impl<S> Tokens<S> {
         };
         let (seat, other_seat) = machine.table.split(rt, self.seat);
         let (share, other_share) = machine.ledgers.split(self.share);
+        let (pass, other_pass) = machine.tickets.split(rt, self.pass);
         let own = Tokens {
             seat,
             share,
             lock_seats,
+            pass,
             arbiter: self.arbiter,
         };
         let others = Tokens {
             seat: other_seat,
             share: other_share,
             lock_seats: other_lock_seats,
+            pass: other_pass,
             arbiter: None,
         };
         Ok((own, others))
@@ -57,8 +63,8 @@ impl<S> Tokens<S> {
     pub(crate) fn split_seat<H: Wait, C: Seats<Seat = S>>(
         self,
         rt: &H,
-        machine: &Machine<C>,
-    ) -> (Tokens<S>, S)
+        machine: &Machine<C, K>,
+    ) -> (Tokens<S, K>, S)
         requires { AreIdle C.sits C.idle machine.now self }
         ensures rest { AreIdle C.sits C.idle machine.now result.0 }
         ensures seat { C.sits machine.now.table result.1 }
@@ -72,9 +78,9 @@ impl<S> Tokens<S> {
     pub(crate) fn join_seat<H: Wait, C: Seats<Seat = S>>(
         self,
         rt: &H,
-        machine: &Machine<C>,
+        machine: &Machine<C, K>,
         half: S,
-    ) -> Tokens<S>
+    ) -> Tokens<S, K>
         requires rest { AreIdle C.sits C.idle machine.now self }
         requires seat { C.sits machine.now.table half }
         requires idle { C.idle machine.now.table half }
@@ -90,9 +96,9 @@ impl<S> Tokens<S> {
     pub(crate) fn join<H: Wait, C: Seats<Seat = S>>(
         self,
         rt: &H,
-        machine: &Machine<C>,
-        other: Tokens<S>,
-    ) -> Tokens<S>
+        machine: &Machine<C, K>,
+        other: Tokens<S, K>,
+    ) -> Tokens<S, K>
         requires own { AreIdle C.sits C.idle machine.now self }
         requires others { AreIdle C.sits C.idle machine.now other }
         ensures { AreIdle C.sits C.idle machine.now result }
@@ -101,6 +107,7 @@ impl<S> Tokens<S> {
             seat: machine.table.join_seats(rt, self.seat, other.seat),
             share: machine.ledgers.join_shares(self.share, other.share),
             lock_seats: machine.locks.join_seats(self.lock_seats, other.lock_seats),
+            pass: machine.tickets.join_passes(rt, self.pass, other.pass),
             arbiter: self.arbiter,
         }
     }

@@ -9,6 +9,8 @@ use arachne_core::{Place, Rest, ThreadId};
 use arachne_locked::{LockedClaim, LockedContexts, LockedHold, LockedSeat};
 use std::alloc::{AllocError, Global};
 use std::sync::Wait;
+use std::sync::atomic::{AtomicU64, Ordering};
+use std::thread::yield_now;
 
 /// The word of an open core that is full.
 const FULL: u64 = 0x38FF_FFFF_FFFF_FFFF;
@@ -24,15 +26,48 @@ enum Alteration {
     RefusesMemory,
     /// A claim on another core than 0 finds it full.
     IsFull,
+    /// Each seat has something out.
+    HasOut,
+    /// A claim on a core that is in use is refused its memory, and only then a thread that is to be finished comes
+    /// back.
+    RefusesMemoryFirst,
+    /// A thread that is to be finished comes back, and only then a claim on a core that is in use is refused its
+    /// memory.
+    HandsBackFirst,
+    /// Of three claims that follow one another the first two are lost.
+    Loses,
 }
 
-/// A table behind a lock that hands on all calls, or all but one. A run makes its table itself, so the number of cores says
-/// which: of 5 cores it hands back each thread that is to be finished, of 6 it refuses memory to a claim on a core that is in
-/// use, of 7 all cores but 0 are full, and of any other number it answers nothing by itself.
+/// How often the second of two calls looks whether the first one was made before it gives up.
+const POLLS: u32 = 100_000_000;
+
+/// How often it lets others go on then, so that what the first call came to is known.
+const YIELDS: u32 = 100_000;
+
+/// A table behind a lock that hands on all calls, or all but one. A run makes its table itself, so the numbers of cores
+/// and of places say which: of 5 cores it hands back each thread that is to be finished, of 6 it refuses memory to a
+/// claim on a core that is in use, of 7 all cores but 0 are full, of 8 each seat has something out, of 9 and 10 it
+/// refuses memory and hands threads back, the one or the other first, of any other number of 5 places two of three
+/// claims are lost, and else it answers nothing by itself.
 #[derive(Drop)]
 pub struct Altered<T: Tagged> {
     inner: LockedContexts<T>,
     alteration: Alteration,
+    /// How many calls were counted that it may answer by itself.
+    answered: AtomicU64,
+}
+
+/// Waits until the first of two calls was answered.
+fn wait(answered: &AtomicU64) {
+    for _ in 0..POLLS {
+        if answered.load(Ordering::SeqCst) > 0 {
+            break;
+        }
+        yield_now();
+    }
+    for _ in 0..YIELDS {
+        yield_now();
+    }
 }
 
 impl<T: Tagged + Drop> Seats for Altered<T> {
@@ -55,13 +90,22 @@ impl<T: Tagged + Drop> Seats for Altered<T> {
         first_generation: u64,
     ) -> Result<(Altered<T>, LockedSeat), AllocError> {
         let (inner, seat) = LockedContexts::new(alloc, cores, slots, first_generation)?;
-        let alteration = match cores {
-            5 => Alteration::HandsBack,
-            6 => Alteration::RefusesMemory,
-            7 => Alteration::IsFull,
+        let alteration = match (cores, slots) {
+            (5, _) => Alteration::HandsBack,
+            (6, _) => Alteration::RefusesMemory,
+            (7, _) => Alteration::IsFull,
+            (8, _) => Alteration::HasOut,
+            (9, _) => Alteration::RefusesMemoryFirst,
+            (10, _) => Alteration::HandsBackFirst,
+            (_, 5) => Alteration::Loses,
             _ => Alteration::None,
         };
-        Ok((Altered { inner, alteration }, seat))
+        let altered = Altered {
+            inner,
+            alteration,
+            answered: AtomicU64::new(0),
+        };
+        Ok((altered, seat))
     }
 
     fn split<R: Wait>(&self, rt: &R, seat: LockedSeat) -> (LockedSeat, LockedSeat) {
@@ -77,7 +121,10 @@ impl<T: Tagged + Drop> Seats for Altered<T> {
     }
 
     fn out(&self, seat: &LockedSeat) -> u32 {
-        self.inner.out(seat)
+        match self.alteration {
+            Alteration::HasOut => 1,
+            _ => self.inner.out(seat),
+        }
     }
 }
 
@@ -87,6 +134,10 @@ impl<T: Tagged + Drop> Contexts<T> for Altered<T> {
     type Hold = LockedHold;
 
     ghost has = { λ table seat outs. CountsOut seat outs };
+
+    fn glance<R: Wait>(&self, rt: &R, core: u8) -> u64 {
+        self.inner.glance(rt, core)
+    }
 
     fn look<R: Wait>(&self, rt: &R, seat: &mut LockedSeat, core: u8) -> u64 {
         self.inner.look(rt, seat, core)
@@ -108,6 +159,17 @@ impl<T: Tagged + Drop> Contexts<T> for Altered<T> {
                 Ok(Claimed::Full(FULL))
             }
             Alteration::RefusesMemory if self.inner.look(rt, seat, core) != 0 => Err(AllocError),
+            Alteration::RefusesMemoryFirst if self.inner.look(rt, seat, core) != 0 => {
+                self.answered.store(1, Ordering::SeqCst);
+                Err(AllocError)
+            }
+            Alteration::HandsBackFirst if self.inner.look(rt, seat, core) != 0 => {
+                wait(&self.answered);
+                Err(AllocError)
+            }
+            Alteration::Loses if self.answered.fetch_add(1, Ordering::SeqCst) % 3 < 2 => {
+                Ok(Claimed::Lost(self.inner.look(rt, seat, core)))
+            }
             _ => self.inner.claim(rt, seat, core),
         }
     }
@@ -180,6 +242,14 @@ impl<T: Tagged + Drop> Contexts<T> for Altered<T> {
     {
         match self.alteration {
             Alteration::HandsBack => Err(held),
+            Alteration::RefusesMemoryFirst => {
+                wait(&self.answered);
+                Err(held)
+            }
+            Alteration::HandsBackFirst => {
+                self.answered.store(1, Ordering::SeqCst);
+                Err(held)
+            }
             _ => self.inner.finish(rt, seat, held),
         }
     }
@@ -210,10 +280,21 @@ impl<T: Tagged + Drop> Contexts<T> for Altered<T> {
         alloc: Global,
         seat: LockedSeat,
     ) -> Result<Vec<(ThreadId, T)>, (Altered<T>, LockedSeat)> {
-        let Altered { inner, alteration } = self;
+        let Altered {
+            inner,
+            alteration,
+            answered,
+        } = self;
         match inner.close(rt, alloc, seat) {
             Ok(rest) => Ok(rest),
-            Err((inner, seat)) => Err((Altered { inner, alteration }, seat)),
+            Err((inner, seat)) => {
+                let altered = Altered {
+                    inner,
+                    alteration,
+                    answered,
+                };
+                Err((altered, seat))
+            }
         }
     }
 

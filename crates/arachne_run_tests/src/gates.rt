@@ -5,10 +5,13 @@ use std::sync::atomic::{AtomicU64, Ordering};
 use std::thread::yield_now;
 
 /// How often a gate looks whether the other core has come before it gives up.
-const POLLS: u32 = 100_000_000;
+const POLLS: u32 = 5_000_000;
 
-/// The slice of core 0 that core 1 waits for, and that waits for core 1.
-const MEETING: u64 = 500;
+/// How often a gate looks before it lets a core go on that it gave time for what can't be seen.
+const PAUSE: u32 = 5_000;
+
+/// How often it looks whether the run has stopped.
+const STOPS: u32 = 2_000_000;
 
 /// What a gate does.
 #[derive(Clone, Copy)]
@@ -17,10 +20,21 @@ pub enum Watching {
     Nothing,
     /// It notes which cores have entered a slice, and how many slices were entered.
     Cores,
-    /// It holds core 1's slice 0 until core 0 has entered slice 500, and that until core 1 has entered slice 0.
-    Meeting,
+    /// It holds core 1's slice 0 until core 0 has entered the slice of the first number, and that until core 1 has entered that of
+    /// the second.
+    Meeting(u64, u64),
+    /// It holds core 0's slice before this one until core 1 has entered slice 0, and lets core 1 end that once core 0 has entered
+    /// this slice. No order may be applied before.
+    Holding(u64),
     /// It holds core 1's slice 0 until core 0 has entered so many slices.
     Lead(u64),
+    /// It gives core 1 time to park before core 0's slice of the first number, and holds that of the second until core 1 has entered
+    /// slice 0.
+    Granting(u64, u64),
+    /// It gives a core time to park before core 0's slice 0. It holds core 2's slice 0 until core 1 has entered this slice, and
+    /// that until the run is stopped, which the parked core tells. Then core 1 may enter no slice. Slices of core 1 before it
+    /// are held until core 0's slice 0 has ended.
+    Stopping(u64),
 }
 
 /// A gate that does as it is told.
@@ -33,6 +47,8 @@ pub struct Watch {
     pub slices: AtomicU64,
     zero: AtomicU64,
     one: AtomicU64,
+    /// Core 0's first slice has ended.
+    ended: AtomicU64,
     failed: AtomicU64,
 }
 
@@ -44,16 +60,18 @@ impl Watch {
             slices: AtomicU64::new(0),
             zero: AtomicU64::new(0),
             one: AtomicU64::new(0),
+            ended: AtomicU64::new(0),
             failed: AtomicU64::new(0),
         }
     }
 
-    /// Whether all came that a core was held up for, and no core has given up.
+    /// Whether all came that a core was held up for, and nothing was that may not be.
     pub fn is_over(&self) -> bool {
         let (zero, one) = match self.watching {
-            Watching::Meeting => (1, 1),
+            Watching::Nothing | Watching::Cores => (0, 0),
             Watching::Lead(wanted) => (wanted, 0),
-            _ => (0, 0),
+            Watching::Stopping(_) => (0, 1),
+            _ => (1, 1),
         };
         self.zero.load(Ordering::SeqCst) >= zero
             && self.one.load(Ordering::SeqCst) >= one
@@ -71,33 +89,104 @@ impl Watch {
 
     /// Waits until the other core's word is at least so great.
     fn wait(&self, other: &AtomicU64, wanted: u64) {
-        for _ in 0..POLLS {
-            if other.load(Ordering::SeqCst) >= wanted {
-                return;
-            }
-            yield_now();
+        if !comes(other, wanted, POLLS) {
+            self.failed.store(1, Ordering::SeqCst);
         }
-        self.failed.store(1, Ordering::SeqCst);
     }
+
+    /// Gives a kernel thread whose core is closed time to park.
+    fn pause(&self) {
+        let _ = comes(&self.one, 1, PAUSE);
+    }
+
+    /// The slice of this number of core 0.
+    fn enter_zero(&self, nth: u64) {
+        match self.watching {
+            Watching::Meeting(own, _) if nth == own => {
+                self.zero.store(1, Ordering::SeqCst);
+                self.wait(&self.one, 1);
+            }
+            Watching::Holding(wanted) if nth.saturating_add(1) == wanted => self.wait(&self.one, 1),
+            Watching::Holding(wanted) if nth == wanted => self.zero.store(1, Ordering::SeqCst),
+            Watching::Lead(_) => {
+                self.zero.fetch_add(1, Ordering::SeqCst);
+            }
+            Watching::Granting(pause, _) if nth == pause => self.pause(),
+            Watching::Stopping(_) if nth == 0 => self.pause(),
+            Watching::Granting(_, wanted) if nth == wanted => {
+                self.zero.store(1, Ordering::SeqCst);
+                self.wait(&self.one, 1);
+            }
+            _ => {}
+        }
+    }
+
+    /// The slice of this number of core 1.
+    fn enter_one(&self, nth: u64) {
+        match self.watching {
+            Watching::Meeting(_, theirs) => {
+                if nth == theirs {
+                    self.one.store(1, Ordering::SeqCst);
+                }
+                self.wait(&self.zero, 1);
+            }
+            Watching::Holding(_) | Watching::Granting(_, _) if nth == 0 => {
+                self.one.store(1, Ordering::SeqCst);
+            }
+            Watching::Lead(wanted) if nth == 0 => self.wait(&self.zero, wanted),
+            Watching::Stopping(wanted) if nth < wanted => self.wait(&self.ended, 1),
+            Watching::Stopping(wanted) if nth == wanted => {
+                self.one.store(1, Ordering::SeqCst);
+                // Where no core was parked the run has stopped when this is given up.
+                let _ = comes(&self.zero, 1, STOPS);
+            }
+            Watching::Stopping(wanted) if nth > wanted => self.failed.store(1, Ordering::SeqCst),
+            _ => {}
+        }
+    }
+}
+
+/// Whether a word is at least so great after so many looks.
+fn comes(word: &AtomicU64, wanted: u64, polls: u32) -> bool {
+    for _ in 0..polls {
+        if word.load(Ordering::SeqCst) >= wanted {
+            return true;
+        }
+        yield_now();
+    }
+    false
 }
 
 impl Gate for Watch {
     fn slice(&self, core: u8, nth: u64) {
-        match (self.watching, core, nth) {
-            (Watching::Cores, _, _) => self.note(core),
-            (Watching::Meeting, 0, MEETING) => {
-                self.zero.store(1, Ordering::SeqCst);
-                self.wait(&self.one, 1);
-            }
-            (Watching::Meeting, 1, 0) => {
-                self.one.store(1, Ordering::SeqCst);
-                self.wait(&self.zero, 1);
-            }
-            (Watching::Lead(_), 0, _) => {
-                self.zero.fetch_add(1, Ordering::SeqCst);
-            }
-            (Watching::Lead(wanted), 1, 0) => self.wait(&self.zero, wanted),
+        match (self.watching, core) {
+            (Watching::Cores, _) => self.note(core),
+            (_, 0) => self.enter_zero(nth),
+            (_, 1) => self.enter_one(nth),
+            (Watching::Stopping(_), 2) if nth == 0 => self.wait(&self.one, 1),
             _ => {}
+        }
+    }
+
+    fn slice_ended(&self, core: u8) {
+        match (self.watching, core) {
+            (Watching::Holding(_), 1) => self.wait(&self.zero, 1),
+            (Watching::Stopping(_), 0) => self.ended.store(1, Ordering::SeqCst),
+            _ => {}
+        }
+    }
+
+    fn unparked(&self, _core: u8) {
+        if let Watching::Stopping(_) = self.watching {
+            self.zero.store(1, Ordering::SeqCst);
+        }
+    }
+
+    fn applied(&self, _orders: usize) {
+        if let Watching::Holding(_) = self.watching
+            && self.zero.load(Ordering::SeqCst) == 0
+        {
+            self.failed.store(1, Ordering::SeqCst);
         }
     }
 }

@@ -9,4 +9,6 @@ mod choosers;
 #[cfg(test)]
 mod gates;
 #[cfg(test)]
+mod hasty;
+#[cfg(test)]
 mod runs;

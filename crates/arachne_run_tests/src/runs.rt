@@ -18,13 +18,19 @@ use std::thread::Threads;
 
 mod cores;
 mod facts;
+mod faults;
+mod left;
 mod loads;
 mod locks;
 mod orders;
+mod places;
 mod programs;
 mod reports;
 mod rows;
+mod shortage;
+mod slices;
 mod tables;
+mod tickets;
 
 /// A form of context table.
 #[derive(Clone, Copy)]

@@ -4,13 +4,17 @@ ghost use Rattle.arachne_lang.specs.Program.{source_of};
 ghost use Rattle.arachne_machine.specs.declared.pause.Pending.TheVariants as pause;
 ghost use Rattle.arachne_machine.specs.Nested.{Nested, IsAlone, IsChildOf, SameWhole, pending_in, whole};
 
+mod shortage;
 mod ways;
 
+use self::shortage::Memory;
 use arachne_lang::{Class, Meaning, Name, Program, TextFault, parse};
 use arachne_machine::{
-    NotJoined, NotPlaced, Outcome, OutcomeParts, Pause, Pending, Ran, Thread, ThreadLine, run_alone,
+    NotJoined, NotPlaced, Outcome, OutcomeParts, Pause, Pending, Placing, Ran, Spares, Thread,
+    ThreadLine, run_alone,
 };
 use std::alloc::Global;
+use std::marker::Model;
 use std::process::Abort;
 use std::test::Fail;
 
@@ -29,12 +33,20 @@ fn program(alloc: Global, count: u8, expression: &str) -> Result<Program, Fail> 
 }
 
 /// The root thread of a program. Where memory is refused it is asked for once more.
-fn start<'p>(alloc: Global, program: &'p Program, tag: u64) -> Result<Thread<'p>, Fail>
+fn start<'p>(
+    alloc: Global,
+    program: &'p Program,
+    tag: u64,
+    memory: &mut Memory,
+) -> Result<Thread<'p>, Fail>
     ensures { IfOk result (λ thread. pending_in thread ≡ None) }
 {
     match Thread::start(alloc, program, tag) {
         Ok(thread) => Ok(thread),
-        Err(_) => Ok(Thread::start(alloc, program, tag)?),
+        Err(_) => {
+            memory.spare();
+            Ok(Thread::start(alloc, program, tag)?)
+        }
     }
 }
 
@@ -78,7 +90,12 @@ impl Heard {
 }
 
 /// Puts a child in its parent's place with the next tag. A call that is refused memory is made once more.
-fn place<'p>(thread: &mut Thread<'p>, mut child: Thread<'p>, heard: &mut Heard) -> Result<(), Fail>
+fn place<'p>(
+    thread: &mut Thread<'p>,
+    mut child: Thread<'p>,
+    heard: &mut Heard,
+    memory: &mut Memory,
+) -> Result<(), Fail>
     requires forks { pending_in thread.old ≡ Some pause.Forks }
     requires alone { child.parents ≡ [] }
     requires child { IsChildOf thread.old child }
@@ -86,11 +103,13 @@ fn place<'p>(thread: &mut Thread<'p>, mut child: Thread<'p>, heard: &mut Heard) 
 {
     child.set_tag(heard.next);
     heard.next = heard.next.wrapping_add(1);
+    memory.take_again()?;
     let child = match thread.in_place(child) {
         Ok(()) => return Ok(()),
         Err(NotPlaced::Memory(child)) => child,
         Err(NotPlaced::Foreign(_)) => return Err("refused as foreign at its fork")?,
     };
+    memory.spare();
     if thread.in_place(child).is_err() {
         return Err("memory was refused twice")?;
     }
@@ -98,7 +117,12 @@ fn place<'p>(thread: &mut Thread<'p>, mut child: Thread<'p>, heard: &mut Heard) 
 }
 
 /// Goes on to the next pause and answers it, with each child in place. It tells whether the thread has ended.
-fn turn(thread: &mut Thread, budget: u32, heard: &mut Heard) -> Result<bool, Fail>
+fn turn(
+    thread: &mut Thread,
+    budget: u32,
+    heard: &mut Heard,
+    memory: &mut Memory,
+) -> Result<bool, Fail>
     requires { pending_in thread.old ≡ None }
     ensures goes_on { IfOk result (λ ended. ended ≡ false → pending_in thread.new ≡ None) }
     ensures ended { IfOk result (λ ended. IsTrue ended → pending_in thread.new ≡ Some pause.Ended) }
@@ -106,14 +130,18 @@ fn turn(thread: &mut Thread, budget: u32, heard: &mut Heard) -> Result<bool, Fai
     if budget == 0 {
         return Err("no budget")?;
     }
+    memory.take_again()?;
     let pause = match thread.advance(budget) {
         Ok(pause) => pause,
-        Err(_) => thread.advance(budget)?,
+        Err(_) => {
+            memory.spare();
+            thread.advance(budget)?
+        }
     };
     heard.hear(&pause, thread.running_tag());
     match pause {
         Pause::Budget => {}
-        Pause::Forks(_, child) => place(thread, child, heard)?,
+        Pause::Forks(_, child) => place(thread, child, heard, memory)?,
         Pause::Asks(_) => thread.granted(),
         Pause::Frees(_) => thread.freed(),
         Pause::Tallies(_, _) => thread.tallied(),
@@ -130,8 +158,9 @@ fn all_in_place(
     program: &Program,
     first: u32,
     then: u32,
+    memory: &mut Memory,
 ) -> Result<(OutcomeParts, Heard), Fail> {
-    let mut thread = start(alloc, program, 9)?;
+    let mut thread = start(alloc, program, 9, memory)?;
     let mut heard = Heard {
         pauses: 0,
         asked: 0,
@@ -139,8 +168,8 @@ fn all_in_place(
     };
     let mut budget = first;
     for _ in 0..10000 {
-        if turn(&mut thread, budget, &mut heard)? {
-            return Ok((parts(thread.finish())?, heard));
+        if turn(&mut thread, budget, &mut heard, memory)? {
+            return Ok((parts(thread.finish(), memory)?, heard));
         }
         budget = then;
     }
@@ -148,13 +177,16 @@ fn all_in_place(
 }
 
 /// An outcome taken apart. A call that is refused memory is made once more.
-fn parts(outcome: Outcome) -> Result<OutcomeParts, Fail> {
+fn parts(outcome: Outcome, memory: &mut Memory) -> Result<OutcomeParts, Fail> {
+    memory.take_again()?;
+    let outcome = match outcome.into_parts() {
+        Ok(parts) => return Ok(parts),
+        Err(outcome) => outcome,
+    };
+    memory.spare();
     match outcome.into_parts() {
         Ok(parts) => Ok(parts),
-        Err(outcome) => match outcome.into_parts() {
-            Ok(parts) => Ok(parts),
-            Err(_) => Err("memory was refused twice")?,
-        },
+        Err(_) => Err("memory was refused twice")?,
     }
 }
 
@@ -224,7 +256,7 @@ const IN_PLACE: &[(u8, &str, u64, &str)] = &[
 
 /// What is told of a program's threads that all run in one place, and the sum of the tags that asked for a lock.
 fn told_in_place(alloc: Global, program: &Program, budget: u32) -> Result<(String, u64), Fail> {
-    let (parts, heard) = all_in_place(alloc, program, budget, budget)?;
+    let (parts, heard) = all_in_place(alloc, program, budget, budget, &mut Memory::ample())?;
     Ok((told(alloc, &parts)?, heard.asked))
 }
 
@@ -282,7 +314,7 @@ fn heard_within(
     then: u32,
 ) -> Result<(u64, u64), Fail> {
     let program = program(alloc, 1, expression)?;
-    let (parts, heard) = all_in_place(alloc, &program, first, then)?;
+    let (parts, heard) = all_in_place(alloc, &program, first, then, &mut Memory::ample())?;
     Ok((heard.pauses, parts.value))
 }
 
@@ -319,7 +351,7 @@ fn counts_on(parts: &OutcomeParts) -> bool {
 #[test]
 fn a_chain_in_place(rt: HostRuntime) -> Result<(), Fail> {
     let program = chain(rt.alloc())?;
-    let (parts, _) = all_in_place(rt.alloc(), &program, 3, 3)?;
+    let (parts, _) = all_in_place(rt.alloc(), &program, 3, 3, &mut Memory::ample())?;
     assert!(rt; parts.value == 61 && counts_on(&parts));
     Ok(())
 }
@@ -366,13 +398,57 @@ fn go_on<'p>(thread: &mut Thread<'p>) -> Result<Pause<'p>, Fail> {
     }
 }
 
-/// The outcome of a thread that ends within so many steps, with no further fork or join.
-fn ended<'p>(mut thread: Thread<'p>) -> Result<Outcome<'p>, Fail> {
+/// An outcome, and a program that is equal to its own.
+#[derive(Drop)]
+struct Brought<'p> {
+    outcome: Outcome,
+    program: &'p Program,
+}
+
+impl<'p> Model for Brought<'p> {
+    ghost use Rattle.std.specs.Prelude.{◌≡◌};
+    ghost use Rattle.arachne_lang.specs.Program.{source_of};
+    ghost use Rattle.arachne_machine.specs.Outcome.{Finished};
+
+    ghost Value = { Finished };
+
+    ghost use Rattle.std.specs.Coded.{codes};
+    ghost use Rattle.arachne_lang.specs.contracts.program.Expr as expr;
+
+    ghost coded = { Prim.hlevel (codes, expr.the_row.coded) };
+
+    ghost view = { λ b. b.outcome };
+
+    ghost invariant = { λ b. source_of b.outcome.program ≡ source_of b.program.now };
+}
+
+/// Why an outcome was not joined. It comes back.
+#[derive(Drop)]
+enum Refused<'p> {
+    /// It is of another program, or none is awaited.
+    Untold,
+    Foreign(Brought<'p>),
+    Memory(Brought<'p>),
+}
+
+/// What a thread that has ended brings.
+fn bring<'p>(thread: Thread<'p>) -> Brought<'p>
+    requires { pending_in thread ≡ Some pause.Ended }
+{
+    let program = thread.program();
+    Brought {
+        outcome: thread.finish(),
+        program,
+    }
+}
+
+/// What a thread brings that ends within so many steps, with no further fork or join.
+fn ended<'p>(mut thread: Thread<'p>) -> Result<Brought<'p>, Fail> {
     go_on(&mut thread)?;
     let Some(Pending::Ended) = thread.pending() else {
         return Err("not ended")?;
     };
-    Ok(thread.finish())
+    Ok(bring(thread))
 }
 
 /// Says that the child of the thread's fork was given away, and goes on until it is awaited.
@@ -386,7 +462,7 @@ fn await_child(thread: &mut Thread) -> Result<(), Fail> {
 }
 
 /// The outcome of the child that a thread forks first, which the thread then awaits.
-fn awaited<'p>(thread: &mut Thread<'p>) -> Result<Outcome<'p>, Fail> {
+fn awaited<'p>(thread: &mut Thread<'p>) -> Result<Brought<'p>, Fail> {
     let Pause::Forks(Class::Exclusive, child) = go_on(thread)? else {
         return Err("no exclusive fork")?;
     };
@@ -402,41 +478,43 @@ fn are_same(some: &Program, other: &Program) -> bool
 }
 
 /// Hands an outcome of its program to a thread that awaits one. Where it is not that, nothing is told.
-fn join<'p>(thread: &mut Thread<'p>, outcome: Outcome<'p>) -> Result<(), Option<NotJoined<'p>>> {
+fn join<'p>(thread: &mut Thread<'p>, brought: Brought<'p>) -> Result<(), Refused<'p>> {
     let Some(Pending::Joins) = thread.pending() else {
-        return Err(None);
+        return Err(Refused::Untold);
     };
-    if !are_same(outcome.program(), thread.program()) {
-        return Err(None);
+    let Brought { outcome, program } = brought;
+    if !are_same(program, thread.program()) {
+        return Err(Refused::Untold);
     }
     match thread.joined(outcome) {
         Ok(()) => Ok(()),
-        Err(not_joined) => Err(Some(not_joined)),
+        Err(NotJoined::Foreign(outcome)) => Err(Refused::Foreign(Brought { outcome, program })),
+        Err(NotJoined::Memory(outcome)) => Err(Refused::Memory(Brought { outcome, program })),
     }
 }
 
 /// Hands its child's outcome to a thread. One that was refused for memory is joined once more.
-fn join_child<'p>(thread: &mut Thread<'p>, outcome: Outcome<'p>) {
-    if let Err(Some(NotJoined::Memory(outcome))) = join(thread, outcome) {
+fn join_child<'p>(thread: &mut Thread<'p>, outcome: Brought<'p>) {
+    if let Err(Refused::Memory(outcome)) = join(thread, outcome) {
         let _ = join(thread, outcome);
     }
 }
 
 /// The outcome of the root of a program with one fork.
-fn root_outcome<'p>(alloc: Global, program: &'p Program, tag: u64) -> Result<Outcome<'p>, Fail> {
-    let mut thread = start(alloc, program, tag)?;
+fn root_outcome<'p>(alloc: Global, program: &'p Program, tag: u64) -> Result<Brought<'p>, Fail> {
+    let mut thread = start(alloc, program, tag, &mut Memory::ample())?;
     let outcome = awaited(&mut thread)?;
     join_child(&mut thread, outcome);
     ended(thread)
 }
 
 /// Whether a thread that awaits its child gives the root's outcome back as foreign, and awaits its child still.
-fn refuses<'p>(thread: &mut Thread<'p>, outcome: Outcome<'p>) -> bool {
+fn refuses<'p>(thread: &mut Thread<'p>, outcome: Brought<'p>) -> bool {
     match join(thread, outcome) {
-        Err(Some(NotJoined::Foreign(back))) => {
-            back.value() == 5
-                && back.program().locks == 1
-                && back.name().len() == 0
+        Err(Refused::Foreign(back)) => {
+            back.outcome.value() == 5
+                && back.program.locks == 1
+                && back.outcome.name().len() == 0
                 && thread.pending() == Some(Pending::Joins)
         }
         _ => false,
@@ -444,7 +522,7 @@ fn refuses<'p>(thread: &mut Thread<'p>, outcome: Outcome<'p>) -> bool {
 }
 
 /// Whether a thread refuses another root's outcome while it awaits its child, whose outcome it then joins.
-fn refuses_and_joins<'p>(thread: &mut Thread<'p>, foreign: Outcome<'p>) -> Result<bool, Fail> {
+fn refuses_and_joins<'p>(thread: &mut Thread<'p>, foreign: Brought<'p>) -> Result<bool, Fail> {
     let child = awaited(thread)?;
     let is_refused = refuses(thread, foreign);
     join_child(thread, child);
@@ -454,9 +532,9 @@ fn refuses_and_joins<'p>(thread: &mut Thread<'p>, foreign: Outcome<'p>) -> Resul
 /// Whether a root with the tag 2 refuses the outcome of the root with the tag 1, and what is told of its own.
 fn second_root(alloc: Global, program: &Program) -> Result<(bool, String), Fail> {
     let foreign = root_outcome(alloc, program, 1)?;
-    let mut thread = start(alloc, program, 2)?;
+    let mut thread = start(alloc, program, 2, &mut Memory::ample())?;
     let is_refused = refuses_and_joins(&mut thread, foreign)?;
-    let parts = parts(ended(thread)?)?;
+    let parts = parts(ended(thread)?.outcome, &mut Memory::ample())?;
     Ok((is_refused, told(alloc, &parts)?))
 }
 
@@ -534,9 +612,9 @@ fn second_in_place<'p>(thread: &mut Thread<'p>) -> Result<(), Fail> {
 
 /// What is told of the threads of `TWO_FORKS`.
 fn told_of_two(alloc: Global, program: &Program) -> Result<String, Fail> {
-    let mut thread = start(alloc, program, 9)?;
+    let mut thread = start(alloc, program, 9, &mut Memory::ample())?;
     second_in_place(&mut thread)?;
-    let parts = parts(ended(thread)?)?;
+    let parts = parts(ended(thread)?.outcome, &mut Memory::ample())?;
     told(alloc, &parts)
 }
 
@@ -549,9 +627,70 @@ fn an_awaited_child_begins_in_place(rt: HostRuntime) -> Result<(), Fail> {
     Ok(())
 }
 
+/// Says of the first fork that there is no place, of the next that there is one, and so on in turn.
+#[derive(Clone, Copy)]
+struct InTurn {
+    is_next: bool,
+}
+
+impl Placing for InTurn {
+    ghost gives_all = { false };
+
+    fn is_any(&mut self, _class: Class) -> bool {
+        self.is_next = !self.is_next;
+        !self.is_next
+    }
+
+    fn tag(&mut self) -> u64 {
+        0
+    }
+}
+
+/// The child of a thread's first fork for which there is a place, which is given away. Those of the forks before it are to run in
+/// the thread's place.
+fn first_with_place<'p>(alloc: Global, thread: &mut Thread<'p>) -> Result<Thread<'p>, Fail>
+    ensures { IfOk result IsAlone }
+{
+    if thread.pending().is_some() {
+        return Err("a pause is not answered")?;
+    }
+    let mut spares = Spares::new(alloc);
+    let mut places = InTurn { is_next: false };
+    let mut left = 100u32;
+    let Ok(pause) = thread.advance_within(&mut left, &mut spares, &mut places) else {
+        return Err("memory was refused")?;
+    };
+    let Pause::Forks(_, child) = pause else {
+        return Err("no fork")?;
+    };
+    thread.forked();
+    Ok(child)
+}
+
+/// What is told of the threads of `TWO_FORKS`, where there is a place for the second child alone, whose tag is 20.
+fn told_of_one_with_place(alloc: Global, program: &Program) -> Result<String, Fail> {
+    let mut memory = Memory::ample();
+    let mut thread = start(alloc, program, 9, &mut memory)?;
+    let mut child = first_with_place(alloc, &mut thread)?;
+    child.set_tag(20);
+    go_on(&mut thread)?;
+    let outcome = ended(child)?;
+    join_child(&mut thread, outcome);
+    let parts = parts(ended(thread)?.outcome, &mut memory)?;
+    told(alloc, &parts)
+}
+
+#[test]
+fn a_child_without_a_place_waits_for_one_that_has(rt: HostRuntime) -> Result<(), Fail> {
+    let program = program(rt.alloc(), 0, TWO_FORKS)?;
+    let told = told_of_one_with_place(rt.alloc(), &program)?;
+    assert!(rt; told.as_str() == "9 [] []9-[] [1]20-[] [0]0+[]", "{told}");
+    Ok(())
+}
+
 /// Whether a thread tells its tag and its program.
 fn tells_what_it_is(alloc: Global, program: &Program) -> Result<bool, Fail> {
-    let thread = start(alloc, program, 9)?;
+    let thread = start(alloc, program, 9, &mut Memory::ample())?;
     Ok(thread.tag() == 9 && thread.program().root == program.root)
 }
 

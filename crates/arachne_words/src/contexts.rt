@@ -97,6 +97,13 @@ impl<T: Tagged + Drop + Send> Contexts<T> for WordContexts<T> {
 
     ghost has = { IsOutWith };
 
+    fn glance<R: Wait>(&self, rt: &R, core: u8) -> u64
+        requires core { core < self.now.shape.cores }
+    {
+        let _ = rt;
+        WordContexts::glance(self, core)
+    }
+
     fn look<R: Wait>(&self, rt: &R, seat: &mut WordSeat<T>, core: u8) -> u64
         requires seat { seat.old.table ≡ self.now.table }
         requires core { core < self.now.shape.cores }

@@ -100,6 +100,13 @@ impl<T: Tagged + Drop> WordContexts<T> {
         shared.load::<LearnName>(&mut seat.seat, self.name_word(place)) as usize
     }
 
+    /// The occupancy word of a core, looked at with no seat. It tells nothing.
+    pub fn glance(&self, core: u8) -> u64
+        requires core { core < self.now.shape.cores }
+    {
+        self.table.shared.peek(self.core_word(core))
+    }
+
     /// The occupancy word of a core.
     pub fn look(&self, seat: &mut WordSeat<T>, core: u8) -> u64
         requires own { seat.old.table ≡ self.now.table }

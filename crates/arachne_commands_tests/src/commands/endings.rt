@@ -25,7 +25,7 @@ pub(super) fn fault(line: &[u8]) -> Told<'_> {
 }
 
 /// What a row says of an end: the status, the output, and the faults behind a `!`.
-fn told_by(row: &str) -> Told<'_> {
+pub(super) fn told_by(row: &str) -> Told<'_> {
     let (status, streams) = row.split_once(' ').unwrap_or((row, ""));
     let (output, faults) = streams.split_once('!').unwrap_or((streams, ""));
     Told {
@@ -40,8 +40,8 @@ fn told_by(row: &str) -> Told<'_> {
 }
 
 /// The faults as a row tells them.
-fn shown(status: u8, faults: &[u8]) -> &[u8] {
-    if status == 2 && !faults.is_empty() && !faults.starts_with(b"fault") {
+pub(super) fn shown(status: u8, faults: &[u8]) -> &[u8] {
+    if status == 2 && !faults.starts_with(b"fault") && !b"fault".starts_with(faults) {
         return b"usage";
     }
     faults

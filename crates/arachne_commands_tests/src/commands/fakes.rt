@@ -1,20 +1,39 @@
 //! A reader and a writer that do as a test says.
-use std::alloc::Global;
+use std::alloc::{AllocError, Global};
 use std::io::{self, ErrorKind, Read, Write};
 
-/// A reader that gives its bytes, fails where it is told to, and then gives others.
+/// How a stream fails, and at which of its calls, from 1.
+#[derive(Clone, Copy, Debug)]
+pub(super) struct Failure {
+    pub(super) at: u64,
+    /// The error. Without one the call moves no byte.
+    pub(super) error: Option<ErrorKind>,
+    /// Whether only that call fails, and not those behind it.
+    pub(super) once: bool,
+}
+
+/// What comes of the call of this number: an error, no byte, or nothing out of the ordinary.
+fn failed(failure: Option<Failure>, call: u64) -> Option<io::Result<usize>> {
+    let failure = failure?;
+    if call < failure.at || failure.once && call != failure.at {
+        return None;
+    }
+    match failure.error {
+        Some(kind) => Some(Err(io::Error::from(kind))),
+        None => Some(Ok(0)),
+    }
+}
+
+/// A reader that gives its bytes, so many at a time, and fails where it is told to.
 #[derive(Drop)]
 pub(super) struct Script<'a> {
-    /// What it gives first.
-    pub(super) first: &'a [u8],
-    /// How it fails behind that, if it does.
-    pub(super) error: Option<ErrorKind>,
-    /// Whether it fails no more once it has.
-    pub(super) fails_once: bool,
-    /// What it gives then.
-    pub(super) rest: &'a [u8],
+    /// What it gives.
+    pub(super) bytes: &'a [u8],
     /// What it gives behind that, again and again.
     pub(super) again: &'a [u8],
+    /// How many bytes a read gives at most.
+    pub(super) step: usize,
+    pub(super) failure: Option<Failure>,
     /// How many bytes it has given.
     pub(super) given: u64,
     /// How often it was read.
@@ -25,11 +44,10 @@ impl<'a> Script<'a> {
     /// A reader that gives these bytes.
     pub(super) fn of(bytes: &'a [u8]) -> Script<'a> {
         Script {
-            first: bytes,
-            error: None,
-            fails_once: false,
-            rest: b"",
+            bytes,
             again: b"",
+            step: usize::MAX,
+            failure: None,
             given: 0,
             reads: 0,
         }
@@ -39,43 +57,35 @@ impl<'a> Script<'a> {
 impl Read for Script<'_> {
     fn read(&mut self, buf: &mut [u8]) -> io::Result<usize> {
         self.reads = self.reads.wrapping_add(1);
-        if self.first.is_empty() {
-            if let Some(kind) = self.error {
-                if self.fails_once {
-                    self.error = None;
-                }
-                return Err(io::Error::from(kind));
-            }
-            self.first = self.rest;
-            self.rest = self.again;
+        match failed(self.failure, self.reads) {
+            Some(Ok(_)) => return Ok(0),
+            Some(Err(error)) => return Err(error),
+            None => {}
         }
-        let count = self.first.read(buf)?;
+        if self.bytes.is_empty() {
+            self.bytes = self.again;
+        }
+        let room = buf.len().min(self.step);
+        let count = self.bytes.read(&mut buf[..room])?;
         self.given = self.given.wrapping_add(count as u64);
         Ok(count)
     }
 }
 
-/// How a write fails.
-#[derive(Clone, Copy, Debug)]
-pub(super) enum Failure {
-    Error(ErrorKind),
-    NoByte,
-}
-
-/// A writer that takes so many bytes, one at a time, then fails as it is told, and else takes all. It keeps what it takes.
+/// A writer that takes so many bytes at a time, and fails where it is told to. It keeps what it takes.
 #[derive(Drop)]
 pub(super) struct Tray {
     pub(super) kept: Vec<u8>,
-    pub(super) room: usize,
+    /// How many bytes a write takes at most.
+    pub(super) step: usize,
     pub(super) failure: Option<Failure>,
-    /// How a flush fails, if it does.
-    pub(super) flush_error: Option<ErrorKind>,
-    /// Whether it fails no more once it has.
-    pub(super) fails_once: bool,
-    /// How many bytes were kept at the last flush.
-    pub(super) flushed: usize,
-    /// How many flushes there were that did not fail.
+    pub(super) flush_failure: Option<Failure>,
+    /// How often it was written to.
+    pub(super) writes: u64,
+    /// How often it was flushed.
     pub(super) flushes: u64,
+    /// How many bytes were kept at the last flush that did not fail.
+    pub(super) flushed: usize,
 }
 
 impl Tray {
@@ -83,13 +93,20 @@ impl Tray {
     pub(super) fn new(alloc: Global) -> Tray {
         Tray {
             kept: Vec::new(alloc),
-            room: 0,
+            step: usize::MAX,
             failure: None,
-            flush_error: None,
-            fails_once: false,
-            flushed: 0,
+            flush_failure: None,
+            writes: 0,
             flushes: 0,
+            flushed: 0,
         }
+    }
+
+    /// A writer that takes all, and has room for so many bytes.
+    pub(super) fn with_room(alloc: Global, room: usize) -> Result<Tray, AllocError> {
+        let mut tray = Tray::new(alloc);
+        tray.kept.try_reserve(room)?;
+        Ok(tray)
     }
 
     /// Whether it was flushed once, behind all that it keeps.
@@ -100,35 +117,25 @@ impl Tray {
 
 impl Write for Tray {
     fn write(&mut self, buf: &[u8]) -> io::Result<usize> {
-        if self.room > 0 && !buf.is_empty() {
-            self.kept.push(buf[0])?;
-            self.room -= 1;
-            return Ok(1);
+        self.writes = self.writes.wrapping_add(1);
+        match failed(self.failure, self.writes) {
+            Some(Ok(_)) => return Ok(0),
+            Some(Err(error)) => return Err(error),
+            None => {}
         }
-        let failure = self.failure;
-        if self.fails_once {
-            self.failure = None;
-        }
-        match failure {
-            Some(Failure::Error(kind)) => Err(io::Error::from(kind)),
-            Some(Failure::NoByte) => Ok(0),
-            None => {
-                self.kept.extend_from_slice(buf)?;
-                Ok(buf.len())
-            }
-        }
+        let count = buf.len().min(self.step);
+        self.kept.extend_from_slice(&buf[..count])?;
+        Ok(count)
     }
 
     fn flush(&mut self) -> io::Result<()> {
-        let error = self.flush_error;
-        if self.fails_once {
-            self.flush_error = None;
-        }
-        if let Some(kind) = error {
-            return Err(io::Error::from(kind));
+        self.flushes = self.flushes.wrapping_add(1);
+        match failed(self.flush_failure, self.flushes) {
+            Some(Err(error)) => return Err(error),
+            Some(Ok(_)) => return Err(io::Error::from(ErrorKind::WriteZero)),
+            None => {}
         }
         self.flushed = self.kept.len();
-        self.flushes = self.flushes.wrapping_add(1);
         Ok(())
     }
 }

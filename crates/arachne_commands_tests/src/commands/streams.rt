@@ -1,176 +1,327 @@
 //! Streams that fail, that give or take little at a time, and that never end.
-use super::endings::{Told, assert_ends, ends, fault};
+use super::endings::{Told, assert_ends, ends, fault, status_of, told_by};
 use super::fakes::{Failure, Script, Tray};
+use super::spelling::spelled;
 use arachne_commands::{Fault, INPUT_LIMIT, refuse};
 use arachne_lang::{CheckFault, TextFault};
 use std::alloc::{AllocError, Global};
 use std::io::ErrorKind;
+use std::process::Abort;
+use std::sync::Wait;
+use std::thread::Threads;
 
-/// A text, and what is printed of it.
-const SEVEN: &[u8] = b"arachne 1\nledgers 0\nlocks 0\n(num 7)\n";
+/// Words, an input, and how they end on it, as rows spell them.
+type Row = (&'static str, &'static str, &'static str);
 
-const ANSWER: &[u8] = b"value 7\nthreads 1\n";
-
-/// A reader that gives these bytes again and again.
-fn endless(bytes: &[u8]) -> Script<'_> {
-    let mut script = Script::of(bytes);
-    script.rest = bytes;
-    script.again = bytes;
-    script
-}
-
-/// The limit of the input comes before the line at fault, which comes again and again.
-#[test]
-fn readers_that_never_end(rt: HostRuntime) -> Result<(), AllocError> {
-    let letters = "a".repeat(rt.alloc(), 65_536)?;
-    let mut input = endless(letters.as_bytes());
-    assert_ends(
-        &rt,
-        rt.alloc(),
-        "arachne eval",
-        &mut input,
-        fault(b"fault 36\n"),
-    )?;
-    assert!(rt; input.given == INPUT_LIMIT as u64 + 1);
-    let mut input = endless(b"0 1 1 1 1 7\n");
-    assert_ends(
-        &rt,
-        rt.alloc(),
+/// Each of the commands, where all goes well.
+const COMMANDS: &[Row] = &[
+    (
+        "arachne run --cores 2 --quantum 1 --names 0:release:1 3:grant:1",
+        "arachne 1|ledgers 1|locks 1|(sweep add 1 (num 0) (num 2) (hold 0 (tally 0 (num 5) (num 1))))|",
+        "0 value 2|ledger 0 10|threads 2|thread / 1|thread /0 1|!",
+    ),
+    (
+        "arachne eval --names",
+        "arachne 1|ledgers 0|locks 1|(fork n (hold 0 (num 2)) (num 3) (add (var 0) (var 1)))|",
+        "0 value 5|threads 2|thread / 0|thread /0 1|!",
+    ),
+    (
+        "arachne check",
+        "arachne 1|ledgers 0|locks 0|(num 7)|",
+        "0 ok|!",
+    ),
+    (
         "arachne policy",
-        &mut input,
-        fault(b"fault 36\n"),
-    )
-}
-
-/// Errors of streams, those after which a program often tries again among them.
-const ERRORS: &[ErrorKind] = &[
-    ErrorKind::Interrupted,
-    ErrorKind::WouldBlock,
-    ErrorKind::Other,
+        "2 151 100 1900 1000|3 100 100 1809 1000|",
+        "0 add|remove|!",
+    ),
 ];
 
-/// A reader that fails behind so many bytes of the text.
-fn failing(at: usize, kind: ErrorKind, fails_once: bool) -> Script<'static> {
-    let (first, rest) = SEVEN.split_at(at.min(SEVEN.len()));
-    let mut input = Script::of(first);
-    input.error = Some(kind);
-    input.fails_once = fails_once;
-    input.rest = rest;
-    input
+/// Each of them on an input that is read by four reads, and the end of it by a fifth.
+const LONG: &[Row] = &[
+    (
+        "arachne run --cores 2",
+        "arachne 1|array[ 1*100000]|ledgers 0|locks 0|(len 0)|",
+        "0 value 100000|threads 1|!",
+    ),
+    (
+        "arachne eval",
+        "arachne 1|array[ 1*100000]|ledgers 0|locks 0|(len 0)|",
+        "0 value 100000|threads 1|!",
+    ),
+    (
+        "arachne check",
+        "arachne 1|array[ 1*100000]|ledgers 0|locks 0|(len 0)|",
+        "0 ok|!",
+    ),
+    (
+        "arachne policy",
+        "[2 151 100 1900 1000|3 100 100 1809 1000|*5000]",
+        "0 [add|remove|*5000]!",
+    ),
+];
+
+/// Each of them on an input at fault, and words that are refused.
+const REFUSED: &[Row] = &[
+    (
+        "arachne run --cores 2",
+        "arachne 1|ledgers 0|locks 0|(var 0)|",
+        "1 !fault 8 node 0|",
+    ),
+    (
+        "arachne eval",
+        "arachne 1|ledgers 0|locks 0|(num 18446744073709551616)|",
+        "1 !fault 3 at 52|",
+    ),
+    ("arachne check", "", "1 !fault 1 at 0|"),
+    ("arachne policy", "0 1 1 1 1|", "1 !fault 12 line 1|"),
+    ("arachne run 0:take:1", "", "2 !fault 26 order 0|"),
+];
+
+/// How many bytes a stream gives or takes at a time.
+const STEPS: &[usize] = &[1, 7, usize::MAX];
+
+/// Errors of streams, those after which a program often tries again among them, and whether they come once.
+const ERRORS: &[(ErrorKind, bool)] = &[
+    (ErrorKind::Interrupted, true),
+    (ErrorKind::Interrupted, false),
+    (ErrorKind::WouldBlock, true),
+    (ErrorKind::WouldBlock, false),
+    (ErrorKind::Other, true),
+    (ErrorKind::Other, false),
+];
+
+/// Runs a row's words on its input, which is given so many bytes at a time, with each of its reads failing in turn, in
+/// each way. It counts the reads.
+fn each_read_fails<R: Abort + Threads + Wait + Sync>(
+    rt: &R,
+    alloc: Global,
+    row: Row,
+    step: usize,
+) -> Result<u64, AllocError> {
+    let (words, input, told) = row;
+    let (input, told) = (spelled(alloc, input)?, spelled(alloc, told)?);
+    let mut whole = Script::of(input.as_bytes());
+    whole.step = step;
+    assert_ends(rt, alloc, words, &mut whole, told_by(told.as_str()))?;
+    for before in 0..whole.reads {
+        let at = before.wrapping_add(1);
+        for &(error, once) in ERRORS {
+            let mut input = Script::of(input.as_bytes());
+            input.step = step;
+            input.failure = Some(Failure {
+                at,
+                error: Some(error),
+                once,
+            });
+            assert_ends(rt, alloc, words, &mut input, fault(b"fault 37\n"))?;
+            assert!(rt; input.reads == at, "{words}: {at} {error:?} {once}");
+        }
+    }
+    Ok(whole.reads)
 }
 
-/// At the start, in mid-stream and behind the last byte, by a reader that fails once or ever again.
+/// At the start, in mid-stream and at the end.
 #[test]
 fn a_failed_read_is_not_tried_again(rt: HostRuntime) -> Result<(), AllocError> {
-    for at in 0..=SEVEN.len() {
-        for &kind in ERRORS {
-            for fails_once in [true, false] {
-                let mut input = failing(at, kind, fails_once);
-                assert_ends(
-                    &rt,
-                    rt.alloc(),
-                    "arachne eval",
-                    &mut input,
-                    fault(b"fault 37\n"),
-                )?;
+    for &row in COMMANDS {
+        for &step in STEPS {
+            each_read_fails(&rt, rt.alloc(), row, step)?;
+        }
+    }
+    for &row in LONG {
+        assert!(rt; each_read_fails(&rt, rt.alloc(), row, usize::MAX)? == 5);
+    }
+    Ok(())
+}
+
+/// Text that comes again and again, and the words that read it.
+const ENDLESS: &[(&str, &str)] = &[
+    ("arachne run", "a"),
+    ("arachne eval", "arachne 1\nledgers 0\nlocks 0\n(num 7)\n"),
+    ("arachne check", "(add "),
+    ("arachne policy", "0 1 1 1 1 7\n"),
+];
+
+/// The limit of the input comes before any fault of the text.
+#[test]
+fn readers_that_never_end(rt: HostRuntime) -> Result<(), AllocError> {
+    for &(words, text) in ENDLESS {
+        let text = text.repeat(rt.alloc(), 2_000)?;
+        let mut input = Script::of(b"");
+        input.again = text.as_bytes();
+        assert_ends(&rt, rt.alloc(), words, &mut input, fault(b"fault 36\n"))?;
+        assert!(rt; input.given == INPUT_LIMIT as u64 + 1);
+    }
+    Ok(())
+}
+
+/// How a write fails: by an error or by taking no byte, once or ever again.
+const FAILS: &[(Option<ErrorKind>, bool)] = &[
+    (None, true),
+    (None, false),
+    (Some(ErrorKind::Interrupted), true),
+    (Some(ErrorKind::Interrupted), false),
+    (Some(ErrorKind::WouldBlock), true),
+    (Some(ErrorKind::WouldBlock), false),
+    (Some(ErrorKind::Other), true),
+    (Some(ErrorKind::Other), false),
+];
+
+/// What of a run fails.
+#[derive(Clone, Copy, Debug)]
+enum Stream {
+    Output,
+    Flush,
+    Faults,
+}
+
+/// Words on an input, how they end, and how many bytes each writer takes at a time.
+#[derive(Clone, Copy)]
+struct Case<'a> {
+    words: &'a str,
+    input: &'a [u8],
+    /// What a row says of its end.
+    row: &'a str,
+    step: usize,
+}
+
+/// The streams for the output and for the faults, of which one fails so.
+fn trays(alloc: Global, step: usize, stream: Stream, failure: Option<Failure>) -> (Tray, Tray) {
+    let (mut output, mut faults) = (Tray::new(alloc), Tray::new(alloc));
+    output.step = step;
+    faults.step = step;
+    match stream {
+        Stream::Output => output.failure = failure,
+        Stream::Flush => output.flush_failure = failure,
+        Stream::Faults => faults.failure = failure,
+    }
+    (output, faults)
+}
+
+/// What all writes before this one take of this, so many bytes each.
+fn taken(bytes: &[u8], at: u64, step: usize) -> &[u8] {
+    let count = (at as usize).saturating_sub(1).saturating_mul(step);
+    &bytes[..count.min(bytes.len())]
+}
+
+/// How a case ends of which this call fails.
+fn told_of<'a>(case: &Case<'a>, stream: Stream, at: u64) -> Told<'a> {
+    let told = told_by(case.row);
+    match stream {
+        Stream::Output => Told {
+            status: 1,
+            output: taken(told.output, at, case.step),
+            faults: b"fault 38\n",
+        },
+        Stream::Flush => Told {
+            status: 1,
+            faults: b"fault 38\n",
+            ..told
+        },
+        Stream::Faults => Told {
+            faults: taken(told.faults, at, case.step),
+            ..told
+        },
+    }
+}
+
+/// A case of which one call fails so ends as it is to, and that call is not made again. Without a failure the calls of
+/// each kind are counted.
+fn calls_of<R: Abort + Threads + Wait + Sync>(
+    rt: &R,
+    alloc: Global,
+    case: &Case<'_>,
+    stream: Stream,
+    failure: Option<Failure>,
+) -> Result<u64, AllocError> {
+    let (mut output, mut faults) = trays(alloc, case.step, stream, failure);
+    let mut script = Script::of(case.input);
+    let told = match failure {
+        Some(failure) => told_of(case, stream, failure.at),
+        None => told_by(case.row),
+    };
+    let (words, output_end, faults_end) = (case.words, &mut output, &mut faults);
+    let is_right = ends(rt, alloc, words, &mut script, output_end, faults_end, told)?;
+    assert!(rt; is_right, "{words}: {stream:?} {failure:?}");
+    Ok(match stream {
+        Stream::Output => output.writes,
+        Stream::Flush => output.flushes,
+        Stream::Faults => faults.writes,
+    })
+}
+
+/// Each call of this kind fails in turn, in each way.
+fn each_call_fails<R: Abort + Threads + Wait + Sync>(
+    rt: &R,
+    alloc: Global,
+    case: &Case<'_>,
+    stream: Stream,
+) -> Result<(), AllocError> {
+    let calls = calls_of(rt, alloc, case, stream, None)?;
+    for at in 1..=calls {
+        for &(error, once) in FAILS {
+            let failure = Some(Failure { at, error, once });
+            let made = calls_of(rt, alloc, case, stream, failure)?;
+            assert!(rt; made == at, "{failure:?}");
+        }
+    }
+    Ok(())
+}
+
+/// Writes of the output, its flush, and writes of a fault's line, which change nothing else.
+#[test]
+fn a_failed_write_is_not_tried_again(rt: HostRuntime) -> Result<(), AllocError> {
+    let alloc = rt.alloc();
+    for rows in [COMMANDS, REFUSED] {
+        for &(words, input, told) in rows {
+            let (input, text) = (spelled(alloc, input)?, spelled(alloc, told)?);
+            for &step in STEPS {
+                let case = Case {
+                    words,
+                    input: input.as_bytes(),
+                    row: text.as_str(),
+                    step,
+                };
+                for stream in [Stream::Output, Stream::Flush, Stream::Faults] {
+                    each_call_fails(&rt, alloc, &case, stream)?;
+                }
             }
         }
     }
     Ok(())
 }
 
-/// How writes fail, how flushes do, and whether they do so once.
-type Fails = (Option<Failure>, Option<ErrorKind>, bool);
+/// Words that `clap` explains.
+const USAGE: &[&str] = &["arachne", "arachne eval --cores 4", "arachne run --help"];
 
-const FAILS: &[Fails] = &[
-    (None, None, false),
-    (Some(Failure::NoByte), None, false),
-    (Some(Failure::Error(ErrorKind::Other)), None, false),
-    (
-        Some(Failure::Error(ErrorKind::Other)),
-        Some(ErrorKind::Other),
-        false,
-    ),
-    (Some(Failure::Error(ErrorKind::Interrupted)), None, true),
-    (Some(Failure::Error(ErrorKind::WouldBlock)), None, true),
-    (Some(Failure::Error(ErrorKind::Other)), None, true),
-    (Some(Failure::NoByte), None, true),
-    (None, Some(ErrorKind::Interrupted), true),
-    (None, Some(ErrorKind::WouldBlock), true),
-    (None, Some(ErrorKind::Other), true),
-];
-
-/// A writer that has room for so many bytes, and then fails so.
-fn tray(alloc: Global, room: usize, fails: Fails) -> Tray {
-    let (failure, flush_error, fails_once) = fails;
-    let mut tray = Tray::new(alloc);
-    tray.room = room;
-    tray.failure = failure;
-    tray.flush_error = flush_error;
-    tray.fails_once = fails_once;
-    tray
-}
-
-/// How a run ends whose output is written to such a writer.
-fn told_to(room: usize, fails: Fails) -> Told<'static> {
-    let (failure, flush_error, _) = fails;
-    let is_written = failure.is_none() || room >= ANSWER.len();
-    let is_flushed = is_written && flush_error.is_none();
-    Told {
-        status: if is_flushed { 0 } else { 1 },
-        output: if is_written { ANSWER } else { &ANSWER[..room] },
-        faults: if is_flushed { b"" } else { b"fault 38\n" },
-    }
-}
-
+/// The status of refused words stays where their text can't be written. The one error that is left out is an
+/// interruption that comes ever again, since `std` writes that text and goes on after each.
 #[test]
-fn a_failed_write_is_not_tried_again(rt: HostRuntime) -> Result<(), AllocError> {
+fn a_usage_that_fails_changes_nothing(rt: HostRuntime) -> Result<(), AllocError> {
     let alloc = rt.alloc();
-    for room in 0..20 {
-        for &fails in FAILS {
-            let (mut output, mut faults) = (tray(alloc, room, fails), Tray::new(alloc));
-            let (mut input, told) = (Script::of(SEVEN), told_to(room, fails));
-            assert!(rt;
-                ends(
+    for &words in USAGE {
+        let words: Vec<&str> = words.split(' ').collect(alloc)?;
+        for at in 1..40 {
+            for &(error, once) in FAILS {
+                if error == Some(ErrorKind::Interrupted) && !once {
+                    continue;
+                }
+                let mut script = Script::of(b"");
+                let failure = Some(Failure { at, error, once });
+                let (mut output, mut faults) = trays(alloc, 16, Stream::Faults, failure);
+                let status = status_of(
                     &rt,
                     alloc,
-                    "arachne eval",
-                    &mut input,
+                    words.as_slice(),
+                    &mut script,
                     &mut output,
                     &mut faults,
-                    told
-                )?,
-                "{room} {fails:?}"
-            );
+                );
+                assert!(rt; status == 2 && script.reads == 0 && output.writes == 0);
+            }
         }
     }
-    Ok(())
-}
-
-/// All writes fail, and all flushes.
-const BROKEN: Fails = (
-    Some(Failure::Error(ErrorKind::Other)),
-    Some(ErrorKind::Other),
-    false,
-);
-
-#[test]
-fn a_fault_line_that_fails_changes_nothing(rt: HostRuntime) -> Result<(), AllocError> {
-    let alloc = rt.alloc();
-    let (mut output, mut faults) = (Tray::new(alloc), tray(alloc, 3, BROKEN));
-    let mut input = Script::of(b"");
-    let told = fault(b"fau");
-    assert!(rt;
-        ends(
-            &rt,
-            alloc,
-            "arachne eval",
-            &mut input,
-            &mut output,
-            &mut faults,
-            told
-        )?
-    );
     Ok(())
 }
 
@@ -197,8 +348,9 @@ const LONGEST: &[(Fault, &str)] = &[
 #[test]
 fn the_longest_fault_lines_are_written_whole(rt: HostRuntime) {
     for &(fault, line) in LONGEST {
-        for fails in [(None, None, false), BROKEN] {
-            let mut faults = tray(rt.alloc(), 64, fails);
+        for &step in STEPS {
+            let mut faults = Tray::new(rt.alloc());
+            faults.step = step;
             let status = refuse(&mut faults, fault);
             assert!(rt; status == 1 && faults.kept.as_slice() == line.as_bytes());
         }

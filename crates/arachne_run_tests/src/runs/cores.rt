@@ -1,9 +1,10 @@
-//! Which cores run threads, and for how long. By slices of one step a posted thread is told of at once, so that the core that was drawn runs it.
+//! Which cores run threads, and for how long. A run's first threads go where the choosers say.
 use super::facts::{Fact, Telling};
 use super::rows::{Row, rows_hold};
 use super::{FORMS, Source};
 use crate::choosers::{CORE_THREE, Draws, ZEROS};
 use crate::gates::Watching;
+use arachne_core::SLOTS;
 use std::test::Fail;
 
 /// A thread that forks another and adds up what both give.
@@ -46,7 +47,8 @@ const ROWS: &[Row] = &[
         shows: "a fork goes where its choices say",
         source: FORK,
         forms: FORMS,
-        machines: &[(4, 1, 4)],
+        slots: SLOTS,
+        machines: &[(4, 1, 4), (4, 7, 4), (4, 100, 4), (4, 10_000, 4)],
         draws: CORE_THREE,
         orders: &[],
         watching: Watching::Cores,
@@ -64,7 +66,8 @@ const ROWS: &[Row] = &[
             expr: "(num 1)",
         },
         forms: FORMS,
-        machines: &[(4, 1, 4)],
+        slots: SLOTS,
+        machines: &[(4, 1, 4), (4, 7, 4), (4, 100, 4), (4, 10_000, 4)],
         draws: NEXT_CORES,
         orders: &[],
         watching: Watching::Cores,
@@ -81,7 +84,8 @@ const ROWS: &[Row] = &[
             expr: "(num 1)",
         },
         forms: FORMS,
-        machines: &[(4, 1, 4)],
+        slots: SLOTS,
+        machines: &[(4, 1, 4), (4, 7, 4), (4, 100, 4), (4, 10_000, 4)],
         draws: NEXT_CORES,
         orders: &[],
         watching: Watching::Cores,
@@ -98,7 +102,8 @@ const ROWS: &[Row] = &[
             expr: "(num 1)",
         },
         forms: FORMS,
-        machines: &[(4, 1, 4)],
+        slots: SLOTS,
+        machines: &[(4, 1, 4), (4, 7, 4), (4, 100, 4), (4, 10_000, 4)],
         draws: NEXT_CORES,
         orders: &[],
         watching: Watching::Cores,
@@ -116,7 +121,8 @@ const ROWS: &[Row] = &[
             expr: "(fork n (num 1) (fork n (num 2) (fork n (num 3) (num 4) (var 1)) (var 1)) (var 1))",
         },
         forms: FORMS,
-        machines: &[(4, 1, 4)],
+        slots: SLOTS,
+        machines: &[(4, 1, 4), (4, 7, 4), (4, 100, 4), (4, 10_000, 4)],
         draws: Draws {
             word: STEP,
             step: STEP,
@@ -128,15 +134,30 @@ const ROWS: &[Row] = &[
         telling: Telling::Nothing,
         told: "",
     },
+    // The root has the only place of the core that is drawn, and the other cores are tried upwards.
+    Row {
+        shows: "where the core that is drawn is full, the lowest that is not gets the thread",
+        source: FORK,
+        forms: FORMS,
+        slots: 1,
+        machines: &[(4, 1, 4), (4, 7, 4), (4, 100, 4), (4, 10_000, 4)],
+        draws: ZEROS,
+        orders: &[],
+        watching: Watching::Cores,
+        facts: &[(Fact::Value, 5), (Fact::Slot, 2), (Fact::Cores, 0b0011)],
+        telling: Telling::Nothing,
+        told: "",
+    },
     // The child runs while the root does.
     Row {
         shows: "a thread that has a core alone runs beside its parent",
         source: ALONE,
         forms: FORMS,
+        slots: SLOTS,
         machines: &[(2, 1, 2)],
         draws: ZEROS,
         orders: &[],
-        watching: Watching::Meeting,
+        watching: Watching::Meeting(500, 0),
         facts: &[
             (Fact::Value, 1),
             (Fact::Threads, 2),
@@ -151,6 +172,7 @@ const ROWS: &[Row] = &[
         shows: "a slice ends by its quantum",
         source: LONG,
         forms: FORMS,
+        slots: SLOTS,
         machines: &[(2, 1, 2)],
         draws: ZEROS,
         orders: &[],
@@ -167,6 +189,7 @@ const ROWS: &[Row] = &[
         shows: "a slice ends by its quantum",
         source: LONG,
         forms: FORMS,
+        slots: SLOTS,
         machines: &[(2, 2, 2)],
         draws: ZEROS,
         orders: &[],
@@ -183,6 +206,7 @@ const ROWS: &[Row] = &[
         shows: "a slice ends by its quantum",
         source: LONG,
         forms: FORMS,
+        slots: SLOTS,
         machines: &[(2, 7, 2)],
         draws: ZEROS,
         orders: &[],
@@ -199,6 +223,7 @@ const ROWS: &[Row] = &[
         shows: "a slice ends by its quantum",
         source: LONG,
         forms: FORMS,
+        slots: SLOTS,
         machines: &[(2, 100, 2)],
         draws: ZEROS,
         orders: &[],
@@ -211,6 +236,7 @@ const ROWS: &[Row] = &[
         shows: "a slice ends by its quantum",
         source: LONG,
         forms: FORMS,
+        slots: SLOTS,
         machines: &[(2, 1003, 2)],
         draws: ZEROS,
         orders: &[],

@@ -14,8 +14,14 @@ pub(super) enum Fact {
     Value,
     /// How many threads there were.
     Threads,
+    /// How many of them ran in a place that they got as they were forked.
+    Slot,
+    /// How many waited for the place in which they ran.
+    Spill,
     /// How many of them ran in the place of their parents.
     InPlace,
+    /// Whether no more than this ran in the place of their parents.
+    InPlaceUpTo(u64),
     /// How many totals there are.
     Totals,
     /// The first ledger's total.
@@ -43,7 +49,10 @@ pub(super) fn number(report: &Report, watch: &Watch, fact: Fact) -> u64 {
     match fact {
         Fact::Value => report.value,
         Fact::Threads => report.threads.as_slice().len() as u64,
-        Fact::InPlace => in_place(report),
+        Fact::Slot => count_of(report, Ran::Slot),
+        Fact::Spill => count_of(report, Ran::Spill),
+        Fact::InPlace => count_of(report, Ran::InPlace),
+        Fact::InPlaceUpTo(most) => u64::from(count_of(report, Ran::InPlace) <= most),
         Fact::Totals => report.totals.as_slice().len() as u64,
         Fact::Total => report.totals.as_slice().first().copied().unwrap_or(0),
         Fact::Applied => report.applied as u64,
@@ -57,11 +66,11 @@ pub(super) fn number(report: &Report, watch: &Watch, fact: Fact) -> u64 {
     }
 }
 
-/// How many threads ran in the place of their parents.
-fn in_place(report: &Report) -> u64 {
+/// How many threads ran so.
+fn count_of(report: &Report, ran: Ran) -> u64 {
     let mut count = 0u64;
     for line in report.threads.as_slice() {
-        count = count.wrapping_add(u64::from(line.ran == Ran::InPlace));
+        count = count.wrapping_add(u64::from(line.ran == ran));
     }
     count
 }
@@ -74,6 +83,8 @@ pub(super) enum Telling {
     Threads,
     /// What happened to the first lock.
     Events,
+    /// How each thread ran.
+    Ran,
 }
 
 /// What is told of a run.
@@ -87,5 +98,20 @@ pub(super) fn told(
         (Ok(_), Telling::Nothing) => Ok(String::new(alloc)),
         (Ok(report), Telling::Threads) => threads_of(alloc, report),
         (Ok(report), Telling::Events) => events_of(alloc, report),
+        (Ok(report), Telling::Ran) => ran_of(alloc, report),
     }
+}
+
+/// How each thread ran: a word for each, the root's first.
+fn ran_of(alloc: Global, report: &Report) -> Result<String, Fail> {
+    let mut text = String::new(alloc);
+    for line in report.threads.as_slice() {
+        let word = match line.ran {
+            Ran::Slot => "slot ",
+            Ran::Spill => "spill ",
+            Ran::InPlace => "in place ",
+        };
+        text.push_str(word)?;
+    }
+    Ok(text)
 }

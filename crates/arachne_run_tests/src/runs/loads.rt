@@ -4,6 +4,7 @@ use super::rows::{Row, row_holds};
 use super::{Form, Source};
 use crate::choosers::{Draws, SPREAD};
 use crate::gates::Watching;
+use arachne_core::SLOTS;
 use std::alloc::Global;
 use std::process::Abort;
 use std::sync::Wait;
@@ -20,6 +21,7 @@ const SUMS: Row = Row {
         expr: "(sweep add 1 (num 0) (num 100000) (hold 0 (tally 0 (num 5) (num 1))))",
     },
     forms: &[],
+    slots: SLOTS,
     machines: &[],
     draws: SPREAD,
     orders: &[],

@@ -1,9 +1,10 @@
 //! Who had a lock, and in which order.
 use super::facts::{Fact, Telling};
 use super::rows::{MACHINES, Row, rows_hold};
-use super::{FORMS, Source};
+use super::{FORMS, Machine, Source};
 use crate::choosers::{SPREAD, ZEROS};
 use crate::gates::Watching;
+use arachne_core::SLOTS;
 use arachne_run::Report;
 use arachne_sleep::{LockEvent, Who};
 use std::alloc::Global;
@@ -56,16 +57,51 @@ fn parts_of(event: LockEvent) -> (&'static str, Who) {
     }
 }
 
-/// What happened to the first lock: a line for each event, with the thread's tag, its context and that one's generation.
-pub(super) fn events_of(alloc: Global, report: &Report) -> Result<String, Fail> {
-    let mut text = String::new(alloc);
-    for &event in history(report) {
+/// What happened to a lock: a line for each event, with the thread's tag, its context and that one's generation.
+fn push_events(alloc: Global, text: &mut String, history: &[LockEvent]) -> Result<(), Fail> {
+    for &event in history {
         let (word, who) = parts_of(event);
         let (tag, context, generation) = (who.tag, who.id.context, who.id.generation);
         text.push_str(format!(in alloc; "{word} {tag} {context} {generation}\n")?.as_str())?;
     }
+    Ok(())
+}
+
+/// What happened to each lock, with an empty line behind each but the last.
+pub(super) fn events_of(alloc: Global, report: &Report) -> Result<String, Fail> {
+    let mut text = String::new(alloc);
+    for (lock, history) in report.histories.iter().enumerate() {
+        if lock > 0 {
+            text.push_str("\n")?;
+        }
+        push_events(alloc, &mut text, history.as_slice())?;
+    }
     Ok(text)
 }
+
+/// One core to 16, by each quantum but the longest.
+const SHORT: &[Machine] = &[
+    (1, 1, 1),
+    (1, 7, 1),
+    (1, 100, 1),
+    (2, 1, 2),
+    (2, 7, 2),
+    (2, 100, 2),
+    (4, 1, 4),
+    (16, 100, 16),
+];
+
+/// One core and two, by each quantum.
+const QUANTA: &[Machine] = &[
+    (1, 1, 1),
+    (1, 7, 1),
+    (1, 100, 1),
+    (1, 10_000, 1),
+    (2, 1, 2),
+    (2, 7, 2),
+    (2, 100, 2),
+    (2, 10_000, 2),
+];
 
 const ROWS: &[Row] = &[
     // Eight threads hold the lock once each.
@@ -78,6 +114,7 @@ const ROWS: &[Row] = &[
             expr: "(sweep add 1 (num 0) (num 8) (hold 0 (tally 0 (num 5) (num 1))))",
         },
         forms: FORMS,
+        slots: SLOTS,
         machines: MACHINES,
         draws: SPREAD,
         orders: &[],
@@ -100,6 +137,7 @@ const ROWS: &[Row] = &[
             expr: "(hold 0 (num 1))",
         },
         forms: FORMS,
+        slots: SLOTS,
         machines: &[(1, 1, 1), (1, 100, 1)],
         draws: ZEROS,
         orders: &[],
@@ -123,13 +161,51 @@ const ROWS: &[Row] = &[
             expr: "(fork n (let (fold (num 0) (num 100) (num 0) (var 1)) (hold 0 (num 1))) (hold 0 (fold (num 0) (num 10000) (num 0) (var 1))) (num 2))",
         },
         forms: FORMS,
-        machines: MACHINES,
+        slots: SLOTS,
+        machines: SHORT,
         draws: ZEROS,
         orders: &[],
         watching: Watching::Nothing,
         facts: &[(Fact::Value, 2)],
         telling: Telling::Events,
         told: "ask 0 0 0\ngrant 0 0 0\nask 1 1 0\nfree 0 0 0\ngrant 1 1 0\nfree 1 1 0\n",
+    },
+    Row {
+        shows: "a thread that waits is next",
+        source: Source {
+            ledgers: 0,
+            locks: 1,
+            forks: 0,
+            expr: "(fork n (let (fold (num 0) (num 100) (num 0) (var 1)) (hold 0 (num 1))) (hold 0 (fold (num 0) (num 30000) (num 0) (var 1))) (num 2))",
+        },
+        forms: FORMS,
+        slots: SLOTS,
+        machines: &[(1, 10_000, 1), (2, 10_000, 2)],
+        draws: ZEROS,
+        orders: &[],
+        watching: Watching::Nothing,
+        facts: &[(Fact::Value, 2)],
+        telling: Telling::Events,
+        told: "ask 0 0 0\ngrant 0 0 0\nask 1 1 0\nfree 0 0 0\ngrant 1 1 0\nfree 1 1 0\n",
+    },
+    // Both threads hold both locks once: the child lock 0 first, and the root lock 1.
+    Row {
+        shows: "each lock has its own history",
+        source: Source {
+            ledgers: 0,
+            locks: 2,
+            forks: 0,
+            expr: "(let (hold 1 (num 1)) (fork n (let (hold 0 (num 1)) (hold 1 (num 1))) (num 2) (hold 0 (num 3))))",
+        },
+        forms: FORMS,
+        slots: SLOTS,
+        machines: QUANTA,
+        draws: ZEROS,
+        orders: &[],
+        watching: Watching::Nothing,
+        facts: &[(Fact::Value, 3)],
+        telling: Telling::Events,
+        told: "ask 1 1 0\ngrant 1 1 0\nfree 1 1 0\nask 0 0 0\ngrant 0 0 0\nfree 0 0 0\n\nask 0 0 0\ngrant 0 0 0\nfree 0 0 0\nask 1 1 0\ngrant 1 1 0\nfree 1 1 0\n",
     },
 ];
 

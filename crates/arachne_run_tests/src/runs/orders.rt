@@ -7,6 +7,7 @@ use super::rows::{Row, row_holds, rows_hold};
 use super::{FORMS, Source};
 use crate::choosers::{CORE_ONE, CORE_THREE, SPREAD, ZEROS};
 use crate::gates::Watching;
+use arachne_core::SLOTS;
 use arachne_policy::{CoreOrder, OrderKind};
 use std::alloc::{AllocError, Global};
 use std::test::Fail;
@@ -57,6 +58,7 @@ const COMING_AND_GOING: Row = Row {
     shows: "cores come and go",
     source: MANY,
     forms: FORMS,
+    slots: SLOTS,
     machines: &[(4, 1, 4)],
     draws: SPREAD,
     orders: &[],
@@ -96,6 +98,7 @@ const FAR: Row = Row {
     shows: "a thread alone gets the first open core that is empty, however many cores there are",
     source: ALONE,
     forms: FORMS,
+    slots: SLOTS,
     machines: &[(64, 100, 64)],
     draws: ZEROS,
     orders: &[],
@@ -133,6 +136,79 @@ fn a_thread_alone_gets_a_core_among_the_last(rt: HostRuntime) -> Result<(), Fail
     Ok(())
 }
 
+/// Core 1 is closed at first, and its kernel thread gets time to park. Then it is granted again, and has a thread. Were that not
+/// run there, it would be moved away once core 1 is closed again.
+const GRANTED: Row = Row {
+    shows: "a grant has a kernel thread that is parked go on",
+    source: Source {
+        expr: "(let (fold (num 0) (num 5) (num 0) (var 1)) (fork n (num 2) (fold (num 0) (num 60) (num 0) (var 2)) (add (var 1) (var 2))))",
+        ..FORK
+    },
+    forms: FORMS,
+    slots: SLOTS,
+    machines: &[(2, 1, 2)],
+    draws: CORE_ONE,
+    orders: &[
+        CoreOrder {
+            after: 0,
+            kind: OrderKind::Release,
+            core: 1,
+        },
+        CoreOrder {
+            after: 2,
+            kind: OrderKind::Grant,
+            core: 1,
+        },
+        CoreOrder {
+            after: 25,
+            kind: OrderKind::Release,
+            core: 1,
+        },
+    ],
+    watching: Watching::Granting(1, 20),
+    facts: &[
+        (Fact::Value, 2),
+        (Fact::Applied, 3),
+        (Fact::Slot, 2),
+        (Fact::IsOver, 1),
+    ],
+    telling: Telling::Nothing,
+    told: "",
+};
+
+const GRANTS: &[Row] = &[
+    GRANTED,
+    Row {
+        source: Source {
+            expr: "(let (fold (num 0) (num 35) (num 0) (var 1)) (fork n (num 2) (fold (num 0) (num 420) (num 0) (var 2)) (add (var 1) (var 2))))",
+            ..FORK
+        },
+        machines: &[(2, 7, 2)],
+        ..GRANTED
+    },
+    Row {
+        source: Source {
+            expr: "(let (fold (num 0) (num 500) (num 0) (var 1)) (fork n (num 2) (fold (num 0) (num 6000) (num 0) (var 2)) (add (var 1) (var 2))))",
+            ..FORK
+        },
+        machines: &[(2, 100, 2)],
+        ..GRANTED
+    },
+    Row {
+        source: Source {
+            expr: "(let (fold (num 0) (num 50000) (num 0) (var 1)) (fork n (num 2) (fold (num 0) (num 400000) (num 0) (var 2)) (add (var 1) (var 2))))",
+            ..FORK
+        },
+        machines: &[(2, 10_000, 2)],
+        ..GRANTED
+    },
+];
+
+#[test]
+fn grants_have_cores_go_on(rt: HostRuntime) -> Result<(), Fail> {
+    rows_hold(&rt, rt.alloc(), GRANTS)
+}
+
 const ROWS: &[Row] = &[
     // The root forks while core 0 is full and the others are closed, so that children wait in its place. Once those are open
     // it forks one that is to be alone, which gets a core at once, and then another.
@@ -140,6 +216,7 @@ const ROWS: &[Row] = &[
         shows: "an exclusive child among those that wait is joined in turn",
         source: WAITING,
         forms: FORMS,
+        slots: SLOTS,
         machines: &[(3, 1, 3)],
         draws: SPREAD,
         orders: &[
@@ -175,6 +252,7 @@ const ROWS: &[Row] = &[
         shows: "orders are counted",
         source: SWEEP,
         forms: FORMS,
+        slots: SLOTS,
         machines: &[(4, 1, 4)],
         draws: SPREAD,
         orders: &[
@@ -203,6 +281,7 @@ const ROWS: &[Row] = &[
         shows: "orders are counted",
         source: SWEEP,
         forms: FORMS,
+        slots: SLOTS,
         machines: &[(4, 1, 4)],
         draws: SPREAD,
         orders: &[
@@ -237,7 +316,8 @@ const ROWS: &[Row] = &[
         shows: "a closed core gets no thread",
         source: FORK,
         forms: FORMS,
-        machines: &[(4, 1, 4), (4, 100, 4)],
+        slots: SLOTS,
+        machines: &[(4, 1, 4), (4, 7, 4), (4, 100, 4), (4, 10_000, 4)],
         draws: CORE_THREE,
         orders: &[CoreOrder {
             after: 0,
@@ -254,6 +334,7 @@ const ROWS: &[Row] = &[
         shows: "a granted core gets threads again",
         source: LATE,
         forms: FORMS,
+        slots: SLOTS,
         machines: &[(4, 1, 4)],
         draws: CORE_THREE,
         orders: &[
@@ -279,6 +360,7 @@ const ROWS: &[Row] = &[
         shows: "a closed core is drained",
         source: COUNTING,
         forms: FORMS,
+        slots: SLOTS,
         machines: &[(2, 1, 2)],
         draws: CORE_ONE,
         orders: &[CoreOrder {
@@ -295,6 +377,7 @@ const ROWS: &[Row] = &[
         shows: "a closed core is drained",
         source: COUNTING,
         forms: FORMS,
+        slots: SLOTS,
         machines: &[(2, 100, 2)],
         draws: CORE_ONE,
         orders: &[CoreOrder {
@@ -312,6 +395,7 @@ const ROWS: &[Row] = &[
         shows: "a thread that has a core alone stays",
         source: ALONE,
         forms: FORMS,
+        slots: SLOTS,
         machines: &[(2, 1, 2)],
         draws: ZEROS,
         orders: &[CoreOrder {
@@ -319,7 +403,7 @@ const ROWS: &[Row] = &[
             kind: OrderKind::Release,
             core: 1,
         }],
-        watching: Watching::Meeting,
+        watching: Watching::Meeting(500, 0),
         facts: &[
             (Fact::Value, 1),
             (Fact::Applied, 1),

@@ -4,6 +4,7 @@ use super::rows::{MACHINES, Row, rows_hold};
 use super::{FORMS, Source};
 use crate::choosers::SPREAD;
 use crate::gates::Watching;
+use arachne_core::SLOTS;
 use arachne_lang::Name;
 use arachne_run::Report;
 use std::alloc::Global;
@@ -51,6 +52,7 @@ const ROWS: &[Row] = &[
             expr: "(num 7)",
         },
         forms: FORMS,
+        slots: SLOTS,
         machines: MACHINES,
         draws: SPREAD,
         orders: &[],
@@ -68,6 +70,7 @@ const ROWS: &[Row] = &[
             expr: "(add (num 18446744073709551615) (num 1))",
         },
         forms: FORMS,
+        slots: SLOTS,
         machines: MACHINES,
         draws: SPREAD,
         orders: &[],
@@ -85,6 +88,7 @@ const ROWS: &[Row] = &[
             expr: "(fork n (num 2) (num 3) (sub (var 0) (var 1)))",
         },
         forms: FORMS,
+        slots: SLOTS,
         machines: MACHINES,
         draws: SPREAD,
         orders: &[],
@@ -102,6 +106,7 @@ const ROWS: &[Row] = &[
             expr: "(fork x (num 2) (num 3) (add (var 0) (var 1)))",
         },
         forms: FORMS,
+        slots: SLOTS,
         machines: MACHINES,
         draws: SPREAD,
         orders: &[],
@@ -114,6 +119,7 @@ const ROWS: &[Row] = &[
         shows: "every machine tells the same",
         source: SWEEP,
         forms: FORMS,
+        slots: SLOTS,
         machines: MACHINES,
         draws: SPREAD,
         orders: &[],
@@ -131,6 +137,7 @@ const ROWS: &[Row] = &[
             expr: "(sweep min 1 (num 5) (num 5) (var 0))",
         },
         forms: FORMS,
+        slots: SLOTS,
         machines: MACHINES,
         draws: SPREAD,
         orders: &[],
@@ -148,6 +155,7 @@ const ROWS: &[Row] = &[
             expr: "(sweep add 1 (num 0) (num 8) (hold 0 (tally 0 (num 5) (num 1))))",
         },
         forms: FORMS,
+        slots: SLOTS,
         machines: MACHINES,
         draws: SPREAD,
         orders: &[],
@@ -165,6 +173,7 @@ const ROWS: &[Row] = &[
             expr: "(fork n (hold 1 (tally 1 (num 4) (num 1))) (tally 0 (num 3) (num 2)) (hold 0 (add (var 0) (var 1))))",
         },
         forms: FORMS,
+        slots: SLOTS,
         machines: MACHINES,
         draws: SPREAD,
         orders: &[],

@@ -4,6 +4,7 @@ use super::rows::{MACHINES, Row, rows_hold};
 use super::{FORMS, Form, Machine, Source, answer, checked, setup_of, text_of};
 use crate::choosers::{SPREAD, ZEROS};
 use crate::gates::{Watch, Watching};
+use arachne_core::SLOTS;
 use arachne_run::RunFault;
 use std::alloc::Global;
 use std::sync::Wait;
@@ -11,7 +12,7 @@ use std::test::Fail;
 use std::thread::Threads;
 
 /// 61 threads that wait for one another.
-const CHAIN: Source = Source {
+pub(super) const CHAIN: Source = Source {
     ledgers: 0,
     locks: 0,
     forks: 60,
@@ -32,6 +33,7 @@ const ROWS: &[Row] = &[
         shows: "threads that find no place run in their parents",
         source: CHAIN,
         forms: FORMS,
+        slots: SLOTS,
         machines: &[(1, 1, 1), (1, 100, 1)],
         draws: ZEROS,
         orders: &[],
@@ -44,6 +46,7 @@ const ROWS: &[Row] = &[
         shows: "threads that find no place run in their parents",
         source: CHAIN,
         forms: FORMS,
+        slots: SLOTS,
         machines: &[
             (2, 1, 2),
             (4, 1, 4),
@@ -64,6 +67,7 @@ const ROWS: &[Row] = &[
         shows: "many more threads than places",
         source: MANY,
         forms: FORMS,
+        slots: SLOTS,
         machines: MACHINES,
         draws: SPREAD,
         orders: &[],

@@ -30,6 +30,8 @@ pub(super) struct Row {
     pub(super) shows: &'static str,
     pub(super) source: Source,
     pub(super) forms: &'static [Form],
+    /// How many places each core has.
+    pub(super) slots: u8,
     pub(super) machines: &'static [Machine],
     pub(super) draws: Draws,
     pub(super) orders: &'static [CoreOrder],
@@ -52,17 +54,21 @@ pub(super) fn row_holds<R: Abort + Threads + Wait + Sync>(
 ) -> Result<(), Fail> {
     let text = text_of(alloc, &row.source)?;
     let program = checked(alloc, text.as_bytes())?;
-    let (setup, choosers) = setup_of(alloc, machine, row.draws, orders)?;
+    let (mut setup, choosers) = setup_of(alloc, machine, row.draws, orders)?;
+    setup.slots = u64::from(row.slots);
     let watch = Watch::new(row.watching);
     let answer = answer(rt, alloc, &program, form, setup, choosers, &watch);
     let told = told(alloc, &answer, row.telling)?;
     let shows = row.shows;
     assert_eq!(rt; told.as_str(), row.told, "{shows}: {machine:?} {text}");
-    if let Ok(report) = &answer {
-        for &(fact, expected) in row.facts {
-            let found = number(report, &watch, fact);
-            assert_eq!(rt; found, expected, "{shows}: {machine:?} {text}");
+    match &answer {
+        Ok(report) => {
+            for &(fact, expected) in row.facts {
+                let found = number(report, &watch, fact);
+                assert_eq!(rt; found, expected, "{shows}: {machine:?} {text}");
+            }
         }
+        Err(_) => assert!(rt; watch.is_over(), "{shows}: {machine:?} {text}"),
     }
     Ok(())
 }

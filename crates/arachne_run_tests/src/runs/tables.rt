@@ -5,6 +5,7 @@ use super::rows::{Row, rows_hold};
 use super::{FORMS, LOCKED, Source};
 use crate::choosers::{CORE_ONE, CORE_THREE, ZEROS};
 use crate::gates::Watching;
+use arachne_core::SLOTS;
 use std::test::Fail;
 
 /// A thread that forks none.
@@ -29,7 +30,22 @@ const ROWS: &[Row] = &[
         shows: "threads that come back stop the run",
         source: SEVEN,
         forms: LOCKED,
-        machines: &[(5, 1, 5), (5, 100, 5)],
+        slots: SLOTS,
+        machines: &[(5, 1, 5), (5, 7, 5), (5, 100, 5), (5, 10_000, 5)],
+        draws: ZEROS,
+        orders: &[],
+        watching: Watching::Nothing,
+        facts: &[],
+        telling: Telling::Nothing,
+        told: "Token",
+    },
+    // That something is out with a seat in the end is none of memory's faults.
+    Row {
+        shows: "what is out in the end gives no report",
+        source: SEVEN,
+        forms: LOCKED,
+        slots: SLOTS,
+        machines: &[(8, 1, 8), (8, 7, 8), (8, 100, 8), (8, 10_000, 8)],
         draws: ZEROS,
         orders: &[],
         watching: Watching::Nothing,
@@ -42,7 +58,8 @@ const ROWS: &[Row] = &[
         shows: "full cores run nothing",
         source: FORK,
         forms: LOCKED,
-        machines: &[(7, 1, 7), (7, 100, 7)],
+        slots: SLOTS,
+        machines: &[(7, 1, 7), (7, 7, 7), (7, 100, 7), (7, 10_000, 7)],
         draws: CORE_THREE,
         orders: &[],
         watching: Watching::Cores,
@@ -56,7 +73,8 @@ const ROWS: &[Row] = &[
         shows: "the first fault is told",
         source: GRANDCHILD,
         forms: LOCKED,
-        machines: &[(6, 1, 6)],
+        slots: SLOTS,
+        machines: &[(6, 1, 6), (6, 7, 6), (6, 100, 6), (6, 10_000, 6)],
         draws: ZEROS,
         orders: &[],
         watching: Watching::Nothing,
@@ -68,7 +86,8 @@ const ROWS: &[Row] = &[
         shows: "the first fault is told",
         source: GRANDCHILD,
         forms: LOCKED,
-        machines: &[(6, 1, 6)],
+        slots: SLOTS,
+        machines: &[(6, 1, 6), (6, 7, 6), (6, 100, 6), (6, 10_000, 6)],
         draws: CORE_ONE,
         orders: &[],
         watching: Watching::Nothing,
@@ -81,6 +100,7 @@ const ROWS: &[Row] = &[
         shows: "setups are looked at first",
         source: SEVEN,
         forms: FORMS,
+        slots: SLOTS,
         machines: &[(4, 1, 3), (4, 1, 5)],
         draws: ZEROS,
         orders: &[],
@@ -93,6 +113,7 @@ const ROWS: &[Row] = &[
         shows: "setups are looked at first",
         source: SEVEN,
         forms: FORMS,
+        slots: SLOTS,
         machines: &[(4, 0, 3), (4, 10_001, 4)],
         draws: ZEROS,
         orders: &[],
@@ -105,6 +126,7 @@ const ROWS: &[Row] = &[
         shows: "setups are looked at first",
         source: SEVEN,
         forms: FORMS,
+        slots: SLOTS,
         machines: &[(0, 0, 0), (65, 0, 3), (65, 1, 65)],
         draws: ZEROS,
         orders: &[],

@@ -7,7 +7,7 @@ use Rattle.arachne_words.proofs.seat.WordSeat.TheSendSync as seat
 use Rattle.arachne_words.proofs.seat.WordClaim.TheSendSync as claim
 use Rattle.arachne_words.proofs.seat.WordHold.TheSendSync as hold
 use Rattle.arachne_machine.proofs.Crossing.{thread_send}
-use Rattle.arachne_run.proofs.Crossing.{job_send, spares_send}
+use Rattle.arachne_jobs.proofs.Crossing.{job_send, spares_send, ticket_send}
 use Rattle.arachne_run.proofs.gate.OpenGate.TheSendSync as gate
 use Rattle.arachne_commands.proofs.RunRefusals.{choosers_length, refused_by_run}
 use Rattle.arachne_commands.proofs.running.run_program.Goals as goal
@@ -21,20 +21,23 @@ run-requires g c κs = (
     (
       search (sendable, thread_send) depth 20,
       (
-        search (sendable, spares_send) depth 20,
+        search (sendable, ticket_send) depth 20,
         (
-          search (sendable, claim.the_send) depth 20,
+          search (sendable, spares_send) depth 20,
           (
-            search (sendable, hold.the_send) depth 20,
+            search (sendable, claim.the_send) depth 20,
             (
-              search (sendable, seat.the_send, job_send) depth 20,
+              search (sendable, hold.the_send) depth 20,
               (
-                search (sendable, c.type_bounds.sync-R) depth 20,
+                search (sendable, seat.the_send, job_send) depth 20,
                 (
-                  search (sendable, std.crosses, table.the_sync, job_send) depth 20,
+                  search (sendable, c.type_bounds.sync-R) depth 20,
                   (
-                    search (sendable, gate.the_sync) depth 20,
-                    ((refl, tt), c.requires),
+                    search (sendable, std.crosses, table.the_sync, job_send) depth 20,
+                    (
+                      search (sendable, gate.the_sync) depth 20,
+                      ((refl, tt), c.requires),
+                    ),
                   ),
                 ),
               ),

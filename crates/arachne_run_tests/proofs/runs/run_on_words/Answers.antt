@@ -6,7 +6,7 @@ use Rattle.arachne_words.proofs.seat.WordSeat.TheSendSync as seat
 use Rattle.arachne_words.proofs.seat.WordClaim.TheSendSync as claim
 use Rattle.arachne_words.proofs.seat.WordHold.TheSendSync as hold
 use Rattle.arachne_machine.proofs.Crossing.{thread_send}
-use Rattle.arachne_run.proofs.Crossing.{job_send, spares_send}
+use Rattle.arachne_jobs.proofs.Crossing.{job_send, spares_send, ticket_send}
 use Rattle.arachne_run_tests.proofs.choosers.Progression.TheSendSync as chooser
 use Rattle.arachne_run_tests.proofs.gates.Watch.TheSendSync as watch
 use Rattle.arachne_run_tests.proofs.runs.run_on_words.Goals as goal
@@ -20,20 +20,23 @@ run-requires g c κs = (
     (
       search (sendable, thread_send) depth 20,
       (
-        search (sendable, spares_send) depth 20,
+        search (sendable, ticket_send) depth 20,
         (
-          search (sendable, claim.the_send) depth 20,
+          search (sendable, spares_send) depth 20,
           (
-            search (sendable, hold.the_send) depth 20,
+            search (sendable, claim.the_send) depth 20,
             (
-              search (sendable, seat.the_send, job_send) depth 20,
+              search (sendable, hold.the_send) depth 20,
               (
-                search (sendable, c.type_bounds.sync-R) depth 20,
+                search (sendable, seat.the_send, job_send) depth 20,
                 (
-                  search (sendable, std.crosses, words.the_sync, job_send) depth 20,
+                  search (sendable, c.type_bounds.sync-R) depth 20,
                   (
-                    search (sendable, std.crosses, watch.the_sync) depth 20,
-                    ((refl, tt), c.requires),
+                    search (sendable, std.crosses, words.the_sync, job_send) depth 20,
+                    (
+                      search (sendable, std.crosses, watch.the_sync) depth 20,
+                      ((refl, tt), c.requires),
+                    ),
                   ),
                 ),
               ),

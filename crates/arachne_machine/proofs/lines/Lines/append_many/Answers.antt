@@ -3,7 +3,7 @@ use Rattle.std.specs.Prelude.{vec_len, vec_capacity}
 use Rattle.arachne_machine.specs.declared.line.ThreadLine.{ThreadLine}
 use Rattle.std.specs.Result.{is_ok}
 use Rattle.arachne_machine.specs.Lines.{lines_in}
-use Rattle.arachne_machine.proofs.Laying.{behind_all, lines_in-behind}
+use Rattle.arachne_machine.proofs.Listing.{behind_all, lines_in-behind}
 use Rattle.arachne_machine.proofs.lines.Lines.append_many.Goals as goal
 
 -- the earlier lists, with the last one and those of the child behind them
@@ -26,16 +26,16 @@ invariant_of-self-2 c =
     let others : List ThreadLine = lines_in c.below.inside.earlier.items in
     let many : length (lines_in c.append.new.self.items) ≡ length first + (length last + 1) + length others =
     omega (arith, ap length (earlier c), length-append (first ++ (last ++ c.args.own ∷ [])) others, length-append first (last ++ c.args.own ∷ []), length-append last (c.args.own ∷ [])) in
-    let came : length c.args.below.lines ≡ length others + length c.below.inside.last.items =
-    omega (arith, ap (λ l. length l.lines) c.below.view_is, length-append others c.below.inside.last.items) in
-    let were : length c.args.self.now.lines ≡ length first + length last = omega (arith, ap (λ l. length l.lines) c.self.view_is, length-append first last) in
+    let came : length c.args.below ≡ length others + length c.below.inside.last.items =
+    omega (arith, ap length c.below.view_is, length-append others c.below.inside.last.items) in
+    let were : length c.args.self.now ≡ length first + length last = omega (arith, ap length c.self.view_is, length-append first last) in
     record {
       counted = omega (arith, many, c.self.invariant.counted, c.below.invariant.counted, c.len-3.ensures, c.push_reserved.ensures.len, c.try_reserve.ensures.len, c.self.inside.last.ok.0);
       few = omega (
         arith,
         came,
         were,
-        c.if-len-room.false,
+        c.if-len.false,
         c.len.ensures.length,
         c.len-2.ensures.length,
         c.self.invariant.counted,
@@ -46,7 +46,6 @@ invariant_of-self-2 c =
         c.self.inside.last.ok.0,
         c.below.inside.last.ok.0,
         ap (λ v. vec_len v) c.replace-list.ensures.after,
-        c.try_reserve-else-is_err-2.ensures.len,
       );
     }
 
@@ -54,7 +53,12 @@ pub returns-clause-lines : goal.returns-clause-lines
 returns-clause-lines c =
     ap (λ l. l ++ c.replace-list.new.dest.items) (earlier c)
     ∙ ap (λ l. ((lines_in c.self.inside.earlier.items ++ (c.self.inside.last.items ++ c.args.own ∷ [])) ++ lines_in c.below.inside.earlier.items) ++ l)
-    (ap (λ v. v.items) c.replace-list.ensures.after ∙ c.try_reserve-else-is_err-2.ensures.items)
+    (ap (λ v. v.items) c.replace-list.ensures.after)
     ∙ behind_all (lines_in c.self.inside.earlier.items) c.self.inside.last.items (lines_in c.below.inside.earlier.items) c.below.inside.last.items c.args.own
-    ∙ ap (λ v. v.lines ++ c.args.own ∷ (lines_in c.below.inside.earlier.items ++ c.below.inside.last.items)) c.self.view_is
-    ∙ ap (λ v. c.args.self.now.lines ++ c.args.own ∷ v.lines) c.below.view_is
+    ∙ ap (λ v. v ++ c.args.own ∷ (lines_in c.below.inside.earlier.items ++ c.below.inside.last.items)) c.self.view_is
+    ∙ ap (λ v. c.args.self.now ++ c.args.own ∷ v) c.below.view_is
+
+pub returns-clause-few : goal.returns-clause-few
+returns-clause-few c =
+    let kept = invariant_of-self-2 c in
+    omega (arith, kept.counted, kept.few, length-append (lines_in c.append.new.self.items) c.replace-list.new.dest.items, c.replace-list.new.dest.ok.0)

@@ -1,60 +1,76 @@
-use Rattle.std.proofs.Common.{[], ◌∷◌, length, length-append, refl, ap, sym, ◌∙◌, arith}
-use Rattle.std.proofs.lemmas.List.{append-nil, nil_from_length}
-use Rattle.arachne_machine.specs.Steps.{IsPopped, giving}
-use Rattle.arachne_machine.proofs.Outlooks.{given}
-use Rattle.arachne_machine.proofs.Handings.{ends}
-use Rattle.arachne_machine.proofs.Strides.{makes_more, makes_nothing, reaches_more}
+use Rattle.std.proofs.Common.{rules, ◌+◌, ◌≤◌, vec_len, vec_capacity, refl, subst, ◌∙◌, arith}
+use Rattle.arachne_machine.specs.declared.state.State.{State}
+use Rattle.arachne_machine.specs.Steps.{IsSame}
+use Rattle.arachne_machine.specs.Runs.{Comes, giving_in}
+use Rattle.arachne_machine.proofs.Going.{comes_more, runs_more, runs_nothing}
+use Rattle.arachne_machine.proofs.Lasting.{nearer_value, on_err, refused_after, refused_same, without_value}
 use Rattle.arachne_machine.proofs.state.State.give.Goals as goal
 
-pub loop-frame-init : goal.loop-frame-init
-loop-frame-init c =
+pub returns-then-is_err-clause-err : goal.returns-then-is_err-clause-err
+returns-then-is_err-clause-err g c =
     let t = c.args.self.now in
-    let before = giving t c.args.value in
+    let turns = c.refused.ensures.turns in
+    let same : IsSame (giving_in t c.args.value) c.refused.new.self = record {
+      program = turns.program;
+      own = turns.own;
+      lines = turns.lines;
+      sums = turns.sums;
+      parents = turns.parents;
+      level = turns.level;
+      environment_is = turns.environment_is ∙ c.try_reserve.ensures.items;
+      frames_are = turns.frames_are;
+      control_is = turns.control_is;
+    } in
+    on_err c.refused.result _ (refused_same _ (giving_in t c.args.value) c.refused.new.self c.requires.sound same refl)
+
+pub loop-next-init : goal.loop-next-init
+loop-next-init g c =
+    let t = c.args.self.now in
+    let mid : State = record t { environment = c.try_reserve.new.self } in
+    let room : vec_len c.try_reserve.new.self + 2 ≤ vec_capacity c.try_reserve.new.self = search rules in
     record {
-      makes = makes_nothing _ before (giving (record t { environment = c.try_reserve.new.self }) c.args.value)
-          (record { program = refl; own = refl; below = refl; sums = refl; forks = refl; environment_is = c.in_ok-try_reserve.ensures.items; frames_are = refl; control_is = refl }) refl;
-      room = c.in_ok-try_reserve.ensures.ok;
+      makes = runs_nothing _ (giving_in t c.args.value) (giving_in mid c.args.value) c.requires.sound
+          (record { program = refl; own = refl; lines = refl; sums = refl; parents = refl; level = refl; environment_is = c.try_reserve.ensures.items; frames_are = refl; control_is = refl }) refl;
+      room = room;
     }
 
-pub hand-requires-clause-environment : goal.hand-requires-clause-environment
-hand-requires-clause-environment c = c.loop-frame.invariant.room
+pub hand_newest-requires-clause-sound : goal.hand_newest-requires-clause-sound
+hand_newest-requires-clause-sound g c = c.loop-next.invariant.makes.runs.sound
 
-pub loop-frame-smaller : goal.loop-frame-smaller
-loop-frame-smaller c =
-    omega (arith, ap length c.in-Some.ensures.items, length-append c.pop.new.self.items (c.in-Some.frame ∷ []), c.pop.new.self.ok.0, c.loop-frame.self.frames.ok.0, c.in-Value.ensures.frames)
+pub hand_newest-requires-clause-environment : goal.hand_newest-requires-clause-environment
+hand_newest-requires-clause-environment g c = c.loop-next.invariant.room
 
-pub loop-frame-preserved : goal.loop-frame-preserved
-loop-frame-preserved c =
-    let t = c.loop-frame.self in
-    let before = giving t c.loop-frame.value in
-    let popped : IsPopped c.in-Some.frame before (giving (record t { frames = c.pop.new.self }) c.loop-frame.value) =
-    record { program = refl; own = refl; below = refl; sums = refl; forks = refl; environment_is = refl; frames_are = c.in-Some.ensures.items; control_is = refl } in
+pub returns-in_err-progress-clause-fewer : goal.returns-in_err-progress-clause-fewer
+returns-in_err-progress-clause-fewer g c = omega (arith, c.loop-next.invariant.makes.fewer, c.hand_newest.ensures.fewer)
+
+pub returns-in_err-progress-clause-err : goal.returns-in_err-progress-clause-err
+returns-in_err-progress-clause-err g c =
+    let from = giving_in c.args.self.now c.args.value in
+    let at = giving_in c.loop-next.self c.loop-next.value in
+    let m = c.loop-next.invariant.makes in
+    on_err c.from_residual.result _ (refused_after _ _ from at _ m (refused_same _ at c.hand_newest.new.self m.runs.sound c.in_err-progress.ensures.err refl))
+
+pub loop-next-smaller : goal.loop-next-smaller
+loop-next-smaller g c = nearer_value c.in_ok-progress.progress c.in-Value.next _ c.in-Value.is c.in_ok-progress.ensures.nearer
+
+pub loop-next-preserved : goal.loop-next-preserved
+loop-next-preserved g c =
+    let from = giving_in c.args.self.now c.args.value in
+    let at = giving_in c.loop-next.self c.loop-next.value in
+    let new = c.hand_newest.new.self in
     record {
-      makes = makes_more _ _ _ 0 _ before _ c.loop-frame.invariant.makes (c.in-Value.ensures.made before popped);
-      room = c.in-Value.ensures.room;
+      makes = runs_more _ _ _ 0 from at _ c.loop-next.invariant.makes (subst (λ p. Comes _ c.loop-next.left c.hand_newest.new.left at p new) c.in-Value.is c.in_ok-progress.ensures.ok);
+      room = nearer_value c.in_ok-progress.progress c.in-Value.next _ c.in-Value.is c.in_ok-progress.ensures.room;
     }
 
-pub returns-clause-fewer : goal.returns-clause-fewer
-returns-clause-fewer c = c.loop-frame.invariant.makes.fewer
-
-pub returns-clause-ok : goal.returns-clause-ok
-returns-clause-ok c =
-    let t = c.loop-frame.self in
-    let before = giving t c.loop-frame.value in
-    let less = giving (record t { frames = c.pop.new.self }) c.loop-frame.value in
-    let none = nil_from_length c.pop.new.self.items (omega (arith, c.pop.new.self.ok.0, c.in_default.ensures.cases.1)) in
+pub returns-in_default : goal.returns-in_default
+returns-in_default g c =
+    let from = giving_in c.args.self.now c.args.value in
+    let at = giving_in c.loop-next.self c.loop-next.value in
+    let m = c.loop-next.invariant.makes in
     record {
-      last = before;
-      makes = c.loop-frame.invariant.makes;
-      stops = ends before less _ c.loop-frame.value
-          (record { program = refl; own = refl; below = refl; sums = refl; forks = refl; environment_is = refl; frames_are = sym (c.in_default.ensures.items ∙ append-nil c.pop.new.self.items); control_is = refl })
-          refl none (given less _ _ refl);
+      ok = comes_more _ _ _ from at c.in_ok-progress.progress c.hand_newest.new.self m c.in_ok-progress.ensures.ok;
+      handed = without_value c.in_ok-progress.progress c.in_default.not-Value;
+      fewer = omega (arith, m.fewer, c.in_ok-progress.ensures.fewer);
+      err = tt;
     }
-
-pub returns-in_default-hand-clause-ok : goal.returns-in_default-hand-clause-ok
-returns-in_default-hand-clause-ok c =
-    let t = c.loop-frame.self in
-    let before = giving t c.loop-frame.value in
-    let popped : IsPopped c.in-Some.frame before (giving (record t { frames = c.pop.new.self }) c.loop-frame.value) =
-    record { program = refl; own = refl; below = refl; sums = refl; forks = refl; environment_is = refl; frames_are = c.in-Some.ensures.items; control_is = refl } in
-    reaches_more _ _ _ (giving c.args.self.now c.args.value) before _ _ c.loop-frame.invariant.makes (c.hand.ensures.made before popped)

@@ -1,83 +1,44 @@
-use Rattle.std.proofs.Common.{true, false, refl, ap, ◌∙◌, subst}
-use Rattle.arachne_lang.specs.Value.{apply}
-use Rattle.arachne_machine.specs.declared.frame.Control.TheVariants.{Begin}
-use Rattle.arachne_machine.specs.declared.state.State.{State}
-use Rattle.arachne_machine.specs.Steps.{IsPopped, beginning, giving, seen}
-use Rattle.arachne_machine.proofs.Outlooks.{as_giving, begins_with, given_from}
-use Rattle.arachne_machine.proofs.Handings.{hand_index, hand_right, hand_apply, hand_branch, is_zero, is_not_zero, hand_extend, hand_restore, hand_fold_turn, hand_sweep_turn}
-use Rattle.arachne_machine.proofs.Strides.{part_begun, reaches_once, reaches_part, reaches_value}
-use Rattle.arachne_machine.proofs.state.State.hand.Goals.{then-value-eq0, else-value-eq0}
+use Rattle.std.proofs.Common.{rules, ◌≡◌, ◌≤◌, ◌+◌, length, vec_len, vec_capacity, ap, subst, sym, arith}
+use Rattle.arachne_machine.specs.declared.frame.Control.TheVariants.{Awaits, AwaitsHalf}
+use Rattle.arachne_machine.specs.Runs.{BeginsHere, IsPoppedIn, giving_in}
+use Rattle.arachne_machine.proofs.Going.{comes_half_here, comes_join_here, comes_popped}
+use Rattle.arachne_machine.proofs.Lasting.{on_value}
 use Rattle.arachne_machine.proofs.state.State.hand.Goals as goal
 
-pub returns-in-Index-clause-made : goal.returns-in-Index-clause-made
-returns-in-Index-clause-made c = λ before popped.
-    let t = giving c.args.self.now c.args.value in
-    reaches_value _ _ before c.args.self.now
-    (hand_index before t _ c.args.value c.in-Index.array c.item.result (subst (λ f. IsPopped f before t) c.in-Index.is popped) refl c.item.ensures (given_from c.args.self.now c.args.value _ _ refl))
+pub stand_before-requires : goal.stand_before-requires
+stand_before-requires g c =
+    let same : c.begin_here.new.self.frames ≡ c.args.self.now.frames = search rules in
+    subst (λ f. vec_len f + 1 ≤ vec_capacity f) (sym same) c.requires.frames
 
-pub returns-in-Apply-clause-made : goal.returns-in-Apply-clause-made
-returns-in-Apply-clause-made c = λ before popped.
-    let t = giving c.args.self.now c.args.value in
-    reaches_value _ _ before c.args.self.now
-    (hand_apply before t _ c.args.value c.in-Apply.first c.apply.result c.in-Apply.operation (subst (λ f. IsPopped f before t) c.in-Apply.is popped) refl c.apply.ensures (given_from c.args.self.now c.args.value _ _ refl))
+pub stand_before-requires-then-is_err-2 : goal.stand_before-requires-then-is_err-2
+stand_before-requires-then-is_err-2 g c =
+    let same : c.begin_here-in-MergeHere.new.self.frames ≡ c.args.self.now.frames = search rules in
+    subst (λ f. vec_len f + 1 ≤ vec_capacity f) (sym same) c.requires.frames
 
-pub returns-in-Restore-clause-made : goal.returns-in-Restore-clause-made
-returns-in-Restore-clause-made c = λ before popped.
-    let t = giving c.args.self.now c.args.value in
-    let less : State = record c.args.self.now { environment = c.truncate.new.self } in
-    reaches_value _ _ before less
-    (hand_restore before t (giving less c.args.value) c.args.value c.in-Restore.length (subst (λ f. IsPopped f before t) c.in-Restore.is popped) refl
-    (record { program = refl; own = refl; below = refl; sums = refl; forks = refl; environment_is = c.truncate.ensures.items; frames_are = refl; control_is = refl }))
-
-pub returns-in-Right-clause-made : goal.returns-in-Right-clause-made
-returns-in-Right-clause-made c = λ before popped.
+pub returns-else-is_err-clause-made : goal.returns-else-is_err-clause-made
+returns-else-is_err-clause-made g c = λ before popped sound.
     let t = c.args.self.now in
-    let v = c.args.value in
-    let right = c.in-Right.right in
-    let new = c.go_on.new.self in
-    reaches_part _ before _ new right c.go_on.ensures.begins
-    (hand_right before (giving t v) (beginning new right) v c.in-Right.operation right (subst (λ f. IsPopped f before (giving t v)) c.in-Right.is popped) refl
-    (as_giving t (beginning new right) v _ _ _ (begins_with t new right _ _ _ c.go_on.ensures.same)))
+    let begun : BeginsHere t c.begin_here.new.self c.in-JoinHere.number (Awaits c.in-JoinHere.number c.args.value c.in-JoinHere.after) t.control = search rules in
+    comes_join_here _ c.args.value c.in-JoinHere.number before t c.begin_here.new.self c.in-JoinHere.child c.in-JoinHere.after sound
+    (subst (λ f. IsPoppedIn f before (giving_in t c.args.value)) c.in-JoinHere.is popped) c.requires.start begun
 
-pub returns-in-Extend-clause-made : goal.returns-in-Extend-clause-made
-returns-in-Extend-clause-made c = λ before popped.
+pub returns-else-is_err-2-clause-made : goal.returns-else-is_err-2-clause-made
+returns-else-is_err-2-clause-made g c = λ before popped sound.
     let t = c.args.self.now in
-    let v = c.args.value in
-    let body = c.in-Extend.body in
-    let new = c.extend.new.self in
-    reaches_part _ before _ new body c.extend.ensures.begins
-    (hand_extend before (giving t v) (beginning new body) v body (subst (λ f. IsPopped f before (giving t v)) c.in-Extend.is popped) refl
-    (as_giving t (beginning new body) v _ _ _ (begins_with t new body _ _ _ c.extend.ensures.same)))
+    let half = c.in-MergeHere.half in
+    let begun : BeginsHere t c.begin_here-in-MergeHere.new.self c.in-MergeHere.number (AwaitsHalf c.in-MergeHere.number c.args.value half.reduction) t.control = search rules in
+    comes_half_here _ c.args.value c.in-MergeHere.number before t c.begin_here-in-MergeHere.new.self half sound
+    (subst (λ f. IsPoppedIn f before (giving_in t c.args.value)) c.in-MergeHere.is popped) c.requires.start begun
 
-pub returns-in-FoldTurn-clause-made : goal.returns-in-FoldTurn-clause-made
-returns-in-FoldTurn-clause-made c = λ before popped.
+pub returns-in_default : goal.returns-in_default
+returns-in_default g c =
     let t = c.args.self.now in
-    let v = c.args.value in
-    let dropped = c.drop_newest.new.self in
-    let after = seen c.turn_fold.result c.turn_fold.new.self in
-    reaches_once _ _ before c.turn_fold.result c.turn_fold.new.self c.turn_fold.ensures.step
-    (hand_fold_turn before (giving t v) dropped after v c.in-FoldTurn.next c.in-FoldTurn.end c.in-FoldTurn.body t.control
-    (subst (λ f. IsPopped f before (giving t v)) c.in-FoldTurn.is popped) refl (as_giving t dropped v _ _ _ c.drop_newest.ensures.same) c.turn_fold.ensures.turns)
-
-pub returns-in-SweepTurn-clause-made : goal.returns-in-SweepTurn-clause-made
-returns-in-SweepTurn-clause-made c = λ before popped.
-    let t = c.args.self.now in
-    let v = c.args.value in
-    let dropped = c.drop_newest-in-SweepTurn.new.self in
-    let after = seen c.turn_sweep.result c.turn_sweep.new.self in
-    reaches_once _ _ before c.turn_sweep.result c.turn_sweep.new.self c.turn_sweep.ensures.step
-    (hand_sweep_turn before (giving t v) dropped after v c.in-SweepTurn.reduction c.in-SweepTurn.next c.in-SweepTurn.end c.in-SweepTurn.so_far c.apply-value.result c.in-SweepTurn.body t.control
-    (subst (λ f. IsPopped f before (giving t v)) c.in-SweepTurn.is popped) refl (as_giving t dropped v _ _ _ c.drop_newest-in-SweepTurn.ensures.same)
-    (c.apply-value.ensures ∙ ap (λ o. apply o c.in-SweepTurn.so_far v) c.operation.ensures)
-    c.turn_sweep.ensures.turns)
-
-pub returns-after-value-eq0-clause-made : goal.returns-after-value-eq0-clause-made
-returns-after-value-eq0-clause-made c = λ before popped.
-    let t = c.args.self.now in
-    let v = c.args.value in
-    let gives = giving t v in
-    let popped_off = subst (λ f. IsPopped f before gives) c.in-Branch.is popped in
-    elim c.if-value-eq0.branch [
-      | then-value-eq0 b ↦ part_begun _ before t t c.if-value-eq0.next c.in-Branch.second c.in-Branch.second refl b.next-is refl (hand_branch before gives (beginning t c.in-Branch.second) v c.in-Branch.first c.in-Branch.second true popped_off refl (is_zero v b.if-value-eq0.true) (given_from t v _ _ refl))
-      | else-value-eq0 b ↦ part_begun _ before t t c.if-value-eq0.next c.in-Branch.first c.in-Branch.first refl b.next-is refl (hand_branch before gives (beginning t c.in-Branch.first) v c.in-Branch.first c.in-Branch.second false popped_off refl (is_not_zero v b.if-value-eq0.false) (given_from t v _ _ refl))
-    ]
+    let new = c.hand_within.new.self in
+    record {
+      made = λ before popped sound. comes_popped _ _ _ before t new c.args.frame c.args.value c.hand_within.result sound popped c.requires.start c.hand_within.ensures.leaves c.hand_within.ensures.stops c.hand_within.ensures.made;
+      fewer = c.hand_within.ensures.fewer;
+      room = c.hand_within.ensures.room;
+      frames = c.hand_within.ensures.frames;
+      parents = on_value c.hand_within.result _ (omega (arith, ap length c.hand_within.ensures.leaves.parents, new.parents.ok.0, t.parents.ok.0));
+      err = tt;
+    }

@@ -1,30 +1,36 @@
-use Rattle.std.proofs.Common.{Some, None, sym, ◌∙◌, subst}
-use Rattle.arachne_machine.specs.declared.state.Progress.TheVariants.{Value}
-use Rattle.arachne_machine.specs.Steps.{Makes, Reaches, beginning, current, giving}
-use Rattle.arachne_machine.proofs.Strides.{ok_then, reaches_more}
-use Rattle.arachne_machine.proofs.state.State.make.Goals.{in-Some+in_ok-progress-in-Some, in-None+in_ok-progress-in-None}
+use Rattle.std.proofs.Common.{subst, sym}
+use Rattle.arachne_machine.specs.Steps.{IsSame}
+use Rattle.arachne_machine.specs.Runs.{Comes, RunsOn, current_in, giving_in}
+use Rattle.arachne_machine.proofs.Strides.{ok_then}
+use Rattle.arachne_machine.proofs.Going.{comes_more}
+use Rattle.arachne_machine.proofs.Lasting.{current_running, current_same, err_then, refused_after, refused_same}
 use Rattle.arachne_machine.proofs.state.State.make.Goals as goal
 
-pub returns-in-Value-clause-ok : goal.returns-in-Value-clause-ok
-returns-in-Value-clause-ok c =
-    let t = c.args.self.now in
+pub returns-in-Ok-Value-clause-ok : goal.returns-in-Ok-Value-clause-ok
+returns-in-Ok-Value-clause-ok g c =
     let had = c.args.left.now in
-    let v = c.in-Value.value in
-    let some = c.match-begins.left in
-    let s = c.match-begins.self in
-    let known : Makes had some 0 (current c.args.begins t) (giving s v) = elim c.match-begins.branch [
-      | in-Some+in_ok-progress-in-Some w ↦
-          let a = beginning t w.in-Some.expr in
-          let new = w.begin.new.self in
-          let r : Reaches had w.begin.new.left a (Value v) new =
-          subst (λ p. Reaches had w.begin.new.left a p new) (sym w.progress-is ∙ c.in-Value.is) w.in_ok-progress-in-Some.ensures.ok in
-          subst (λ o. Makes had some 0 (current o t) (giving s v)) (sym w.in-Some.is)
-          (subst (λ l. Makes had l 0 a (giving s v)) (sym w.left-is) (subst (λ x. Makes had w.begin.new.left 0 a (giving x v)) (sym w.self-is) r))
-      | in-None+in_ok-progress-in-None w ↦
-          let new = w.resume.new.self in
-          let r : Reaches had w.resume.new.left t (Value v) new =
-          subst (λ p. Reaches had w.resume.new.left t p new) (sym w.progress-is ∙ c.in-Value.is) w.in_ok-progress-in-None.ensures.ok in
-          subst (λ o. Makes had some 0 (current o t) (giving s v)) (sym w.in-None.is)
-          (subst (λ l. Makes had l 0 t (giving s v)) (sym w.left-is) (subst (λ x. Makes had w.resume.new.left 0 t (giving x v)) (sym w.self-is) r))
-    ] in
-    ok_then c.give.result _ _ c.give.ensures.ok (λ p r. reaches_more had some _ (current c.args.begins t) (giving s v) p _ known r)
+    let some = c.begin_next.new.left in
+    let a = current_in c.args.begins c.args.self.now in
+    let mid = c.begin_next.new.self in
+    let v = c.in-Ok-Value.value in
+    let known : RunsOn _ had some 0 a (giving_in mid v) = subst (λ p. Comes _ had some a p mid) c.in-Ok-Value.field-0-is c.in-Ok-Value.ensures.ok in
+    ok_then c.give.result _ _ c.give.ensures.ok (λ p r. comes_more had some _ a (giving_in mid v) p _ known r)
+
+pub returns-in-Ok-Value-clause-err : goal.returns-in-Ok-Value-clause-err
+returns-in-Ok-Value-clause-err g c =
+    let had = c.args.left.now in
+    let some = c.begin_next.new.left in
+    let a = current_in c.args.begins c.args.self.now in
+    let mid = c.begin_next.new.self in
+    let v = c.in-Ok-Value.value in
+    let known : RunsOn _ had some 0 a (giving_in mid v) = subst (λ p. Comes _ had some a p mid) c.in-Ok-Value.field-0-is c.in-Ok-Value.ensures.ok in
+    err_then c.give.result c.give.ensures.err (λ r. refused_after had some a (giving_in mid v) c.give.new.self known r)
+
+pub returns-in-Err-clause-err : goal.returns-in-Err-clause-err
+returns-in-Err-clause-err g c =
+    let t = c.args.self.now in
+    let mid = c.begin_next.new.self in
+    let a = current_in c.args.begins t in
+    refused_same _ a c.settle.new.self c.requires.sound
+    (subst (λ x. IsSame a x) (sym c.settle.ensures) (current_same c.args.begins t mid c.in-Err.ensures.err))
+    (current_running c.args.begins t c.requires.left_over)

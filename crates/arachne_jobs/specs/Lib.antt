@@ -1,0 +1,4 @@
+pub mod Threads
+pub mod Cells
+pub mod Ends
+pub mod Slices

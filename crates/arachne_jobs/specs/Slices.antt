@@ -1,0 +1,46 @@
+-- What a slice leaves, and how a job is put back.
+use Rattle.std.specs.Prelude.{◌≡◌, ◌<◌, ◌≤◌, ℕ, Option, None, Some}
+use Rattle.arachne_core.specs.declared.state.Rest.{Rest}
+use Rattle.arachne_core.specs.declared.state.Rest.TheVariants as rest
+use Rattle.arachne_machine.specs.declared.pause.Pending.{Pending}
+use Rattle.arachne_machine.specs.declared.pause.Pending.TheVariants as pause
+use Rattle.arachne_jobs.specs.declared.slice.Slice.{Slice}
+use Rattle.arachne_jobs.specs.declared.slice.Slice.TheVariants.{Goes, Forks, Blocks, Asks, Awaits, Frees, Tallies, Ends}
+
+-- the pauses at which a job waits for another: for the end of a child, or for a lock
+abbrev pub IsWait : Option Pending → Type 0
+IsWait (Some pause.Joins) = Unit {0}
+IsWait (Some (pause.Asks lock)) = Unit {0}
+IsWait _ = ⊥
+
+-- the pauses at which a job asks for something that is done for it: it holds a lock from then on, frees one, or adds to
+-- a ledger
+abbrev pub IsRequest : Option Pending → Type 0
+IsRequest (Some (pause.Asks lock)) = Unit {0}
+IsRequest (Some (pause.Frees lock)) = Unit {0}
+IsRequest (Some (pause.Tallies ledger amount)) = Unit {0}
+IsRequest _ = ⊥
+
+-- A job with this pause may rest so: it is ready where its pause was answered, and blocked where it waits.
+abbrev pub MayRest : Rest → Option Pending → Type 0
+MayRest rest.Ready pending = pending ≡ None
+MayRest rest.Blocked pending = IsWait pending
+
+-- of the steps that a job had, fewer are left, or as many where it awaits a child; one that still waits for a lock has
+-- made none
+abbrev pub UsesSteps : {Child : Type 0} → Slice Child → ℕ → ℕ → Type 0
+UsesSteps Blocks had left = left ≤ had
+UsesSteps (Awaits lock) had left = left ≡ had
+UsesSteps _ had left = left < had
+
+module _ {Job Child : Type 0} (forks : Job → Child → Type 0) (pause_of : Job → Option Pending) where
+  -- the job has come to the pause that the slice says
+  abbrev pub IsLeft : Slice Child → Job → Type 0
+  IsLeft Goes job = pause_of job ≡ None
+  IsLeft (Forks class child) job = forks job child
+  IsLeft Blocks job = pause_of job ≡ Some pause.Joins
+  IsLeft (Asks lock) job = pause_of job ≡ Some (pause.Asks lock)
+  IsLeft (Awaits lock) job = pause_of job ≡ Some (pause.Asks lock)
+  IsLeft (Frees lock) job = pause_of job ≡ Some (pause.Frees lock)
+  IsLeft (Tallies ledger amount) job = pause_of job ≡ Some (pause.Tallies ledger amount)
+  IsLeft Ends job = pause_of job ≡ Some pause.Ended

@@ -1,0 +1,17 @@
+//! The ends of cells that a job has.
+use crate::left::Left;
+use crate::waiting::WaitCell;
+use crate::wanted::{OutcomeReceiver, OutcomeSender, Wanted};
+use arachne_join::SendingEnd;
+
+/// An end of a cell: the one at which a thread leaves its outcome, or one to which the outcome of a child comes.
+#[derive(Drop)]
+pub enum Link<'p> {
+    /// Here the thread leaves its outcome.
+    Leaves(OutcomeSender),
+    /// Here the outcome of a child comes.
+    Awaits(OutcomeReceiver),
+    /// The cell in which a child waits or has waited. The parent, which awaits its outcome, has no sending end; the child
+    /// has one once it was taken out of the cell.
+    Waits(WaitCell<'p>, Option<SendingEnd<Left<'p>, Wanted>>),
+}

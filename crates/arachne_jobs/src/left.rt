@@ -1,0 +1,40 @@
+//! What lies in the cell of a child that waits for a place.
+use crate::wanted::Wanted;
+use arachne_core::ThreadId;
+use arachne_join::Fits;
+use arachne_machine::{Outcome, Thread};
+
+/// A child that waits, and the id under which its parent runs.
+#[derive(Drop)]
+pub struct Waiting<'p> {
+    pub(crate) thread: Thread<'p>,
+    pub(crate) parent: ThreadId,
+}
+
+/// What lies in a cell.
+#[derive(Drop)]
+pub enum Left<'p> {
+    /// The child, which has not begun.
+    Child(Waiting<'p>),
+    /// Its outcome.
+    Outcome(Outcome),
+}
+
+impl<'p> Fits<Wanted> for Left<'p> {
+    ghost use Rattle.arachne_jobs.specs.Cells.{IsLeftFor, MayWait};
+
+    ghost fits = { IsLeftFor };
+
+    ghost may_wait = { MayWait };
+}
+
+/// What a parent finds in the cell of a child that it awaits.
+#[derive(Drop)]
+pub enum Found<'p> {
+    /// The child has ended.
+    Outcome(Outcome),
+    /// The child waited still, and waits no longer.
+    Child(Thread<'p>),
+    /// The child is at a place of its own, or on the way to one.
+    Nothing,
+}

@@ -1,0 +1,26 @@
+//! What a context holds in a run: a thread of a task program with the cells of its children, and how workers see it.
+#![tactic(auto)]
+
+mod classes;
+mod ends;
+mod fault;
+mod job;
+mod left;
+mod openings;
+mod room;
+mod slice;
+mod spares;
+mod tags;
+mod waiting;
+mod wanted;
+
+pub use classes::has_exclusive;
+pub use fault::JobFault;
+pub use job::Job;
+pub use openings::Openings;
+pub use room::Room;
+pub use slice::{JobOf, RunJob, RunSpares, RunThread, RunTicket, Slice};
+pub use spares::Spares;
+pub use tags::{BLOCK, Tags};
+pub use waiting::Ticket;
+pub use wanted::{OutcomeReceiver, OutcomeSender, Wanted};

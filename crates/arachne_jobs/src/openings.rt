@@ -1,0 +1,50 @@
+//! What a thread is told at its forks.
+use crate::room::Room;
+use crate::tags::Tags;
+use arachne_lang::Class;
+use arachne_machine::Placing;
+
+/// What a worker has for the forks of its threads: its tags, and for how many forks that were no pause the chooser's word
+/// is still to be drawn.
+#[derive(Drop)]
+pub struct Openings {
+    pub tags: Tags,
+    pub draws: u64,
+}
+
+impl Openings {
+    /// No tag is drawn yet, and no word is owed.
+    pub fn new() -> Openings {
+        Openings {
+            tags: Tags::new(),
+            draws: 0,
+        }
+    }
+}
+
+/// What a thread asks at its forks: whether its child may get a place or wait for one, and else a tag for it.
+#[derive(Drop)]
+pub(crate) struct Asked<'a> {
+    pub(crate) room: &'a Room,
+    pub(crate) openings: &'a mut Openings,
+}
+
+impl<'a> Placing for Asked<'a> {
+    ghost use Rattle.std.specs.Prelude.{false};
+
+    ghost gives_all = { false };
+
+    #[inline(always)]
+    fn is_any(&mut self, class: Class) -> bool {
+        if class == Class::Exclusive || self.room.has_free_place() || self.room.may_wait() {
+            return true;
+        }
+        self.openings.draws = self.openings.draws.wrapping_add(1);
+        false
+    }
+
+    #[inline(always)]
+    fn tag(&mut self) -> u64 {
+        self.openings.tags.take(self.room)
+    }
+}

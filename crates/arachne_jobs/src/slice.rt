@@ -1,0 +1,164 @@
+//! What a worker does with a job: it runs a part of a slice, and answers what that asks for.
+ghost use Rattle.std.specs.Prelude.{◌≡◌, ◌≤◌, [], IfOk, IfSome, OnOk};
+ghost use Rattle.arachne_lang.specs.Program.{source_of};
+ghost use Rattle.arachne_lang.specs.Checked.{IsChecked};
+ghost use Rattle.std.specs.Prelude.{ℕ, Option, None, Some};
+ghost use Rattle.arachne_core.specs.declared.thread_id.ThreadId.{ThreadId};
+ghost use Rattle.arachne_machine.specs.declared.pause.Pending.{Pending};
+ghost use Rattle.arachne_machine.specs.declared.pause.Pending.TheVariants as pause;
+ghost use Rattle.arachne_jobs.specs.Slices.{IsLeft, IsRequest, MayRest, UsesSteps};
+
+use crate::fault::JobFault;
+use crate::openings::Openings;
+use crate::room::Room;
+use crate::wanted::OutcomeReceiver;
+use arachne_contexts::Tagged;
+use arachne_core::{Rest, ThreadId};
+use arachne_lang::{Class, Program};
+use std::alloc::{AllocError, Global};
+
+/// Where a job stops.
+#[derive(Drop)]
+pub enum Slice<Child> {
+    /// It goes on.
+    Goes,
+    /// It forks this child, and goes on once it is answered.
+    Forks(Class, Child),
+    /// It awaits a child that has not ended.
+    Blocks,
+    /// It asks for this lock, and goes on once it is answered.
+    Asks(u64),
+    /// It has asked for this lock before, and is not answered yet.
+    Awaits(u64),
+    /// It frees this lock, and goes on once it is answered.
+    Frees(u64),
+    /// It adds to this ledger this amount, and goes on once it is answered.
+    Tallies(u64, u64),
+    /// It has ended.
+    Ends,
+}
+
+/// A thread that runs, as its workers see it: whose turn it is, how it rests, and the answer to what it asks for.
+pub trait RunThread: Tagged + Drop {
+    /// The tag of the thread that goes on next: the job's own, or that of one that runs in its place.
+    ghost running_tag_of: { Self → ℕ };
+
+    /// The id under which its parent runs. The root has none.
+    ghost parent_of: { Self → Option ThreadId };
+
+    /// The pause that is not answered.
+    ghost pause_of: { Self → Option Pending };
+
+    /// The tag of the thread that goes on next, and whose the pause is that is not answered.
+    fn running_tag(&self) -> u64
+        ensures { result ≡ running_tag_of self.now };
+
+    /// How it rests: ready where its pause was answered, blocked where it waits. None where it can't rest.
+    fn rest(&self) -> Option<Rest>
+        ensures { IfSome result (λ rest. MayRest rest (pause_of self.now)) };
+
+    /// What it asks for is done: it holds the lock that it asked for, the lock is free, or the amount was added.
+    /// `Foreign` where it asks for nothing.
+    fn answer(&mut self) -> Result<(), JobFault>
+        ensures tag { Self.tag_of self.new ≡ Self.tag_of self.old }
+        ensures parent { parent_of self.new ≡ parent_of self.old }
+        ensures asked { OnOk result (IsRequest (pause_of self.old)) }
+        ensures answered { OnOk result (pause_of self.new ≡ None) };
+}
+
+/// What stands for a child that waits for a place.
+pub trait RunTicket: Tagged + Drop + Send {
+    /// Whether its child waits still. Nothing is taken.
+    fn still_waits(&self) -> bool;
+}
+
+/// What a worker keeps of ended threads for those that begin.
+pub trait RunSpares: Drop + Send {
+    /// Nothing is kept yet. It takes no memory.
+    fn none(alloc: Global) -> Self;
+}
+
+/// What a context holds in a run: a thread with all that its slices and its forks need.
+pub trait RunJob: RunThread {
+    /// A thread that was forked and has no place yet.
+    type Child: Drop + Send;
+
+    /// What stands for a child that waits for a place.
+    type Ticket: RunTicket;
+
+    /// What a worker keeps of ended threads for those that begin.
+    type Spares: RunSpares;
+
+    /// The job forks this child, and is not answered.
+    ghost forks: { Self → Self.Child → Type 0 };
+
+    /// Goes on for at most as many steps as are left, of which fewer are left then. A thread that waits makes none. A
+    /// child for which there is no place runs in this job's.
+    fn slice(
+        &mut self,
+        left: &mut u32,
+        spares: &mut Self::Spares,
+        room: &Room,
+        openings: &mut Openings,
+    ) -> Result<Slice<Self::Child>, JobFault>
+        requires { 1 ≤ left.old }
+        ensures tag { Self.tag_of self.new ≡ Self.tag_of self.old }
+        ensures steps { IfOk result (λ slice. UsesSteps slice left.old left.new) }
+        ensures parent { Self.parent_of self.new ≡ Self.parent_of self.old }
+        ensures left { IfOk result (λ slice. IsLeft forks Self.pause_of slice self.new) };
+
+    /// The child becomes a job of its own with this tag, whose parent runs under this id.
+    fn fork_off(
+        &mut self,
+        alloc: Global,
+        me: ThreadId,
+        child: Self::Child,
+        tag: u64,
+        spares: &mut Self::Spares,
+    ) -> Result<Self, JobFault>
+        requires { forks self.old child }
+        ensures tag { Self.tag_of self.new ≡ Self.tag_of self.old }
+        ensures parent { Self.parent_of self.new ≡ Self.parent_of self.old }
+        ensures child { IfOk result (λ job. Self.tag_of job ≡ tag) }
+        ensures childs_parent { IfOk result (λ job. Self.parent_of job ≡ Some me) }
+        ensures answered { OnOk result (Self.pause_of self.new ≡ None) };
+
+    /// The child waits with this tag for a place, or until this job, which runs under this id, awaits it. The ticket
+    /// for it; none where it is not to wait or memory is refused, and the child runs in this job's place.
+    fn put_aside(
+        &mut self,
+        alloc: Global,
+        me: ThreadId,
+        child: Self::Child,
+        tag: u64,
+        waits: bool,
+    ) -> Result<Option<Self::Ticket>, JobFault>
+        requires { forks self.old child }
+        ensures tag { Self.tag_of self.new ≡ Self.tag_of self.old }
+        ensures parent { Self.parent_of self.new ≡ Self.parent_of self.old }
+        ensures answered { OnOk result (Self.pause_of self.new ≡ None) }
+        ensures ticket { IfOk result (λ made. IfSome made (λ ticket. Self.Ticket.tag_of ticket ≡ tag)) };
+
+    /// The job of a ticket's child, if that waits still. Where memory is refused there is none, and the child waits on for
+    /// its parent.
+    fn of_ticket(alloc: Global, ticket: Self::Ticket, spares: &mut Self::Spares) -> Option<Self>;
+
+    /// Leaves the outcome for its parent, which is to be woken; the root has none. `Foreign` where it has not ended.
+    fn leave(self, spares: &mut Self::Spares) -> Result<Option<ThreadId>, JobFault>
+        ensures ended { OnOk result (Self.pause_of self ≡ Some pause.Ended) }
+        ensures parent { IfOk result (λ parent. parent ≡ Self.parent_of self) };
+}
+
+/// The jobs of a program's threads.
+pub trait JobOf<'p>: RunJob {
+    /// The root's job, and the end that its outcome comes to.
+    fn begin(
+        alloc: Global,
+        program: &'p Program,
+        spares: &mut Self::Spares,
+    ) -> Result<(Self, OutcomeReceiver), AllocError>
+        requires { IsChecked (source_of program.now) }
+        ensures program { IfOk result (λ made. made.1.opening.key.program.value ≡ program.now) }
+        ensures name { IfOk result (λ made. made.1.opening.key.name.value ≡ []) }
+        ensures parent { IfOk result (λ made. Self.parent_of made.0 ≡ None) };
+}

@@ -1,0 +1,23 @@
+//! What a worker keeps of ended threads for those that begin.
+use crate::slice::RunSpares;
+use crate::wanted::Wanted;
+use arachne_join::SpareCells;
+use arachne_machine::{Outcome, Spares as SpareThreads};
+use std::alloc::Global;
+
+/// The memory of threads that have ended, and the join cells that nobody uses. Each worker has its own, so that most forks
+/// take memory for a name and a list of links alone.
+#[derive(Drop)]
+pub struct Spares<'p> {
+    pub(crate) threads: SpareThreads<'p>,
+    pub(crate) cells: SpareCells<Outcome, Wanted>,
+}
+
+impl<'p> RunSpares for Spares<'p> {
+    fn none(alloc: Global) -> Spares<'p> {
+        Spares {
+            threads: SpareThreads::new(alloc),
+            cells: SpareCells::new(alloc),
+        }
+    }
+}

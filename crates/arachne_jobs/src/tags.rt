@@ -1,0 +1,40 @@
+//! The tags that a worker gives to the threads which begin at it.
+ghost use Rattle.std.specs.Prelude.{◌≡◌, ◌+◌, ◌<◌};
+
+use crate::room::Room;
+
+/// How many tags a worker draws at once.
+pub const BLOCK: u64 = 64;
+
+/// The tags that a worker has drawn and not given yet: so many in a row from the next one on.
+#[derive(Debug, Drop)]
+pub struct Tags {
+    pub next: u64,
+    pub left: u64,
+}
+
+impl Tags {
+    /// None is drawn yet.
+    pub fn new() -> Tags
+        ensures { result.left ≡ 0 }
+    {
+        Tags { next: 0, left: 0 }
+    }
+
+    /// The next tag of the block, or the first of a new one where none is left.
+    pub fn take(&mut self, room: &Room) -> u64
+        ensures of_block { 0 < self.old.left → result ≡ self.old.next }
+        ensures next { result < u64.MAX → self.new.next ≡ result + 1 }
+        ensures fewer { 0 < self.old.left → self.new.left + 1 ≡ self.old.left }
+        ensures drawn { self.old.left ≡ 0 → self.new.left + 1 ≡ BLOCK }
+    {
+        if self.left == 0 {
+            self.next = room.next_tags(BLOCK);
+            self.left = BLOCK;
+        }
+        let tag = self.next;
+        self.next = tag.wrapping_add(1);
+        self.left -= 1;
+        tag
+    }
+}

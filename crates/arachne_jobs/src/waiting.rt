@@ -1,0 +1,158 @@
+//! A child that waits in its join cell, for a place or for its parent.
+ghost use Rattle.std.specs.Prelude.{◌≡◌, IfOk, IfErr, IfSome};
+ghost use Rattle.std.specs.Arc.{arc_value};
+ghost use Rattle.arachne_jobs.specs.Cells.{HasNotBegun, IsFor, IsFoundFor, IsWanted};
+ghost use Rattle.arachne_jobs.specs.Threads.{tag_of};
+
+use crate::left::{Found, Left, Waiting};
+use crate::slice::RunTicket;
+use crate::wanted::Wanted;
+use arachne_contexts::Tagged;
+use arachne_core::ThreadId;
+use arachne_join::{CellState, JoinCell, SendingEnd};
+use arachne_machine::{Outcome, Thread};
+use std::alloc::{AllocError, Global};
+use std::marker::Model;
+use std::snapshot::Snapshot;
+use std::sync::Arc;
+
+type Cell<'p> = JoinCell<Left<'p>, Wanted>;
+
+/// A share of a cell. Contracts see the cell: what it is for, and its table.
+#[derive(Drop)]
+pub struct WaitCell<'p> {
+    cell: Arc<Cell<'p>>,
+}
+
+impl<'p> Model for WaitCell<'p> {
+    ghost use Rattle.std.specs.Arc.{arc_value};
+    ghost use Rattle.arachne_join.specs.Views.{Cell};
+    ghost use Rattle.arachne_jobs.specs.declared.wanted.Wanted.{Wanted};
+
+    ghost Value = { Cell Wanted };
+
+    ghost use Rattle.std.specs.Coded.{codes};
+    ghost use Rattle.arachne_lang.specs.contracts.program.Expr as expr;
+
+    ghost coded = { Prim.hlevel (codes, expr.the_row.coded) };
+
+    ghost view = { λ c. arc_value c.cell };
+}
+
+/// What lies in the queue for a child that waits: its cell and its tag.
+#[derive(Drop)]
+pub struct Ticket<'p> {
+    cell: Arc<Cell<'p>>,
+    tag: u64,
+}
+
+impl<'p> Tagged for Ticket<'p> {
+    ghost tag_of = { λ t. t.tag };
+
+    fn tag(&self) -> u64 {
+        self.tag
+    }
+}
+
+impl<'p> WaitCell<'p> {
+    /// A child begins to wait, and the ticket for it. Where memory is refused the child comes back.
+    pub(crate) fn wait(
+        alloc: Global,
+        child: Thread<'p>,
+        parent: ThreadId,
+    ) -> Result<(WaitCell<'p>, Ticket<'p>), Thread<'p>>
+        requires { HasNotBegun child }
+        ensures cell { IfOk result (λ made. IsFor child.entry made.0.key) }
+        ensures tag { IfOk result (λ made. made.1.tag ≡ tag_of child.entry) }
+        ensures handed_back { IfErr result (λ back. back ≡ child.entry) }
+    {
+        let wanted = Wanted {
+            program: Snapshot::of(child.program()),
+            name: Snapshot::of(child.name()),
+        };
+        let tag = child.tag();
+        let Ok((cell, end, ticket)) = shared_cell(alloc, &wanted) else {
+            return Err(child);
+        };
+        end.put_back(
+            &cell,
+            Left::Child(Waiting {
+                thread: child,
+                parent,
+            }),
+        );
+        Ok((WaitCell { cell }, Ticket { cell: ticket, tag }))
+    }
+
+    /// What the parent that awaits the child finds.
+    pub(crate) fn find(&self) -> Found<'p>
+        ensures { IsFoundFor self.now.key result }
+    {
+        let missed = match self.cell.fetch() {
+            Ok((left, _)) => match left {
+                Left::Outcome(outcome) => return Found::Outcome(outcome),
+                Left::Child(_) => unreachable!(),
+            },
+            Err(missed) => missed,
+        };
+        if missed.state != CellState::Waiting {
+            return Found::Nothing;
+        }
+        match self.cell.take_back() {
+            Ok((left, _)) => match left {
+                Left::Child(waiting) => Found::Child(waiting.thread),
+                Left::Outcome(_) => unreachable!(),
+            },
+            Err(_) => Found::Nothing,
+        }
+    }
+}
+
+impl<'p> WaitCell<'p> {
+    /// Leaves the child's outcome, with the sending end of this cell.
+    pub(crate) fn leave(self, end: SendingEnd<Left<'p>, Wanted>, outcome: Outcome)
+        requires end { end ≡ self.table }
+        requires outcome { IsWanted self.key outcome }
+    {
+        end.leave(&self.cell, Left::Outcome(outcome));
+    }
+}
+
+impl<'p> RunTicket for Ticket<'p> {
+    fn still_waits(&self) -> bool {
+        let (state, _) = self.cell.seen();
+        state == CellState::Waiting
+    }
+}
+
+impl<'p> Ticket<'p> {
+    /// The child, if it waits still, with its cell and the end with which it leaves its outcome there.
+    pub(crate) fn take(self) -> Option<(Waiting<'p>, WaitCell<'p>, SendingEnd<Left<'p>, Wanted>)>
+        ensures child { IfSome result (λ taken. IsFor taken.0.thread taken.1.key × HasNotBegun taken.0.thread) }
+        ensures end { IfSome result (λ taken. taken.2 ≡ taken.1.table) }
+    {
+        let Ticket { cell, tag: _ } = self;
+        match cell.take_back() {
+            Ok((left, end)) => match left {
+                Left::Child(waiting) => Some((waiting, WaitCell { cell }, end)),
+                Left::Outcome(_) => unreachable!(),
+            },
+            Err(_) => None,
+        }
+    }
+}
+
+/// An empty cell with two owners, and its sending end.
+fn shared_cell<'p>(
+    alloc: Global,
+    wanted: &Wanted,
+) -> Result<(Arc<Cell<'p>>, SendingEnd<Left<'p>, Wanted>, Arc<Cell<'p>>), AllocError>
+    ensures cell { IfOk result (λ made. (arc_value made.0).key ≡ wanted.now) }
+    ensures end { IfOk result (λ made. made.1 ≡ (arc_value made.0).table) }
+    ensures other { IfOk result (λ made. arc_value made.2 ≡ arc_value made.0) }
+{
+    let (cell, end) = JoinCell::new(alloc, wanted)?;
+    let cell = Arc::new(alloc, cell)?;
+    let other = Arc::try_clone(&cell)?;
+    Ok((cell, end, other))
+}

@@ -1,0 +1,494 @@
+-- A state with the children that were handed back to it.
+use Rattle.std.proofs.Common.{◌≡◌, ◌≢◌, ◌≤◌, ◌<◌, ◌-◌, get_or, take, drop, length, length-append, ℕ, ◌+◌, List, [], ◌∷◌, ◌++◌, None, Some, Option, refl, ap, sym, ◌∙◌, subst, arith}
+use Rattle.std.specs.Prelude.{zero, suc, map, reverse, option_map, slice_get, All}
+use Rattle.std.specs.Borrow.{Bor}
+use Rattle.std.proofs.lemmas.List.Elements.{All-append}
+use Rattle.std.proofs.Math.Seq.{get_or-append_seam}
+use Rattle.arachne_lang.specs.declared.program.Program.{Program}
+use Rattle.arachne_lang.specs.Tree.{Source}
+use Rattle.arachne_lang.specs.Value.{Environment}
+use Rattle.arachne_machine.specs.declared.frame.Frame.{Frame}
+use Rattle.arachne_machine.specs.declared.frame.Control.{Control}
+use Rattle.arachne_machine.specs.declared.frame.Control.TheVariants.{Begin, Give, Cover, Forked, Halved, Awaits, AwaitsHalf, Asks, Frees, Tallies, Ended}
+use Rattle.arachne_machine.specs.declared.line.ThreadLine.{ThreadLine}
+use Rattle.arachne_machine.specs.declared.state.Own.{Own}
+use Rattle.std.specs.Global.{Box}
+use Rattle.std.proofs.lemmas.List.{get_or_append_left, get_or-map, get_or-reverse, length-map, length-reverse, reverse-append, reverse-reverse}
+use Rattle.arachne_lang.specs.declared.program.Class.{Class}
+use Rattle.arachne_lang.specs.Program.{source_of}
+use Rattle.arachne_lang.specs.Effects.{tabulated}
+use Rattle.arachne_machine.specs.declared.level.Parent.{Parent}
+use Rattle.arachne_machine.specs.declared.pause.Pending.{Pending}
+use Rattle.arachne_machine.specs.declared.pause.Pending.TheVariants as pause
+use Rattle.arachne_machine.specs.declared.state.State.{State}
+use Rattle.arachne_machine.specs.Ending.{ending, here_of, fork_awaited, forks_of, work_left}
+use Rattle.arachne_machine.specs.Strands.{Strand, Fits, owned_at, below_at, strand_at}
+use Rattle.arachne_machine.specs.Steps.{AfterSteps, Becomes, GoesWithin, LeavesOthers, pending_of, suspended, top, waiting, waiting_in}
+use Rattle.arachne_machine.specs.Sound.{AreSound, IsSoundState, RunFor}
+use Rattle.arachne_machine.specs.Runs.{Advances, LooksSame, RunsOn, RunsWithin, RunsToPause, RunsToFork, TakesIn, work_in_state}
+use Rattle.arachne_machine.specs.Suspended.{Suspended, awaited}
+use Rattle.arachne_machine.specs.Nested.{ArePlaced, Await, AwaitsElsewhere, IsPlaced, work_in, works}
+use Rattle.arachne_machine.specs.Kept.{AdvancesWith, IsKept, IsSoundChild, StandsBack, Went, WentToFork, WentWithin, nested, seen_children}
+use Rattle.arachne_machine.proofs.Soundness.{goes_nowhere, sound_goes, unchanged_seen}
+use Rattle.arachne_machine.proofs.Levels.{alone_waiting, leaves_waiting, runs_on, sound_top}
+use Rattle.arachne_machine.proofs.Advancing.{sound_after}
+use Rattle.arachne_machine.proofs.Tabulated.{length-tabulated}
+use Rattle.arachne_machine.proofs.Nesting.{works_seen}
+use Rattle.arachne_machine.proofs.Answering.{going}
+use Rattle.arachne_machine.proofs.Going.{runs_nothing, as_is}
+use Rattle.arachne_machine.proofs.Lasting.{stopped_pending, same_kept, same_seen}
+use Rattle.arachne_machine.proofs.Taking.{taken, unstepped}
+
+-- A state whose parents none are, as callers see it.
+cons_seen : (s : Suspended) (ss : List Suspended) → s ∷ ss ≡ [] → ⊥
+cons_seen s ss e = cc
+
+none_before : (t : State) (ps : List Parent) → reverse t.parents.items ≡ ps → map suspended (waiting_in t) ≡ [] → t.parents.items ≡ []
+none_before t [] e h = sym (reverse-reverse t.parents.items) ∙ ap reverse e
+none_before t (q ∷ qs) e h =
+    absurd (cons_seen _ _ (sym (ap (λ ps. map suspended (waiting t.program t.own ps t.lines t.frames.items t.level.start t.level.place (ending (top t)).env)) e) ∙ h))
+
+pub none_parents : (t : State) → map suspended (waiting_in t) ≡ [] → t.parents.items ≡ []
+none_parents t h = none_before t (reverse t.parents.items) refl h
+
+cons_box : (s : Suspended) (ss : List Suspended) → s ∷ ss ≡ [] → ⊥
+cons_box s ss e = cc
+
+none_listed : (ps : List (Box State)) → map (λ child. suspended (top child.value)) ps ≡ [] → ps ≡ []
+none_listed [] h = refl
+none_listed (p ∷ ps) h = absurd (cons_box _ _ h)
+
+pub none_placed : (ps : List (Box State)) → seen_children ps ≡ [] → ps ≡ []
+none_placed ps h = sym (reverse-reverse ps) ∙ ap reverse (none_listed (reverse ps) h)
+
+-- A child among those that callers see.
+pub record SeenAmong (ss : List Suspended) (s : Suspended) : Type 0 where
+  pub place : ℕ
+  pub there : place < length ss
+  pub is : (d : Suspended) → get_or ss place d ≡ s
+
+placed_at : (source : Source) (ss : List Suspended) (d : Suspended) (k : ℕ) → ArePlaced source ss → k < length ss → source_of (get_or ss k d).program ≡ source
+placed_at source [] d k h lt = absurd (omega (arith, lt))
+placed_at source (s ∷ ss) d zero h lt = h.0.same_source
+placed_at source (s ∷ ss) d (suc k) h lt = placed_at source ss d k h.1 (omega (arith, lt))
+
+placed_source : (source : Source) (ss : List Suspended) (s : Suspended) → ArePlaced source ss → SeenAmong ss s → source_of s.program ≡ source
+placed_source source ss s h among = subst (λ x. source_of x.program ≡ source) (among.is s) (placed_at source ss s among.place h among.there)
+
+-- The newest of the children.
+pub newest_seen : (rest : List (Box State)) (child : Box State) → seen_children (rest ++ child ∷ []) ≡ suspended (top child.value) ∷ seen_children rest
+newest_seen rest child = ap (map (λ c. suspended (top c.value))) (reverse-append rest (child ∷ []))
+
+-- A state that looks the same is as sound.
+pub record Looks (old new : State) : Type 0 where
+  pub sound : IsSoundState new
+  pub seen : suspended (top new) ≡ suspended (top old)
+  pub work : work_left (top new) ≡ work_left (top old)
+  pub own : (top new).own ≡ (top old).own
+
+looks_top : (old new : State) → LooksSame old new → old.parents.items ≡ [] → Becomes (top old) (top new) (top old).environment (top old).frames (top old).control
+looks_top old new l none =
+    let none' : new.parents.items ≡ [] = l.parents ∙ none in
+    record {
+      program = l.program;
+      own = ap (λ ps. owned_at new.own (reverse ps) new.lines new.level.place) none' ∙ ap (λ x. record { name = x.name; label = record { tag = x.tag; ran = x.ran }; holds = x.holds }) l.own
+          ∙ ap (λ ps. owned_at old.own (reverse ps) old.lines old.level.place) (sym none);
+      below = ap (λ ps. below_at (reverse ps) new.lines new.level.place) none' ∙ l.lines ∙ ap (λ ps. below_at (reverse ps) old.lines old.level.place) (sym none);
+      forks = ap (λ v. v.forks) l.level;
+      environment_is = l.environment;
+      frames_are = ap (λ v. drop v.start new.frames.items) l.level ∙ ap (drop old.level.start) l.frames;
+      control_is = l.control;
+    }
+
+pub looks_sound : (old new : State) → IsSoundState old → LooksSame old new → old.parents.items ≡ [] → Looks old new
+looks_sound old new s l none =
+    let b = looks_top old new l none in
+    let g = goes_nowhere (top old) (top new) b in
+    let none' : new.parents.items ≡ [] = l.parents ∙ none in
+    let alone : AreSound (top old ∷ []) s.sums_of = subst (λ ts. AreSound (top old ∷ ts) s.sums_of) (alone_waiting old none) s.sound in
+    record {
+      sound = record {
+        sums_of = s.sums_of;
+        sums = l.sums ∙ subst (λ p. old.sums.items ≡ tabulated (source_of p.now).ledgers s.sums_of) (sym l.program) s.sums;
+        sound = subst (λ ts. AreSound (top new ∷ ts) s.sums_of) (sym (alone_waiting new none'))
+            (alone.0, alone.1, sound_goes 0 [] (top old) (top new) alone.0 alone.2 g, alone.3, alone.4);
+        run_for = subst (RunFor (top new)) (sym (alone_waiting new none')) tt;
+        fits = subst (λ ps. Fits (reverse ps) new.level.start new.level.place (length new.frames.items) (length new.lines)) (sym none')
+            (ap (λ v. v.start) l.level ∙ subst (λ ps. Fits (reverse ps) old.level.start old.level.place (length old.frames.items) (length old.lines)) none s.fits);
+        few = omega (arith, s.few, ap length l.lines);
+      };
+      seen = unchanged_seen (top old) (top new) b;
+      work = omega (arith, g.work);
+      own = b.own;
+    }
+
+-- what callers see of it by itself
+pub looks_nested : (old new : State) → LooksSame old new → old.parents.items ≡ [] → Looks old new → (ps : List (Box State)) → nested new ps ≡ nested old ps
+looks_nested old new l none looks ps =
+    ap (λ r. record (nested new ps) { running = r }) looks.seen
+    ∙ ap (λ ts. record (nested new ps) { running = suspended (top old); parents = map suspended ts }) (alone_waiting new (l.parents ∙ none) ∙ sym (alone_waiting old none))
+    ∙ ap (λ x. record (nested old ps) { sums = x }) l.sums
+
+-- All of these, and one of them.
+all_left : {X : Type 0} (P : X → Type 0) (xs ys : List X) → All P (xs ++ ys) → All P xs
+all_left P xs ys h = λ k d lt. subst P (get_or_append_left xs ys d k lt) (h k d (omega (arith, lt, length-append xs ys)))
+
+all_last : {X : Type 0} (P : X → Type 0) (xs : List X) (x : X) → All P (xs ++ x ∷ []) → P x
+all_last P xs x h = subst P (get_or-append_seam xs x [] x) (h (length xs) x (omega (arith, length-append xs (x ∷ []))))
+
+pub all_one : {X : Type 0} (P : X → Type 0) (x : X) → P x → All P (x ∷ [])
+all_one P x p zero d lt = p
+all_one P x p (suc k) d lt = absurd (omega (arith, lt))
+
+abbrev Sound : Box State → Type 0
+Sound child = IsSoundChild child.value
+
+-- The name of a thread by itself.
+pub own_name : (t : State) → t.parents.items ≡ [] → (top t).own ≡ owned_at t.own [] t.lines t.level.place
+own_name t none = ap (λ ps. owned_at t.own (reverse ps) t.lines t.level.place) none
+
+-- Those that wait are of one program, and each awaits the one before it.
+abbrev Programs : Bor Program → List Strand → Type 0
+Programs program [] = Unit {0}
+Programs program (t ∷ ts) = (t.program ≡ program) × Programs program ts
+
+programs_waiting : (program : Bor Program) (own : Own) (ps : List Parent) (lines : List ThreadLine) (frames : List Frame) (start place : ℕ) (env : Environment) →
+    Programs program (waiting program own ps lines frames start place env)
+programs_waiting program own [] lines frames start place env = tt
+programs_waiting program own (p ∷ ps) lines frames start place env = (
+  refl,
+  programs_waiting program own ps (take place lines) (take start frames) p.level.start p.level.place
+      (ending (strand_at program own ps (take place lines) p.level env (take start frames) p.control)).env,
+)
+
+joins_then : (k : Control) (n : ℕ) → fork_awaited k ≡ n ∷ [] → pending_of k ≡ Some pause.Joins
+joins_then (Awaits number during next) n e = refl
+joins_then (AwaitsHalf number right reduction) n e = refl
+joins_then (Begin expr) n e = cc
+joins_then (Give value) n e = cc
+joins_then (Cover stretch) n e = cc
+joins_then (Forked expr) n e = cc
+joins_then (Halved stretch) n e = cc
+joins_then (Asks lock body) n e = cc
+joins_then (Frees lock value) n e = cc
+joins_then (Tallies ledger amount body) n e = cc
+joins_then (Ended value) n e = cc
+
+await_all : (t : Strand) (ts : List Strand) → RunFor t ts → Programs t.program ts → Await (suspended t) (map suspended ts)
+await_all t [] h p = tt
+await_all t (u ∷ us) h p = (
+  record {
+    joins = joins_then u.control h.0.number h.0.awaits;
+    of_child = ap (λ l. option_map (λ number. u.own.name ++ number ∷ []) (slice_get (l ++ forks_of u.frames) 0)) h.0.awaits ∙ ap Some (sym h.0.named);
+    same_source = ap (λ q. source_of q.now) (sym p.0);
+    in_place = h.0.in_place;
+  },
+  await_all u us h.1 (subst (λ q. Programs q us) (sym p.0) p.1),
+)
+
+-- A sound state with sound children that may run here is kept.
+pub kept_sound : (t : State) (qs : List (Box State)) → IsSoundState t → All (λ child. IsSoundChild child.value) qs → ArePlaced (source_of t.program.now) (seen_children qs) →
+    (pending_of t.control ≡ Some pause.Ended → t.parents.items ≡ []) → IsKept t qs
+kept_sound t qs s children placed ended = record {
+  sound = s;
+  children = children;
+  nested_is = record {
+    awaiting = await_all (top t) (waiting_in t) s.run_for
+        (programs_waiting t.program t.own (reverse t.parents.items) t.lines t.frames.items t.level.start t.level.place (ending (top t)).env);
+    waiting = placed;
+  };
+  ended = ended;
+}
+
+pub work_seen : (t : State) (qs : List (Box State)) → work_in (nested t qs) ≡ work_in_state t + works (seen_children qs)
+work_seen t qs = omega (arith, works_seen (waiting_in t))
+
+-- The newest child.
+record Newest (t : State) (ps qs : List (Box State)) (child : Box State) : Type 0 where
+  seen : seen_children ps ≡ suspended (top child.value) ∷ seen_children qs
+  sound : IsSoundChild child.value
+  others : All (λ c. IsSoundChild c.value) qs
+  source : source_of child.value.program.now ≡ source_of t.program.now
+  placed : IsPlaced (source_of t.program.now) (suspended (top child.value))
+  rest : ArePlaced (source_of t.program.now) (seen_children qs)
+
+newest_of : (t : State) (ps qs : List (Box State)) (child : Box State) → IsKept t ps → ps ≡ qs ++ child ∷ [] → Newest t ps qs child
+newest_of t ps qs child kept is =
+    let seen = ap seen_children is ∙ newest_seen qs child in
+    let all = subst (λ l. All (λ c. IsSoundChild c.value) l) is kept.children in
+    let placed = subst (ArePlaced (source_of t.program.now)) seen kept.nested_is.waiting in
+    record {
+      seen = seen;
+      sound = all_last Sound qs child all;
+      others = all_left Sound qs (child ∷ []) all;
+      source = placed.0.same_source;
+      placed = placed.0;
+      rest = placed.1;
+    }
+
+-- It is taken up.
+pub record Up (old : State) (ps : List (Box State)) (new : State) (qs : List (Box State)) : Type 0 where
+  pub kept : IsKept new qs
+  pub work : work_in (nested new qs) ≡ work_in (nested old ps)
+  pub pending : pending_of new.control ≡ None
+
+pub taken_up : (old new : State) (ps qs : List (Box State)) (child : Box State) → IsKept old ps → ps ≡ qs ++ child ∷ [] → pending_of old.control ≡ Some pause.Joins →
+    awaited (suspended (top old)) ≡ Some child.value.own.name → TakesIn old child.value new → Up old ps new qs
+taken_up old new ps qs child kept is joins of_child takes =
+    let n = newest_of old ps qs child kept is in
+    let t = taken old child.value new kept.sound n.sound.sound n.sound.alone n.source joins of_child takes in
+    record {
+      kept = kept_sound new qs t.sound n.others (subst (λ p. ArePlaced (source_of p.now) (seen_children qs)) (sym takes.program) n.rest) (going new (ap pending_of takes.control_is ∙ n.placed.not_paused));
+      work = omega (arith, t.work, ap works (ap (map suspended) t.waits), ap works n.seen);
+      pending = ap pending_of takes.control_is ∙ n.placed.not_paused;
+    }
+
+-- Memory was refused, and it stands before the step in which it came to await that child.
+pub record Back (old : State) (ps : List (Box State)) (new : State) (qs : List (Box State)) : Type 0 where
+  pub kept : IsKept new qs
+  pub program : new.program ≡ old.program
+  pub own : new.own ≡ old.own
+  pub work : work_in (nested new qs) ≡ work_in (nested old ps) + 1
+  pub pending : pending_of new.control ≡ None
+
+pub stood_back : (old new : State) (ps qs : List (Box State)) → IsKept old ps → StandsBack old ps new qs → Back old ps new qs
+stood_back old new ps qs kept b =
+    let n = newest_of old ps b.rest b.child kept b.were in
+    let mid = same_kept old b.mid ps kept b.same in
+    let u = unstepped b.mid new mid.sound b.stands in
+    let looks = looks_sound b.child.value b.back.value n.sound.sound b.looks n.sound.alone in
+    let program : new.program ≡ old.program = u.leaves.program ∙ b.same.program in
+    let seen : seen_children qs ≡ suspended (top b.child.value) ∷ seen_children b.rest = ap seen_children b.are ∙ newest_seen b.rest b.back ∙ ap (λ s. s ∷ seen_children b.rest) looks.seen in
+    let one : All (λ c. IsSoundChild c.value) (b.back ∷ []) = all_one Sound b.back (record { sound = looks.sound; alone = b.looks.parents ∙ n.sound.alone }) in
+    let whole : work_in (nested b.mid ps) ≡ work_in (nested old ps) = ap work_in (same_seen old b.mid ps kept.sound b.same) in
+    record {
+      kept = kept_sound new qs u.sound (subst (λ l. All (λ c. IsSoundChild c.value) l) (sym b.are) (All-append Sound b.rest (b.back ∷ []) n.others one))
+          (subst (ArePlaced (source_of new.program.now)) (sym seen)
+          (subst (λ p. ArePlaced (source_of p.now) (suspended (top b.child.value) ∷ seen_children b.rest)) (sym program) (n.placed, n.rest))) (going new u.pending);
+      program = program;
+      own = u.leaves.own ∙ b.same.own;
+      work = omega (arith, whole, u.work, ap works (ap (map suspended) u.waits), ap works seen, ap works n.seen);
+      pending = u.pending;
+    }
+
+-- Not the newest child is awaited.
+elsewhere_at : (t : State) (qs cs : List (Box State)) → reverse qs ≡ cs → All (λ c. IsSoundChild c.value) qs →
+    ((rest : List (Box State)) (child : Box State) → qs ≡ rest ++ child ∷ [] → awaited (suspended (top t)) ≢ Some child.value.own.name) →
+    AwaitsElsewhere (suspended (top t)) (map (λ child. suspended (top child.value)) cs)
+elsewhere_at t qs [] e all other = tt
+elsewhere_at t qs (c ∷ cs) e all other =
+    let is : qs ≡ reverse cs ++ c ∷ [] = sym (reverse-reverse qs) ∙ ap reverse e ∙ reverse-append (c ∷ []) cs in
+    let one = all_last Sound (reverse cs) c (subst (λ l. All (λ c. IsSoundChild c.value) l) is all) in
+    λ awaits. other (reverse cs) c is (awaits ∙ ap (λ o. Some o.name) (own_name c.value one.alone))
+
+pub awaits_elsewhere : (t : State) (qs : List (Box State)) → All (λ c. IsSoundChild c.value) qs →
+    ((rest : List (Box State)) (child : Box State) → qs ≡ rest ++ child ∷ [] → awaited (suspended (top t)) ≢ Some child.value.own.name) → AwaitsElsewhere (suspended (top t)) (seen_children qs)
+awaits_elsewhere t qs all other = elsewhere_at t qs (reverse qs) refl all other
+
+seen_at : (qs : List (Box State)) (k : ℕ) (d : Box State) → k < length qs → SeenAmong (seen_children qs) (suspended (top (get_or qs k d).value))
+seen_at qs k d lt =
+    let f : Box State → Suspended = λ c. suspended (top c.value) in
+    let long = length-reverse qs in
+    let back : length qs - 1 - (length qs - 1 - k) ≡ k = omega (arith, lt) in
+    record {
+      place = length qs - 1 - k;
+      there = omega (arith, lt, length-map (reverse qs) f, long);
+      is = λ e. get_or-map f (reverse qs) (length qs - 1 - k) d e (omega (arith, lt, long)) ∙ ap f (get_or-reverse qs (length qs - 1 - k) d (omega (arith, lt)) ∙ ap (λ n. get_or qs n d) back);
+    }
+
+pub as_many_here : (t : State) (qs : List (Box State)) → IsKept t qs → All (λ child. length child.value.sums.items ≡ length t.sums.items) qs
+as_many_here t qs kept = λ k d lt.
+    let c = get_or qs k d in
+    let sound = kept.children k d lt in
+    let source = placed_source (source_of t.program.now) (seen_children qs) (suspended (top c.value)) kept.nested_is.waiting (seen_at qs k d lt) in
+    ap length sound.sound.sums ∙ length-tabulated (source_of c.value.program.now).ledgers sound.sound.sums_of ∙ ap (λ x. x.ledgers) source
+    ∙ sym (ap length kept.sound.sums ∙ length-tabulated (source_of t.program.now).ledgers kept.sound.sums_of)
+
+same_next : (a b : Pending) → ◌≡◌ {A = Option Pending} (Some a) (Some b) → a ≡ b
+same_next a b e = cc
+
+-- A pause keeps the state.
+pub record Paused (last new : State) (qs : List (Box State)) : Type 0 where
+  pub kept : IsKept new qs
+  pub work : work_in (nested new qs) + 1 ≡ work_in (nested last qs)
+  pub waits : waiting_in new ≡ waiting_in last
+  pub forks : (top new).forks ≡ (top last).forks
+  pub own : (top new).own ≡ (top last).own
+  pub here : here_of (top new) ≡ here_of (top last)
+
+stops_within : (n : ℕ) (a : Strand) (next : Pending) (b : Strand) → AfterSteps n a (Some next) b → GoesWithin 1 n a b
+stops_within n a pause.Forks b h = absurd h
+stops_within n a pause.Joins b h = h.0
+stops_within n a (pause.Asks lock) b h = h.0
+stops_within n a (pause.Frees lock) b h = h.0
+stops_within n a (pause.Tallies ledger amount) b h = h.0
+stops_within n a pause.Ended b h = h.0
+
+pub paused : (last new : State) (qs : List (Box State)) (next : Pending) → IsKept last qs → LeavesOthers last new → (next ≡ pause.Ended → new.parents.items ≡ []) → AfterSteps 1 (top last) (Some next) (top new) →
+    Paused last new qs
+paused last new qs next kept l ended stops =
+    let w = stops_within 1 (top last) next (top new) stops in
+    let g = w.goes in
+    let one : w.made ≡ 1 = omega (arith, w.at_least, w.at_most) in
+    let env = ap (λ e. e.env) g.ending in
+    let waits = leaves_waiting last new l env in
+    record {
+      kept = kept_sound new qs (sound_top last new kept.sound l env g.own (λ account sound. (account, sound_after 1 (top last) (top new) (Some next) account sound stops, λ ledger. refl))) kept.children
+          (subst (λ p. ArePlaced (source_of p.now) (seen_children qs)) (sym l.program) kept.nested_is.waiting)
+          (λ e. ended (same_next next pause.Ended (sym (stopped_pending 1 (top last) next (top new) stops) ∙ e)));
+      work = omega (arith, g.work, one, ap works (ap (map suspended) waits));
+      waits = waits;
+      forks = g.forks;
+      own = g.own;
+      here = g.here;
+    }
+
+-- Steps of a state with children.
+pub went_nothing : {Q : Type 0} → (had : ℕ) (t : State) (ps : List (Box State)) → IsKept t ps → pending_of t.control ≡ None → Went Q had had t ps t ps
+went_nothing had t ps kept running = record {
+  made = 0;
+  fewer = omega arith;
+  counted = omega arith;
+  kept = kept;
+  program = refl;
+  own = refl;
+  work = omega arith;
+  running = running;
+  by_itself = λ none. (none, runs_nothing had t t kept.sound (as_is t) running);
+}
+
+pub went_on : {Q : Type 0} → (had some most left : ℕ) (a b c : State) (ps qs : List (Box State)) → (w : Went Q had some a ps b qs) → RunsOn Q most left 0 b c → most ≤ some → Went Q (most + w.made) left a ps c qs
+went_on had some most left a b c ps qs w r less =
+    let work = r.runs.work in
+    record {
+      made = w.made + r.made;
+      fewer = omega (arith, r.fewer);
+      counted = omega (arith, r.counted);
+      kept = kept_sound c qs r.runs.sound w.kept.children (subst (λ p. ArePlaced (source_of p.now) (seen_children qs)) (sym r.runs.program) w.kept.nested_is.waiting) (going c r.running);
+      program = r.runs.program ∙ w.program;
+      own = r.runs.own ∙ w.own;
+      work = omega (arith, w.work, work, work_seen c qs, work_seen b qs);
+      running = r.running;
+      by_itself = λ none.
+          let before = w.by_itself none in
+          let m = before.1 in (
+            before.0,
+            record {
+              made = m.made + r.made;
+              fewer = omega (arith, r.fewer);
+              counted = omega (arith, r.counted, m.counted, w.counted);
+              runs = runs_on m.made r.made a b c m.runs r.runs;
+              running = r.running;
+              places_none = λ x alone. r.places_none x (m.runs.by_itself alone (m.places_none x alone)).alone ∙ m.places_none x alone;
+            },
+          );
+    }
+
+pub went_refused : {Q : Type 0} → (had some : ℕ) (a b c : State) (ps qs : List (Box State)) → Went Q had some a ps b qs → 0 < some → RunsWithin Q (some - 1) b c → WentWithin Q (had - 1) a ps c qs
+went_refused had some a b c ps qs w more r =
+    let work = r.runs.work in
+    record {
+      made = w.made + r.made;
+      at_most = omega (arith, w.counted, r.at_most, more);
+      kept = kept_sound c qs r.runs.sound w.kept.children (subst (λ p. ArePlaced (source_of p.now) (seen_children qs)) (sym r.runs.program) w.kept.nested_is.waiting) (going c r.running);
+      program = r.runs.program ∙ w.program;
+      own = r.runs.own ∙ w.own;
+      work = omega (arith, w.work, work, work_seen c qs, work_seen b qs);
+      running = r.running;
+      by_itself = λ none.
+          let before = w.by_itself none in
+          let m = before.1 in (
+            before.0,
+            record {
+              made = m.made + r.made;
+              at_most = omega (arith, m.counted, r.at_most, more);
+              runs = runs_on m.made r.made a b c m.runs r.runs;
+              running = r.running;
+              places_none = λ x alone. r.places_none x (m.runs.by_itself alone (m.places_none x alone)).alone ∙ m.places_none x alone;
+            },
+          );
+    }
+
+some_child : (qs : List (Box State)) (child : Box State) → qs ++ child ∷ [] ≡ [] → ⊥
+some_child [] child e = cc
+some_child (q ∷ qs) child e = cc
+
+-- The innermost came to await the newest child, which goes on in its place.
+pub went_up : {Q : Type 0} → (had some left : ℕ) (a b c d : State) (ps qs rs : List (Box State)) (child : Box State) → Went Q had some a ps b qs → (beside : ℕ) → some ≡ beside + 1 →
+    RunsToPause Q beside left b pause.Joins c → qs ≡ rs ++ child ∷ [] → awaited (suspended (top c)) ≡ Some child.value.own.name → TakesIn c child.value d → pending_of c.control ≡ Some pause.Joins →
+    Went Q had left a ps d rs
+went_up had some left a b c d ps qs rs child w beside one r is of_child takes joins =
+    let last = went_on had some beside left a b r.last ps qs w r.runs (omega (arith, one)) in
+    let at = paused r.last c qs pause.Joins last.kept r.leaves r.ended r.stops in
+    let up = taken_up c d qs rs child at.kept is joins of_child takes in
+    record {
+      made = last.made + 1;
+      fewer = omega (arith, last.counted, w.counted, one);
+      counted = omega (arith, last.counted, w.counted, one);
+      kept = up.kept;
+      program = takes.program ∙ r.leaves.program ∙ last.program;
+      own = takes.own ∙ r.leaves.own ∙ last.own;
+      work = omega (arith, last.work, at.work, up.work);
+      running = up.pending;
+      by_itself = λ none. absurd (some_child rs child (sym is ∙ (w.by_itself none).0));
+    }
+
+pub went_back : {Q : Type 0} → (had some left : ℕ) (a b c d : State) (ps qs rs : List (Box State)) → Went Q had some a ps b qs → (beside : ℕ) → some ≡ beside + 1 →
+    RunsToPause Q beside left b pause.Joins c → StandsBack c qs d rs → WentWithin Q (had - 1) a ps d rs
+went_back had some left a b c d ps qs rs w beside one r back =
+    let last = went_on had some beside left a b r.last ps qs w r.runs (omega (arith, one)) in
+    let at = paused r.last c qs pause.Joins last.kept r.leaves r.ended r.stops in
+    let b' = stood_back c d qs rs at.kept back in
+    record {
+      made = last.made;
+      at_most = omega (arith, last.counted, w.counted, one);
+      kept = b'.kept;
+      program = b'.program ∙ r.leaves.program ∙ last.program;
+      own = b'.own ∙ r.leaves.own ∙ last.own;
+      work = omega (arith, last.work, at.work, b'.work);
+      running = b'.pending;
+      by_itself = λ none. absurd (some_child back.rest back.child (sym back.were ∙ (w.by_itself none).0));
+    }
+
+pub advanced_kept : {Q : Type 0} → (had some left : ℕ) (a b c : State) (ps qs : List (Box State)) (next : Option Pending) → Went Q had some a ps b qs → Advances Q some left b None next c → IsKept c qs
+advanced_kept had some left a b c ps qs None w r = (went_on had some some left a b c ps qs w r.0 (omega arith)).kept
+advanced_kept had some left a b c ps qs (Some next) w r =
+    (paused r.2.last c qs next (went_on had some r.0 left a b r.2.last ps qs w r.2.runs (omega (arith, r.1))).kept r.2.leaves r.2.ended r.2.stops).kept
+
+-- It pauses, or has made all steps.
+pub went_paused : (Q : Type 0) → (had some left : ℕ) (a b c : State) (ps qs : List (Box State)) (next : Option Pending) → Went Q had some a ps b qs → Advances Q some left b None next c → next ≡ pending_of c.control →
+    (pending_of c.control ≡ Some pause.Joins → (rest : List (Box State)) (child : Box State) → qs ≡ rest ++ child ∷ [] → awaited (suspended (top c)) ≢ Some child.value.own.name) →
+    AdvancesWith Q had left a ps None next c qs
+went_paused Q had some left a b c ps qs None w r is other =
+    let on = went_on had some some left a b c ps qs w r.0 (omega arith) in
+    let all : some + w.made ≡ had = w.counted in
+    (subst (λ n. Went Q n left a ps c qs) all on, r.1)
+went_paused Q had some left a b c ps qs (Some next) w r is other =
+    let last = went_on had some r.0 left a b r.2.last ps qs w r.2.runs (omega (arith, r.1)) in (
+      r.0 + w.made,
+      omega (arith, r.1, w.counted),
+      record {
+        last = r.2.last;
+        went = last;
+        leaves = r.2.leaves;
+        stops = r.2.stops;
+        ended = r.2.ended;
+        elsewhere = λ joins. awaits_elsewhere c qs last.kept.children (other (sym is ∙ ap Some joins));
+      },
+    )
+
+pub went_forked : {Q : Type 0} → (had some left : ℕ) (a b c : State) (ps qs : List (Box State)) (class : Class) (child : State) → Went Q had some a ps b qs → (beside : ℕ) → some ≡ beside + 1 →
+    RunsToFork Q beside left b class child c → (beside' : ℕ) × (had ≡ beside' + 1) × WentToFork Q beside' left a ps class child c qs
+went_forked had some left a b c ps qs class child w beside one r = (
+  beside + w.made,
+  omega (arith, one, w.counted),
+  record {
+    last = r.last;
+    went = went_on had some beside left a b r.last ps qs w r.runs (omega (arith, one));
+    leaves = r.leaves;
+    gives = r.gives;
+    sound = r.sound;
+    alone = r.alone;
+    sums = r.sums;
+  },
+)

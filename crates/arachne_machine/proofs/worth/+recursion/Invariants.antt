@@ -1,0 +1,14 @@
+-- An expression is evaluated after the helper that takes it, and its parts after it.
+use Rattle.std.proofs.Common.{◌+◌, ◌*◌}
+use Rattle.arachne_lang.specs.Program.{tree_of}
+use Rattle.arachne_lang.specs.Text.{nesting}
+use Rattle.arachne_machine.proofs.worth.+recursion.Given as goal
+
+abbrev pub decreases-value_at_once : goal.decreases-value_at_once
+decreases-value_at_once l = 2 * nesting (tree_of l.expr.now)
+
+abbrev pub decreases-side_at_once : goal.decreases-side_at_once
+decreases-side_at_once l = 2 * nesting (tree_of l.expr.now) + 1
+
+abbrev pub decreases-bound_at_once : goal.decreases-bound_at_once
+decreases-bound_at_once l = 2 * nesting (tree_of l.body.now) + 1

@@ -1,0 +1,107 @@
+-- A thread as callers see it, with what is so of it between two calls.
+use Rattle.std.specs.Prelude.{◌≡◌, ◌≢◌, ◌≤◌, ℕ, ◌+◌, Bool, true, false, List, [], ◌∷◌, ◌++◌, map, reverse, All, Option, None, Some}
+use Rattle.std.specs.Global.{Box}
+use Rattle.arachne_machine.specs.declared.state.State.{State}
+use Rattle.arachne_lang.specs.declared.program.Class.{Class}
+use Rattle.arachne_lang.specs.Effects.{tabulated}
+use Rattle.arachne_machine.specs.declared.pause.Pending.{Pending}
+use Rattle.arachne_machine.specs.declared.pause.Pending.TheVariants as pause
+use Rattle.arachne_machine.specs.Suspended.{Suspended, awaited}
+use Rattle.arachne_machine.specs.Nested.{AwaitsElsewhere, Nested, IsNested, work_in}
+use Rattle.arachne_machine.specs.Runs.{LooksSame, RunsOn, RunsWithin, StandsBefore, TakesIn}
+use Rattle.arachne_machine.specs.Steps.{AfterSteps, GivesChild, IsSame, LeavesOthers, pending_of, suspended, task_begun, top, waiting_in}
+use Rattle.arachne_machine.specs.Sound.{IsSoundState}
+
+-- a state with the children that were handed back to it, the newest of which is the last
+abbrev pub nested : State → List (Box State) → Nested
+nested t placed = record {
+  running = suspended (top t);
+  parents = map suspended (waiting_in t);
+  placed = map (λ child. suspended (top child.value)) (reverse placed);
+  sums = t.sums.items;
+}
+
+-- a child that was handed back, in whose place no other is
+pub record IsSoundChild (t : State) : Type 0 where
+  pub sound : IsSoundState t
+  pub alone : t.parents.items ≡ []
+
+pub record IsKept (t : State) (placed : List (Box State)) : Type 0 where
+  pub sound : IsSoundState t
+  pub children : All (λ child. IsSoundChild child.value) placed
+  pub nested_is : IsNested (nested t placed)
+  -- a thread that others wait for does not rest once it has ended
+  pub ended : pending_of t.control ≡ Some pause.Ended → t.parents.items ≡ []
+
+-- what callers see of children that were handed back, the newest first
+abbrev pub seen_children : List (Box State) → List Suspended
+seen_children placed = map (λ child. suspended (top child.value)) (reverse placed)
+
+-- So many steps were left and so many are, and no thread pauses. Where no child was handed back it is so of the state by itself.
+pub record Went (Q : Type 0) (had left : ℕ) (old : State) (ps : List (Box State)) (new : State) (qs : List (Box State)) : Type 0 where
+  pub made : ℕ
+  pub fewer : left ≤ had
+  pub counted : left + made ≡ had
+  pub kept : IsKept new qs
+  pub program : new.program ≡ old.program
+  pub own : new.own ≡ old.own
+  pub work : work_in (nested new qs) + made ≡ work_in (nested old ps)
+  pub running : pending_of new.control ≡ None
+  pub by_itself : ps ≡ [] → (qs ≡ []) × RunsOn Q had left 0 old new
+
+-- The same, and then the innermost pauses so in one step more.
+pub record WentToPause (Q : Type 0) (had left : ℕ) (old : State) (ps : List (Box State)) (next : Pending) (new : State) (qs : List (Box State)) : Type 0 where
+  pub last : State
+  pub went : Went Q had left old ps last qs
+  pub leaves : LeavesOthers last new
+  pub stops : AfterSteps 1 (top last) (Some next) (top new)
+  pub ended : next ≡ pause.Ended → new.parents.items ≡ []
+  pub elsewhere : next ≡ pause.Joins → AwaitsElsewhere (suspended (top new)) (seen_children qs)
+
+-- The same, and then the innermost forks this child in one step more.
+pub record WentToFork (Q : Type 0) (had left : ℕ) (old : State) (ps : List (Box State)) (class : Class) (child new : State) (qs : List (Box State)) : Type 0 where
+  pub last : State
+  pub went : Went Q had left old ps last qs
+  pub leaves : LeavesOthers last new
+  pub gives : GivesChild 1 (top last) (top new) (top child) (record { class = class; task = task_begun child.control child.environment.items })
+  pub sound : IsSoundState child
+  pub alone : child.parents.items ≡ []
+  pub sums : child.sums.items ≡ tabulated last.program.now.ledgers (λ ledger. 0)
+
+-- What comes of an advance, by the child that it gives and the pause that is not answered.
+abbrev pub AdvancesWith : Type 0 → ℕ → ℕ → State → List (Box State) → Option (Class × Box State) → Option Pending → State → List (Box State) → Type 0
+AdvancesWith Q had left old ps None None new qs = Went Q had left old ps new qs × (left ≡ 0)
+AdvancesWith Q had left old ps None (Some next) new qs = (beside : ℕ) × (had ≡ beside + 1) × WentToPause Q beside left old ps next new qs
+AdvancesWith Q had left old ps (Some forked) pending new qs = (beside : ℕ) × (had ≡ beside + 1) × WentToFork Q beside left old ps forked.0 forked.1.value new qs
+
+-- At most so many steps were made, and no thread pauses.
+pub record WentWithin (Q : Type 0) (most : ℕ) (old : State) (ps : List (Box State)) (new : State) (qs : List (Box State)) : Type 0 where
+  pub made : ℕ
+  pub at_most : made ≤ most
+  pub kept : IsKept new qs
+  pub program : new.program ≡ old.program
+  pub own : new.own ≡ old.own
+  pub work : work_in (nested new qs) + made ≡ work_in (nested old ps)
+  pub running : pending_of new.control ≡ None
+  pub by_itself : ps ≡ [] → (qs ≡ []) × RunsWithin Q most old new
+
+-- The innermost awaits the newest of these children, which goes on in its place; or it awaits none, or another.
+abbrev pub TakesUp : Bool → State → List (Box State) → State → List (Box State) → Type 0
+TakesUp true old ps new qs =
+    (child : Box State) × (ps ≡ qs ++ child ∷ []) × (pending_of old.control ≡ Some pause.Joins) × (awaited (suspended (top old)) ≡ Some child.value.own.name) × TakesIn old child.value new
+TakesUp false old ps new qs =
+    (new ≡ old) × (qs ≡ ps)
+    × (pending_of old.control ≡ Some pause.Joins → (rest : List (Box State)) (child : Box State) → ps ≡ rest ++ child ∷ [] → awaited (suspended (top old)) ≢ Some child.value.own.name)
+
+-- Memory was refused: it stands before the step in which it came to await the newest of these children.
+pub record StandsBack (old : State) (ps : List (Box State)) (new : State) (qs : List (Box State)) : Type 0 where
+  pub joins : pending_of old.control ≡ Some pause.Joins
+  pub rest : List (Box State)
+  pub child : Box State
+  pub back : Box State
+  pub were : ps ≡ rest ++ child ∷ []
+  pub are : qs ≡ rest ++ back ∷ []
+  pub looks : LooksSame child.value back.value
+  pub mid : State
+  pub same : IsSame old mid
+  pub stands : StandsBefore mid.control mid new

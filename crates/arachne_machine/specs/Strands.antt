@@ -1,0 +1,71 @@
+-- The threads of a state, one by one.
+use Rattle.std.specs.Prelude.{◌≤◌, ◌<◌, ◌≡◌, ℕ, ◌+◌, List, [], ◌∷◌, drop, get_or}
+use Rattle.std.specs.Borrow.{Bor}
+use Rattle.arachne_lang.specs.declared.program.Program.{Program}
+use Rattle.arachne_lang.specs.Value.{Environment}
+use Rattle.arachne_machine.specs.declared.frame.Frame.{Frame}
+use Rattle.arachne_machine.specs.declared.frame.Control.{Control}
+use Rattle.arachne_machine.specs.declared.level.Level.{Level}
+use Rattle.arachne_machine.specs.declared.level.Parent.{Parent}
+use Rattle.arachne_machine.specs.declared.line.Label.{Label}
+use Rattle.arachne_machine.specs.declared.line.Ran.TheVariants.{Slot}
+use Rattle.arachne_machine.specs.declared.line.ThreadLine.{ThreadLine}
+use Rattle.arachne_machine.specs.declared.state.Own.{Own}
+
+-- what becomes a thread's own line
+pub record Owned : Type 0 where
+  pub name : List ℕ
+  pub label : Label
+  pub holds : List ℕ
+
+-- a thread between two steps, by itself
+pub record Strand : Type 0 where
+  pub program : Bor Program
+  pub own : Owned
+  -- the lines of the threads below it, as far as they were joined
+  pub below : List ThreadLine
+  -- how many threads it has forked
+  pub forks : ℕ
+  pub environment : Environment
+  -- its frames, the newest of which is the last
+  pub frames : List Frame
+  pub control : Control
+
+-- what a line is of
+abbrev pub owned_of : ThreadLine → Owned
+owned_of line = record { name = line.name; label = record { tag = line.tag; ran = line.ran }; holds = line.holds }
+
+-- the line of an outermost thread
+abbrev pub own_line : Own → ThreadLine
+own_line own = record { name = own.name; tag = own.label.tag; holds = own.holds.items; ran = own.label.ran }
+
+-- the line at a place
+abbrev pub line_at : List ThreadLine → ℕ → ThreadLine
+line_at lines place = get_or lines place (record { name = []; tag = 0; holds = []; ran = Slot })
+
+-- The outermost thread, which has no parents, has its line apart; another one's is at its place, and the lines below it behind that.
+abbrev pub owned_at : Own → List Parent → List ThreadLine → ℕ → Owned
+owned_at own [] lines place = record { name = own.name; label = own.label; holds = own.holds.items }
+owned_at own (parent ∷ parents) lines place = owned_of (line_at lines place)
+
+abbrev pub below_at : List Parent → List ThreadLine → ℕ → List ThreadLine
+below_at [] lines place = lines
+below_at (parent ∷ parents) lines place = drop (place + 1) lines
+
+-- the thread at a level, with those that wait for it, the newest first
+abbrev pub strand_at : Bor Program → Own → List Parent → List ThreadLine → Level → Environment → List Frame → Control → Strand
+strand_at program own parents lines level env frames control = record {
+  program = program;
+  own = owned_at own parents lines level.place;
+  below = below_at parents lines level.place;
+  forks = level.forks;
+  environment = env;
+  frames = drop level.start frames;
+  control = control;
+}
+
+-- Where the frames of each begin, and where its line is: so many frames and lines there are.
+abbrev pub Fits : List Parent → ℕ → ℕ → ℕ → ℕ → Type 0
+Fits [] start place frames lines = start ≡ 0
+Fits (parent ∷ parents) start place frames lines =
+    (start ≤ frames) × (place < lines) × Fits parents parent.level.start parent.level.place start place

@@ -1,0 +1,232 @@
+//! Turns of folds and sweeps. Those whose body is worth its value are made at once.
+use crate::frame::Frame;
+use crate::state::{Progress, State};
+use crate::worth::body_at_once;
+use arachne_lang::{Expr, Reduction};
+
+/// How folds and sweeps go on.
+impl<'p> State<'p> {
+    ghost use Rattle.std.specs.Prelude.{◌≡◌, ◌+◌, ◌-◌, ◌<◌, ◌≤◌, ◌++◌, ◌∷◌, [], length, vec_len, vec_capacity, MatchOption};
+    ghost use Rattle.arachne_lang.specs.Program.{source_of, tree_of};
+    ghost use Rattle.arachne_lang.specs.Value.{with_newest};
+    ghost use Rattle.arachne_machine.specs.declared.frame.Frame.TheVariants as frames;
+    ghost use Rattle.arachne_machine.specs.declared.frame.Control.TheVariants as control;
+    ghost use Rattle.arachne_machine.specs.Pure.{IsWorth};
+    ghost use Rattle.arachne_machine.specs.Strands.{Strand};
+    ghost use Rattle.arachne_machine.specs.Steps.{Changes, ComesToFold, ComesToSweep, IsSame, LeavesOthers, OnStops, OnValue, Reaches, Turns, top};
+    ghost use Rattle.arachne_machine.specs.Runs.{FoldsOn, IsOneStep, SweepsOn, seen_in};
+
+    /// A fold that has this value so far goes on from a number to below an end: with as many turns as are made at once,
+    /// and then with one that is begun, or not at all.
+    pub fn turn_fold(
+        &mut self,
+        next: u64,
+        end: u64,
+        body: &'p Expr,
+        so_far: u64,
+        left: &mut u32,
+    ) -> Progress<'p>
+        requires start { self.old.level.start ≤ length self.old.frames.items }
+        requires environment { vec_len self.old.environment + 2 ≤ vec_capacity self.old.environment }
+        requires frames { vec_len self.old.frames + 1 ≤ vec_capacity self.old.frames }
+        ensures reaches { (before : Strand) → ComesToFold before (top self.old) left.old left.old next end body.entry so_far → Reaches left.old left.new before result (top self.new) }
+        ensures leaves { LeavesOthers self.old self.new }
+        ensures stops { OnStops result ⊥ }
+        ensures fewer { left.new ≤ left.old }
+        ensures room { OnValue result (vec_len self.new.environment + 2 ≤ vec_capacity self.new.environment) }
+        ensures few { OnValue result (vec_len self.new.frames ≤ vec_len self.old.frames) }
+    {
+        let (next, so_far) = self.fold_at_once(next, end, body, so_far, left);
+        self.begin_fold(next, end, body, so_far, left)
+    }
+
+    /// Makes as many turns of a fold at once as it can. Gives the next number, and the value so far.
+    #[inline(always)]
+    fn fold_at_once(
+        &mut self,
+        next: u64,
+        end: u64,
+        body: &'p Expr,
+        so_far: u64,
+        left: &mut u32,
+    ) -> (u64, u64)
+        requires environment { vec_len self.old.environment + 2 ≤ vec_capacity self.old.environment }
+        requires frames { vec_len self.old.frames + 1 ≤ vec_capacity self.old.frames }
+        ensures same { IsSame self.old self.new }
+        ensures turns { (before : Strand) → ComesToFold before (top self.old) left.old left.old next end body.entry so_far
+            → ComesToFold before (top self.old) left.old left.new result.0 end body.entry result.1 }
+        ensures fewer { left.new ≤ left.old }
+        ensures environment { vec_len self.new.environment + 2 ≤ vec_capacity self.new.environment }
+        ensures frames { vec_len self.new.frames + 1 ≤ vec_capacity self.new.frames }
+        ensures few { vec_len self.new.frames ≡ vec_len self.old.frames }
+    {
+        let mut next = next;
+        let mut so_far = so_far;
+        while next < end {
+            let Some(value) = self.fold_value(next, so_far, body, left) else {
+                return (next, so_far);
+            };
+            next += 1;
+            so_far = value;
+        }
+        (next, so_far)
+    }
+
+    /// What the body of a turn of a fold is worth, where so many steps are left.
+    #[inline(always)]
+    fn fold_value(&mut self, next: u64, so_far: u64, body: &'p Expr, left: &mut u32) -> Option<u64>
+        requires environment { vec_len self.old.environment + 2 ≤ vec_capacity self.old.environment }
+        requires frames { vec_len self.old.frames + 1 ≤ vec_capacity self.old.frames }
+        ensures same { IsSame self.old self.new }
+        ensures worth { MatchOption result (left.new ≡ left.old) (λ value. (left.new + 1 ≤ left.old)
+            × IsWorth (source_of self.old.program.now) (tree_of body.now) (with_newest (with_newest self.old.environment.items next) so_far) value (left.old - 1) left.new) }
+        ensures environment { vec_len self.new.environment + 2 ≤ vec_capacity self.new.environment }
+        ensures frames { vec_len self.new.frames + 1 ≤ vec_capacity self.new.frames }
+        ensures few { vec_len self.new.frames ≡ vec_len self.old.frames }
+    {
+        let count = self.environment.len();
+        self.environment.push_reserved(next);
+        self.environment.push_reserved(so_far);
+        let value = body_at_once(self.program, &mut self.environment, body, left);
+        self.environment.truncate(count);
+        value
+    }
+
+    /// The turn of a fold that is begun, or its end.
+    #[inline(always)]
+    fn begin_fold(
+        &mut self,
+        next: u64,
+        end: u64,
+        body: &'p Expr,
+        so_far: u64,
+        left: &mut u32,
+    ) -> Progress<'p>
+        requires environment { vec_len self.old.environment + 2 ≤ vec_capacity self.old.environment }
+        requires frames { vec_len self.old.frames + 1 ≤ vec_capacity self.old.frames }
+        ensures turns { FoldsOn self.old (seen_in result self.new) next end body.entry so_far }
+        ensures step { IsOneStep left.old left.new result self.new }
+        ensures fewer { left.new ≤ left.old }
+        ensures room { OnValue result (self.new ≡ self.old) }
+    {
+        if next >= end {
+            return self.hand_result(so_far, left);
+        }
+        self.environment.push_reserved(next);
+        self.environment.push_reserved(so_far);
+        let turn = Frame::FoldTurn {
+            next: next + 1,
+            end,
+            body,
+        };
+        self.go_on(turn, body)
+    }
+
+    /// A sweep that has this value so far goes on from a number to below an end, in the same way.
+    pub fn turn_sweep(
+        &mut self,
+        reduction: Reduction,
+        next: u64,
+        end: u64,
+        body: &'p Expr,
+        so_far: u64,
+        left: &mut u32,
+    ) -> Progress<'p>
+        requires start { self.old.level.start ≤ length self.old.frames.items }
+        requires environment { vec_len self.old.environment + 2 ≤ vec_capacity self.old.environment }
+        requires frames { vec_len self.old.frames + 1 ≤ vec_capacity self.old.frames }
+        ensures reaches { (before : Strand) → ComesToSweep before (top self.old) left.old left.old reduction next end body.entry so_far → Reaches left.old left.new before result (top self.new) }
+        ensures leaves { LeavesOthers self.old self.new }
+        ensures stops { OnStops result ⊥ }
+        ensures fewer { left.new ≤ left.old }
+        ensures room { OnValue result (vec_len self.new.environment + 2 ≤ vec_capacity self.new.environment) }
+        ensures few { OnValue result (vec_len self.new.frames ≤ vec_len self.old.frames) }
+    {
+        let (next, so_far) = self.sweep_at_once(reduction, next, end, body, so_far, left);
+        self.begin_sweep(reduction, next, end, body, so_far, left)
+    }
+
+    /// Makes as many turns of a sweep at once as it can. Gives the next number, and the value so far.
+    #[inline(always)]
+    fn sweep_at_once(
+        &mut self,
+        reduction: Reduction,
+        next: u64,
+        end: u64,
+        body: &'p Expr,
+        so_far: u64,
+        left: &mut u32,
+    ) -> (u64, u64)
+        requires environment { vec_len self.old.environment + 2 ≤ vec_capacity self.old.environment }
+        requires frames { vec_len self.old.frames + 1 ≤ vec_capacity self.old.frames }
+        ensures same { IsSame self.old self.new }
+        ensures turns { (before : Strand) → ComesToSweep before (top self.old) left.old left.old reduction next end body.entry so_far
+            → ComesToSweep before (top self.old) left.old left.new reduction result.0 end body.entry result.1 }
+        ensures fewer { left.new ≤ left.old }
+        ensures environment { vec_len self.new.environment + 2 ≤ vec_capacity self.new.environment }
+        ensures frames { vec_len self.new.frames + 1 ≤ vec_capacity self.new.frames }
+        ensures few { vec_len self.new.frames ≡ vec_len self.old.frames }
+    {
+        let mut next = next;
+        let mut so_far = so_far;
+        while next < end {
+            let Some(value) = self.sweep_value(next, body, left) else {
+                return (next, so_far);
+            };
+            next += 1;
+            so_far = reduction.operation().apply(so_far, value);
+        }
+        (next, so_far)
+    }
+
+    /// What the body of a turn of a sweep is worth, where so many steps are left.
+    #[inline(always)]
+    fn sweep_value(&mut self, next: u64, body: &'p Expr, left: &mut u32) -> Option<u64>
+        requires environment { vec_len self.old.environment + 2 ≤ vec_capacity self.old.environment }
+        requires frames { vec_len self.old.frames + 1 ≤ vec_capacity self.old.frames }
+        ensures same { IsSame self.old self.new }
+        ensures worth { MatchOption result (left.new ≡ left.old) (λ value. (left.new + 1 ≤ left.old)
+            × IsWorth (source_of self.old.program.now) (tree_of body.now) (with_newest self.old.environment.items next) value (left.old - 1) left.new) }
+        ensures environment { vec_len self.new.environment + 2 ≤ vec_capacity self.new.environment }
+        ensures frames { vec_len self.new.frames + 1 ≤ vec_capacity self.new.frames }
+        ensures few { vec_len self.new.frames ≡ vec_len self.old.frames }
+    {
+        let count = self.environment.len();
+        self.environment.push_reserved(next);
+        let value = body_at_once(self.program, &mut self.environment, body, left);
+        self.environment.truncate(count);
+        value
+    }
+
+    /// The turn of a sweep that is begun, or its end.
+    #[inline(always)]
+    fn begin_sweep(
+        &mut self,
+        reduction: Reduction,
+        next: u64,
+        end: u64,
+        body: &'p Expr,
+        so_far: u64,
+        left: &mut u32,
+    ) -> Progress<'p>
+        requires environment { vec_len self.old.environment + 2 ≤ vec_capacity self.old.environment }
+        requires frames { vec_len self.old.frames + 1 ≤ vec_capacity self.old.frames }
+        ensures turns { SweepsOn self.old (seen_in result self.new) reduction next end body.entry so_far }
+        ensures step { IsOneStep left.old left.new result self.new }
+        ensures fewer { left.new ≤ left.old }
+        ensures room { OnValue result (self.new ≡ self.old) }
+    {
+        if end <= next {
+            return self.hand_result(so_far, left);
+        }
+        self.environment.push_reserved(next);
+        let turn = Frame::SweepTurn {
+            reduction,
+            next: next + 1,
+            end,
+            so_far,
+            body,
+        };
+        self.go_on(turn, body)
+    }
+}

@@ -1,5 +1,0 @@
-use Rattle.arachne_run.specs.Tokens.{AreIdle}
-use Rattle.arachne_run.proofs.worker.Worker.claim_root.Given as goal
-
-abbrev pub invariant-loop : goal.invariant-loop
-invariant-loop g l = AreIdle g.C.Seats.sits g.C.Seats.idle l.self.machine.now l.kit.tokens

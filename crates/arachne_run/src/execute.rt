@@ -1,0 +1,196 @@
+//! A slice of a thread, the answers to what it asks for, and its end.
+ghost use Rattle.std.specs.Prelude.{◌≡◌};
+
+use crate::desk::Stop;
+use crate::fault::WorkerFault;
+use crate::gate::Gate;
+use crate::locks::Locks;
+use crate::policy;
+use crate::queue::Agenda;
+use crate::seat::Seat;
+use crate::shared::Shared;
+use crate::sums::Sums;
+use crate::wake::Cause;
+use arachne_contexts::Contexts;
+use arachne_core::Rest;
+use arachne_jobs::RunJob;
+use rand_core::Rng;
+use std::sync::Wait;
+
+/// How a slice ends.
+#[derive(Clone, Copy, Debug, PartialEq, Eq)]
+pub(crate) enum SliceEnd {
+    /// The thread goes on: its quantum is used up, or it is to let another go on.
+    GoesOn,
+    /// It waits.
+    Waits,
+    /// It has ended.
+    Ended,
+}
+
+/// The worker of one core.
+#[derive(Drop)]
+pub(crate) struct Worker<'a, H, T: RunJob, C: Contexts<T>, R, G> {
+    pub(crate) rt: &'a H,
+    pub(crate) gate: &'a G,
+    pub(crate) shared: &'a Shared,
+    pub(crate) core: u8,
+    pub(crate) slots: u8,
+    pub(crate) quantum: u32,
+    pub(crate) desk: Seat<'a, H, T, C, R>,
+    pub(crate) locks: Locks<'a>,
+    pub(crate) sums: Sums<'a>,
+    pub(crate) agenda: Agenda,
+    /// How many slices it has begun.
+    pub(crate) slices: u64,
+}
+
+impl<'a, H: Wait, T: RunJob, C: Contexts<T>, R: Rng + Drop, G: Gate> Worker<'a, H, T, C, R, G> {
+    /// The thread in hand, which was at this index, has a slice, and more as long as nothing else is to go on. Then it
+    /// rests, or has ended.
+    pub(crate) fn turn(&mut self, index: u8) -> Result<(), WorkerFault>
+        ensures { (self.new.desk ≡ self.old.desk) × (self.new.locks ≡ self.old.locks) × (self.new.sums ≡ self.old.sums) }
+    {
+        for _ in 0..policy::MOST_ALONE {
+            let end = self.slice()?;
+            if end == SliceEnd::Ended {
+                return self.end();
+            }
+            if end == SliceEnd::Waits || !self.goes_on() {
+                break;
+            }
+            self.tend();
+        }
+        if self.desk.rest()? == Rest::Ready {
+            self.agenda.note(index);
+        }
+        Ok(())
+    }
+
+    /// Whether the thread in hand has another slice at once: no other is known to be ready, no ticket could be taken,
+    /// and the workers go on.
+    fn goes_on(&mut self) -> bool
+        ensures { (self.new.desk ≡ self.old.desk) × (self.new.locks ≡ self.old.locks) × (self.new.sums ≡ self.old.sums) }
+    {
+        if self.agenda.is_any()
+            || self.shared.is_stopped()
+            || self.shared.signals().is_any(self.core)
+        {
+            return false;
+        }
+        let now = self.desk.look();
+        if now.is_closed() {
+            return false;
+        }
+        !policy::may_take_ticket(now, self.desk.kept(), self.slots)
+            || !self.shared.room().is_any_waiting()
+    }
+
+    /// One slice of the thread in hand: it goes on for at most a quantum of steps, and what it asks for meanwhile is
+    /// answered.
+    fn slice(&mut self) -> Result<SliceEnd, WorkerFault>
+        ensures { (self.new.desk ≡ self.old.desk) × (self.new.locks ≡ self.old.locks) × (self.new.sums ≡ self.old.sums) }
+    {
+        self.gate.slice(self.core, self.slices);
+        self.slices = self.slices.saturating_add(1);
+        let end = self.spend_quantum();
+        self.gate.slice_ended(self.core);
+        self.shared.signals().count_slice(self.core);
+        end
+    }
+
+    /// The steps of a slice. Where the quantum is used up, all that the worker posted is told of.
+    fn spend_quantum(&mut self) -> Result<SliceEnd, WorkerFault>
+        ensures { (self.new.desk ≡ self.old.desk) × (self.new.locks ≡ self.old.locks) × (self.new.sums ≡ self.old.sums) }
+    {
+        self.agenda.begin_slice();
+        let mut left = self.quantum;
+        for _ in 0..self.quantum {
+            if left == 0 {
+                break;
+            }
+            let most = left.min(self.agenda.most_steps());
+            let mut steps = most;
+            let stop = self.desk.advance(&mut steps)?;
+            let spent = most.saturating_sub(steps);
+            left = left.saturating_sub(spent);
+            if self.agenda.spend(spent) {
+                self.tell();
+            }
+            match stop {
+                Stop::Goes => {}
+                Stop::Ends => return Ok(SliceEnd::Ended),
+                Stop::Blocks => return Ok(SliceEnd::Waits),
+                stop => match self.serve(stop, left)? {
+                    Some(most) => left = most,
+                    None => return Ok(SliceEnd::Waits),
+                },
+            }
+        }
+        self.tell();
+        Ok(SliceEnd::GoesOn)
+    }
+
+    /// Does what the thread in hand asks for, which had so many steps left. How many it has then; none where it waits.
+    fn serve(&mut self, stop: Stop, left: u32) -> Result<Option<u32>, WorkerFault>
+        ensures { (self.new.desk ≡ self.old.desk) × (self.new.locks ≡ self.old.locks) × (self.new.sums ≡ self.old.sums) }
+    {
+        let who = self.desk.in_hand()?;
+        match stop {
+            Stop::Posted(post) => {
+                self.posted(post);
+                return Ok(Some(left));
+            }
+            Stop::Asks(lock) => {
+                if !self.ask(lock, who)? {
+                    return Ok(None);
+                }
+            }
+            Stop::Awaits(lock) => {
+                if !self.check(lock, who)? {
+                    return Ok(None);
+                }
+            }
+            Stop::Frees(lock) => {
+                if let Some(next) = self.free(lock, who)? {
+                    self.wake(next, Cause::HoldsLock);
+                }
+            }
+            Stop::Tallies(ledger, amount) => self.sums.add(ledger, amount)?,
+            Stop::Goes | Stop::Blocks | Stop::Ends => return Ok(Some(left)),
+        }
+        self.desk.answer()?;
+        if self.agenda.has_next() {
+            // The next holder of a lock is to go on here.
+            return Ok(Some(left.min(policy::STEPS_PAST_FREE)));
+        }
+        Ok(Some(left))
+    }
+
+    /// Ends the thread in hand, and wakes its parent. With the root all workers stop. Then places of the core are kept
+    /// or given back.
+    fn end(&mut self) -> Result<(), WorkerFault>
+        ensures { (self.new.desk ≡ self.old.desk) × (self.new.locks ≡ self.old.locks) × (self.new.sums ≡ self.old.sums) }
+    {
+        let before = self.desk.look();
+        match self.desk.end()? {
+            Some(parent) => self.wake(parent, Cause::ChildEnded),
+            None => self.shared.stop(),
+        }
+        self.desk.settle_places(before)
+    }
+
+    /// The worker that has the arbiter applies the orders that are due, and moves threads away from a closed core.
+    pub(crate) fn tend(&mut self)
+        ensures { (self.new.desk ≡ self.old.desk) × (self.new.locks ≡ self.old.locks) × (self.new.sums ≡ self.old.sums) }
+    {
+        let tended = self.desk.tend();
+        if let Some(applied) = tended.applied {
+            self.gate.applied(applied);
+        }
+        if tended.receivers != 0 {
+            self.shared.signals().hint_cores(tended.receivers);
+            self.gate.moved(tended.receivers);
+        }
+    }
+}

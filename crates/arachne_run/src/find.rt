@@ -1,0 +1,163 @@
+//! What a worker does next: a scan of what may be ready, a ticket, a look at all, and else it waits.
+ghost use Rattle.std.specs.Prelude.{◌≡◌};
+
+use crate::desk::Grip;
+use crate::execute::Worker;
+use crate::fault::WorkerFault;
+use crate::gate::Gate;
+use crate::policy;
+use arachne_contexts::Contexts;
+use arachne_core::SLOTS;
+use arachne_jobs::RunJob;
+use rand_core::Rng;
+use std::hint::spin_loop;
+use std::sync::Wait;
+use std::thread;
+use std::time::Duration;
+
+impl<'a, H: Wait, T: RunJob, C: Contexts<T>, R: Rng + Drop, G: Gate> Worker<'a, H, T, C, R, G> {
+    /// Runs threads until all workers stop, and gives back the places that it keeps.
+    pub(crate) fn work(&mut self) -> Result<(), WorkerFault>
+        ensures { (self.new.desk ≡ self.old.desk) × (self.new.locks ≡ self.old.locks) × (self.new.sums ≡ self.old.sums) }
+    {
+        // How many rounds in turn have found nothing.
+        let mut idle: u32 = 0;
+        for _ in self.rt.forever() {
+            if self.shared.is_stopped() {
+                return self.desk.give_all_back();
+            }
+            let looks = idle == 0 || idle > policy::LAST_YIELD;
+            if self.scan()? || looks && self.scan_all(idle)? {
+                idle = 0;
+            } else {
+                self.tend();
+                self.wait(idle);
+                idle = idle.saturating_add(1);
+            }
+        }
+        unreachable!()
+    }
+
+    /// Runs each thread that may be ready as far as is known, once, and then takes a ticket. Whether there was
+    /// anything.
+    fn scan(&mut self) -> Result<bool, WorkerFault>
+        ensures { (self.new.desk ≡ self.old.desk) × (self.new.locks ≡ self.old.locks) × (self.new.sums ≡ self.old.sums) }
+    {
+        self.desk.thin_out()?;
+        let mut indexes = self.shared.signals().take(self.core);
+        if self.agenda.is_look_due() {
+            indexes |= self.desk.look().mask();
+        }
+        self.agenda.begin_scan(indexes);
+        let found = self.run_each()?;
+        Ok(self.take_ticket()? || found)
+    }
+
+    /// The same for all that is occupied, and parks where the core is closed and nothing is on it. Before it sleeps the
+    /// places that it keeps are given back, and all that it has posted is told of.
+    fn scan_all(&mut self, idle: u32) -> Result<bool, WorkerFault>
+        ensures { (self.new.desk ≡ self.old.desk) × (self.new.locks ≡ self.old.locks) × (self.new.sums ≡ self.old.sums) }
+    {
+        if idle > policy::LAST_YIELD {
+            self.desk.give_all_back()?;
+        }
+        let occupied = self.desk.look().mask();
+        self.agenda.begin_scan(occupied);
+        if self.run_each()? {
+            return Ok(true);
+        }
+        self.tell();
+        let parked = self.desk.park();
+        if parked {
+            self.gate.unparked(self.core);
+        }
+        Ok(parked)
+    }
+
+    /// Runs each thread that is ready at the indexes of the scan, upwards, unless all workers stop. Whether there was
+    /// one.
+    fn run_each(&mut self) -> Result<bool, WorkerFault>
+        ensures { (self.new.desk ≡ self.old.desk) × (self.new.locks ≡ self.old.locks) × (self.new.sums ≡ self.old.sums) }
+    {
+        let mut found = false;
+        for _ in 0..SLOTS {
+            if self.shared.is_stopped() {
+                break;
+            }
+            let Some(index) = self.agenda.next_index() else {
+                break;
+            };
+            if self.run_at(index)? {
+                found = true;
+            }
+        }
+        self.agenda.end_scan();
+        Ok(found)
+    }
+
+    /// Runs the thread at an index of the core for a turn, if it is ready, and then each that is to go on before all
+    /// others. None begins once all workers stop. Whether there was one that was ready.
+    fn run_at(&mut self, index: u8) -> Result<bool, WorkerFault>
+        ensures { (self.new.desk ≡ self.old.desk) × (self.new.locks ≡ self.old.locks) × (self.new.sums ≡ self.old.sums) }
+    {
+        let mut index = index;
+        let mut found = false;
+        for _ in 0..policy::MOST_IN_TURN {
+            if self.shared.is_stopped() {
+                break;
+            }
+            self.tend();
+            match self.desk.take(index) {
+                Grip::Taken => {
+                    found = true;
+                    self.turn(index)?;
+                }
+                Grip::None => {}
+                Grip::Lost => self.agenda.note(index),
+            }
+            match self.next() {
+                Some(next) => index = next,
+                None => return Ok(found),
+            }
+        }
+        self.agenda.note(index);
+        Ok(found)
+    }
+
+    /// Takes a ticket, if a place of the core is free or kept for its child. Whether there was one.
+    fn take_ticket(&mut self) -> Result<bool, WorkerFault>
+        ensures { (self.new.desk ≡ self.old.desk) × (self.new.locks ≡ self.old.locks) × (self.new.sums ≡ self.old.sums) }
+    {
+        if !self.shared.room().is_any_waiting() {
+            return Ok(false);
+        }
+        let now = self.desk.look();
+        if !policy::may_take_ticket(now, self.desk.kept(), self.slots) {
+            return Ok(false);
+        }
+        let (found, index) = self.desk.take_ticket()?;
+        if let Some(index) = index {
+            self.agenda.note(index);
+        }
+        Ok(found)
+    }
+
+    /// Waits, longer the more rounds have found nothing: it spins, then yields the processor, then sleeps. Each of
+    /// these ends once a thread of the core may be ready, and a sleep once all workers stop too.
+    fn wait(&self, round: u32) {
+        if round <= policy::LAST_SPIN {
+            for _ in 0..1u32 << round {
+                if self.shared.signals().is_any(self.core) {
+                    break;
+                }
+                spin_loop();
+            }
+        } else if round <= policy::LAST_YIELD {
+            thread::yield_now();
+        } else {
+            let spell = policy::sleep_of(round, self.desk.has_orders_left());
+            self.shared
+                .sleep(self.rt, self.core, Duration::from_micros(spell));
+        }
+    }
+}

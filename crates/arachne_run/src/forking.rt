@@ -1,0 +1,255 @@
+//! How a fork is answered: its child is posted at a place, waits for one, or runs in its parent's.
+//!
+//! It may touch the table through the seat that it is given, and the queue of those that wait.
+ghost use Rattle.std.specs.Prelude.{◌≡◌, ◌<◌, ◌≤◌, [], ◌∷◌, IfOk, MatchOption, OnOk, map};
+ghost use Rattle.arachne_arbiter.specs.Placed.{GetsPlace};
+ghost use Rattle.arachne_contexts.specs.Out.{Claim as a_claim, HasOut};
+ghost use Rattle.arachne_spill.specs.Views.{IsPassOf};
+ghost use Rattle.arachne_run.specs.Tokens.{IsSameThread, IsSetUp, IsSpent, thread_in};
+
+use crate::claims::Claims;
+use crate::desk::Stop;
+use crate::fault::WorkerFault;
+use crate::machine::Machine;
+use crate::queue::Post;
+use arachne_contexts::{Claimed, Contexts, Held, Identified, Placed};
+use arachne_jobs::{Openings, RunJob, Slice};
+use arachne_lang::Class;
+use arachne_spill::SpillPass;
+use rand_core::Rng;
+use std::alloc::Global;
+use std::sync::Wait;
+
+/// The thread in hand goes on for at most as many steps as are left, and its fork, if it comes to one, is answered.
+#[inline(always)]
+pub(crate) fn go_on<H: Wait, T: RunJob, C: Contexts<T>, R: Rng>(
+    rt: &H,
+    alloc: Global,
+    machine: &Machine<C, T::Ticket>,
+    seat: &mut C::Seat,
+    pass: &mut SpillPass<T::Ticket>,
+    held: &mut Held<T, C::Hold>,
+    chooser: &mut R,
+    openings: &mut Openings,
+    spares: &mut T::Spares,
+    left: &mut u32,
+) -> Result<Stop, WorkerFault>
+    requires seat { C.sits machine.now.table seat.old }
+    requires out { C.has machine.now.table seat.old (thread_in T.tag_of held.old ∷ []) }
+    requires pass { IsPassOf machine.now.tickets pass.old }
+    requires set_up { IsSetUp C.core_count C.slot_count machine.now }
+    requires some { 1 ≤ left.old }
+    ensures seat { C.sits machine.now.table seat.new }
+    ensures out { OnOk result (C.has machine.now.table seat.new (thread_in T.tag_of held.new ∷ [])) }
+    ensures pass { IsPassOf machine.now.tickets pass.new }
+{
+    let room = machine.shared.room();
+    let slice = held.value.slice(left, spares, room, openings)?;
+    draw(chooser, openings.draws);
+    openings.draws = 0;
+    match slice {
+        Slice::Goes => Ok(Stop::Goes),
+        Slice::Forks(class, child) => {
+            let tag = openings.tags.take(room);
+            let fork = Fork { class, child, tag };
+            answer_fork::<H, T, C, R>(rt, alloc, machine, seat, pass, held, fork, chooser, spares)
+        }
+        Slice::Blocks => Ok(Stop::Blocks),
+        Slice::Asks(lock) => Ok(Stop::Asks(lock)),
+        Slice::Awaits(lock) => Ok(Stop::Awaits(lock)),
+        Slice::Frees(lock) => Ok(Stop::Frees(lock)),
+        Slice::Tallies(ledger, amount) => Ok(Stop::Tallies(ledger, amount)),
+        Slice::Ends => Ok(Stop::Ends),
+    }
+}
+
+/// Draws so many words from the chooser.
+fn draw<R: Rng>(chooser: &mut R, words: u64) {
+    for _ in 0..words {
+        let _ = chooser.next_u64();
+    }
+}
+
+/// A child that is forked, and the tag that it gets.
+#[derive(Drop)]
+struct Fork<Child> {
+    class: Class,
+    child: Child,
+    tag: u64,
+}
+
+/// Answers a fork of the thread in hand: the child gets a place on a core that has one for a thread of its class. Else
+/// a normal one waits, if there is room in the queue, and another one runs in place.
+#[inline(always)]
+fn answer_fork<H: Wait, T: RunJob, C: Contexts<T>, R: Rng>(
+    rt: &H,
+    alloc: Global,
+    machine: &Machine<C, T::Ticket>,
+    seat: &mut C::Seat,
+    pass: &mut SpillPass<T::Ticket>,
+    held: &mut Held<T, C::Hold>,
+    fork: Fork<T::Child>,
+    chooser: &mut R,
+    spares: &mut T::Spares,
+) -> Result<Stop, WorkerFault>
+    requires seat { C.sits machine.now.table seat.old }
+    requires out { C.has machine.now.table seat.old (thread_in T.tag_of held.old ∷ []) }
+    requires pass { IsPassOf machine.now.tickets pass.old }
+    requires set_up { IsSetUp C.core_count C.slot_count machine.now }
+    requires forks { T.forks held.old.value fork.child }
+    ensures seat { C.sits machine.now.table seat.new }
+    ensures out { OnOk result (C.has machine.now.table seat.new (thread_in T.tag_of held.new ∷ [])) }
+    ensures pass { IsPassOf machine.now.tickets pass.new }
+{
+    let Fork { class, child, tag } = fork;
+    match claim::<H, T, C, R>(rt, machine, seat, chooser, class)? {
+        Some(claim) => {
+            post_child::<H, T, C>(rt, alloc, machine, seat, held, claim, child, tag, spares)
+        }
+        None => put_aside::<H, T, C>(rt, alloc, machine, pass, held, class, child, tag),
+    }
+}
+
+/// A place for a thread that is forked. A normal one gets it on the core with fewer threads of two that are drawn, else
+/// on another core that has one; an exclusive one on an empty core.
+#[inline(always)]
+fn claim<H: Wait, T: RunJob, C: Contexts<T>, R: Rng>(
+    rt: &H,
+    machine: &Machine<C, T::Ticket>,
+    seat: &mut C::Seat,
+    chooser: &mut R,
+    class: Class,
+) -> Result<Option<C::Claim>, WorkerFault>
+    requires seat { C.sits machine.now.table seat.old }
+    requires set_up { IsSetUp C.core_count C.slot_count machine.now }
+    ensures seat { C.sits machine.now.table seat.new }
+    ensures out { GetsPlace (C.has machine.now.table) seat.old seat.new result }
+{
+    let cores = machine.cores::<H, T>(rt);
+    let place = match class {
+        Class::Normal => cores.claim_normal(seat, chooser)?,
+        Class::Exclusive => cores.claim_exclusive(seat)?,
+    };
+    if place.is_some() {
+        machine.shared.room().place_was_claimed();
+    }
+    Ok(place)
+}
+
+/// The child that the thread in hand forks becomes a thread at the claimed place.
+#[inline(always)]
+fn post_child<H: Wait, T: RunJob, C: Contexts<T>>(
+    rt: &H,
+    alloc: Global,
+    machine: &Machine<C, T::Ticket>,
+    seat: &mut C::Seat,
+    held: &mut Held<T, C::Hold>,
+    claim: C::Claim,
+    child: T::Child,
+    tag: u64,
+    spares: &mut T::Spares,
+) -> Result<Stop, WorkerFault>
+    requires seat { C.sits machine.now.table seat.old }
+    requires out { C.has machine.now.table seat.old (a_claim claim ∷ thread_in T.tag_of held.old ∷ []) }
+    requires forks { T.forks held.old.value child }
+    ensures seat { C.sits machine.now.table seat.new }
+    ensures out { OnOk result (C.has machine.now.table seat.new (thread_in T.tag_of held.new ∷ [])) }
+{
+    let me = held.id();
+    let job = held.value.fork_off(alloc, me, child, tag, spares)?;
+    let place = claim.place();
+    match machine.table.post(rt, seat, claim, job) {
+        Ok(id) => Ok(Stop::Posted(Post { id, place })),
+        Err(_) => Err(WorkerFault::Token),
+    }
+}
+
+/// The child that the thread in hand forks waits for a place, or runs in place.
+#[inline(always)]
+fn put_aside<H: Wait, T: RunJob, C: Contexts<T>>(
+    rt: &H,
+    alloc: Global,
+    machine: &Machine<C, T::Ticket>,
+    pass: &mut SpillPass<T::Ticket>,
+    held: &mut Held<T, C::Hold>,
+    class: Class,
+    child: T::Child,
+    tag: u64,
+) -> Result<Stop, WorkerFault>
+    requires pass { IsPassOf machine.now.tickets pass.old }
+    requires forks { T.forks held.old.value child }
+    ensures pass { IsPassOf machine.now.tickets pass.new }
+    ensures thread { IsSameThread T.tag_of held.old held.new }
+{
+    let waits = class == Class::Normal && !machine.tickets.is_full(pass);
+    let me = held.id();
+    if let Some(ticket) = held.value.put_aside(alloc, me, child, tag, waits)? {
+        // Where the queue was filled meanwhile, the child waits without a ticket, for its parent.
+        if machine.tickets.push(rt, pass, ticket).is_ok() {
+            machine.shared.room().child_waits();
+        }
+    }
+    Ok(Stop::Goes)
+}
+
+/// A place of the core: the newest that is kept, else one that is free. Tries again where another took the place
+/// meanwhile.
+pub(crate) fn free_place<H: Wait, T: RunJob, C: Contexts<T>>(
+    rt: &H,
+    machine: &Machine<C, T::Ticket>,
+    spare: &mut C::Seat,
+    kept: &mut Claims<C::Claim>,
+    core: u8,
+) -> Result<Option<C::Claim>, WorkerFault>
+    requires seat { C.sits machine.now.table spare.old }
+    requires out { C.has machine.now.table spare.old (map a_claim kept.old) }
+    requires set_up { IsSetUp C.core_count C.slot_count machine.now }
+    requires core { core < machine.now.cores }
+    ensures seat { C.sits machine.now.table spare.new }
+    ensures out { IfOk result (λ place. MatchOption place (C.has machine.now.table spare.new (map a_claim kept.new)) (λ claim. C.has machine.now.table spare.new (a_claim claim ∷ map a_claim kept.new))) }
+{
+    if let Some(claim) = kept.take() {
+        return Ok(Some(claim));
+    }
+    for _ in rt.forever() {
+        match machine.table.claim(rt, spare, core) {
+            Ok(Claimed::Place(claim)) => {
+                machine.shared.room().place_was_claimed();
+                return Ok(Some(claim));
+            }
+            Ok(Claimed::Full(_) | Claimed::Closed(_)) => return Ok(None),
+            Ok(Claimed::Lost(_)) => {}
+            Err(_) => return Err(WorkerFault::Memory),
+        }
+    }
+    unreachable!()
+}
+
+/// Posts a child that has waited at a place, or gives that back where the child is gone meanwhile. Whether it was
+/// posted.
+pub(crate) fn post_waiting<H: Wait, T: RunJob, C: Contexts<T>>(
+    rt: &H,
+    machine: &Machine<C, T::Ticket>,
+    spare: &mut C::Seat,
+    claim: C::Claim,
+    job: Option<T>,
+) -> Result<bool, WorkerFault>
+    requires seat { C.sits machine.now.table spare.old }
+    requires out { HasOut (C.has machine.now.table) (a_claim claim) spare.old }
+    ensures seat { C.sits machine.now.table spare.new }
+    ensures out { OnOk result (IsSpent (C.has machine.now.table) (a_claim claim) spare.old spare.new) }
+{
+    match job {
+        Some(job) => match machine.table.post(rt, spare, claim, job) {
+            Ok(_) => Ok(true),
+            Err(_) => Err(WorkerFault::Token),
+        },
+        None => match machine.table.give_back(rt, spare, claim) {
+            Ok(()) => {
+                machine.shared.room().place_was_left();
+                Ok(false)
+            }
+            Err(_) => Err(WorkerFault::Token),
+        },
+    }
+}

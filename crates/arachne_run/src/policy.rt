@@ -1,0 +1,82 @@
+//! Every number and every choice of the scheduler.
+//!
+//! Pure functions: what they answer changes when and where threads run, and how fast, and never what a run means.
+use arachne_core::OccWord;
+
+/// How many threads that go on before all others may follow one another.
+pub(crate) const MOST_IN_TURN: u32 = 64;
+
+/// How many slices in turn a thread that is alone may have before its worker looks at all that is on the core.
+pub(crate) const MOST_ALONE: u32 = 64;
+
+/// How many scans of what is known to be ready may follow one another before one of all that is occupied.
+pub(crate) const SCANS_BETWEEN_LOOKS: u32 = 64;
+
+/// How many steps more a thread makes in its slice once the next holder of a lock that it freed is to go on here.
+pub(crate) const STEPS_PAST_FREE: u32 = 50;
+
+/// How many threads that a worker has posted on other cores it keeps back at most, untold.
+pub(crate) const MOST_KEPT_BACK: usize = 8;
+
+/// For how many steps a worker keeps something back.
+pub(crate) const PATIENCE: u32 = 500;
+
+/// How many threads a worker posts on other cores before it keeps any back: at first, work is to get to the other
+/// cores.
+pub(crate) const TOLD_AT_ONCE: u32 = 32;
+
+/// Whether a worker that has posted so many threads on other cores before keeps the next one back.
+pub(crate) fn keeps_back(posted: u32) -> bool {
+    posted >= TOLD_AT_ONCE
+}
+
+/// Whether places may be kept at all: not where a thread may want a whole core, nor where orders may close one, nor
+/// where a thread that holds a lock may be moved from one core to another.
+pub(crate) fn may_keep_places(has_exclusive: bool, orders: usize, moves_holders: bool) -> bool {
+    !has_exclusive && orders == 0 && !moves_holders
+}
+
+/// Whether a place that a thread leaves is kept: its core was full.
+pub(crate) fn keeps_place(before: OccWord, slots: u8) -> bool {
+    before.count() >= slots && !before.is_closed() && !before.is_exclusive()
+}
+
+/// Whether so many places that are kept are given back, all of them: half of the core's places have no thread.
+pub(crate) fn gives_back(now: OccWord, kept: usize, slots: u8) -> bool {
+    let threads = usize::from(now.count()).saturating_sub(kept);
+    threads * 2 <= usize::from(slots)
+}
+
+/// Whether a ticket may be taken on a core that looks so: it is open, no thread has it alone, and a place is free or
+/// kept.
+pub(crate) fn may_take_ticket(now: OccWord, kept: usize, slots: u8) -> bool {
+    !now.is_closed() && !now.is_exclusive() && (kept > 0 || now.count() < slots)
+}
+
+/// Up to this round a worker that finds nothing spins.
+pub(crate) const LAST_SPIN: u32 = 6;
+
+/// From then on up to this one it yields the processor; after that it sleeps.
+pub(crate) const LAST_YIELD: u32 = 8;
+
+/// How long the first sleep in turn takes, in microseconds. Each further one takes twice as long, up to a longest.
+const FIRST_SLEEP: u64 = 64;
+
+const MOST_DOUBLINGS: u32 = 4;
+
+/// The longest sleep of a worker that has to look by itself whether something is due, in microseconds.
+const SHORT_SLEEP: u64 = 100;
+
+/// The longest sleep of a worker that is woken when there is something to run.
+const LONG_SLEEP: u64 = FIRST_SLEEP << MOST_DOUBLINGS;
+
+/// How many microseconds a worker sleeps in its round of this number, which is past the last in which it yields.
+pub(crate) fn sleep_of(round: u32, has_orders_left: bool) -> u64 {
+    let longest = if has_orders_left {
+        SHORT_SLEEP
+    } else {
+        LONG_SLEEP
+    };
+    let doublings = round.saturating_sub(LAST_YIELD + 1).min(MOST_DOUBLINGS);
+    (FIRST_SLEEP << doublings).min(longest)
+}

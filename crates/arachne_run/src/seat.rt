@@ -1,0 +1,437 @@
+//! A worker's seats at the table, and what is out with them.
+//!
+//! It alone calls the table. Its type keeps the bookkeeping: the thread in hand is out with one seat, the places that
+//! are kept with the other, and nothing else is out between two calls.
+ghost use Rattle.std.specs.Prelude.{◌≡◌, ◌<◌, ◌≤◌, []};
+ghost use Rattle.arachne_run.specs.Tokens.{IsArbiterOf, IsSetUp, ground_of};
+ghost use Rattle.arachne_spill.specs.Views.{IsPassOf};
+
+use crate::claims::Claims;
+use crate::desk::{Grip, Stop, Tended};
+use crate::fault::WorkerFault;
+use crate::forking::{free_place, go_on, post_waiting};
+use crate::machine::Machine;
+use crate::policy;
+use arachne_arbiter::{Arbiter, Cores};
+use arachne_contexts::{Claimed, Contexts, Held, Moved, Placed, Rested, Taken, Woken};
+use arachne_core::{MarkWord, OccWord, Place, Rest, SLOTS, ThreadId};
+use arachne_jobs::{Openings, RunJob, RunSpares, RunThread, RunTicket};
+use arachne_sleep::Who;
+use arachne_spill::SpillPass;
+use rand_core::Rng;
+use std::alloc::Global;
+use std::marker::{Model, PhantomData};
+use std::sync::Wait;
+
+/// What a worker has at the table. Contracts see what it is a seat at: its invariant says what is out with it.
+#[derive(Drop)]
+pub(crate) struct Seat<'a, H, T: RunJob, C: Contexts<T>, R> {
+    pub(crate) rt: &'a H,
+    pub(crate) alloc: Global,
+    pub(crate) machine: &'a Machine<C, T::Ticket>,
+    pub(crate) core: u8,
+    /// Something else may be out with the seats, since the table has not known a token. The worker is at its end then.
+    pub(crate) is_broken: bool,
+    /// With it the thread in hand is out.
+    pub(crate) seat: C::Seat,
+    pub(crate) held: Option<Held<T, C::Hold>>,
+    /// With it the places that are kept are out.
+    pub(crate) spare: C::Seat,
+    pub(crate) kept: Claims<C::Claim>,
+    pub(crate) pass: SpillPass<T::Ticket>,
+    pub(crate) arbiter: Option<Arbiter>,
+    /// The core's chooser.
+    pub(crate) chooser: R,
+    /// What is here for the forks of threads.
+    pub(crate) openings: Openings,
+    /// What is kept of ended threads for those that begin.
+    pub(crate) spares: T::Spares,
+}
+
+impl<'a, H, T: RunJob, C: Contexts<T>, R> Model for Seat<'a, H, T, C, R> {
+    ghost use Rattle.std.specs.Prelude.{◌≡◌, ◌<◌, false, map};
+    ghost use Rattle.arachne_contexts.specs.Out.{Claim as a_claim};
+    ghost use Rattle.arachne_spill.specs.Views.{IsPassOf};
+    ghost use Rattle.arachne_run.specs.Tokens.{ground_of, in_hand, Ground, IsArbiterOf, IsSetUp};
+
+    ghost Value = { Ground C };
+
+    ghost view = { λ s. ground_of s.machine.now };
+
+    ghost invariant = { λ s. IsSetUp C.core_count C.slot_count s.machine.now × (s.core < s.machine.now.cores)
+        × C.sits s.machine.now.table s.seat × C.sits s.machine.now.table s.spare
+        × (s.is_broken ≡ false → C.has s.machine.now.table s.seat (in_hand T.tag_of s.held))
+        × (s.is_broken ≡ false → C.has s.machine.now.table s.spare (map a_claim s.kept))
+        × IsPassOf s.machine.now.tickets s.pass × IsArbiterOf s.machine.now s.arbiter };
+}
+
+impl<'a, H: Wait, T: RunJob, C: Contexts<T>, R: Rng + Drop> Seat<'a, H, T, C, R> {
+    /// A worker's two seats, with which nothing is out, and what else it has of the machine.
+    pub(crate) fn new(
+        rt: &'a H,
+        alloc: Global,
+        machine: &'a Machine<C, T::Ticket>,
+        core: u8,
+        seat: C::Seat,
+        spare: C::Seat,
+        pass: SpillPass<T::Ticket>,
+        arbiter: Option<Arbiter>,
+        chooser: R,
+    ) -> Seat<'a, H, T, C, R>
+        requires set_up { IsSetUp C.core_count C.slot_count machine.now }
+        requires core { core < machine.now.cores }
+        requires seat { C.sits machine.now.table seat }
+        requires nothing { C.has machine.now.table seat [] }
+        requires spare { C.sits machine.now.table spare }
+        requires nothing_spare { C.has machine.now.table spare [] }
+        requires pass { IsPassOf machine.now.tickets pass }
+        requires arbiter { IsArbiterOf machine.now arbiter }
+        ensures { result ≡ ground_of machine.now }
+    {
+        Seat {
+            rt,
+            alloc,
+            machine,
+            core,
+            is_broken: false,
+            seat,
+            held: None,
+            spare,
+            kept: Claims::new(alloc),
+            pass,
+            arbiter,
+            chooser,
+            openings: Openings::new(),
+            spares: T::Spares::none(alloc),
+        }
+    }
+
+    /// Takes the thread at an index of the core in hand, if it is ready and none is.
+    #[inline(always)]
+    pub(crate) fn take(&mut self, index: u8) -> Grip
+        ensures { self.new ≡ self.old }
+    {
+        if index >= self.machine.slots || self.held.is_some() || self.is_broken {
+            return Grip::None;
+        }
+        let table = &self.machine.table;
+        match table.take(self.rt, &mut self.seat, self.core, index) {
+            Taken::Run(held) => {
+                self.held = Some(held);
+                Grip::Taken
+            }
+            Taken::NotReady(_) => Grip::None,
+            Taken::Lost(_) => Grip::Lost,
+        }
+    }
+
+    /// The thread in hand as the locks know it: by the tag of the one that goes on next in its place, under its own id.
+    pub(crate) fn in_hand(&self) -> Result<Who, WorkerFault> {
+        match &self.held {
+            Some(held) => Ok(Who {
+                tag: held.value.running_tag(),
+                id: held.id(),
+            }),
+            None => Err(WorkerFault::Token),
+        }
+    }
+
+    /// The thread in hand goes on for at most as many steps as are left, and its forks are answered.
+    #[inline(always)]
+    pub(crate) fn advance(&mut self, left: &mut u32) -> Result<Stop, WorkerFault>
+        requires { 1 ≤ left.old }
+        ensures { self.new ≡ self.old }
+    {
+        if self.is_broken {
+            return Err(WorkerFault::Token);
+        }
+        let Some(held) = &mut self.held else {
+            return Err(WorkerFault::Token);
+        };
+        self.is_broken = true;
+        let stop = go_on::<H, T, C, R>(
+            self.rt,
+            self.alloc,
+            self.machine,
+            &mut self.seat,
+            &mut self.pass,
+            held,
+            &mut self.chooser,
+            &mut self.openings,
+            &mut self.spares,
+            left,
+        )?;
+        self.is_broken = false;
+        Ok(stop)
+    }
+
+    /// What the thread in hand asks for is done.
+    pub(crate) fn answer(&mut self) -> Result<(), WorkerFault>
+        ensures { self.new ≡ self.old }
+    {
+        match &mut self.held {
+            Some(held) => Ok(held.value.answer()?),
+            None => Err(WorkerFault::Token),
+        }
+    }
+
+    /// Puts the thread in hand back, as ready or blocked by its pause. How it rests then: one that was woken meanwhile
+    /// is ready.
+    #[inline(always)]
+    pub(crate) fn rest(&mut self) -> Result<Rest, WorkerFault>
+        ensures { self.new ≡ self.old }
+    {
+        if self.is_broken {
+            return Err(WorkerFault::Token);
+        }
+        let Some(held) = self.held.take() else {
+            return Err(WorkerFault::Token);
+        };
+        let Some(rest) = held.value.rest() else {
+            self.held = Some(held);
+            return Err(WorkerFault::Foreign);
+        };
+        let table = &self.machine.table;
+        match table.put_back(self.rt, &mut self.seat, held, rest) {
+            Ok(Rested::AsAsked) => Ok(rest),
+            Ok(Rested::WokenMeanwhile) => Ok(Rest::Ready),
+            Err(held) => {
+                self.held = Some(held);
+                Err(WorkerFault::Token)
+            }
+        }
+    }
+
+    /// Ends the thread in hand, which leaves its outcome for its parent. The parent's id; the root has none.
+    #[inline(always)]
+    pub(crate) fn end(&mut self) -> Result<Option<ThreadId>, WorkerFault>
+        ensures { self.new ≡ self.old }
+    {
+        if self.is_broken {
+            return Err(WorkerFault::Token);
+        }
+        let Some(held) = self.held.take() else {
+            return Err(WorkerFault::Token);
+        };
+        let table = &self.machine.table;
+        match table.finish(self.rt, &mut self.seat, held) {
+            Ok(job) => {
+                self.machine.shared.room().place_was_left();
+                Ok(job.leave(&mut self.spares)?)
+            }
+            Err(held) => {
+                self.held = Some(held);
+                Err(WorkerFault::Token)
+            }
+        }
+    }
+
+    /// Keeps the place that a thread has left, if the core was full before. Then what is kept is given back, if that is
+    /// due.
+    pub(crate) fn settle_places(&mut self, before: OccWord) -> Result<(), WorkerFault>
+        ensures { self.new ≡ self.old }
+    {
+        if !self.machine.may_keep || self.is_broken {
+            return Ok(());
+        }
+        if policy::keeps_place(before, self.machine.slots) {
+            let table = &self.machine.table;
+            self.is_broken = true;
+            let claimed = table.claim(self.rt, &mut self.spare, self.core);
+            if let Ok(Claimed::Place(claim)) = claimed {
+                match self.kept.keep(claim) {
+                    Ok(()) => self.machine.shared.room().place_was_claimed(),
+                    Err(claim) => {
+                        if table.give_back(self.rt, &mut self.spare, claim).is_err() {
+                            return Err(WorkerFault::Token);
+                        }
+                    }
+                }
+            }
+            self.is_broken = false;
+        }
+        self.thin_out()
+    }
+
+    /// Gives back all places that are kept, if that is due by what is on the core.
+    #[inline(always)]
+    pub(crate) fn thin_out(&mut self) -> Result<(), WorkerFault>
+        ensures { self.new ≡ self.old }
+    {
+        let kept = self.kept.count();
+        if kept > 0 && policy::gives_back(self.look(), kept, self.machine.slots) {
+            return self.give_all_back();
+        }
+        Ok(())
+    }
+
+    /// How many places are kept.
+    pub(crate) fn kept(&self) -> usize {
+        self.kept.count()
+    }
+
+    /// Gives back the newest place that is kept. Whether there was one.
+    pub(crate) fn give_one_back(&mut self) -> Result<bool, WorkerFault>
+        ensures { self.new ≡ self.old }
+    {
+        if self.is_broken {
+            return Err(WorkerFault::Token);
+        }
+        let Some(claim) = self.kept.take() else {
+            return Ok(false);
+        };
+        let table = &self.machine.table;
+        if table.give_back(self.rt, &mut self.spare, claim).is_err() {
+            self.is_broken = true;
+            return Err(WorkerFault::Token);
+        }
+        self.machine.shared.room().place_was_left();
+        Ok(true)
+    }
+
+    /// Gives back all places that are kept.
+    pub(crate) fn give_all_back(&mut self) -> Result<(), WorkerFault>
+        ensures { self.new ≡ self.old }
+    {
+        for _ in 0..SLOTS {
+            if !self.give_one_back()? {
+                break;
+            }
+        }
+        Ok(())
+    }
+
+    /// What is on the core.
+    #[inline(always)]
+    pub(crate) fn look(&mut self) -> OccWord
+        ensures { self.new ≡ self.old }
+    {
+        let table = &self.machine.table;
+        let word = table.look(self.rt, &mut self.seat, self.core);
+        match OccWord::from_word(word) {
+            Some(now) => now,
+            None => unreachable!(),
+        }
+    }
+
+    /// What is marked of a context. None where there is no such context.
+    pub(crate) fn mark_of(&mut self, context: u32) -> Option<MarkWord>
+        ensures { self.new ≡ self.old }
+    {
+        if context >= u32::from(self.machine.cores) * u32::from(self.machine.slots) {
+            return None;
+        }
+        let table = &self.machine.table;
+        let word = table.look_mark(self.rt, &mut self.seat, context);
+        MarkWord::from_word(word)
+    }
+
+    /// Tries once to wake the thread of an id.
+    pub(crate) fn wake(&mut self, id: ThreadId) -> Woken
+        ensures { self.new ≡ self.old }
+    {
+        let table = &self.machine.table;
+        table.wake(self.rt, &mut self.seat, id)
+    }
+
+    /// Moves the thread at a place of another core to this one, if workers may. Whether it was moved.
+    pub(crate) fn pull(&mut self, place: Place) -> bool
+        ensures { self.new ≡ self.old }
+    {
+        if !self.machine.may_pull
+            || place.core == self.core
+            || place.core >= self.machine.cores
+            || place.index >= self.machine.slots
+        {
+            return false;
+        }
+        let table = &self.machine.table;
+        matches!(
+            table.move_one(self.rt, &mut self.seat, place, self.core),
+            Moved::Moved
+        )
+    }
+
+    /// Takes a ticket from the queue, and posts its child on the core if that waits still and there is a place. Whether
+    /// there was a ticket, and the index of the child.
+    pub(crate) fn take_ticket(&mut self) -> Result<(bool, Option<u8>), WorkerFault>
+        ensures { self.new ≡ self.old }
+    {
+        if self.is_broken {
+            return Err(WorkerFault::Token);
+        }
+        let Some(ticket) = self.machine.tickets.pop(self.rt, &mut self.pass) else {
+            return Ok((false, None));
+        };
+        self.machine.shared.room().ticket_was_taken();
+        if !ticket.still_waits() {
+            return Ok((true, None));
+        }
+        self.is_broken = true;
+        let (rt, machine) = (self.rt, self.machine);
+        let (spare, kept) = (&mut self.spare, &mut self.kept);
+        let Some(claim) = free_place::<H, T, C>(rt, machine, spare, kept, self.core)? else {
+            self.is_broken = false;
+            return Ok((true, None));
+        };
+        let index = claim.place().index;
+        let job = T::of_ticket(self.alloc, ticket, &mut self.spares);
+        let posted = post_waiting::<H, T, C>(rt, machine, &mut self.spare, claim, job)?;
+        let index = if posted { Some(index) } else { None };
+        self.is_broken = false;
+        Ok((true, index))
+    }
+
+    /// Applies the orders that are due, and moves threads away from a closed core, if this worker is to.
+    pub(crate) fn tend(&mut self) -> Tended
+        ensures { self.new ≡ self.old }
+    {
+        let nothing = Tended {
+            applied: None,
+            receivers: 0,
+        };
+        if self.machine.orders == 0 {
+            return nothing;
+        }
+        let Some(arbiter) = &mut self.arbiter else {
+            return nothing;
+        };
+        let before = arbiter.applied();
+        let machine = self.machine;
+        let cores: Cores<'_, H, T, C> = Cores {
+            rt: self.rt,
+            table: &machine.table,
+            count: machine.cores,
+            slots: machine.slots,
+            of: PhantomData,
+        };
+        let signals = machine.shared.signals();
+        let receivers = arbiter.tend(&cores, &mut self.seat, signals.parking(), signals.slices());
+        let after = arbiter.applied();
+        Tended {
+            applied: if after != before { Some(after) } else { None },
+            receivers,
+        }
+    }
+
+    /// Whether this worker is to apply orders and some are left.
+    pub(crate) fn has_orders_left(&self) -> bool {
+        match &self.arbiter {
+            Some(arbiter) => arbiter.applied() < self.machine.orders,
+            None => false,
+        }
+    }
+
+    /// Parks while the core is closed and nothing is left on it. Whether it was.
+    pub(crate) fn park(&mut self) -> bool
+        ensures { self.new ≡ self.old }
+    {
+        let table = &self.machine.table;
+        let drained = table.is_drained(self.rt, &mut self.seat, self.core);
+        if drained {
+            let parking = self.machine.shared.signals().parking();
+            parking.park(self.rt, self.core);
+        }
+        drained
+    }
+}

@@ -1,0 +1,281 @@
+//! The kernel threads of a run, one for each core.
+ghost use Rattle.std.specs.Prelude.{◌≡◌, ◌<◌, ◌≤◌, IfSome, vec_capacity, vec_len};
+ghost use Rattle.std.specs.Thread.{IsSync};
+ghost use Rattle.arachne_run.specs.Tokens.{AreIdle, IsSetUp, ground_of};
+
+use crate::execute::Worker;
+use crate::fault::WorkerFault;
+use crate::gate::Gate;
+use crate::locks::Locks;
+use crate::machine::Machine;
+use crate::queue::Agenda;
+use crate::rooting::post_root;
+use crate::seat::Seat;
+use crate::sums::Sums;
+use crate::tokens::Tokens;
+use arachne_contexts::{Contexts, Seats, Tagged};
+use arachne_jobs::RunJob;
+use rand_core::Rng;
+use std::alloc::Global;
+use std::marker::PhantomData;
+use std::snapshot::Snapshot;
+use std::sync::Wait;
+use std::thread;
+use std::thread::{Promise, Threads};
+
+/// The tokens that a worker gives back are of this machine.
+#[derive(Drop)]
+struct Returns<C, K: Tagged + Drop> {
+    machine: Snapshot<Machine<C, K>>,
+}
+
+impl<C, K: Tagged + Drop> Returns<C, K> {
+    fn to(machine: &Machine<C, K>) -> Returns<C, K>
+        ensures { result.machine.value ≡ machine.now }
+    {
+        Returns {
+            machine: Snapshot::of(machine),
+        }
+    }
+}
+
+impl<C: Seats, K: Tagged + Drop> Promise<Option<Tokens<C::Seat, K>>> for Returns<C, K> {
+    ghost kept_by = { λ promise tokens. IfSome tokens (AreIdle C.sits C.idle promise.machine.value) };
+}
+
+/// Has all cores work until they are stopped, each with its chooser. The last chooser is that of core 0.
+pub(crate) fn work_all<
+    H: Threads + Wait + Sync,
+    T: RunJob<Ticket = K> + Send,
+    K: Tagged + Drop + Send,
+    C: Contexts<T> + Sync,
+    R: Rng + Drop + Send,
+    G: Gate + Sync,
+>(
+    rt: &H,
+    alloc: Global,
+    machine: &Machine<C, K>,
+    gate: &G,
+    root: T,
+    choosers: Vec<R>,
+    tokens: Tokens<C::Seat, K>,
+) -> Option<Tokens<C::Seat, K>>
+    requires tokens { AreIdle C.sits C.idle machine.now tokens }
+    requires set_up { IsSetUp C.core_count C.slot_count machine.now }
+    ensures { IfSome result (AreIdle C.sits C.idle machine.now) }
+{
+    thread::scope(
+        thread::scope_env(),
+        rt,
+        |scope| -> Option<Tokens<C::Seat, K>>
+            requires { IsSync H.row × AreIdle C.sits C.idle machine.now tokens × IsSetUp C.core_count C.slot_count machine.now }
+            ensures { IfSome result (AreIdle C.sits C.idle machine.entry.now) }
+        {
+            let mut tokens = tokens;
+            let mut choosers = choosers;
+            let mut others = Vec::new(alloc);
+            let of: PhantomData<(T, R)> = PhantomData;
+            let own = choosers.pop();
+            for core in 1..machine.cores {
+                let chooser = choosers.pop();
+                let (rest, part) = part_off(rt, alloc, machine, tokens, chooser, &mut others);
+                tokens = rest;
+                let Some((theirs, chooser)) = part else {
+                    break;
+                };
+                let started = scope.spawn_with(
+                    Returns::to(machine),
+                    move || -> Option<Tokens<C::Seat, K>>
+                        requires { AreIdle C.sits C.idle machine.now theirs × IsSetUp C.core_count C.slot_count machine.now × (core < machine.now.cores) }
+                        ensures { IfSome result (AreIdle C.sits C.idle machine.entry.now) }
+                    {
+                        work_on::<H, T, K, C, R, G>(
+                            rt, alloc, machine, gate, core, chooser, theirs, None, of,
+                        )
+                    },
+                );
+                let Ok(other) = started else {
+                    machine.shared.fail(rt, WorkerFault::KernelThread);
+                    break;
+                };
+                others.push_reserved(other);
+            }
+            let mut all = match own {
+                Some(chooser) => work_on::<H, T, K, C, R, G>(
+                    rt,
+                    alloc,
+                    machine,
+                    gate,
+                    0,
+                    chooser,
+                    tokens,
+                    Some(root),
+                    of,
+                ),
+                None => {
+                    machine.shared.fail(rt, WorkerFault::KernelThread);
+                    None
+                }
+            };
+            for other in others {
+                all = joined::<H, C, K>(rt, machine, all, other.join(rt));
+            }
+            all
+        },
+    )
+}
+
+/// The tokens and the chooser of one worker more, for which there is room among the others then. Where they can't be
+/// had that is recorded.
+fn part_off<H: Wait, C: Seats, K: Tagged + Drop, R: Drop, W>(
+    rt: &H,
+    alloc: Global,
+    machine: &Machine<C, K>,
+    tokens: Tokens<C::Seat, K>,
+    chooser: Option<R>,
+    others: &mut Vec<W>,
+) -> (Tokens<C::Seat, K>, Option<(Tokens<C::Seat, K>, R)>)
+    requires { AreIdle C.sits C.idle machine.now tokens }
+    ensures own { AreIdle C.sits C.idle machine.now result.0 }
+    ensures theirs { IfSome result.1 (λ part. AreIdle C.sits C.idle machine.now part.0) }
+    ensures same { others.new.items ≡ others.old.items }
+    ensures room { IfSome result.1 (λ part. vec_len others.new < vec_capacity others.new) }
+{
+    let Some(chooser) = chooser else {
+        machine.shared.fail(rt, WorkerFault::KernelThread);
+        return (tokens, None);
+    };
+    if others.try_reserve(1).is_err() {
+        machine.shared.fail(rt, WorkerFault::Memory);
+        return (tokens, None);
+    }
+    match tokens.split::<H, C>(rt, alloc, machine) {
+        Ok((own, theirs)) => (own, Some((theirs, chooser))),
+        Err(own) => {
+            machine.shared.fail(rt, WorkerFault::Memory);
+            (own, None)
+        }
+    }
+}
+
+/// The tokens of two workers together, if both gave theirs back.
+fn joined<H: Wait, C: Seats, K: Tagged + Drop>(
+    rt: &H,
+    machine: &Machine<C, K>,
+    own: Option<Tokens<C::Seat, K>>,
+    others: Option<Tokens<C::Seat, K>>,
+) -> Option<Tokens<C::Seat, K>>
+    requires own { IfSome own (AreIdle C.sits C.idle machine.now) }
+    requires others { IfSome others (AreIdle C.sits C.idle machine.now) }
+    ensures { IfSome result (AreIdle C.sits C.idle machine.now) }
+{
+    let own = own?;
+    let others = others?;
+    Some(own.join::<H, C>(rt, machine, others))
+}
+
+/// Works on one core until all stop, where there is a root from it on. The tokens, unless something is out with them
+/// after a fault.
+fn work_on<
+    H: Wait,
+    T: RunJob<Ticket = K>,
+    K: Tagged + Drop + Send,
+    C: Contexts<T>,
+    R: Rng + Drop,
+    G: Gate,
+>(
+    rt: &H,
+    alloc: Global,
+    machine: &Machine<C, K>,
+    gate: &G,
+    core: u8,
+    chooser: R,
+    tokens: Tokens<C::Seat, K>,
+    root: Option<T>,
+    _of: PhantomData<(T, R)>,
+) -> Option<Tokens<C::Seat, K>>
+    requires tokens { AreIdle C.sits C.idle machine.now tokens }
+    requires set_up { IsSetUp C.core_count C.slot_count machine.now }
+    requires core { core < machine.now.cores }
+    ensures { IfSome result (AreIdle C.sits C.idle machine.now) }
+{
+    let Tokens {
+        seat,
+        share,
+        lock_seats,
+        pass,
+        arbiter,
+    } = tokens;
+    let (mut seat, spare) = machine.table.split(rt, seat);
+    let mut agenda = Agenda::new(alloc);
+    if let Some(root) = root {
+        match post_root::<H, T, C>(rt, machine, &mut seat, root) {
+            Ok(index) => agenda.note(index),
+            Err(fault) => {
+                machine.shared.fail(rt, fault);
+                return None;
+            }
+        }
+    }
+    let desk = Seat::new(
+        rt, alloc, machine, core, seat, spare, pass, arbiter, chooser,
+    );
+    let mut worker: Worker<'_, H, T, C, R, G> = Worker {
+        rt,
+        gate,
+        shared: &machine.shared,
+        core,
+        slots: machine.slots,
+        quantum: machine.quantum,
+        desk,
+        locks: Locks::new(&machine.locks, lock_seats),
+        sums: Sums::new(&machine.ledgers, share),
+        agenda,
+        slices: 0,
+    };
+    if let Err(fault) = worker.work() {
+        machine.shared.fail(rt, fault);
+        return None;
+    }
+    worker.into_tokens(machine)
+}
+
+impl<'a, H: Wait, T: RunJob, C: Contexts<T>, R: Rng + Drop, G: Gate> Worker<'a, H, T, C, R, G> {
+    /// The tokens of a worker that has ended, unless something is out with them.
+    fn into_tokens(self, machine: &Machine<C, T::Ticket>) -> Option<Tokens<C::Seat, T::Ticket>>
+        requires desk { self.desk ≡ ground_of machine.now }
+        requires locks { self.locks ≡ machine.now.locks }
+        requires sums { self.sums ≡ machine.now.ledgers }
+        ensures { IfSome result (AreIdle C.sits C.idle machine.now) }
+    {
+        let Worker {
+            rt,
+            desk,
+            locks,
+            sums,
+            ..
+        } = self;
+        let Seat {
+            is_broken,
+            seat,
+            held,
+            spare,
+            kept,
+            pass,
+            arbiter,
+            ..
+        } = desk;
+        let mut kept = kept;
+        if is_broken || held.is_some() || kept.take().is_some() {
+            machine.shared.fail(rt, WorkerFault::Token);
+            return None;
+        }
+        Some(Tokens {
+            seat: machine.table.join_seats(rt, seat, spare),
+            share: sums.into_share(),
+            lock_seats: locks.into_seats(),
+            pass,
+            arbiter,
+        })
+    }
+}

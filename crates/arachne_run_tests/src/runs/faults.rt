@@ -1,0 +1,315 @@
+//! Runs that end by a fault while their threads wait, or go on without end: the first fault that was recorded is told,
+//! and all kernel threads are joined.
+use super::facts::{Telling, told};
+use super::programs::{SWEEP, SWEPT};
+use super::rows::{Row, row_holds};
+use super::{FORMS, Form, LOCKED, Machine, Source, answer, checked, setup_of, text_of};
+use crate::choosers::{CORE_ONE, Draws, SPREAD};
+use crate::gates::{Watch, Watching};
+use arachne_core::SLOTS;
+use arachne_policy::{CoreOrder, OrderKind};
+use std::alloc::Global;
+use std::process::Abort;
+use std::sync::Wait;
+use std::sync::atomic::Ordering;
+use std::test::Fail;
+use std::thread::{Threads, yield_now};
+
+/// The machines whose table hands back each thread that is to be finished, so that the first one to end is a fault.
+const HANDING_BACK: &[Machine] = &[(5, 1, 5), (5, 100, 5)];
+
+/// Those whose table refuses memory to a claim on a core that is in use.
+const REFUSING: &[Machine] = &[(6, 1, 6), (6, 100, 6)];
+
+/// The choices of forks are cores 1, 2, 3 and so on, in turn.
+const IN_TURN: Draws = Draws {
+    word: CORE_ONE.word,
+    step: CORE_ONE.word,
+    apart: 0,
+};
+
+const ROWS: &[Row] = &[
+    // The root's child ends on core 1, once it has counted; the root goes on and on.
+    Row {
+        shows: "threads that go on stop",
+        source: Source {
+            ledgers: 0,
+            locks: 0,
+            forks: 0,
+            expr: "(fork n (fold (num 0) (num 20000) (num 0) (var 1)) (fold (num 0) (num 1000000000000) (num 0) (var 1)) (var 0))",
+        },
+        forms: LOCKED,
+        slots: SLOTS,
+        machines: HANDING_BACK,
+        draws: CORE_ONE,
+        orders: &[],
+        watching: Watching::Cores,
+        facts: &[],
+        telling: Telling::Nothing,
+        told: "Token",
+    },
+    // The same while cores 2, 3 and 4 are taken back: they have nothing to do and are parked.
+    Row {
+        shows: "parked cores are woken",
+        source: Source {
+            ledgers: 0,
+            locks: 0,
+            forks: 0,
+            expr: "(fork n (fold (num 0) (num 20000) (num 0) (var 1)) (fold (num 0) (num 1000000000000) (num 0) (var 1)) (var 0))",
+        },
+        forms: LOCKED,
+        slots: SLOTS,
+        machines: HANDING_BACK,
+        draws: CORE_ONE,
+        orders: &[
+            CoreOrder {
+                after: 0,
+                kind: OrderKind::Release,
+                core: 2,
+            },
+            CoreOrder {
+                after: 0,
+                kind: OrderKind::Release,
+                core: 3,
+            },
+            CoreOrder {
+                after: 0,
+                kind: OrderKind::Release,
+                core: 4,
+            },
+        ],
+        watching: Watching::Cores,
+        facts: &[],
+        telling: Telling::Nothing,
+        told: "Token",
+    },
+    // Of the root and its child on core 1 one holds the lock on and on, and the other waits for it. A child on core 2
+    // ends.
+    Row {
+        shows: "a thread that waits for a lock is left",
+        source: Source {
+            ledgers: 0,
+            locks: 1,
+            forks: 0,
+            expr: "(fork n (hold 0 (fold (num 0) (num 1000000000000) (num 0) (var 1))) (fork n (fold (num 0) (num 20000) (num 0) (var 1)) (hold 0 (fold (num 0) (num 1000000000000) (num 0) (var 1))) (var 1)) (var 0))",
+        },
+        forms: LOCKED,
+        slots: SLOTS,
+        machines: HANDING_BACK,
+        draws: IN_TURN,
+        orders: &[],
+        watching: Watching::Cores,
+        facts: &[],
+        telling: Telling::Nothing,
+        told: "Token",
+    },
+    // Each core has one place. The root forks more children than have one before any ends.
+    Row {
+        shows: "children that wait for a place are left",
+        source: Source {
+            ledgers: 0,
+            locks: 0,
+            forks: 0,
+            expr: "(sweep add 1 (num 0) (num 300) (fold (num 0) (num 3000) (num 0) (var 2)))",
+        },
+        forms: LOCKED,
+        slots: 1,
+        machines: HANDING_BACK,
+        draws: SPREAD,
+        orders: &[],
+        watching: Watching::Cores,
+        facts: &[],
+        telling: Telling::Nothing,
+        told: "Token",
+    },
+    // Cores 0 and 1 are full of the root and of its first child, so that its second one runs on and on in its place.
+    Row {
+        shows: "a child in place stops",
+        source: Source {
+            ledgers: 0,
+            locks: 0,
+            forks: 0,
+            expr: "(fork n (fold (num 0) (num 20000) (num 0) (var 1)) (fork n (fold (num 0) (num 1000000000000) (num 0) (var 1)) (num 1) (var 1)) (var 0))",
+        },
+        forms: LOCKED,
+        slots: 1,
+        machines: HANDING_BACK,
+        draws: CORE_ONE,
+        orders: &[
+            CoreOrder {
+                after: 0,
+                kind: OrderKind::Release,
+                core: 2,
+            },
+            CoreOrder {
+                after: 0,
+                kind: OrderKind::Release,
+                core: 3,
+            },
+            CoreOrder {
+                after: 0,
+                kind: OrderKind::Release,
+                core: 4,
+            },
+        ],
+        watching: Watching::Cores,
+        facts: &[],
+        telling: Telling::Nothing,
+        told: "Token",
+    },
+    // The root's first child goes on and on on core 1, where there is no memory for a second one.
+    Row {
+        shows: "threads that go on stop",
+        source: Source {
+            ledgers: 0,
+            locks: 0,
+            forks: 0,
+            expr: "(fork n (fold (num 0) (num 1000000000000) (num 0) (var 1)) (let (fold (num 0) (num 20000) (num 0) (var 1)) (fork n (num 1) (num 2) (var 1))) (var 0))",
+        },
+        forms: LOCKED,
+        slots: SLOTS,
+        machines: REFUSING,
+        draws: CORE_ONE,
+        orders: &[],
+        watching: Watching::Cores,
+        facts: &[],
+        telling: Telling::Nothing,
+        told: "Memory",
+    },
+    // The same while the others are parked.
+    Row {
+        shows: "parked cores are woken",
+        source: Source {
+            ledgers: 0,
+            locks: 0,
+            forks: 0,
+            expr: "(fork n (fold (num 0) (num 1000000000000) (num 0) (var 1)) (let (fold (num 0) (num 20000) (num 0) (var 1)) (fork n (num 1) (num 2) (var 1))) (var 0))",
+        },
+        forms: LOCKED,
+        slots: SLOTS,
+        machines: REFUSING,
+        draws: CORE_ONE,
+        orders: &[
+            CoreOrder {
+                after: 0,
+                kind: OrderKind::Release,
+                core: 2,
+            },
+            CoreOrder {
+                after: 0,
+                kind: OrderKind::Release,
+                core: 3,
+            },
+            CoreOrder {
+                after: 0,
+                kind: OrderKind::Release,
+                core: 4,
+            },
+            CoreOrder {
+                after: 0,
+                kind: OrderKind::Release,
+                core: 5,
+            },
+        ],
+        watching: Watching::Cores,
+        facts: &[],
+        telling: Telling::Nothing,
+        told: "Memory",
+    },
+    // The root's child ends on core 1 while the root asks for memory there. One fault is recorded first, and the other
+    // then.
+    Row {
+        shows: "the first fault is told",
+        source: Source {
+            ledgers: 0,
+            locks: 0,
+            forks: 0,
+            expr: "(fork n (num 1) (let (fold (num 0) (num 2000) (num 0) (var 1)) (fork n (num 1) (num 2) (var 1))) (var 0))",
+        },
+        forms: LOCKED,
+        slots: SLOTS,
+        machines: &[(9, 1, 9), (9, 100, 9)],
+        draws: CORE_ONE,
+        orders: &[],
+        watching: Watching::Cores,
+        facts: &[],
+        telling: Telling::Nothing,
+        told: "Memory",
+    },
+    // The other way round.
+    Row {
+        shows: "the first fault is told",
+        source: Source {
+            ledgers: 0,
+            locks: 0,
+            forks: 0,
+            expr: "(fork n (num 1) (let (fold (num 0) (num 2000) (num 0) (var 1)) (fork n (num 1) (num 2) (var 1))) (var 0))",
+        },
+        forms: LOCKED,
+        slots: SLOTS,
+        machines: &[(10, 1, 10), (10, 100, 10)],
+        draws: CORE_ONE,
+        orders: &[],
+        watching: Watching::Cores,
+        facts: &[],
+        telling: Telling::Nothing,
+        told: "Token",
+    },
+];
+
+/// How often it is looked whether a core enters another slice.
+const LOOKS: u32 = 1_000;
+
+/// A row's program ends on a machine by the fault that is told, and no core enters a slice any more.
+fn stops<R: Abort + Threads + Wait + Sync>(
+    rt: &R,
+    alloc: Global,
+    row: &Row,
+    machine: Machine,
+) -> Result<(), Fail> {
+    let text = text_of(alloc, &row.source)?;
+    let program = checked(alloc, text.as_bytes())?;
+    let (mut setup, choosers) = setup_of(alloc, machine, row.draws, row.orders)?;
+    setup.slots = u64::from(row.slots);
+    let watch = Watch::new(row.watching);
+    let answer = answer(rt, alloc, &program, Form::Locked, setup, choosers, &watch);
+    let entered = watch.slices.load(Ordering::SeqCst);
+    let told = told(alloc, &answer, row.telling)?;
+    let shows = row.shows;
+    assert_eq!(rt; told.as_str(), row.told, "{shows}: {machine:?} {text}");
+    for _ in 0..LOOKS {
+        yield_now();
+    }
+    let slices = watch.slices.load(Ordering::SeqCst);
+    assert_eq!(rt; slices, entered, "{shows}: {machine:?} {text}");
+    Ok(())
+}
+
+/// What runs well in the same process behind all of them.
+const WELL: Row = Row {
+    shows: "a run goes well behind others that did not",
+    source: SWEEP,
+    forms: FORMS,
+    slots: SLOTS,
+    machines: &[],
+    draws: SPREAD,
+    orders: &[],
+    watching: Watching::Cores,
+    facts: &[],
+    telling: Telling::Threads,
+    told: SWEPT,
+};
+
+#[test]
+fn a_fault_stops_all_workers(rt: HostRuntime) -> Result<(), Fail> {
+    let alloc = rt.alloc();
+    for row in ROWS {
+        for &machine in row.machines {
+            stops(&rt, alloc, row, machine)?;
+        }
+    }
+    for &form in WELL.forms {
+        row_holds(&rt, alloc, &WELL, form, (4, 1, 4), &[])?;
+    }
+    Ok(())
+}

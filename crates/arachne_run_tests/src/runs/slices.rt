@@ -1,0 +1,205 @@
+//! What a slice is: which steps are charged to it, when it counts, and that none begins once the run is stopped.
+use super::facts::{Fact, Telling};
+use super::places::{BESIDE, BESIDE_LONG};
+use super::rows::{Row, rows_hold};
+use super::{FORMS, LOCKED, Source};
+use crate::choosers::{CORE_ONE, ZEROS};
+use crate::gates::Watching;
+use arachne_core::SLOTS;
+use arachne_policy::{CoreOrder, OrderKind};
+use std::test::Fail;
+
+/// A child that counts to 5,000, for which there is no place: it waits until its parent awaits it.
+const TAKEN_BACK: Source = Source {
+    ledgers: 0,
+    locks: 0,
+    forks: 0,
+    expr: "(fork n (fold (num 0) (num 5000) (num 0) (var 1)) (num 2) (add (var 0) (var 1)))",
+};
+
+/// The same behind 299 others, so that there is no room to wait either.
+const AT_ONCE: Source = Source {
+    ledgers: 0,
+    locks: 0,
+    forks: 0,
+    expr: "(let (sweep add 1 (num 0) (num 300) (var 0)) (fork n (fold (num 0) (num 5000) (num 0) (var 2)) (num 2) (add (var 1) (var 2))))",
+};
+
+/// A child that counts and runs in its parent's place.
+const CHARGED: Row = Row {
+    shows: "the steps of a thread in place are charged to the slices",
+    source: TAKEN_BACK,
+    forms: FORMS,
+    slots: 1,
+    machines: &[(1, 1, 1)],
+    draws: ZEROS,
+    orders: &[],
+    watching: Watching::Cores,
+    facts: &[
+        (Fact::Value, 2),
+        (Fact::InPlace, 1),
+        (Fact::Slices(5000), 1),
+    ],
+    telling: Telling::Nothing,
+    told: "",
+};
+
+/// The same of one for which there is no room to wait. The steps of the others are fewer than 5,000.
+const CHARGED_AT_ONCE: Row = Row {
+    source: AT_ONCE,
+    facts: &[
+        (Fact::Value, 2),
+        (Fact::InPlace, 300),
+        (Fact::Slices(5000), 1),
+    ],
+    ..CHARGED
+};
+
+const CHARGES: &[Row] = &[
+    CHARGED,
+    Row {
+        machines: &[(1, 7, 1)],
+        facts: &[(Fact::InPlace, 1), (Fact::Slices(5000 / 7), 1)],
+        ..CHARGED
+    },
+    Row {
+        machines: &[(1, 100, 1)],
+        facts: &[(Fact::InPlace, 1), (Fact::Slices(50), 1)],
+        ..CHARGED
+    },
+    Row {
+        source: Source {
+            expr: "(fork n (fold (num 0) (num 30000) (num 0) (var 1)) (num 2) (add (var 0) (var 1)))",
+            ..TAKEN_BACK
+        },
+        machines: &[(1, 10_000, 1)],
+        facts: &[(Fact::InPlace, 1), (Fact::Slices(4), 1)],
+        ..CHARGED
+    },
+    CHARGED_AT_ONCE,
+    Row {
+        machines: &[(1, 7, 1)],
+        facts: &[(Fact::InPlace, 300), (Fact::Slices(5000 / 7), 1)],
+        ..CHARGED_AT_ONCE
+    },
+    Row {
+        machines: &[(1, 100, 1)],
+        facts: &[(Fact::InPlace, 300), (Fact::Slices(50), 1)],
+        ..CHARGED_AT_ONCE
+    },
+    Row {
+        source: Source {
+            expr: "(let (sweep add 1 (num 0) (num 300) (var 0)) (fork n (fold (num 0) (num 30000) (num 0) (var 2)) (num 2) (add (var 1) (var 2))))",
+            ..AT_ONCE
+        },
+        machines: &[(1, 10_000, 1)],
+        facts: &[(Fact::InPlace, 300), (Fact::Slices(4), 1)],
+        ..CHARGED_AT_ONCE
+    },
+];
+
+#[test]
+fn steps_in_place_are_charged(rt: HostRuntime) -> Result<(), Fail> {
+    rows_hold(&rt, rt.alloc(), CHARGES)
+}
+
+/// Core 1's first slice doesn't end before core 0 has entered its slice 400. By then 400 have ended.
+const HELD_BACK: Row = Row {
+    shows: "a slice counts once it has ended",
+    source: BESIDE,
+    forms: FORMS,
+    slots: SLOTS,
+    machines: &[(2, 1, 2), (2, 7, 2)],
+    draws: CORE_ONE,
+    orders: &[CoreOrder {
+        after: 401,
+        kind: OrderKind::Release,
+        core: 1,
+    }],
+    watching: Watching::Holding(400),
+    facts: &[(Fact::Value, 0), (Fact::Applied, 1), (Fact::IsOver, 1)],
+    telling: Telling::Nothing,
+    told: "",
+};
+
+const COUNTS: &[Row] = &[
+    HELD_BACK,
+    Row {
+        source: BESIDE_LONG,
+        machines: &[(2, 100, 2)],
+        ..HELD_BACK
+    },
+    Row {
+        source: BESIDE_LONG,
+        machines: &[(2, 10_000, 2)],
+        orders: &[CoreOrder {
+            after: 4,
+            kind: OrderKind::Release,
+            core: 1,
+        }],
+        watching: Watching::Holding(3),
+        ..HELD_BACK
+    },
+];
+
+#[test]
+fn a_slice_counts_once_it_has_ended(rt: HostRuntime) -> Result<(), Fail> {
+    rows_hold(&rt, rt.alloc(), COUNTS)
+}
+
+/// Core 3 is closed, so that its kernel thread parks. Two threads are on core 1, and one that is to be alone on core 2. That
+/// one's end stops the run, as the table hands it back, during core 1's first slice.
+const STOPPED: Row = Row {
+    shows: "no slice begins once the run is stopped",
+    source: Source {
+        ledgers: 0,
+        locks: 0,
+        forks: 0,
+        expr: "(fork n (fold (num 0) (num 50000) (num 0) (var 1)) (fork n (fold (num 0) (num 50000) (num 0) (var 1)) (fork x (num 1) (num 2) (num 3)) (num 4)) (num 5))",
+    },
+    forms: LOCKED,
+    slots: SLOTS,
+    machines: &[(5, 1, 5), (5, 7, 5), (5, 100, 5), (5, 10_000, 5)],
+    draws: CORE_ONE,
+    orders: &[CoreOrder {
+        after: 0,
+        kind: OrderKind::Release,
+        core: 3,
+    }],
+    watching: Watching::Stopping(0),
+    facts: &[],
+    telling: Telling::Nothing,
+    told: "Token",
+};
+
+const STOPS: &[Row] = &[
+    STOPPED,
+    // One thread on core 1, which would go on at once.
+    Row {
+        source: Source {
+            ledgers: 0,
+            locks: 0,
+            forks: 0,
+            expr: "(fork n (fold (num 0) (num 50000) (num 0) (var 1)) (fork x (num 1) (num 2) (num 3)) (num 4))",
+        },
+        ..STOPPED
+    },
+    // The first thread on core 1 holds the lock for which the other one waits, and frees it in its third slice, core 1's fourth.
+    // It counts on then.
+    Row {
+        source: Source {
+            ledgers: 0,
+            locks: 1,
+            forks: 0,
+            expr: "(fork n (let (hold 0 (fold (num 0) (num 25000) (num 0) (var 1))) (fold (num 0) (num 50000) (num 0) (var 2))) (fork n (hold 0 (num 1)) (fork x (num 1) (num 2) (num 3)) (num 4)) (num 5))",
+        },
+        machines: &[(5, 10_000, 5)],
+        watching: Watching::Stopping(3),
+        ..STOPPED
+    },
+];
+
+#[test]
+fn a_stop_lets_no_slice_begin(rt: HostRuntime) -> Result<(), Fail> {
+    rows_hold(&rt, rt.alloc(), STOPS)
+}
