@@ -168,7 +168,7 @@ impl<'p> RunJob for Job<'p> {
     }
 
     fn of_ticket(alloc: Global, ticket: Ticket<'p>, _spares: &mut Spares<'p>) -> Option<Job<'p>> {
-        let mut links = Vec::with_capacity(alloc, 1).ok()?;
+        let mut links = Vec::with_capacity(alloc, 2).ok()?;
         let (waiting, cell, end) = ticket.take()?;
         let Waiting { mut thread, parent } = waiting;
         thread.set_spilled();
@@ -231,7 +231,7 @@ impl<'p> Job<'p> {
             program: Snapshot::of(thread.program()),
             name: Snapshot::of(thread.name()),
         };
-        let mut links = Vec::with_capacity(alloc, 1)?;
+        let mut links = Vec::with_capacity(alloc, 2)?;
         let (receiver, end) = spares.cells.open(alloc, &wanted)?;
         links.push_reserved(Link::Leaves(end));
         let job = Job {

@@ -6,7 +6,7 @@ ghost use Rattle.arachne_machine.specs.Lines.{CountsHoldAt, lines_in};
 use crate::line::ThreadLine;
 use std::alloc::{AllocError, Global};
 use std::marker::Model;
-use std::mem::replace;
+use std::mem::{replace, swap};
 
 /// How many lines at most are moved behind others. More stay in a list of their own.
 const MOST_MOVED: usize = 1000;
@@ -109,6 +109,9 @@ impl Lines {
         if !below.earlier.is_empty() || below.last.len() > MOST_MOVED {
             return self.append_many(own, below);
         }
+        if self.last.is_empty() && !below.last.is_empty() {
+            return self.take_over(own, below);
+        }
         if below.last.len() >= MOST - self.len()
             || self.last.try_reserve(below.last.len() + 1).is_err()
         {
@@ -117,6 +120,28 @@ impl Lines {
         self.last.push_reserved(own);
         let _ = self.last.append(&mut below.last);
         Ok(())
+    }
+
+    /// The same, where the last list is empty: that of the lines below becomes it, with no memory of its own.
+    fn take_over(&mut self, own: ThreadLine, below: Lines) -> Result<(), (ThreadLine, Lines)>
+        requires empty { self.old.last.items ≡ [] }
+        requires one_list { below.earlier.items ≡ [] }
+        ensures lines { OnOk result (self.new ≡ self.old ++ own ∷ below) }
+        ensures few { OnOk result (length self.new < 2 ^ 63) }
+        ensures err { OnErr result (self.new ≡ self.old) }
+        ensures handed_back { IfErr result (λ back. (back.0 ≡ own) × (back.1 ≡ below)) }
+    {
+        let mut below = below;
+        if below.last.len() >= MOST - self.len() {
+            return Err((own, below));
+        }
+        match below.last.insert(0, own) {
+            Ok(()) => {
+                swap(&mut self.last, &mut below.last);
+                Ok(())
+            }
+            Err(refused) => Err((refused.value, below)),
+        }
     }
 
     /// The same, with no line moved but the first.
