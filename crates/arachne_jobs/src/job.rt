@@ -23,7 +23,7 @@ use crate::wanted::{OutcomeReceiver, Wanted};
 use arachne_contexts::Tagged;
 use arachne_core::{Rest, ThreadId};
 use arachne_lang::Program;
-use arachne_machine::{NotJoined, NotPlaced, Outcome, Pause, Pending, Thread};
+use arachne_machine::{NotJoined, NotPlaced, Pause, Pending, Thread};
 use std::alloc::{AllocError, Global};
 use std::marker::Model;
 use std::snapshot::Snapshot;
@@ -192,7 +192,7 @@ impl<'p> RunJob for Job<'p> {
         let Some(link) = links.pop() else {
             return Err(JobFault::Foreign);
         };
-        let outcome = thread.finish_into(&mut spares.threads);
+        let outcome = thread.finish_into(&mut spares.threads).detach();
         match link {
             Link::Leaves(end) => end.leave(outcome),
             Link::Waits(cell, end) => match end {
@@ -314,11 +314,14 @@ impl<'p> Job<'p> {
         ensures awaits { IfOk result (λ joined. joined ≡ false → IsAwaiting self.new.thread) }
     {
         match self.find(spares)? {
-            Found::Outcome(outcome) => match self.thread.joined(outcome) {
-                Ok(()) => Ok(true),
-                Err(NotJoined::Memory(_)) => Err(JobFault::Memory),
-                Err(NotJoined::Foreign(_)) => Err(JobFault::Foreign),
-            },
+            Found::Outcome(outcome) => {
+                let program = self.thread.program();
+                match self.thread.joined(outcome.attach(program)) {
+                    Ok(()) => Ok(true),
+                    Err(NotJoined::Memory(_)) => Err(JobFault::Memory),
+                    Err(NotJoined::Foreign(_)) => Err(JobFault::Foreign),
+                }
+            }
             Found::Child(child) => {
                 self.place(child)?;
                 Ok(true)

@@ -2,7 +2,7 @@
 use crate::slice::RunSpares;
 use crate::wanted::Wanted;
 use arachne_join::SpareCells;
-use arachne_machine::{Outcome, Spares as SpareThreads};
+use arachne_machine::{DetachedOutcome, Spares as SpareThreads};
 use std::alloc::Global;
 
 /// The memory of threads that have ended, and the join cells that nobody uses. Each worker has its own, so that most forks
@@ -10,7 +10,7 @@ use std::alloc::Global;
 #[derive(Drop)]
 pub struct Spares<'p> {
     pub(crate) threads: SpareThreads<'p>,
-    pub(crate) cells: SpareCells<Outcome, Wanted>,
+    pub(crate) cells: SpareCells<DetachedOutcome, Wanted>,
 }
 
 impl<'p> RunSpares for Spares<'p> {

@@ -15,7 +15,7 @@ use Rattle.arachne_machine.specs.Steps.{Turns, pending_of, suspended, top}
 use Rattle.arachne_machine.specs.Sound.{AreSound, IsSoundState, RunFor}
 use Rattle.arachne_machine.specs.Runs.{LooksSame, TakesIn, after_fork, last_of}
 use Rattle.arachne_machine.specs.Suspended.{awaited, own_line_of}
-use Rattle.arachne_machine.specs.Nested.{ArePlaced, IsAlone, IsPlaced, MayBePlaced, PlacesAtFork, SameWhole, begun_in, in_place_of, whole, work_in, works}
+use Rattle.arachne_machine.specs.Nested.{ArePlaced, IsSingle, IsPlaced, MayBePlaced, PlacesAtFork, SameWhole, begun_in, in_place_of, whole, work_in, works}
 use Rattle.arachne_machine.specs.Kept.{IsKept, IsSoundChild, nested, seen_children}
 use Rattle.arachne_machine.proofs.Levels.{alone_waiting}
 use Rattle.arachne_machine.proofs.Nesting.{program_seen, same_whole, whole_seen}
@@ -73,11 +73,11 @@ lines_alone t none =
     let line : ThreadLine = record { name = own.name; tag = own.label.tag; holds = own.holds; ran = own.label.ran } in
     line ∷ below_at (reverse ps) t.lines t.level.place) none
 
-pub alone_kept : (t : State) (ps : List (Box State)) → IsKept t ps → IsAlone (nested t ps) → IsSoundChild t
-alone_kept t ps kept alone = record { sound = kept.sound; alone = none_parents t alone.0 }
+pub single_kept : (t : State) (ps : List (Box State)) → IsKept t ps → IsSingle (nested t ps) → IsSoundChild t
+single_kept t ps kept alone = record { sound = kept.sound; alone = none_parents t alone.0 }
 
-pub alone_work : (t : State) (ps : List (Box State)) → IsAlone (nested t ps) → work_in (nested t ps) ≡ work_left (top t)
-alone_work t ps alone = omega (arith, ap works alone.0, ap works alone.1)
+pub single_work : (t : State) (ps : List (Box State)) → IsSingle (nested t ps) → work_in (nested t ps) ≡ work_left (top t)
+single_work t ps alone = omega (arith, ap works alone.0, ap works alone.1)
 
 -- as many sums as its parent has
 pub childs_sums : (t child : State) → IsSoundState t → IsSoundState child → source_of child.program.now ≡ source_of t.program.now → length child.sums.items ≡ length t.sums.items
@@ -100,7 +100,7 @@ pub handed_back : (old child new : State) (ps cps qs : List (Box State)) (box : 
     pending_of old.control ≡ Some pause.Forks → Turns old new (after_fork old.control) → box.value ≡ record child { own = record child.own { label = record child.own.label { ran = ways.InPlace } } } →
     qs ≡ ps ++ box ∷ [] → HandedBack old child new ps cps qs
 handed_back old child new ps cps qs box kept kept_c may forks turns is pushed =
-    let c = alone_kept child cps kept_c may.alone in
+    let c = single_kept child cps kept_c may.single in
     let label : Label = record child.own.label { ran = ways.InPlace } in
     let u : State = record child { own = record child.own { label = label } } in
     let r = label_given child label c.sound c.alone in
@@ -129,7 +129,7 @@ handed_back old child new ps cps qs box kept kept_c may forks turns is pushed =
         trace = past.0.seen.trace;
       };
       pending = past.0.pending;
-      work = omega (arith, past.0.seen.work, ap works placed, alone_work child cps may.alone);
+      work = omega (arith, past.0.seen.work, ap works placed, single_work child cps may.single);
     }
 
 -- It is awaited, and goes on here.
@@ -141,7 +141,7 @@ pub record BegunHere (old child new : State) (ps cps : List (Box State)) : Type 
 pub begun_here : (old child new : State) (ps cps : List (Box State)) → IsKept old ps → IsKept child cps → MayBePlaced (nested old ps) (nested child cps) → pending_of old.control ≡ Some pause.Joins →
     awaited (suspended (top old)) ≡ Some child.own.name → TakesIn old child new → BegunHere old child new ps cps
 begun_here old child new ps cps kept kept_c may joins of_child takes =
-    let c = alone_kept child cps kept_c may.alone in
+    let c = single_kept child cps kept_c may.single in
     let t = taken old child new kept.sound c.sound c.alone (source_seen old child ps cps may) joins of_child takes in
     record {
       kept = kept_sound new ps t.sound kept.children (subst (λ p. ArePlaced (source_of p.now) (seen_children ps)) (sym takes.program) kept.nested_is.waiting) (going new (ap pending_of takes.control_is ∙ may.not_paused));
@@ -156,9 +156,9 @@ pub record AsItWas (child back : State) (cps : List (Box State)) : Type 0 where
   pub kept : IsKept back cps
   pub seen : nested back cps ≡ nested child cps
 
-pub as_it_was : (child back : State) (cps : List (Box State)) → IsKept child cps → IsAlone (nested child cps) → LooksSame child back → AsItWas child back cps
+pub as_it_was : (child back : State) (cps : List (Box State)) → IsKept child cps → IsSingle (nested child cps) → LooksSame child back → AsItWas child back cps
 as_it_was child back cps kept alone l =
-    let c = alone_kept child cps kept alone in
+    let c = single_kept child cps kept alone in
     let looks = looks_sound child back c.sound l c.alone in
     record {
       kept = kept_sound back cps looks.sound kept.children (subst (λ p. ArePlaced (source_of p.now) (seen_children cps)) (sym l.program) kept.nested_is.waiting) (λ e. l.parents ∙ c.alone);

@@ -18,7 +18,7 @@ use Rattle.arachne_machine.specs.Steps.{pending_of, suspended, task_begun, top, 
 use Rattle.arachne_machine.specs.Runs.{IsByItself, last_of, outermost_in}
 use Rattle.arachne_machine.specs.Suspended.{IsFresh}
 use Rattle.arachne_machine.specs.Nested.{ArePlaced, FallsBy, outermost, IsAlone, SameWhole, Stops, whole, work_in, works}
-use Rattle.arachne_machine.specs.Advance.{Advanced, AdvancedAlone, AwaitsAt, IsSpentAt, Moves, PausesAt, PlacesNone, RefusedAlone, pause_at, pause_seen}
+use Rattle.arachne_machine.specs.Advance.{Advanced, AdvancedAlone, AwaitsAt, IsCharged, IsSpentAt, Moves, PausesAt, PlacesNone, RefusedAlone, pause_at, pause_seen}
 use Rattle.arachne_machine.specs.Kept.{AdvancesWith, IsKept, Went, WentToFork, WentToPause, WentWithin, nested, seen_children}
 use Rattle.arachne_machine.proofs.Soundness.{fork_has_task, forked_seen, gives_after, goes_then_stops, same_thread, sound_fork, with_fork-sums}
 use Rattle.arachne_machine.proofs.Advancing.{advanced_seen}
@@ -32,6 +32,7 @@ pub record Shown (Q : Type 0) (had left : ℕ) (old : State) (ps : List (Box Sta
   pub kept : IsKept new qs
   pub moves : Moves had (nested old ps) gives (nested new qs)
   pub spent : IsSpentAt gives had left
+  pub charged : IsCharged had left (nested old ps) gives (nested new qs)
   pub elsewhere : AwaitsAt gives (nested new qs)
   pub within : IsChecked (source_of old.program.now) → PausesAt gives (suspended (top new))
   pub alone : IsAlone (nested old ps) → PlacesNone (nested old ps) gives (nested new qs) → AdvancedAlone had (nested old ps) gives (nested new qs)
@@ -55,6 +56,7 @@ shown_budget Q had left old new ps qs w none_left = record {
   kept = w.kept;
   moves = (same_whole old new ps qs w.program w.own, w.running, omega (arith, w.work, w.counted, none_left));
   spent = none_left;
+  charged = omega (arith, w.work, w.counted, none_left);
   elsewhere = tt;
   within = λ checked. tt;
   alone = λ alone places.
@@ -72,14 +74,15 @@ shown_budget Q had left old new ps qs w none_left = record {
 }
 
 -- it pauses
-record ShownPause (Q : Type 0) (had : ℕ) (old : State) (ps : List (Box State)) (next : Pending) (new : State) (qs : List (Box State)) : Type 0 where
+record ShownPause (Q : Type 0) (had left : ℕ) (old : State) (ps : List (Box State)) (next : Pending) (new : State) (qs : List (Box State)) : Type 0 where
   kept : IsKept new qs
   stops : Stops had (nested old ps) (nested new qs) next
+  charged : work_in (nested new qs) + had ≡ work_in (nested old ps) + left
   within : IsChecked (source_of old.program.now) → PausesAt pauses.Joins (suspended (top new))
   alone : IsAlone (nested old ps) → (whole (nested new qs)).forks ≡ (whole (nested old ps)).forks → AdvancedAlone had (nested old ps) (pause_at (Some next)) (nested new qs)
   everywhere : Q → IsAlone (nested old ps) → (whole (nested new qs)).forks ≡ (whole (nested old ps)).forks
 
-shown_stop : (Q : Type 0) (had beside left : ℕ) (old new : State) (ps qs : List (Box State)) (next : Pending) → had ≡ beside + 1 → WentToPause Q beside left old ps next new qs → ShownPause Q had old ps next new qs
+shown_stop : (Q : Type 0) (had beside left : ℕ) (old new : State) (ps qs : List (Box State)) (next : Pending) → had ≡ beside + 1 → WentToPause Q beside left old ps next new qs → ShownPause Q had left old ps next new qs
 shown_stop Q had beside left old new ps qs next one p =
     let last = p.last in
     let w = p.went in
@@ -94,6 +97,7 @@ shown_stop Q had beside left old new ps qs next one p =
         pending = stopped_pending 1 (top last) next (top new) p.stops;
         work = record { made = w.made + 1; at_least = omega arith; at_most = omega (arith, w.counted, one); left = omega (arith, w.work, at.work) };
       };
+      charged = omega (arith, w.work, at.work, w.counted, one);
       within = λ checked. pauses_seen new at.kept.sound (subst (λ p. IsChecked (source_of p.now)) (sym (l.program ∙ w.program)) checked);
       alone = λ alone places.
           let b = w.by_itself (none_placed ps alone.1) in
@@ -113,22 +117,23 @@ shown_pause : (Q : Type 0) (had beside left : ℕ) (old new : State) (ps qs : Li
 shown_pause Q had beside left old new ps qs pause.Forks one p = absurd p.stops
 shown_pause Q had beside left old new ps qs pause.Joins one p =
     let s = shown_stop Q had beside left old new ps qs pause.Joins one p in
-    record { kept = s.kept; moves = s.stops; spent = omega (arith, p.went.fewer, one); elsewhere = p.elsewhere refl; within = s.within; alone = s.alone; everywhere = s.everywhere }
+    record { kept = s.kept; moves = s.stops; spent = omega (arith, p.went.fewer, one); charged = omega (arith, s.charged); elsewhere = p.elsewhere refl; within = s.within; alone = s.alone; everywhere = s.everywhere }
 shown_pause Q had beside left old new ps qs (pause.Asks lock) one p =
     let s = shown_stop Q had beside left old new ps qs (pause.Asks lock) one p in
-    record { kept = s.kept; moves = s.stops; spent = omega (arith, p.went.fewer, one); elsewhere = tt; within = s.within; alone = s.alone; everywhere = s.everywhere }
+    record { kept = s.kept; moves = s.stops; spent = omega (arith, p.went.fewer, one); charged = omega (arith, s.charged); elsewhere = tt; within = s.within; alone = s.alone; everywhere = s.everywhere }
 shown_pause Q had beside left old new ps qs (pause.Frees lock) one p =
     let s = shown_stop Q had beside left old new ps qs (pause.Frees lock) one p in
-    record { kept = s.kept; moves = s.stops; spent = omega (arith, p.went.fewer, one); elsewhere = tt; within = s.within; alone = s.alone; everywhere = s.everywhere }
+    record { kept = s.kept; moves = s.stops; spent = omega (arith, p.went.fewer, one); charged = omega (arith, s.charged); elsewhere = tt; within = s.within; alone = s.alone; everywhere = s.everywhere }
 shown_pause Q had beside left old new ps qs (pause.Tallies ledger amount) one p =
     let s = shown_stop Q had beside left old new ps qs (pause.Tallies ledger amount) one p in
-    record { kept = s.kept; moves = s.stops; spent = omega (arith, p.went.fewer, one); elsewhere = tt; within = s.within; alone = s.alone; everywhere = s.everywhere }
+    record { kept = s.kept; moves = s.stops; spent = omega (arith, p.went.fewer, one); charged = omega (arith, s.charged); elsewhere = tt; within = s.within; alone = s.alone; everywhere = s.everywhere }
 shown_pause Q had beside left old new ps qs pause.Ended one p =
     let s = shown_stop Q had beside left old new ps qs pause.Ended one p in
     record {
       kept = s.kept;
       moves = (s.stops, ap (map suspended) (alone_waiting new (p.ended refl)));
       spent = omega (arith, p.went.fewer, one);
+      charged = omega (arith, s.charged);
       elsewhere = tt;
       within = s.within;
       alone = s.alone;
@@ -196,6 +201,7 @@ shown_fork Q had beside left old new ps qs class child was one f =
         },
       );
       spent = omega (arith, w.fewer, one);
+      charged = omega (arith, w.work, kept.work, taken, ap works (ap (map suspended) waits), ap works (ap (map suspended) (alone_waiting c f.alone)), w.counted, one);
       elsewhere = tt;
       within = λ checked. pauses_seen new sound (subst (λ p. IsChecked (source_of p.now)) (sym (l.program ∙ w.program)) checked);
       alone = λ alone places.

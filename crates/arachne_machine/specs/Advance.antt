@@ -109,6 +109,15 @@ abbrev pub IsSpentAt : Pause → ℕ → ℕ → Type 0
 IsSpentAt pauses.Budget had left = left ≡ 0
 IsSpentAt _ had left = left < had
 
+-- the steps that a child takes along that is given away
+abbrev pub given : Pause → ℕ
+given (pauses.Forks class child) = work_in child
+given _ = 0
+
+-- Of the steps that were left exactly those are gone that were made.
+abbrev pub IsCharged : ℕ → ℕ → Nested → Pause → Nested → Type 0
+IsCharged had left old pause new = work_in new + given pause + had ≡ work_in old + left
+
 -- the outcome that was refused
 abbrev pub handed_back : NotJoined → Finished
 handed_back (refused.Foreign outcome) = outcome

@@ -110,11 +110,15 @@ pub record IsChildOf (t child : Nested) : Type 0 where
   pub not_paused : pending_in child ≡ None
   pub alone : IsAlone child
 
--- The child may run in the thread's place: it is of an equal program, has no pause that is not answered, and no other thread is in its place.
+-- no other thread goes on in its place, and none was handed back to it
+abbrev pub IsSingle : Nested → Type 0
+IsSingle t = (t.parents ≡ []) × (t.placed ≡ [])
+
+-- The child may run in the thread's place: it is of an equal program, has no pause that is not answered, and is single.
 pub record MayBePlaced (t child : Nested) : Type 0 where
   pub same_source : source_of (whole child).program ≡ source_of (whole t).program
   pub not_paused : pending_in child ≡ None
-  pub alone : IsAlone child
+  pub single : IsSingle child
 
 -- a child may be placed at a fork or at a join
 abbrev pub IsPlacing : Option Pending → Type 0

@@ -35,7 +35,7 @@ pub fn run_alone(alloc: Global, program: &Program, budget: u32) -> Result<Meanin
 /// joins it. The outcomes that were brought last are those of the newest thread's children, and so on.
 fn take_turn<'p>(
     threads: &mut Vec<Thread<'p>>,
-    outcomes: &mut Vec<Outcome>,
+    outcomes: &mut Vec<Outcome<'p>>,
     spares: &mut Spares<'p>,
     mut thread: Thread<'p>,
     budget: u32,
@@ -80,8 +80,8 @@ fn take_turn<'p>(
 
 /// The meaning that an outcome has.
 fn meaning(alloc: Global, outcome: Outcome) -> Result<Meaning, AllocError>
-    ensures means { IfOk result (λ meaning. meaning ≡ meaning_in outcome) }
-    ensures of_its_name { IsOfItsName outcome }
+    ensures means { IfOk result (λ meaning. meaning ≡ meaning_in outcome.entry) }
+    ensures of_its_name { IsOfItsName outcome.entry }
 {
     let Ok(parts) = outcome.into_parts() else {
         return Err(AllocError);

@@ -162,14 +162,14 @@ impl<'p> State<'p> {
 
     /// Joins this outcome, where it is that of the child that is awaited. Where it answers an error nothing has changed
     /// but room, and the outcome comes back.
-    pub fn join(&mut self, outcome: Outcome) -> Result<(), NotJoined>
+    pub fn join(&mut self, outcome: Outcome<'p>) -> Result<(), NotJoined<'p>>
         requires joins { pending_of self.old.control ≡ Some pause.Joins }
         requires line { HasLine self.old }
         requires sums { length outcome.sums ≡ length self.old.sums.items }
-        ensures ok { OnOk result (JoinsOutcome self.old outcome self.new) }
-        ensures foreign { IsForeign result ↔ (awaited (suspended (top self.old)) ≢ Some outcome.name) }
+        ensures ok { OnOk result (JoinsOutcome self.old outcome.entry self.new) }
+        ensures foreign { IsForeign result ↔ (awaited (suspended (top self.old)) ≢ Some outcome.entry.name) }
         ensures err { OnErr result (IsSame self.old self.new) }
-        ensures handed_back { IfErr result (λ e. handed_back e ≡ outcome) }
+        ensures handed_back { IfErr result (λ e. handed_back e ≡ outcome.entry) }
     {
         if !self.awaits(&outcome.own.name) {
             return Err(NotJoined::Foreign(outcome));

@@ -4,6 +4,7 @@
 mod alone;
 mod answer;
 mod begin;
+mod detached;
 mod fork;
 mod frame;
 mod give;
@@ -24,6 +25,7 @@ mod turns;
 mod worth;
 
 pub use alone::run_alone;
+pub use detached::DetachedOutcome;
 pub use line::{Ran, ThreadLine};
 pub use outcome::{Outcome, OutcomeParts};
 pub use pause::{NotJoined, NotPlaced, Pause, Pending};

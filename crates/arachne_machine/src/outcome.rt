@@ -2,6 +2,7 @@
 ghost use Rattle.std.specs.Prelude.{◌≡◌, ◌∷◌, IfOk, IfErr};
 ghost use Rattle.arachne_machine.specs.Outcome.{IsOfItsName};
 
+use crate::detached::DetachedOutcome;
 use crate::line::ThreadLine;
 use crate::lines::Lines;
 use arachne_lang::{Name, Program, Sequence};
@@ -10,17 +11,16 @@ use std::snapshot::Snapshot;
 
 /// What a thread brings in the end: its value, the ledger sums, and the lines of itself and of all threads
 /// below it. It is what the program means for the thread of its name.
-#[derive(Drop)]
-pub struct Outcome {
-    /// It has no bytes.
-    pub(crate) program: Snapshot<Program>,
+#[derive(Debug, Drop)]
+pub struct Outcome<'p> {
+    pub(crate) program: &'p Program,
     pub(crate) value: u64,
     pub(crate) sums: Vec<u64>,
     pub(crate) own: ThreadLine,
     pub(crate) below: Lines,
 }
 
-impl Model for Outcome {
+impl<'p> Model for Outcome<'p> {
     ghost use Rattle.std.specs.Prelude.{◌∷◌};
     ghost use Rattle.arachne_machine.specs.Outcome.{Finished, IsOfItsName};
 
@@ -31,9 +31,9 @@ impl Model for Outcome {
 
     ghost coded = { Prim.hlevel (codes, expr.the_row.coded) };
 
-    ghost view = { λ o. record { program = o.program.value; name = o.own.name; value = o.value; sums = o.sums.items; lines = o.own ∷ o.below } };
+    ghost view = { λ o. record { program = o.program.now; name = o.own.name; value = o.value; sums = o.sums.items; lines = o.own ∷ o.below } };
 
-    ghost invariant = { λ o. IsOfItsName (record { program = o.program.value; name = o.own.name; value = o.value; sums = o.sums.items; lines = o.own ∷ o.below }) };
+    ghost invariant = { λ o. IsOfItsName (record { program = o.program.now; name = o.own.name; value = o.value; sums = o.sums.items; lines = o.own ∷ o.below }) };
 }
 
 /// An outcome taken apart.
@@ -46,7 +46,14 @@ pub struct OutcomeParts {
     pub lines: Sequence<ThreadLine>,
 }
 
-impl Outcome {
+impl<'p> Outcome<'p> {
+    /// The program.
+    pub fn program(&self) -> &'p Program
+        ensures { result.now ≡ self.now.program }
+    {
+        self.program
+    }
+
     /// The thread's name.
     pub fn name(&self) -> &Name
         ensures { result.now ≡ self.now.name }
@@ -64,12 +71,23 @@ impl Outcome {
 
     /// The value, the sums and the lines. It takes memory for the list of lines; where that is refused the outcome
     /// comes back.
-    pub fn into_parts(self) -> Result<OutcomeParts, Outcome>
-        ensures value { IfOk result (λ parts. parts.value ≡ self.value) }
-        ensures sums { IfOk result (λ parts. parts.sums ≡ self.sums) }
-        ensures lines { IfOk result (λ parts. parts.lines ≡ self.lines) }
-        ensures handed_back { IfErr result (λ outcome. outcome ≡ self) }
-        ensures of_its_name { IsOfItsName self }
+    pub fn into_parts(self) -> Result<OutcomeParts, Outcome<'p>>
+        ensures value { IfOk result (λ parts. parts.value ≡ self.entry.value) }
+        ensures sums { IfOk result (λ parts. parts.sums ≡ self.entry.sums) }
+        ensures lines { IfOk result (λ parts. parts.lines ≡ self.entry.lines) }
+        ensures handed_back { IfErr result (λ outcome. outcome ≡ self.entry) }
+        ensures of_its_name { IsOfItsName self.entry }
+    {
+        let program = self.program;
+        match self.detach().into_parts() {
+            Ok(parts) => Ok(parts),
+            Err(outcome) => Err(outcome.attach(program)),
+        }
+    }
+
+    /// The outcome without the reference to its program.
+    pub fn detach(self) -> DetachedOutcome
+        ensures { result ≡ self.entry }
     {
         let Outcome {
             program,
@@ -78,19 +96,12 @@ impl Outcome {
             own,
             below,
         } = self;
-        match below.complete(own) {
-            Ok(lines) => Ok(OutcomeParts {
-                value,
-                sums: Sequence::from(sums),
-                lines: Sequence::from(lines),
-            }),
-            Err((below, own)) => Err(Outcome {
-                program,
-                value,
-                sums,
-                own,
-                below,
-            }),
+        DetachedOutcome {
+            program: Snapshot::of(program),
+            value,
+            sums,
+            own,
+            below,
         }
     }
 }

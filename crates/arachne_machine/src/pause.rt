@@ -39,14 +39,14 @@ pub enum Pending {
 }
 
 /// Why an outcome was not joined. It comes back.
-#[derive(Drop, Error)]
-pub enum NotJoined {
+#[derive(Debug, Drop, Error)]
+pub enum NotJoined<'p> {
     /// It is not that of the child that is awaited.
     #[error("the outcome of another thread")]
-    Foreign(Outcome),
+    Foreign(Outcome<'p>),
     /// Memory was refused.
     #[error("out of memory")]
-    Memory(Outcome),
+    Memory(Outcome<'p>),
 }
 
 /// Why a child was not placed. It comes back.
@@ -61,15 +61,6 @@ pub enum NotPlaced<'p> {
 }
 
 /// Says why, without the child.
-impl fmt::Debug for NotJoined {
-    fn fmt<W: fmt::Write>(&self, f: &mut fmt::Formatter<W>) -> fmt::Result {
-        match self {
-            NotJoined::Foreign(_) => write!(f, "Foreign"),
-            NotJoined::Memory(_) => write!(f, "Memory"),
-        }
-    }
-}
-
 impl<'p> fmt::Debug for NotPlaced<'p> {
     fn fmt<W: fmt::Write>(&self, f: &mut fmt::Formatter<W>) -> fmt::Result {
         match self {

@@ -11,7 +11,6 @@ use crate::tables::zeros;
 use arachne_lang::{Class, Expr, Name, Program, Sequence};
 use std::alloc::{AllocError, Global};
 use std::mem::replace;
-use std::snapshot::Snapshot;
 
 /// What becomes a thread's own line.
 #[derive(Drop)]
@@ -326,7 +325,7 @@ impl<'p> State<'p> {
 
     /// The outcome of a thread that has ended.
     #[inline(always)]
-    pub fn finish(&mut self) -> Outcome
+    pub fn finish(&mut self) -> Outcome<'p>
         requires ended { pending_of self.old.control ≡ Some pause.Ended }
         requires alone { self.old.parents.items ≡ [] }
         requires sound { IsSoundState self.old }
@@ -337,7 +336,7 @@ impl<'p> State<'p> {
     {
         let value = self.value();
         Outcome {
-            program: Snapshot::of(self.program),
+            program: self.program,
             value,
             sums: replace(&mut self.sums, Vec::new(self.alloc)),
             own: self.take_line(),

@@ -2,7 +2,7 @@
 ghost use Rattle.std.specs.Prelude.{◌≡◌, ◌≢◌, ◌↔◌, ◌≤◌, ◌+◌, ◌-◌, ℕ, ◌∷◌, [], ◌++◌, true, None, Some, IfOk, IfSome, OnOk, IfErr, OnErr, IsTrue};
 ghost use Rattle.arachne_lang.specs.Effects.{tabulated};
 ghost use Rattle.arachne_machine.specs.Suspended.{IsAnswered, IsAsk, IsFree, IsFresh, IsNext, IsTally, Joined, SameThread, added, awaited, own_line_of, raised};
-ghost use Rattle.arachne_machine.specs.Advance.{AdvancedAlone, AwaitsAt, Moves, PlacesNone, RefusedAlone, IsForeign, IsNotAwaited, IsSpentAt, PausesAt, child_back, handed_back, pause_seen};
+ghost use Rattle.arachne_machine.specs.Advance.{AdvancedAlone, AwaitsAt, Moves, PlacesNone, RefusedAlone, IsForeign, IsCharged, IsNotAwaited, IsSpentAt, PausesAt, child_back, handed_back, pause_seen};
 ghost use Rattle.arachne_machine.specs.Nested.{AwaitsElsewhere, FallsBy, IsAlone, IsChildOf, IsNested, IsPlacing, MayBePlaced, Nested, PlacesAtFork, SameWhole, alone, begun_in, pending_in, spilled_of, whole, with_tag, work_in};
 ghost use Rattle.arachne_machine.specs.Faultless.{PausesWithin};
 ghost use Rattle.arachne_machine.specs.Kept.{IsSoundChild, nested};
@@ -156,6 +156,7 @@ impl<'p> Thread<'p> {
         requires some { 1 ≤ left.old }
         ensures ok { IfOk result (λ pause. Moves left.old self.old pause self.new) }
         ensures spent { IfOk result (λ pause. IsSpentAt pause left.old left.new) }
+        ensures charged { IfOk result (λ pause. IsCharged left.old left.new self.old pause self.new) }
         ensures elsewhere { IfOk result (λ pause. AwaitsAt pause self.new) }
         ensures within { IfOk result (λ pause. IsChecked (source_of (whole self.old).program) → PausesAt pause self.new.running) }
         ensures alone { IfOk result (λ pause. IsAlone self.old → PlacesNone self.old pause self.new → AdvancedAlone left.old self.old pause self.new) }
@@ -303,25 +304,25 @@ impl<'p> Thread<'p> {
 
     /// Joins the outcome of the child that is awaited. Where it answers an error nothing has changed, and the
     /// outcome comes back.
-    pub fn joined(&mut self, outcome: Outcome) -> Result<(), NotJoined>
+    pub fn joined(&mut self, outcome: Outcome<'p>) -> Result<(), NotJoined<'p>>
         requires pending { pending_in self.old ≡ Some pause.Joins }
         requires program { source_of outcome.program ≡ source_of (whole self.old).program }
         ensures whole { SameWhole self.old self.new }
-        ensures ok { OnOk result (Joined self.old.running outcome self.new.running) }
-        ensures sums { OnOk result (self.new.sums ≡ added self.old.sums outcome.sums) }
+        ensures ok { OnOk result (Joined self.old.running outcome.entry self.new.running) }
+        ensures sums { OnOk result (self.new.sums ≡ added self.old.sums outcome.entry.sums) }
         ensures others { self.new ≡ record self.old { running = self.new.running; sums = self.new.sums } }
         ensures pending { OnOk result (pending_in self.new ≡ None) }
         ensures work { work_in self.new ≡ work_in self.old }
-        ensures foreign { IsForeign result ↔ (awaited self.old.running ≢ Some outcome.name) }
+        ensures foreign { IsForeign result ↔ (awaited self.old.running ≢ Some outcome.entry.name) }
         ensures err { OnErr result (self.new ≡ self.old) }
-        ensures handed_back { IfErr result (λ e. handed_back e ≡ outcome) }
+        ensures handed_back { IfErr result (λ e. handed_back e ≡ outcome.entry) }
     {
         let _ = &outcome.value;
         self.state.join(outcome)
     }
 
     /// The outcome of a thread that has ended. It takes no memory.
-    pub fn finish(self) -> Outcome
+    pub fn finish(self) -> Outcome<'p>
         requires { pending_in self ≡ Some pause.Ended }
         ensures program { result.program ≡ (whole self.entry).program }
         ensures name { result.name ≡ (whole self.entry).name }
@@ -333,7 +334,7 @@ impl<'p> Thread<'p> {
     }
 
     /// The same. What the thread no longer needs is left to those that begin.
-    pub fn finish_into(self, spares: &mut Spares<'p>) -> Outcome
+    pub fn finish_into(self, spares: &mut Spares<'p>) -> Outcome<'p>
         requires { pending_in self ≡ Some pause.Ended }
         ensures program { result.program ≡ (whole self.entry).program }
         ensures name { result.name ≡ (whole self.entry).name }

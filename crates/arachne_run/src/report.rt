@@ -10,7 +10,7 @@ use crate::audit::{are_grants_holds, marks_of};
 use crate::fault::WorkerFault;
 use crate::machine::Remains;
 use arachne_lang::Sequence;
-use arachne_machine::{Outcome, ThreadLine};
+use arachne_machine::{DetachedOutcome, ThreadLine};
 use arachne_sleep::LockEvent;
 use std::alloc::Global;
 
@@ -34,7 +34,7 @@ impl Report {
     /// and the grants of the locks have to be the threads' holds.
     pub(crate) fn of(
         alloc: Global,
-        outcome: Outcome,
+        outcome: DetachedOutcome,
         remains: Remains,
     ) -> Result<Report, WorkerFault>
         requires { outcome.name ≡ [] }

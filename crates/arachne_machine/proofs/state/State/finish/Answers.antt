@@ -10,11 +10,9 @@ invariant_of-result c =
     let t = c.args.self.now in
     let v = c.value-value.result in
     let lines : c.replace-2.result ≡ t.lines = c.replace-2.ensures.value ∙ ap (λ s. s.lines) c.take_line.ensures.others in
-    let program = c.of.result.value in
     let Told : ThreadLine → List ℕ → List ThreadLine → Type 0 = λ own sums below.
-    IsOfItsName (record { program = program; name = own.name; value = v; sums = sums; lines = own ∷ below }) in
+    IsOfItsName (record { program = t.program.now; name = own.name; value = v; sums = sums; lines = own ∷ below }) in
     subst (λ own. Told own c.replace.result.items c.replace-2.result) (sym c.take_line.ensures.line)
     (subst (λ below. Told (own_line t.own) c.replace.result.items below) (sym lines)
     (subst (λ sums. Told (own_line t.own) sums.items t.lines) (sym c.replace.ensures.value)
-    (subst (λ p. IsOfItsName (record { program = p; name = t.own.name; value = v; sums = t.sums.items; lines = own_line t.own ∷ t.lines })) (sym c.of.ensures)
-    (ended_means t v c.requires.sound c.requires.alone c.value-value.ensures))))
+    (ended_means t v c.requires.sound c.requires.alone c.value-value.ensures)))

@@ -1,7 +1,7 @@
 use Rattle.std.proofs.Common.{◌≡◌, ◌-◌, true, ap, sym, ◌∙◌, subst}
 use Rattle.arachne_machine.specs.Steps.{pending_of, suspended, top}
 use Rattle.arachne_machine.specs.Kept.{AdvancesWith, IsKept, WentWithin, nested}
-use Rattle.arachne_machine.specs.Advance.{AdvancedAlone, Moves, PausesAt, PlacesNone, RefusedAlone, pause_seen}
+use Rattle.arachne_machine.specs.Advance.{AdvancedAlone, IsCharged, Moves, PausesAt, PlacesNone, RefusedAlone, pause_seen}
 use Rattle.arachne_lang.specs.Program.{source_of}
 use Rattle.arachne_lang.specs.Checked.{IsChecked}
 use Rattle.arachne_machine.proofs.Nesting.{program_seen}
@@ -43,6 +43,21 @@ returns-clause-ok g c =
     let is_pause : c.pause_of.result ≡ pause_seen c.in_ok-forked.forked (pending_of new.control) =
     c.pause_of.ensures ∙ ap (pause_seen c.in_ok-forked.forked) (c.pending.ensures ∙ ap (λ s. pending_of s.control) c.deref.ensures) in
     subst (λ v. Moves c.args.left.now v c.pause_of.result n) c.self.view_is (subst (λ p. Moves c.args.left.now (nested t ps) p n) (sym is_pause) s.moves)
+
+pub returns-clause-charged : goal.returns-clause-charged
+returns-clause-charged g c =
+    let t = c.self.inside.state.value in
+    let ps = c.self.inside.placed.items in
+    let new = c.advance_with.new.self in
+    let qs = c.advance_with.new.placed.items in
+    let is = c.deref_mut.ensures.value in
+    let a = subst (λ s. AdvancesWith (g.P.Placing.gives_all ≡ true) c.args.left.now c.advance_with.new.left s ps c.in_ok-forked.forked (pending_of new.control) new qs) is c.in_ok-forked.ensures.ok in
+    let s = shown (g.P.Placing.gives_all ≡ true) c.args.left.now c.advance_with.new.left t new ps qs c.in_ok-forked.forked (pending_of new.control) c.self.invariant a in
+    let n = nested new qs in
+    let is_pause : c.pause_of.result ≡ pause_seen c.in_ok-forked.forked (pending_of new.control) =
+    c.pause_of.ensures ∙ ap (pause_seen c.in_ok-forked.forked) (c.pending.ensures ∙ ap (λ s. pending_of s.control) c.deref.ensures) in
+    subst (λ v. IsCharged c.args.left.now c.advance_with.new.left v c.pause_of.result n) c.self.view_is
+    (subst (λ p. IsCharged c.args.left.now c.advance_with.new.left (nested t ps) p n) (sym is_pause) s.charged)
 
 pub returns-clause-within : goal.returns-clause-within
 returns-clause-within g c =

@@ -29,7 +29,7 @@ invariant_of-child c =
     let may : MayBePlaced (nested t ps) (nested child cps) =
     subst (λ v. MayBePlaced v (nested child cps)) (sym c.self.view_is) (subst (λ v. MayBePlaced c.args.self.now v) (sym c.child-2.view_is) c.requires.child) in
     let looks : LooksSame c.deref_mut-2.result.now c.take_in.new.child = search rules in
-    (as_it_was child c.take_in.new.child cps c.child-2.invariant may.alone (subst (λ s. LooksSame s c.take_in.new.child) c.deref_mut-2.ensures.value looks)).kept
+    (as_it_was child c.take_in.new.child cps c.child-2.invariant may.single (subst (λ s. LooksSame s c.take_in.new.child) c.deref_mut-2.ensures.value looks)).kept
 
 pub invariant_of-self-2 : goal.invariant_of-self-2
 invariant_of-self-2 c =
