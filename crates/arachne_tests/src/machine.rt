@@ -177,7 +177,7 @@ fn all_in_place(
 }
 
 /// An outcome taken apart. A call that is refused memory is made once more.
-fn parts(outcome: Outcome, memory: &mut Memory) -> Result<OutcomeParts, Fail> {
+fn parts<'p>(outcome: Outcome<'p>, memory: &mut Memory) -> Result<OutcomeParts, Fail> {
     memory.take_again()?;
     let outcome = match outcome.into_parts() {
         Ok(parts) => return Ok(parts),
@@ -401,7 +401,7 @@ fn go_on<'p>(thread: &mut Thread<'p>) -> Result<Pause<'p>, Fail> {
 /// An outcome, and a program that is equal to its own.
 #[derive(Drop)]
 struct Brought<'p> {
-    outcome: Outcome,
+    outcome: Outcome<'p>,
     program: &'p Program,
 }
 
@@ -627,18 +627,15 @@ fn an_awaited_child_begins_in_place(rt: HostRuntime) -> Result<(), Fail> {
     Ok(())
 }
 
-/// Says of the first fork that there is no place, of the next that there is one, and so on in turn.
+/// Says that there is a place for exclusive children alone.
 #[derive(Clone, Copy)]
-struct InTurn {
-    is_next: bool,
-}
+struct Exclusives;
 
-impl Placing for InTurn {
+impl Placing for Exclusives {
     ghost gives_all = { false };
 
-    fn is_any(&mut self, _class: Class) -> bool {
-        self.is_next = !self.is_next;
-        !self.is_next
+    fn is_any(&mut self, class: Class) -> bool {
+        class == Class::Exclusive
     }
 
     fn tag(&mut self) -> u64 {
@@ -655,7 +652,7 @@ fn first_with_place<'p>(alloc: Global, thread: &mut Thread<'p>) -> Result<Thread
         return Err("a pause is not answered")?;
     }
     let mut spares = Spares::new(alloc);
-    let mut places = InTurn { is_next: false };
+    let mut places = Exclusives;
     let mut left = 100u32;
     let Ok(pause) = thread.advance_within(&mut left, &mut spares, &mut places) else {
         return Err("memory was refused")?;
