@@ -7,6 +7,12 @@ use std::alloc::{AllocError, Global};
 /// The size of the first block that is tried, in bytes. Where one is refused the next has half of it.
 const LARGEST: usize = 1 << 46;
 
+/// From this size down each next one is smaller by so many bytes alone: of each such size the C library keeps some
+/// blocks, for blocks of the same size.
+const KEPT: usize = 1024;
+
+const APART: usize = 16;
+
 /// The size of the smallest blocks that are taken.
 const SMALLEST: usize = 16;
 
@@ -39,7 +45,8 @@ fn take_all(alloc: Global, blocks: &mut Vec<Vec<u8>>, largest: usize) -> Result<
         }
         match Vec::with_capacity(alloc, size) {
             Ok(block) => blocks.push(block)?,
-            Err(AllocError) => size /= 2,
+            Err(AllocError) if size > KEPT => size /= 2,
+            Err(AllocError) => size -= APART,
         }
     }
     Ok(())

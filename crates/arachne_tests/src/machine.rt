@@ -7,7 +7,7 @@ ghost use Rattle.arachne_machine.specs.Nested.{Nested, IsAlone, IsChildOf, SameW
 mod shortage;
 mod ways;
 
-use self::shortage::Memory;
+use self::shortage::{Memory, NEVER, TRIES};
 use arachne_lang::{Class, Meaning, Name, Program, TextFault, parse};
 use arachne_machine::{
     NotJoined, NotPlaced, Outcome, OutcomeParts, Pause, Pending, Placing, Ran, Spares, Thread,
@@ -32,7 +32,7 @@ fn program(alloc: Global, count: u8, expression: &str) -> Result<Program, Fail> 
     read(alloc, text.as_bytes())
 }
 
-/// The root thread of a program. Where memory is refused it is asked for once more.
+/// The root thread of a program. Where memory is refused it is asked for again, with a little more each time.
 fn start<'p>(
     alloc: Global,
     program: &'p Program,
@@ -41,13 +41,13 @@ fn start<'p>(
 ) -> Result<Thread<'p>, Fail>
     ensures { IfOk result (λ thread. pending_in thread ≡ None) }
 {
-    match Thread::start(alloc, program, tag) {
-        Ok(thread) => Ok(thread),
-        Err(_) => {
-            memory.spare();
-            Ok(Thread::start(alloc, program, tag)?)
+    for _ in 0..TRIES {
+        match Thread::start(alloc, program, tag) {
+            Ok(thread) => return Ok(thread),
+            Err(_) => memory.spare(),
         }
     }
+    Err(NEVER)?
 }
 
 /// What was heard of threads in one place: their pauses, the sum of the tags that asked for a lock, and the tag of the next child.
@@ -109,14 +109,15 @@ fn place<'p>(
         Err(NotPlaced::Memory(child)) => child,
         Err(NotPlaced::Foreign(_)) => return Err("refused as foreign at its fork")?,
     };
-    memory.spare();
+    memory.spare_much();
     if thread.in_place(child).is_err() {
         return Err("memory was refused twice")?;
     }
     Ok(())
 }
 
-/// Goes on to the next pause and answers it, with each child in place. It tells whether the thread has ended.
+/// Goes on to the next pause and answers it, with each child in place. It tells whether the thread has ended. Where
+/// memory is refused there is a little more the next time.
 fn turn(
     thread: &mut Thread,
     budget: u32,
@@ -130,14 +131,11 @@ fn turn(
     if budget == 0 {
         return Err("no budget")?;
     }
-    memory.take_again()?;
-    let pause = match thread.advance(budget) {
-        Ok(pause) => pause,
-        Err(_) => {
-            memory.spare();
-            thread.advance(budget)?
-        }
+    let Ok(pause) = thread.advance(budget) else {
+        memory.spare();
+        return Ok(false);
     };
+    memory.take_again()?;
     heard.hear(&pause, thread.running_tag());
     match pause {
         Pause::Budget => {}
@@ -168,26 +166,29 @@ fn all_in_place(
     };
     let mut budget = first;
     for _ in 0..10000 {
+        let refused = memory.refused();
         if turn(&mut thread, budget, &mut heard, memory)? {
             return Ok((parts(thread.finish(), memory)?, heard));
         }
-        budget = then;
+        if memory.refused() == refused {
+            budget = then;
+        }
     }
     Err("no end")?
 }
 
-/// An outcome taken apart. A call that is refused memory is made once more.
+/// An outcome taken apart. A call that is refused memory is made again, with a little more each time.
 fn parts<'p>(outcome: Outcome<'p>, memory: &mut Memory) -> Result<OutcomeParts, Fail> {
     memory.take_again()?;
-    let outcome = match outcome.into_parts() {
-        Ok(parts) => return Ok(parts),
-        Err(outcome) => outcome,
-    };
-    memory.spare();
-    match outcome.into_parts() {
-        Ok(parts) => Ok(parts),
-        Err(_) => Err("memory was refused twice")?,
+    let mut outcome = outcome;
+    for _ in 0..TRIES {
+        match outcome.into_parts() {
+            Ok(parts) => return Ok(parts),
+            Err(back) => outcome = back,
+        }
+        memory.spare();
     }
+    Err(NEVER)?
 }
 
 /// The numbers of a name.

@@ -2,6 +2,7 @@
 mod contended;
 mod several;
 mod shared;
+mod shortage;
 
 use arachne_core::ThreadId;
 use arachne_sleep::{AskFault, Asked, Freed, LockEvent, LockState, NotHolder, Pass, Who};

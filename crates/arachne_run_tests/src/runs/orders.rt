@@ -53,13 +53,13 @@ fn orders(alloc: Global, count: u64) -> Result<Vec<CoreOrder>, AllocError> {
     Ok(orders)
 }
 
-/// 901 threads on four cores.
+/// 901 threads on four cores, and on 64.
 const COMING_AND_GOING: Row = Row {
     shows: "cores come and go",
     source: MANY,
     forms: FORMS,
     slots: SLOTS,
-    machines: &[(4, 1, 4)],
+    machines: &[(4, 1, 4), (64, 1, 64)],
     draws: SPREAD,
     orders: &[],
     watching: Watching::Nothing,
@@ -72,23 +72,19 @@ const COMING_AND_GOING: Row = Row {
     told: "",
 };
 
-/// A thousand orders close and open three of four cores while the threads run.
+/// A thousand orders close and open three of the cores while the threads run.
 #[test]
 fn cores_come_and_go(rt: HostRuntime) -> Result<(), Fail> {
     let alloc = rt.alloc();
     let orders = orders(alloc, 1000)?;
-    for &form in FORMS {
-        let start = Instant::now(&rt)?;
-        row_holds(
-            &rt,
-            alloc,
-            &COMING_AND_GOING,
-            form,
-            (4, 1, 4),
-            orders.as_slice(),
-        )?;
-        let elapsed = start.elapsed(&rt)?;
-        assert!(rt; elapsed < Duration::from_secs(5), "{elapsed:?}");
+    let row = &COMING_AND_GOING;
+    for &form in row.forms {
+        for &machine in row.machines {
+            let start = Instant::now(&rt)?;
+            row_holds(&rt, alloc, row, form, machine, orders.as_slice())?;
+            let elapsed = start.elapsed(&rt)?;
+            assert!(rt; elapsed < Duration::from_secs(5), "{machine:?}: {elapsed:?}");
+        }
     }
     Ok(())
 }

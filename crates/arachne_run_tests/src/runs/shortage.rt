@@ -107,6 +107,13 @@ const ROWS: &[Row] = &[
         orders: &[],
         told: (8, 8),
     },
+    // By slices of one step the threads wait for one another's lock.
+    Row {
+        source: HOLDS,
+        machine: (1, 1, 1),
+        orders: &[],
+        told: (8, 8),
+    },
     Row {
         source: SWEEP,
         machine: (4, 1, 4),
@@ -183,7 +190,9 @@ fn refused<R: Abort + Threads + Wait + Sync>(
         if result == last {
             return (runs, true);
         }
-        let is_want = result == Err(RunFault::Memory) || result == Err(RunFault::KernelThread);
+        // On one core no kernel thread is started.
+        let is_want = result == Err(RunFault::Memory)
+            || cores > 1 && result == Err(RunFault::KernelThread);
         assert!(rt; is_want, "{result:?}");
         hoard.give_back(BYTES);
     }
