@@ -665,7 +665,11 @@ fn first_with_place<'p>(alloc: Global, thread: &mut Thread<'p>) -> Result<Thread
     Ok(child)
 }
 
-/// What is told of the threads of `TWO_FORKS`, where there is a place for the second child alone, whose tag is 20.
+/// The same, but the second child is exclusive.
+const TWO_CLASSES: &str =
+    "(fork n (num 2) (fork x (num 3) (num 4) (add (var 0) (var 1))) (add (var 0) (var 1)))";
+
+/// What is told of the threads of `TWO_CLASSES`, where there is a place for the second child alone, whose tag is 20.
 fn told_of_one_with_place(alloc: Global, program: &Program) -> Result<String, Fail> {
     let mut memory = Memory::ample();
     let mut thread = start(alloc, program, 9, &mut memory)?;
@@ -680,7 +684,7 @@ fn told_of_one_with_place(alloc: Global, program: &Program) -> Result<String, Fa
 
 #[test]
 fn a_child_without_a_place_waits_for_one_that_has(rt: HostRuntime) -> Result<(), Fail> {
-    let program = program(rt.alloc(), 0, TWO_FORKS)?;
+    let program = program(rt.alloc(), 0, TWO_CLASSES)?;
     let told = told_of_one_with_place(rt.alloc(), &program)?;
     assert!(rt; told.as_str() == "9 [] []9-[] [1]20-[] [0]0+[]", "{told}");
     Ok(())
