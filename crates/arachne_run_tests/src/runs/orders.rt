@@ -83,7 +83,10 @@ fn cores_come_and_go(rt: HostRuntime) -> Result<(), Fail> {
             let start = Instant::now(&rt)?;
             row_holds(&rt, alloc, row, form, machine, orders.as_slice())?;
             let elapsed = start.elapsed(&rt)?;
-            assert!(rt; elapsed < Duration::from_secs(5), "{machine:?}: {elapsed:?}");
+            assert!(rt;
+                elapsed < Duration::from_secs(5),
+                "{machine:?}: {elapsed:?}"
+            );
         }
     }
     Ok(())

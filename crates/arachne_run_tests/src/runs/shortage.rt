@@ -82,6 +82,22 @@ const HOLDS: Source = Source {
     expr: "(sweep add 1 (num 0) (num 8) (hold 0 (tally 0 (num 5) (num 1))))",
 };
 
+/// By slices of one step 50 threads wait for one another's lock, whose history grows by more than a run gets.
+const WANTED: Source = Source {
+    ledgers: 0,
+    locks: 1,
+    forks: 0,
+    expr: "(sweep add 1 (num 0) (num 50) (hold 0 (num 1)))",
+};
+
+/// More threads than places, of which some wait for one.
+const WAITING: Source = Source {
+    ledgers: 0,
+    locks: 0,
+    forks: 0,
+    expr: "(sweep add 1 (num 0) (num 200) (var 0))",
+};
+
 const ROWS: &[Row] = &[
     Row {
         source: FORK,
@@ -107,12 +123,17 @@ const ROWS: &[Row] = &[
         orders: &[],
         told: (8, 8),
     },
-    // By slices of one step the threads wait for one another's lock.
     Row {
-        source: HOLDS,
+        source: WANTED,
         machine: (1, 1, 1),
         orders: &[],
-        told: (8, 8),
+        told: (50, 50),
+    },
+    Row {
+        source: WAITING,
+        machine: (1, 100, 1),
+        orders: &[],
+        told: (19_900, 200),
     },
     Row {
         source: SWEEP,

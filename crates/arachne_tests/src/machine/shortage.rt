@@ -1,6 +1,8 @@
 //! A thread for which there is no memory at each call that grows: the same call is made again, with a little more each
 //! time, and the outcome is the one without refusals.
-use super::{Brought, COUNTING, Refused, all_in_place, are_same, bring, join, parts, program, start, told};
+use super::{
+    Brought, COUNTING, Refused, all_in_place, are_same, bring, join, parts, program, start, told,
+};
 use arachne_lang::Program;
 use arachne_machine::{NotPlaced, Pause, Pending, Thread};
 use arachne_shortage::Hoard;
