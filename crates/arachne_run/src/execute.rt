@@ -47,24 +47,26 @@ pub(crate) struct Worker<'a, H, T: RunJob, C: Contexts<T>, R, G> {
 
 impl<'a, H: Wait, T: RunJob, C: Contexts<T>, R: Rng + Drop, G: Gate> Worker<'a, H, T, C, R, G> {
     /// The thread in hand, which was at this index, has a slice, and more as long as nothing else is to go on. Then it
-    /// rests, or has ended.
-    pub(crate) fn turn(&mut self, index: u8) -> Result<(), WorkerFault>
+    /// rests, or has ended. Whether it waits.
+    pub(crate) fn turn(&mut self, index: u8) -> Result<bool, WorkerFault>
         ensures { (self.new.desk ≡ self.old.desk) × (self.new.locks ≡ self.old.locks) × (self.new.sums ≡ self.old.sums) }
     {
         for _ in 0..policy::MOST_ALONE {
             let end = self.slice()?;
             if end == SliceEnd::Ended {
-                return self.end();
+                self.end()?;
+                return Ok(false);
             }
             if end == SliceEnd::Waits || !self.goes_on() {
                 break;
             }
             self.tend();
         }
-        if self.desk.rest()? == Rest::Ready {
+        let rest = self.desk.rest()?;
+        if rest == Rest::Ready {
             self.agenda.note(index);
         }
-        Ok(())
+        Ok(rest == Rest::Blocked)
     }
 
     /// Whether the thread in hand has another slice at once: no other is known to be ready, no ticket could be taken,

@@ -107,15 +107,16 @@ impl<'a, H: Wait, T: RunJob, C: Contexts<T>, R: Rng + Drop, G: Gate> Worker<'a, 
                 break;
             }
             self.tend();
+            let mut waits = false;
             match self.desk.take(index) {
                 Grip::Taken => {
                     found = true;
-                    self.turn(index)?;
+                    waits = self.turn(index)?;
                 }
                 Grip::None => {}
                 Grip::Lost => self.agenda.note(index),
             }
-            match self.next() {
+            match self.next(waits) {
                 Some(next) => index = next,
                 None => return Ok(found),
             }

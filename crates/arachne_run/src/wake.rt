@@ -104,14 +104,17 @@ impl<'a, H: Wait, T: RunJob, C: Contexts<T>, R: Rng + Drop, G: Gate> Worker<'a, 
         }
     }
 
-    /// The index of the core at which a thread is to go on next: one that holds a lock now, or the newest that the
-    /// worker has posted and not told of, which is moved here. Those that can't be are told of, and those that went on
-    /// meanwhile are forgotten.
-    pub(crate) fn next(&mut self) -> Option<u8>
+    /// The index of the core at which a thread is to go on next: one that holds a lock now, or, where a thread came to
+    /// wait, the newest that the worker has posted and not told of, which is moved here. Those that can't be are told
+    /// of, and those that went on meanwhile are forgotten.
+    pub(crate) fn next(&mut self, waits: bool) -> Option<u8>
         ensures { (self.new.desk ≡ self.old.desk) × (self.new.locks ≡ self.old.locks) × (self.new.sums ≡ self.old.sums) }
     {
         if let Some(index) = self.agenda.take_next() {
             return Some(index);
+        }
+        if !waits {
+            return None;
         }
         for _ in 0..policy::MOST_KEPT_BACK {
             let post = self.agenda.take_newest()?;
