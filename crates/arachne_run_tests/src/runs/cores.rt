@@ -33,6 +33,14 @@ pub(super) const ALONE: Source = Source {
     expr: "(fork x (num 1) (fold (num 0) (num 1000) (num 0) (var 1)) (add (var 0) (var 1)))",
 };
 
+/// A thread that forks one for a core of its own.
+pub(super) const EXCLUSIVE: Source = Source {
+    ledgers: 0,
+    locks: 0,
+    forks: 0,
+    expr: "(fork x (num 1) (num 2) (add (var 0) (var 1)))",
+};
+
 /// A thread that begins at least 1,004 nodes.
 const LONG: Source = Source {
     ledgers: 0,
@@ -145,6 +153,20 @@ const ROWS: &[Row] = &[
         orders: &[],
         watching: Watching::Cores,
         facts: &[(Fact::Value, 5), (Fact::Slot, 2), (Fact::Cores, 0b0011)],
+        telling: Telling::Nothing,
+        told: "",
+    },
+    // Its parent waits for it, and doesn't run it.
+    Row {
+        shows: "a thread that has a core alone runs there",
+        source: EXCLUSIVE,
+        forms: FORMS,
+        slots: SLOTS,
+        machines: &[(2, 1, 2), (2, 7, 2), (2, 100, 2), (2, 10_000, 2)],
+        draws: ZEROS,
+        orders: &[],
+        watching: Watching::Cores,
+        facts: &[(Fact::Value, 3), (Fact::Slot, 2), (Fact::Cores, 0b0011)],
         telling: Telling::Nothing,
         told: "",
     },

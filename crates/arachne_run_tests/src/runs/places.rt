@@ -1,5 +1,5 @@
 //! Which threads get a place, which wait for one, and which run in their parents'.
-use super::cores::ALONE;
+use super::cores::{ALONE, EXCLUSIVE};
 use super::facts::{Fact, Telling};
 use super::reports::{CHAIN, MANY};
 use super::rows::{Row, rows_hold};
@@ -130,6 +130,19 @@ const ROWS: &[Row] = &[
         ],
         telling: Telling::Nothing,
         told: "",
+    },
+    Row {
+        shows: "a thread that wants a core alone never waits for a place",
+        source: EXCLUSIVE,
+        forms: FORMS,
+        slots: SLOTS,
+        machines: &[(1, 1, 1), (1, 7, 1), (1, 100, 1), (1, 10_000, 1)],
+        draws: ZEROS,
+        orders: &[],
+        watching: Watching::Nothing,
+        facts: &[(Fact::Value, 3)],
+        telling: Telling::Ran,
+        told: "slot in place ",
     },
     // The second child finds no place, and gets the first one's once that has ended. The root counts meanwhile.
     Row {
