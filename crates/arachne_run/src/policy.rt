@@ -6,7 +6,7 @@ use arachne_core::OccWord;
 /// How many threads that go on before all others may follow one another.
 pub(crate) const MOST_IN_TURN: u32 = 64;
 
-/// How many slices in turn a thread that is alone may have before its worker looks at all that is on the core.
+/// How many slices in turn a thread that is alone may have before it is put back, and the scan goes on.
 pub(crate) const MOST_ALONE: u32 = 64;
 
 /// How many scans of what is known to be ready may follow one another before one of all that is occupied.
