@@ -10,7 +10,8 @@ use std::alloc::Global;
 use std::marker::Model;
 use std::ptr::null_mut;
 
-/// The pointer of a box, or null, which holds nothing. A clause reads what it holds as `value`.
+/// The pointer of a box, or null, which holds nothing. A clause reads what it holds as `value`. It can't be dropped, since
+/// what it is made from takes it apart: `into_box` ends it.
 pub struct Handle<T> {
     pub at: *mut T,
     pub alloc: Global,
@@ -69,12 +70,6 @@ impl<T: Drop> Handle<T> {
             Some(loose) => Some(loose.into_box()),
             None => None,
         }
-    }
-}
-
-impl<T: Drop> Drop for Handle<T> {
-    fn drop(self) {
-        drop(self.into_box());
     }
 }
 
