@@ -1,6 +1,5 @@
 -- What a handle keeps says the same to every thread.
 use mathlib.Core.List.{List, [], ◌∷◌}
-use mathlib.Core.Path.{◌≡◌}
 use mir.Raw.{raw}
 use mir.Val.{Val}
 use base.Fraction.{full_share}

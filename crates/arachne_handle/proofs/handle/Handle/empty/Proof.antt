@@ -1,5 +1,5 @@
 -- `empty` keeps nothing at null.
-use Rattle.std.proofs.Common.{◌≡◌, List, [], ◌∷◌, ◌++◌, refl, sym, subst, lit<}
+use Rattle.std.proofs.Common.{◌≡◌, List, [], ◌∷◌, ◌++◌, refl, sym, subst}
 use mir.Syntax.{a_type}
 use mir.Val.{Val}
 use mir.MapTy.{inst_fn}
@@ -12,7 +12,7 @@ use types.Part.{agg}
 use contract.Monad.{fact, fact_i}
 use contract.Running.{tables}
 use denote.Exit.{yes}
-use denote.RattleType.{RattleType, owns}
+use denote.RattleType.{owns}
 use denote.Signature.{types_at, plain}
 use denote.RawPtr.{Ptr, null_ptr, ptr_val}
 use denote.Steps.{nothing}

@@ -1,12 +1,11 @@
 -- `into_loose` tests the pointer, which is null where nothing is held.
-use Rattle.std.proofs.Common.{◌≡◌, List, [], ◌∷◌, ◌++◌, refl, sym, ap, ◌∙◌, subst, lit<}
+use Rattle.std.proofs.Common.{◌≡◌, List, [], ◌∷◌, ◌++◌, refl, sym, subst, lit<}
 use mir.Syntax.{a_type}
 use mir.Val.{Val, vptr, vcons, vnil}
 use mir.MapTy.{inst_fn}
-use base.Logic.{SProp, ent, emp, never, id⊢, fst∗}
+use base.Logic.{SProp, ent, emp, id⊢}
 use prog.Wp.{WpFn}
-use types.Logic.{sem}
-use types.Kit.{‵, raw, given, ◌⊛◌, at_ret, Sq, ◌$◌, ◌∵◌, !, qed, by, move, keep, split, fsplit, join, fjoin, use0, use1, feq_l, learn, suffices}
+use types.Kit.{‵, raw, ◌⊛◌, at_ret, ◌$◌, ◌∵◌, !, qed, by, move, keep, split, fsplit, join, fjoin, use0, use1, suffices}
 use types.Run.{stop, fld, lit, of_opd, bin, no_more, and_then, first, branches, exec, returns, enter}
 use types.ByLocal.{alloc_all, pass_all, free_all, look_at, get, get_in, sets, sets_last, env}
 use types.Part.{agg, sub, whole}
@@ -16,26 +15,21 @@ use contract.Running.{tables}
 use denote.Exit.{no}
 use denote.RattleType.{RattleType, owns}
 use denote.Signature.{types_at, type_at, plain}
-use denote.RawPtr.{Ptr, block_ptr, null_ptr, ptr_val, in_a_block, tests_null}
+use denote.RawPtr.{Ptr, block_ptr, null_ptr, ptr_val, tests_null}
 use denote.Steps.{nothing}
-use denote.Memory.{lone}
 use denote.Param.{param, layout, layouts}
 use denote.Triple.Entry.{alive}
 use denote.Triple.Walked.{Stays, stay_dropped, walk_of, Goes-dropped}
-use mir.Raw.{raw as bare}
 use Rattle.core.specs.declared.option.Option.TheVariants.{None, Some}
 use Rattle.core.proofs.alloc.Shapes.{after}
 use Rattle.core.proofs.atomic.Steps.{Ptr-Good}
 use Rattle.core.proofs.cell.Inside.{Good}
 use Rattle.core.proofs.option.Made.{Some-of, none_of}
-use Rattle.std.specs.declared.option.Option.{Option}
 use Rattle.std.specs.contracts.impls.GlobalAllocator.TheImpl.{ghosts}
 use Rattle.std.proofs.alloc.Global.TheLaws as heap_laws
-use Rattle.std_alloc.specs.Box.Ownership.{box_owns}
 use Rattle.std_alloc.proofs.ResultValues.{and_tt}
 use Rattle.std.proofs.raw_atomic.Walks.{proved_at, leaves}
 use Rattle.arachne_handle.proofs.Values.{both, Handle, Z, Loose, pair_good, loose_good, loose_in, fields_out, either_kept}
-use Rattle.arachne_handle.specs.Kept.{kept}
 use Rattle.arachne_handle.specs.contracts.handle.Handle.into_loose.{ended, clauses}
 use Rattle.arachne_handle.specs.contracts.handle.Handle.into_loose.Key.{name as #self}
 use Rattle.arachne_handle.proofs.handle.Handle.into_loose.Statement.{statement}

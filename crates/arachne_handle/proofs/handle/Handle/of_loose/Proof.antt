@@ -1,5 +1,5 @@
 -- `of_loose` keeps what the pointer's box was.
-use Rattle.std.proofs.Common.{◌≡◌, List, [], ◌∷◌, ◌++◌, refl, sym, ap, subst}
+use Rattle.std.proofs.Common.{◌≡◌, List, [], ◌∷◌, ◌++◌, refl, sym, subst}
 use mir.Syntax.{a_type}
 use mir.Val.{Val, vptr}
 use mir.MapTy.{inst_fn}
@@ -14,7 +14,7 @@ use contract.Running.{tables}
 use denote.Exit.{no}
 use denote.RattleType.{RattleType, owns}
 use denote.Signature.{types_at, plain}
-use denote.RawPtr.{Ptr, block_ptr}
+use denote.RawPtr.{block_ptr}
 use denote.Steps.{nothing}
 use denote.Param.{param, layouts}
 use denote.Triple.Entry.{alive}
