@@ -1,5 +1,5 @@
-/* THREADS threads add the numbers up to COUNT to two ledgers: ledger THREADS COUNT. Prints both totals. Thread k adds k+1, k+1+THREADS
- * and so on, each number to ledger 0 and 1 to ledger 1. */
+/* THREADS threads add the numbers up to COUNT to two ledgers: ledger THREADS COUNT. Prints both totals. Thread k
+ * adds k+1, k+1+THREADS and so on, each number to ledger 0 and 1 to ledger 1. */
 #include "arachne_ledger.h"
 #include <inttypes.h>
 #include <pthread.h>

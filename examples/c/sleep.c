@@ -1,6 +1,6 @@
-/* THREADS kernel threads take turns at one lock: sleep THREADS ROUNDS. Each plays a user thread of its own, which asks ROUNDS times,
- * waits where it is queued until the lock is handed on to it, counts while it holds the lock, and frees it. Prints the count, of
- * which a plain addition is enough, and how many turns there were. */
+/* THREADS kernel threads take turns at one lock: sleep THREADS ROUNDS. Each plays a user thread of its own, which
+ * asks ROUNDS times, waits where it is queued until the lock is handed on to it, counts while it holds the lock, and
+ * frees it. Prints the count, of which a plain addition is enough, and how many turns there were. */
 #include "arachne_sleep.h"
 #include <inttypes.h>
 #include <pthread.h>

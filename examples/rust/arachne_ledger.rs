@@ -27,8 +27,8 @@ impl Adder {
         static FAMILIES: std::sync::atomic::AtomicU64 = std::sync::atomic::AtomicU64::new(0);
         let family = FAMILIES.fetch_add(1, std::sync::atomic::Ordering::Relaxed);
         let mut adder = Adder { handle: ptr::null_mut(), family };
-        // SAFETY: the declarations fit those of the library, here and below, and the pointer is of a handle that is lent
-        // for the call. A handle begins as null, and nothing else writes it.
+        // SAFETY: the declarations fit those of the library, here and below, and the pointer is of a handle that is
+        // lent for the call. A handle begins as null, and nothing else writes it.
         (unsafe { arachne_ledgers_new(&mut adder.handle, count) } == 0).then_some(adder)
     }
 

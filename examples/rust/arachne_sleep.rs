@@ -74,8 +74,8 @@ impl LockSeat {
         static FAMILIES: AtomicU64 = AtomicU64::new(0);
         let family = FAMILIES.fetch_add(1, Ordering::Relaxed);
         let mut seat = LockSeat { handle: ptr::null_mut(), family };
-        // SAFETY: the declarations fit those of the library, here and below, and the pointer is of a handle that is lent
-        // for the call. A handle begins as null, and nothing else writes it.
+        // SAFETY: the declarations fit those of the library, here and below, and the pointer is of a handle that is
+        // lent for the call. A handle begins as null, and nothing else writes it.
         (unsafe { arachne_lock_new(&mut seat.handle, number) } == 0).then_some(seat)
     }
 

@@ -1,6 +1,6 @@
-//! THREADS kernel threads take turns at one lock: sleep THREADS ROUNDS. Each plays a user thread of its own, which asks ROUNDS
-//! times, waits where it is queued until the lock is handed on to it, counts while it holds the lock, and frees it. Prints the
-//! count and how many turns there were.
+//! THREADS kernel threads take turns at one lock: sleep THREADS ROUNDS. Each plays a user thread of its own, which asks
+//! ROUNDS times, waits where it is queued until the lock is handed on to it, counts while it holds it, and frees it.
+//! Prints the count and how many turns there were.
 mod arachne_sleep;
 
 use arachne_sleep::{Asked, Freed, LockSeat, Who};
