@@ -109,39 +109,24 @@ impl Lines {
         if !below.earlier.is_empty() || below.last.len() > MOST_MOVED {
             return self.append_many(own, below);
         }
-        if self.last.is_empty() && !below.last.is_empty() {
-            return self.take_over(own, below);
+        if below.last.len() >= MOST - self.len() {
+            return Err((own, below));
         }
-        if below.last.len() >= MOST - self.len()
-            || self.last.try_reserve(below.last.len() + 1).is_err()
-        {
+        if self.last.is_empty() && !below.last.is_empty() {
+            return match below.last.insert(0, own) {
+                Ok(()) => {
+                    swap(&mut self.last, &mut below.last);
+                    Ok(())
+                }
+                Err(refused) => Err((refused.value, below)),
+            };
+        }
+        if self.last.try_reserve(below.last.len() + 1).is_err() {
             return Err((own, below));
         }
         self.last.push_reserved(own);
         let _ = self.last.append(&mut below.last);
         Ok(())
-    }
-
-    /// The same, where the last list is empty: that of the lines below becomes it, with no memory of its own.
-    fn take_over(&mut self, own: ThreadLine, below: Lines) -> Result<(), (ThreadLine, Lines)>
-        requires empty { self.old.last.items ≡ [] }
-        requires one_list { below.earlier.items ≡ [] }
-        ensures lines { OnOk result (self.new ≡ self.old ++ own ∷ below) }
-        ensures few { OnOk result (length self.new < 2 ^ 63) }
-        ensures err { OnErr result (self.new ≡ self.old) }
-        ensures handed_back { IfErr result (λ back. (back.0 ≡ own) × (back.1 ≡ below)) }
-    {
-        let mut below = below;
-        if below.last.len() >= MOST - self.len() {
-            return Err((own, below));
-        }
-        match below.last.insert(0, own) {
-            Ok(()) => {
-                swap(&mut self.last, &mut below.last);
-                Ok(())
-            }
-            Err(refused) => Err((refused.value, below)),
-        }
     }
 
     /// The same, with no line moved but the first.

@@ -57,7 +57,7 @@ pub(crate) fn may_take_ticket(now: OccWord, kept: usize, slots: u8) -> bool {
 pub(crate) const LAST_SPIN: u32 = 6;
 
 /// From then on up to this one it yields the processor; after that it sleeps.
-pub(crate) const LAST_YIELD: u32 = 8;
+pub(crate) const LAST_YIELD: u32 = 40;
 
 /// How long the first sleep in turn takes, in microseconds. Each further one takes twice as long, up to a longest.
 const FIRST_SLEEP: u64 = 64;
