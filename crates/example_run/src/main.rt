@@ -16,7 +16,7 @@ use arachne_run::{Job, OpenGate, Report, RunFault, Setup, run};
 use arachne_words::WordContexts;
 use rand_core::SeedableRng;
 use rand_xoshiro::Xoshiro256PlusPlus;
-use std::alloc::Global;
+use std::alloc::{AllocError, Global};
 use std::sync::Wait;
 use std::thread::Threads;
 use thiserror::Error;
@@ -39,6 +39,15 @@ enum Refused {
     Run(#[from] RunFault),
 }
 
+/// A source of random numbers for each core, by which it chooses among places.
+fn choosers(alloc: Global, cores: u64) -> Result<Vec<Xoshiro256PlusPlus>, AllocError> {
+    let mut choosers = Vec::new(alloc);
+    for core in 0..cores {
+        choosers.push(Xoshiro256PlusPlus::seed_from_u64(core))?;
+    }
+    Ok(choosers)
+}
+
 /// Runs a checked program on so many cores, a kernel thread for each, with no orders to take cores back.
 fn run_on<R: Threads + Wait + Sync>(
     rt: &R,
@@ -50,11 +59,7 @@ fn run_on<R: Threads + Wait + Sync>(
     ensures meaning { IfOk result (λ report. meaning_in report ≡ meaning_of (source_of program.now)) }
     ensures one_holder { IfOk result (λ report. All HasOneHolderAtATime (histories_in report)) }
 {
-    // Each core draws by a chooser of its own, so that a run with the same seeds draws the same.
-    let mut choosers = Vec::new(alloc);
-    for core in 0..cores {
-        choosers.push(Xoshiro256PlusPlus::seed_from_u64(core))?;
-    }
+    let choosers = choosers(alloc, cores)?;
     let setup = Setup {
         cores,
         slots: 8,
