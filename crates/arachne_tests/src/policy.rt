@@ -46,23 +46,6 @@ fn thresholds_follow_the_last_add(rt: HostRuntime) {
     expect(&rt, &mut Estimator::new(1500, 90, 16), ADDED_AND_REMOVED);
 }
 
-/// The estimator that goes on has the thresholds of the first, of which an Add on two cores has changed that of three, and
-/// answers as the first would.
-#[test]
-fn an_estimator_goes_on_with_the_thresholds_of_another(rt: HostRuntime) {
-    let mut estimator = Estimator::new(1500, 90, 16);
-    let (before, after) = ADDED_AND_REMOVED.split_at(1);
-    expect(&rt, &mut estimator, before);
-    let thresholds = *estimator.thresholds();
-    for (index, &threshold) in thresholds.iter().enumerate() {
-        let expected = if index == 2 { 1900 } else { index as u64 * 1000 };
-        assert!(rt; threshold == expected, "at {index}");
-    }
-    let mut resumed = Estimator::resume(1500, 90, 16, &thresholds);
-    assert!(rt; *resumed.thresholds() == thresholds);
-    expect(&rt, &mut resumed, after);
-}
-
 const LIMIT: u64 = 281_474_976_710_656;
 
 const GOOD: &[[u64; 5]] = &[
