@@ -1,0 +1,76 @@
+//! A box's pointer, or null.
+ghost use Rattle.std.specs.Prelude.{◌≡◌, IfNone, IfSome};
+ghost use Rattle.std.specs.declared.option.Option.{Option};
+ghost use Rattle.std.specs.declared.option.Option.TheVariants.{None, Some};
+ghost use Rattle.std.specs.Coded.{coded_option};
+ghost use Rattle.arachne_handle.specs.Kept.{kept};
+
+use crate::loose::Loose;
+use std::alloc::Global;
+use std::marker::Model;
+use std::ptr::null_mut;
+
+/// The pointer of a box, or null, which holds nothing. A clause reads what it holds as `value`. It can't be dropped, since
+/// what it is made from takes it apart: `into_box` ends it.
+pub struct Handle<T> {
+    pub at: *mut T,
+    pub alloc: Global,
+    pub ghost value: { Option T } by { coded_option T.code },
+}
+
+impl<T> Model for Handle<T> {
+    ghost also_owns = { λ h. kept T.row h.alloc h.at h.value };
+}
+
+impl<T> Handle<T> {
+    /// One that holds nothing.
+    pub fn empty(alloc: Global) -> Handle<T>
+        ensures { result.value ≡ None }
+    {
+        Handle {
+            at: null_mut(),
+            alloc,
+        }
+    }
+
+    fn of_loose(loose: Loose<T, Global>) -> Handle<T>
+        ensures { result.value ≡ Some loose.value }
+    {
+        let Loose { at, alloc } = loose;
+        Handle { at, alloc }
+    }
+
+    fn into_loose(self) -> Option<Loose<T, Global>>
+        ensures nothing { IfNone result (self.value ≡ None) }
+        ensures value { IfSome result (λ loose. self.value ≡ Some loose.value) }
+    {
+        let Handle { at, alloc } = self;
+        if at.is_null() {
+            None
+        } else {
+            Some(Loose { at, alloc })
+        }
+    }
+}
+
+impl<T: Drop> Handle<T> {
+    /// One that holds what the box did.
+    pub fn of(value: Box<T>) -> Handle<T>
+        ensures { result.value ≡ Some value.value }
+    {
+        Handle::of_loose(Loose::of(value))
+    }
+
+    /// The box again, if it holds anything.
+    pub fn into_box(self) -> Option<Box<T>>
+        ensures nothing { IfNone result (self.value ≡ None) }
+        ensures value { IfSome result (λ value. self.value ≡ Some value.value) }
+    {
+        match self.into_loose() {
+            Some(loose) => Some(loose.into_box()),
+            None => None,
+        }
+    }
+}
+
+unsafe impl<T: Send> Send for Handle<T> {}

@@ -1,0 +1,7 @@
+//! A value on the heap as the pointer by which C holds it, and back. A null pointer holds nothing.
+#![tactic(auto)]
+
+mod handle;
+mod loose;
+
+pub use handle::Handle;

@@ -1,0 +1,3 @@
+pub mod Adder
+pub mod Row
+pub mod Held

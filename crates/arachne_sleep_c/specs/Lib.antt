@@ -1,0 +1,5 @@
+pub mod Seating
+pub mod Told
+pub mod Calls
+pub mod Row
+pub mod Held

@@ -1,0 +1,2 @@
+pub mod InHand
+pub mod Cut
