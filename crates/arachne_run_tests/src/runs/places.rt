@@ -7,6 +7,7 @@ use super::{FORMS, Machine, Source};
 use crate::choosers::{CORE_ONE, SPREAD, ZEROS};
 use crate::gates::Watching;
 use arachne_core::SLOTS;
+use arachne_policy::{CoreOrder, OrderKind};
 use std::test::Fail;
 
 /// One core, at each quantum.
@@ -165,9 +166,54 @@ const ROWS: &[Row] = &[
     },
 ];
 
+/// The root's first child has the other place, and three more wait for it in turn.
+const THREE_WAIT: Row = Row {
+    shows: "threads that wait get a place that is left, one after the other",
+    source: Source {
+        ledgers: 0,
+        locks: 0,
+        forks: 0,
+        expr: "(fork n (fold (num 0) (num 100) (num 0) (var 1)) (fork n (num 2) (fork n (num 2) (fork n (num 2) (fold (num 0) (num 3000) (num 0) (var 1)) (add (var 0) (var 1))) (add (var 0) (var 1))) (add (var 0) (var 1))) (add (var 0) (var 1)))",
+    },
+    forms: FORMS,
+    slots: 2,
+    machines: &[(1, 1, 1), (1, 7, 1), (1, 100, 1)],
+    draws: ZEROS,
+    orders: &[],
+    watching: Watching::Nothing,
+    facts: &[(Fact::Value, 6), (Fact::Slot, 2), (Fact::Spill, 3)],
+    telling: Telling::Nothing,
+    told: "",
+};
+
+/// Of 1,000 threads of a sweep 134 get a place as they are forked. Where places were kept it would be 56.
+const NONE_KEPT: Row = Row {
+    shows: "no place is kept where an order may close the core",
+    source: Source {
+        ledgers: 0,
+        locks: 0,
+        forks: 0,
+        expr: "(sweep add 1 (num 0) (num 1000) (var 0))",
+    },
+    forms: FORMS,
+    slots: SLOTS,
+    machines: &[(1, 1, 1)],
+    draws: ZEROS,
+    orders: &[CoreOrder {
+        after: 1_000_000,
+        kind: OrderKind::Grant,
+        core: 0,
+    }],
+    watching: Watching::Nothing,
+    facts: &[(Fact::Value, 499_500), (Fact::InPlaceUpTo(900), 1)],
+    telling: Telling::Nothing,
+    told: "",
+};
+
 #[test]
 fn threads_get_places_as_they_come(rt: HostRuntime) -> Result<(), Fail> {
-    rows_hold(&rt, rt.alloc(), ROWS)
+    rows_hold(&rt, rt.alloc(), ROWS)?;
+    rows_hold(&rt, rt.alloc(), &[THREE_WAIT, NONE_KEPT])
 }
 
 const KEPT: &[Row] = &[
