@@ -77,16 +77,19 @@ const COMING_AND_GOING: Row = Row {
 fn cores_come_and_go(rt: HostRuntime) -> Result<(), Fail> {
     let alloc = rt.alloc();
     let orders = orders(alloc, 1000)?;
-    let row = &COMING_AND_GOING;
-    for &form in row.forms {
-        for &machine in row.machines {
+    for &form in FORMS {
+        for cores in [4, 64] {
             let start = Instant::now(&rt)?;
-            row_holds(&rt, alloc, row, form, machine, orders.as_slice())?;
+            row_holds(
+                &rt,
+                alloc,
+                &COMING_AND_GOING,
+                form,
+                (cores, 1, cores),
+                orders.as_slice(),
+            )?;
             let elapsed = start.elapsed(&rt)?;
-            assert!(rt;
-                elapsed < Duration::from_secs(5),
-                "{machine:?}: {elapsed:?}"
-            );
+            assert!(rt; elapsed < Duration::from_secs(5), "{cores}: {elapsed:?}");
         }
     }
     Ok(())
