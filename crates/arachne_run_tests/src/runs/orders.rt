@@ -206,9 +206,47 @@ const GRANTS: &[Row] = &[
     },
 ];
 
+/// The root awaits its child on core 1. A slice of that is held up until core 0's kernel thread, which has nothing to run, has
+/// applied the order, which was not due before the root's last slice.
+const IDLE: Row = Row {
+    shows: "orders are applied while core 0 has nothing to run",
+    source: Source {
+        expr: "(fork n (fold (num 0) (num 60000) (num 0) (var 1)) (num 2) (add (var 0) (var 1)))",
+        ..FORK
+    },
+    forms: FORMS,
+    slots: SLOTS,
+    machines: &[(2, 1, 2), (2, 7, 2), (2, 100, 2)],
+    draws: CORE_ONE,
+    orders: &[CoreOrder {
+        after: 40,
+        kind: OrderKind::Grant,
+        core: 1,
+    }],
+    watching: Watching::Applying(50),
+    facts: &[(Fact::Value, 2), (Fact::Applied, 1), (Fact::IsOver, 1)],
+    telling: Telling::Nothing,
+    told: "",
+};
+
+const IDLES: &[Row] = &[
+    IDLE,
+    Row {
+        machines: &[(2, 10_000, 2)],
+        orders: &[CoreOrder {
+            after: 3,
+            kind: OrderKind::Grant,
+            core: 1,
+        }],
+        watching: Watching::Applying(4),
+        ..IDLE
+    },
+];
+
 #[test]
 fn grants_have_cores_go_on(rt: HostRuntime) -> Result<(), Fail> {
-    rows_hold(&rt, rt.alloc(), GRANTS)
+    rows_hold(&rt, rt.alloc(), GRANTS)?;
+    rows_hold(&rt, rt.alloc(), IDLES)
 }
 
 const ROWS: &[Row] = &[
