@@ -206,24 +206,24 @@ const GRANTS: &[Row] = &[
     },
 ];
 
-/// The root awaits its child on core 1. A slice of that is held up until core 0's kernel thread, which has nothing to run, has
-/// applied the order, which was not due before the root's last slice.
+/// The root awaits its child on core 1 while core 0's kernel thread sleeps, so that it goes on there, and core 0 is empty. A slice
+/// of core 1 is held up until the order is applied, which is due by then.
 const IDLE: Row = Row {
     shows: "orders are applied while core 0 has nothing to run",
     source: Source {
-        expr: "(fork n (fold (num 0) (num 60000) (num 0) (var 1)) (num 2) (add (var 0) (var 1)))",
+        expr: "(let (fork n (fold (num 0) (num 20000) (num 0) (var 1)) (num 2) (add (var 0) (var 1))) (fold (num 0) (num 20000) (var 0) (var 2)))",
         ..FORK
     },
     forms: FORMS,
     slots: SLOTS,
-    machines: &[(2, 1, 2), (2, 7, 2), (2, 100, 2)],
+    machines: &[(2, 1, 2)],
     draws: CORE_ONE,
     orders: &[CoreOrder {
-        after: 40,
+        after: 25_000,
         kind: OrderKind::Grant,
         core: 1,
     }],
-    watching: Watching::Applying(50),
+    watching: Watching::Applying(30_000),
     facts: &[(Fact::Value, 2), (Fact::Applied, 1), (Fact::IsOver, 1)],
     telling: Telling::Nothing,
     told: "",
@@ -232,13 +232,37 @@ const IDLE: Row = Row {
 const IDLES: &[Row] = &[
     IDLE,
     Row {
-        machines: &[(2, 10_000, 2)],
+        machines: &[(2, 7, 2)],
         orders: &[CoreOrder {
-            after: 3,
+            after: 3_500,
             kind: OrderKind::Grant,
             core: 1,
         }],
-        watching: Watching::Applying(4),
+        watching: Watching::Applying(4_000),
+        ..IDLE
+    },
+    Row {
+        machines: &[(2, 100, 2)],
+        orders: &[CoreOrder {
+            after: 250,
+            kind: OrderKind::Grant,
+            core: 1,
+        }],
+        watching: Watching::Applying(300),
+        ..IDLE
+    },
+    Row {
+        source: Source {
+            expr: "(let (fork n (fold (num 0) (num 100000) (num 0) (var 1)) (num 2) (add (var 0) (var 1))) (fold (num 0) (num 100000) (var 0) (var 2)))",
+            ..FORK
+        },
+        machines: &[(2, 10_000, 2)],
+        orders: &[CoreOrder {
+            after: 13,
+            kind: OrderKind::Grant,
+            core: 1,
+        }],
+        watching: Watching::Applying(15),
         ..IDLE
     },
 ];
