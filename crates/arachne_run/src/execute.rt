@@ -10,7 +10,7 @@ use crate::queue::Agenda;
 use crate::seat::Seat;
 use crate::shared::Shared;
 use crate::sums::Sums;
-use crate::wake::Cause;
+use crate::wake::{Cause, posted, tell};
 use arachne_contexts::Contexts;
 use arachne_core::Rest;
 use arachne_jobs::RunJob;
@@ -117,7 +117,7 @@ impl<'a, H: Wait, T: RunJob, C: Contexts<T>, R: Rng + Drop, G: Gate> Worker<'a, 
             let spent = most.saturating_sub(steps);
             left = left.saturating_sub(spent);
             if self.agenda.spend(spent) {
-                self.tell();
+                tell(&mut self.agenda, self.shared.signals());
             }
             match stop {
                 Stop::Goes => {}
@@ -129,7 +129,7 @@ impl<'a, H: Wait, T: RunJob, C: Contexts<T>, R: Rng + Drop, G: Gate> Worker<'a, 
                 },
             }
         }
-        self.tell();
+        tell(&mut self.agenda, self.shared.signals());
         Ok(SliceEnd::GoesOn)
     }
 
@@ -140,21 +140,21 @@ impl<'a, H: Wait, T: RunJob, C: Contexts<T>, R: Rng + Drop, G: Gate> Worker<'a, 
         let who = self.desk.in_hand()?;
         match stop {
             Stop::Posted(post) => {
-                self.posted(post);
+                posted(&mut self.agenda, self.shared.signals(), self.core, post);
                 return Ok(Some(left));
             }
             Stop::Asks(lock) => {
-                if !self.ask(lock, who)? {
+                if !self.locks.ask(self.rt, lock, who)? {
                     return Ok(None);
                 }
             }
             Stop::Awaits(lock) => {
-                if !self.check(lock, who)? {
+                if !self.locks.check(self.rt, lock, who)? {
                     return Ok(None);
                 }
             }
             Stop::Frees(lock) => {
-                if let Some(next) = self.free(lock, who)? {
+                if let Some(next) = self.locks.free(self.rt, lock, who)? {
                     self.wake(next, Cause::HoldsLock);
                 }
             }

@@ -332,12 +332,19 @@ impl<'a, H: Wait, T: RunJob, C: Contexts<T>, R: Rng + Drop> Seat<'a, H, T, C, R>
         MarkWord::from_word(word)
     }
 
-    /// Tries once to wake the thread of an id.
-    pub(crate) fn wake(&mut self, id: ThreadId) -> Woken
+    /// Wakes the thread of an id, if it has not ended. Whether it was blocked.
+    pub(crate) fn wake(&mut self, id: ThreadId) -> bool
         ensures { self.new ≡ self.old }
     {
         let table = &self.machine.table;
-        table.wake(self.rt, &mut self.seat, id)
+        for _ in self.rt.forever() {
+            match table.wake(self.rt, &mut self.seat, id) {
+                Woken::Lost(_) => {}
+                Woken::Woken => return true,
+                Woken::Already(_) | Woken::Gone => return false,
+            }
+        }
+        unreachable!()
     }
 
     /// Moves the thread at a place of another core to this one, if workers may. Whether it was moved.
