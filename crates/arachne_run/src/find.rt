@@ -4,7 +4,7 @@ ghost use Rattle.std.specs.Prelude.{◌≡◌};
 use crate::desk::Grip;
 use crate::execute::Worker;
 use crate::fault::WorkerFault;
-use crate::gate::Gate;
+use crate::gate::{Event, Gate};
 use crate::policy;
 use crate::shared::Shared;
 use crate::wake::tell;
@@ -70,11 +70,13 @@ impl<'a, H: Wait, T: RunJob, C: Contexts<T>, R: Rng + Drop, G: Gate> Worker<'a, 
             return Ok(true);
         }
         tell(&mut self.agenda, self.shared.signals());
-        let parked = self.desk.park();
-        if parked {
-            self.gate.unparked(self.core);
+        let drained = self.desk.is_drained();
+        if drained {
+            self.gate.told(self.core, Event::Parks);
+            self.shared.signals().park(self.rt, self.core);
+            self.gate.told(self.core, Event::Unparked);
         }
-        Ok(parked)
+        Ok(drained)
     }
 
     /// Runs each thread that is ready at the indexes of the scan, upwards, unless all workers stop. Whether there was
@@ -140,6 +142,9 @@ impl<'a, H: Wait, T: RunJob, C: Contexts<T>, R: Rng + Drop, G: Gate> Worker<'a, 
             return Ok(false);
         }
         let (found, index) = self.desk.take_ticket()?;
+        if found {
+            self.gate.told(self.core, Event::Ticket(index.is_some()));
+        }
         if let Some(index) = index {
             self.agenda.note(index);
         }

@@ -17,6 +17,7 @@ use arachne_arbiter::{Arbiter, Cores};
 use arachne_contexts::{Claimed, Contexts, Held, Moved, Placed, Rested, Taken, Woken};
 use arachne_core::{MarkWord, OccWord, Place, Rest, SLOTS, ThreadId};
 use arachne_jobs::{Openings, RunJob, RunSpares, RunThread, RunTicket};
+use arachne_lang::Name;
 use arachne_sleep::Who;
 use arachne_spill::SpillPass;
 use rand_core::Rng;
@@ -140,6 +141,13 @@ impl<'a, H: Wait, T: RunJob, C: Contexts<T>, R: Rng + Drop> Seat<'a, H, T, C, R>
             }),
             None => Err(WorkerFault::Token),
         }
+    }
+
+    /// The id and the name of the thread in hand. A thread that runs in its place has another name.
+    #[inline(always)]
+    pub(crate) fn named(&self) -> Option<(ThreadId, &Name)> {
+        let held = self.held.as_ref()?;
+        Some((held.id(), held.value.name()))
     }
 
     /// The thread in hand goes on for at most as many steps as are left, and its forks are answered.
@@ -435,16 +443,11 @@ impl<'a, H: Wait, T: RunJob, C: Contexts<T>, R: Rng + Drop> Seat<'a, H, T, C, R>
         }
     }
 
-    /// Parks while the core is closed and nothing is left on it. Whether it was.
-    pub(crate) fn park(&mut self) -> bool
+    /// Whether the core is closed and nothing is left on it.
+    pub(crate) fn is_drained(&mut self) -> bool
         ensures { self.new ≡ self.old }
     {
         let table = &self.machine.table;
-        let drained = table.is_drained(self.rt, &mut self.seat, self.core);
-        if drained {
-            let parking = self.machine.shared.signals().parking();
-            parking.park(self.rt, self.core);
-        }
-        drained
+        table.is_drained(self.rt, &mut self.seat, self.core)
     }
 }

@@ -2,7 +2,7 @@
 ghost use Rattle.std.specs.Prelude.{◌≡◌};
 
 use crate::execute::Worker;
-use crate::gate::Gate;
+use crate::gate::{Cause, Event, Gate};
 use crate::policy;
 use crate::queue::{Agenda, Post};
 use crate::signals::Signals;
@@ -11,15 +11,6 @@ use arachne_core::{Mark, MarkWord, Place, ThreadId};
 use arachne_jobs::RunJob;
 use rand_core::Rng;
 use std::sync::Wait;
-
-/// Why a thread is woken.
-#[derive(Clone, Copy, Debug, PartialEq, Eq)]
-pub(crate) enum Cause {
-    /// A child of it has ended.
-    ChildEnded,
-    /// It holds the lock now for which it has waited, and for which others may wait.
-    HoldsLock,
-}
 
 impl<'a, H: Wait, T: RunJob, C: Contexts<T>, R: Rng + Drop, G: Gate> Worker<'a, H, T, C, R, G> {
     /// Wakes the thread of this id, if it has not ended, and has it go on. One that holds a lock goes on here, as
@@ -31,6 +22,7 @@ impl<'a, H: Wait, T: RunJob, C: Contexts<T>, R: Rng + Drop, G: Gate> Worker<'a, 
         if !self.desk.wake(id) {
             return;
         }
+        self.gate.told(self.core, Event::Woken(id, cause));
         let Some(mark) = self.desk.mark_of(id.context) else {
             return;
         };
@@ -40,6 +32,9 @@ impl<'a, H: Wait, T: RunJob, C: Contexts<T>, R: Rng + Drop, G: Gate> Worker<'a, 
             && self.desk.pull(place)
             && let Some(here) = self.desk.mark_of(id.context)
         {
+            if here.place().core == self.core {
+                self.gate.told(self.core, Event::Pulled(id, place.core));
+            }
             place = here.place();
         }
         let goes_next = cause == Cause::HoldsLock
@@ -73,6 +68,7 @@ impl<'a, H: Wait, T: RunJob, C: Contexts<T>, R: Rng + Drop, G: Gate> Worker<'a, 
                     && let Some(here) = self.desk.mark_of(id.context)
                     && here.place().core == self.core
                 {
+                    self.gate.told(self.core, Event::Pulled(id, place.core));
                     return Some(here.place().index);
                 }
                 self.shared.signals().hint(place);

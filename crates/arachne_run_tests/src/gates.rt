@@ -1,6 +1,6 @@
 //! A gate that notes which cores run, or holds them up.
 use arachne_core::CORES;
-use arachne_run::Gate;
+use arachne_run::{Event, Gate};
 use std::hint::spin_loop;
 use std::sync::atomic::{AtomicU64, Ordering};
 use std::thread::yield_now;
@@ -187,6 +187,17 @@ impl Gate for Watch {
         }
     }
 
+    fn told(&self, core: u8, event: Event<'_>) {
+        match event {
+            Event::Sliced(_, _) => self.slice_ended(core),
+            Event::Unparked => self.unparked(core),
+            Event::Applied(orders) => self.applied(orders),
+            _ => {}
+        }
+    }
+}
+
+impl Watch {
     fn slice_ended(&self, core: u8) {
         match (self.watching, core) {
             (Watching::Holding(_), 1) => self.wait(&self.zero, 1),

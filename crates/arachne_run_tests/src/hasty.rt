@@ -1,14 +1,14 @@
 //! A job whose thread ends before it awaits what it has forked, so that the table has a thread left in the end.
 ghost use Rattle.std.specs.Prelude.{◌≡◌, false, if◌then◌else◌, true, Some};
 ghost use Rattle.arachne_machine.specs.declared.pause.Pending.TheVariants as pause;
-ghost use Rattle.arachne_jobs.specs.Threads.{IsForking, pause_of, running_tag_of, tag_of};
+ghost use Rattle.arachne_jobs.specs.Threads.{IsForking, name_of, pause_of, running_tag_of, tag_of};
 
 use arachne_contexts::Tagged;
 use arachne_core::{Rest, ThreadId};
 use arachne_jobs::{
     Job, JobFault, JobOf, Openings, OutcomeReceiver, Room, RunJob, RunThread, Slice, Spares, Ticket,
 };
-use arachne_lang::Program;
+use arachne_lang::{Name, Program};
 use arachne_machine::Thread;
 use std::alloc::{AllocError, Global};
 
@@ -30,11 +30,17 @@ impl<'p> Tagged for Hasty<'p> {
 }
 
 impl<'p> RunThread for Hasty<'p> {
+    ghost name_of = { λ h. name_of h.job.thread };
+
     ghost running_tag_of = { λ h. running_tag_of h.job.thread };
 
     ghost parent_of = { λ h. h.parent };
 
     ghost pause_of = { λ h. if h.has_ended then Some pause.Ended else pause_of h.job.thread };
+
+    fn name(&self) -> &Name {
+        self.job.name()
+    }
 
     fn running_tag(&self) -> u64 {
         self.job.running_tag()
