@@ -1,8 +1,8 @@
 -- The threads of a state come behind those of another.
-use Rattle.std.proofs.Common.{◌≡◌, ◌≤◌, ◌<◌, append_assoc, length, length-append, ℕ, ◌+◌, List, [], ◌∷◌, ◌++◌, refl, ap, sym, ◌∙◌, subst, arith, take, drop}
-use Rattle.std.specs.Prelude.{map}
+use Rattle.std.proofs.Common.{◌≡◌, ◌≢◌, ◌≤◌, ◌<◌, ◌^◌, append_assoc, get_or, length, length-append, ℕ, ◌+◌, true, false, List, [], ◌∷◌, ◌++◌, refl, ap, sym, ◌∙◌, subst, arith, take, drop}
+use Rattle.std.specs.Prelude.{zero, suc, Bool, IsTrue, map, reverse}
 use Rattle.std.specs.Borrow.{Bor}
-use Rattle.std.proofs.lemmas.List.{get_or-append-add}
+use Rattle.std.proofs.lemmas.List.{drop_more, get_or-append-add, length-reverse, length-take-le, reverse-append, take-append-drop, take_more}
 use Rattle.std.proofs.Math.Seq.{drop-append-add, take-append-add, take-append_seam}
 use Rattle.arachne_lang.specs.declared.program.Program.{Program}
 use Rattle.arachne_lang.specs.Program.{source_of}
@@ -170,3 +170,69 @@ pub works_moved : (program' program : Bor Program) → source_of program'.now �
 works_moved program' program source [] us p = omega arith
 works_moved program' program source (t ∷ ts) us p =
     omega (arith, copy_work t (under program' t) (copy_under program' t (source ∙ ap (λ x. source_of x.now) (sym p.0))), works_moved program' program source ts us p.1)
+
+-- What a level that comes behind others is, by whether it is the outermost.
+some_parent : (p : Parent) (ps : List Parent) → ◌≡◌ {A = List Parent} (p ∷ ps) [] → ⊥
+some_parent p ps e = cc
+
+pub moved_is : (start place : ℕ) (ps : List Parent) (level result : Level) (outermost : Bool) → (IsTrue outermost → ps ≡ []) → (outermost ≡ false → ps ≢ []) →
+    (IsTrue outermost → result ≡ record { start = start + level.start; forks = level.forks; place = place }) →
+    (outermost ≡ false → result ≡ record { start = start + level.start; forks = level.forks; place = place + 1 + level.place }) → result ≡ moved_level start place ps level
+moved_is start place [] level result true none some f g = f refl
+moved_is start place [] level result false none some f g = absurd (some refl refl)
+moved_is start place (p ∷ ps) level result true none some f g = absurd (some_parent p ps (none refl))
+moved_is start place (p ∷ ps) level result false none some f g = g refl
+
+-- One of those that wait, the outermost first.
+pub parent_at : (xs : List Parent) (i : ℕ) (d : Parent) → i < length xs → reverse xs ≡ reverse (drop (i + 1) xs) ++ (get_or xs i d ∷ reverse (take i xs))
+parent_at xs i d lt =
+    let p = get_or xs i d in
+    ap reverse (sym (take-append-drop i xs) ∙ ap (λ l. take i xs ++ l) (drop_more xs i d lt)) ∙ reverse-append (take i xs) (p ∷ drop (i + 1) xs)
+    ∙ ap (λ l. l ++ reverse (take i xs)) (reverse-append (p ∷ []) (drop (i + 1) xs)) ∙ append_assoc (reverse (drop (i + 1) xs)) (p ∷ []) (reverse (take i xs))
+
+pub parents_up_to : (xs : List Parent) (i : ℕ) (d : Parent) → i < length xs → reverse (take (i + 1) xs) ≡ get_or xs i d ∷ reverse (take i xs)
+parents_up_to xs i d lt = ap reverse (take_more xs i d lt) ∙ reverse-append (take i xs) (get_or xs i d ∷ [])
+
+-- Each level fits.
+pub fits_top : (ps : List Parent) (from at frames lines : ℕ) → Fits ps from at frames lines → (from ≤ frames) × (ps ≢ [] → at < lines)
+fits_top [] from at frames lines h = (omega (arith, h), λ some. absurd (some refl))
+fits_top (p ∷ ps) from at frames lines h = (h.0, λ some. h.1)
+
+pub fits_within : (ys zs : List Parent) (p : Parent) (from at frames lines : ℕ) → Fits (ys ++ p ∷ zs) from at frames lines → (p.level.start ≤ frames) × (zs ≢ [] → p.level.place < lines)
+fits_within [] zs p from at frames lines h =
+    let on = fits_top zs p.level.start p.level.place from at h.2 in
+    (omega (arith, on.0, h.0), λ some. let lt = on.1 some in omega (arith, lt, h.1))
+fits_within (y ∷ ys) zs p from at frames lines h =
+    let on = fits_within ys zs p y.level.start y.level.place from at h.2 in
+    (omega (arith, on.0, h.0), λ some. let lt = on.1 some in omega (arith, lt, h.1))
+
+pub some_before : (xs : List Parent) (i : ℕ) → i < length xs → 0 < i → reverse (take i xs) ≢ []
+some_before xs i lt more none = omega (arith, ap length none, length-reverse (take i xs), length-take-le i xs (omega (arith, lt)), more)
+
+pub none_before : (xs : List Parent) (i : ℕ) → i ≡ 0 → reverse (take i xs) ≡ []
+none_before xs i e = ap (λ n. reverse (take n xs)) e
+
+pub positive : (i : ℕ) → i ≢ 0 → 0 < i
+positive zero h = absurd (h refl)
+positive (suc n) h = omega arith
+
+-- The bounds of one of them.
+pub record Bounded (start place : ℕ) (xs : List Parent) (i : ℕ) (p : Parent) : Type 0 where
+  pub start_fits : start + p.level.start < 2 ^ 64
+  pub place_fits : 0 < i → place + 1 + p.level.place < 2 ^ 64
+
+pub bounded : (start place : ℕ) (xs : List Parent) (i from at frames lines : ℕ) (d : Parent) → i < length xs → Fits (reverse xs) from at frames lines → start + frames < 2 ^ 64 → place + 1 + lines < 2 ^ 64 →
+    Bounded start place xs i (get_or xs i d)
+bounded start place xs i from at frames lines d lt fits few less =
+    let on = fits_within (reverse (drop (i + 1) xs)) (reverse (take i xs)) (get_or xs i d) from at frames lines (subst (λ l. Fits l from at frames lines) (parent_at xs i d lt) fits) in
+    record {
+      start_fits = omega (arith, on.0, few);
+      place_fits = λ more. let in_lines = on.1 (some_before xs i lt more) in omega (arith, in_lines, less);
+    }
+
+pub some_parents : (xs : List Parent) (n : ℕ) → length xs ≡ n → n ≢ 0 → reverse xs ≢ []
+some_parents xs n long some none = some (omega (arith, long, ap length none, length-reverse xs))
+
+pub no_parents : (xs : List Parent) (n : ℕ) → length xs ≡ n → n ≡ 0 → reverse xs ≡ []
+no_parents [] n long none = refl
+no_parents (x ∷ xs) n long none = absurd (omega (arith, long, none))

@@ -121,7 +121,8 @@ impl<'p> State<'p> {
         requires room { vec_len self.old.parents + vec_len child.now.parents + 1 ≤ vec_capacity self.old.parents }
         requires fits { (frames lines : ℕ) × Fits (reverse child.now.parents.items) child.now.level.start child.now.level.place frames lines
             × (length self.old.frames.items + frames < 2 ^ 64) × (place + 1 + lines < 2 ^ 64) }
-        ensures { TakesLevels self.old child.now self.new place }
+        ensures levels { TakesLevels self.old child.now self.new place }
+        ensures frames { self.new.frames ≡ self.old.frames }
     {
         let start = self.frames.len();
         self.parents.push_reserved(Parent {
