@@ -57,7 +57,7 @@ returns-then-is_err-clause-foreign c =
     (λ no same. no, λ differs. differs is)
 
 both_ways : (b : Bool) → IsTrue b → b ≡ false → ⊥
-both_ways b yes no = cc
+both_ways b is not = cc
 
 pub returns-then-not-awaits-clause-foreign : goal.returns-then-not-awaits-clause-foreign
 returns-then-not-awaits-clause-foreign c =
