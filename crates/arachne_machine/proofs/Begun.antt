@@ -166,6 +166,7 @@ pub record BegunHere (old child new : State) (ps cps : List (Box State)) : Type 
   pub kept : IsKept new (ps ++ cps)
   pub whole : SameWhole (nested old ps) (nested new (ps ++ cps))
   pub seen : nested new (ps ++ cps) ≡ begun_in (nested old ps) (nested child cps)
+  pub pending : pending_of new.control ≡ None
   pub work : work_in (nested new (ps ++ cps)) ≡ work_in (nested old ps) + work_in (nested child cps)
 
 pub begun_here : (old child new : State) (ps cps : List (Box State)) → IsKept old ps → IsKept child cps → MayBePlaced (nested old ps) (nested child cps) → pending_of old.control ≡ Some pause.Joins →
@@ -182,6 +183,7 @@ begun_here old child new ps cps kept kept_c may joins of_child takes =
           ∙ ap (λ l. record (nested new (ps ++ cps)) { running = begun.running; parents = l }) t.waits
           ∙ ap (λ l. record (nested new (ps ++ cps)) { running = begun.running; parents = begun.parents; placed = l }) both.seen
           ∙ ap (λ x. record begun { sums = x }) t.sums;
+      pending = ap pending_of takes.control_is ∙ may.not_paused;
       work = omega (arith, t.work, both.work, work_seen new (ps ++ cps), work_seen old ps, work_seen child cps);
     }
 

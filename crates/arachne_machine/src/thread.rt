@@ -244,6 +244,7 @@ impl<'p> Thread<'p> {
         requires child { MayBePlaced self.old child }
         ensures whole { SameWhole self.old self.new }
         ensures ok { OnOk result (self.new ≡ begun_in self.old child.entry) }
+        ensures pending { OnOk result (pending_in self.new ≡ None) }
         ensures work { OnOk result (work_in self.new ≡ work_in self.old + work_in child.entry) }
         ensures foreign { IsNotAwaited result ↔ (awaited self.old.running ≢ Some (whole child.entry).name) }
         ensures err { OnErr result (self.new ≡ self.old) }

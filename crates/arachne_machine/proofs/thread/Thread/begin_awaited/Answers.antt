@@ -150,3 +150,20 @@ returns-clause-work c =
     let items : c.take_in_with.new.placed.items ≡ ps ++ cps = search rules in
     let b = begun_here t child new ps cps c.self.invariant c.child.invariant may (ap pending_in c.self.view_is ∙ c.requires.pending) of_child takes in
     ap (λ l. work_in (nested new l)) items ∙ b.work ∙ ap (λ v. work_in v + work_in (nested child cps)) c.self.view_is ∙ ap (λ v. work_in c.args.self.now + work_in v) c.child.view_is
+
+pub returns-clause-pending : goal.returns-clause-pending
+returns-clause-pending c =
+    let t = c.self.inside.state.value in
+    let ps = c.self.inside.placed.items in
+    let child = c.child.inside.state.value in
+    let cps = c.child.inside.placed.items in
+    let may : MayBePlaced (nested t ps) (nested child cps) =
+    subst (λ v. MayBePlaced v (nested child cps)) (sym c.self.view_is) (subst (λ v. MayBePlaced c.args.self.now v) (sym c.child.view_is) c.requires.child) in
+    let new = c.take_in_with.new.self in
+    let of_child : awaited (suspended (top t)) ≡ Some child.own.name =
+    ap (λ s. awaited (suspended (top s))) (sym c.deref.ensures) ∙ c.if-not-awaits.ensures.0 refl ∙ ap (λ s. Some s.own.name) c.deref-2.ensures in
+    let got : TakesIn c.deref_mut.result.now c.deref_mut-2.result.now new = search rules in
+    let takes : TakesIn t child new = subst (λ s. TakesIn s child new) c.deref_mut.ensures.value (subst (λ s. TakesIn c.deref_mut.result.now s new) c.deref_mut-2.ensures.value got) in
+    let items : c.take_in_with.new.placed.items ≡ ps ++ cps = search rules in
+    let b = begun_here t child new ps cps c.self.invariant c.child.invariant may (ap pending_in c.self.view_is ∙ c.requires.pending) of_child takes in
+    b.pending
