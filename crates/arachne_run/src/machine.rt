@@ -1,11 +1,13 @@
 //! What the workers of a run share.
-ghost use Rattle.std.specs.Prelude.{◌≡◌, ◌≤◌, All, IfOk, IfSome, length};
+ghost use Rattle.std.specs.Prelude.{◌≡◌, ◌≤◌, All, Err, IfErr, IfOk, IfSome, IsOk, length};
 ghost use Rattle.arachne_policy.specs.Orders.{AreInOrder};
 ghost use Rattle.arachne_sleep.specs.History.{IsSound};
 ghost use Rattle.arachne_sleep.specs.OneHolder.{HasOneHolderAtATime};
 ghost use Rattle.arachne_sleep.specs.SleepLocks.{AreSeatsOf};
-ghost use Rattle.arachne_spill.specs.Views.{IsPassOf};
+ghost use Rattle.arachne_sleep.specs.Views.{IsWhole as IsWholeSeat};
+ghost use Rattle.arachne_spill.specs.Views.{IsPassOf, IsWhole as IsWholePass};
 ghost use Rattle.arachne_weights.specs.Weight.{whole};
+ghost use Rattle.arachne_run.specs.declared.fault.WorkerFault.TheVariants.{Memory, Token};
 ghost use Rattle.arachne_run.specs.Tokens.{AreIdle, IsSetUp};
 
 use crate::fault::WorkerFault;
@@ -152,9 +154,7 @@ impl<C: Seats + Drop, K: Tagged + Drop> Machine<C, K> {
             return Err(WorkerFault::Token);
         };
         let applied = arbiter.applied();
-        if !are_tickets_back::<H, K>(rt, &self.tickets, tokens.pass) {
-            return Err(WorkerFault::Token);
-        }
+        close_queue::<H, K>(rt, &self.tickets, tokens.pass)?;
         let is_all = self.table.is_whole(&tokens.seat) && self.table.out(&tokens.seat) == 0;
         if !is_all || !tokens.share.is_whole() {
             return Err(WorkerFault::Token);
@@ -172,13 +172,15 @@ impl<C: Seats + Drop, K: Tagged + Drop> Machine<C, K> {
     }
 }
 
-/// The history of each lock, in their order, if all of their seats are back.
+/// The history of each lock, in their order. Where not all of their seats are back a token is missing.
 fn closed_locks(
     alloc: Global,
     locks: SleepLocks,
     seats: LockSeats,
 ) -> Result<Vec<Vec<LockEvent>>, WorkerFault>
     requires { AreSeatsOf locks seats }
+    ensures missing { (All IsWholeSeat seats → ⊥) → result ≡ Err Token }
+    ensures whole { All IsWholeSeat seats → IfErr result (λ fault. fault ≡ Memory) }
     ensures count { IfOk result (λ histories. length histories.items ≡ length locks) }
     ensures sound { IfOk result (λ histories. All (λ history. IsSound history.items) histories.items) }
     ensures one_holder { IfOk result (λ histories. All (λ history. HasOneHolderAtATime history.items) histories.items) }
@@ -213,19 +215,25 @@ fn close_table<H: Wait, T: Tagged + Drop, C: Contexts<T> + Drop>(
     }
 }
 
-/// Empties the queue of tickets. Whether all of its passes are back.
-fn are_tickets_back<H: Wait, K: Tagged + Drop>(
+/// Empties the queue of tickets. Where not all of its passes are back a token is missing.
+fn close_queue<H: Wait, K: Tagged + Drop>(
     rt: &H,
     tickets: &SpillQueue<K>,
     pass: SpillPass<K>,
-) -> bool
+) -> Result<(), WorkerFault>
     requires { IsPassOf tickets.now pass }
+    ensures missing { (IsWholePass pass → ⊥) → result ≡ Err Token }
+    ensures whole { IsWholePass pass → IsOk result }
 {
-    let mut pass = pass;
+    let mut rest = pass;
     for _ in 0..CAPACITY {
-        if tickets.pop(rt, &mut pass).is_none() {
+        if tickets.pop(rt, &mut rest).is_none() {
             break;
         }
     }
-    tickets.is_whole(&pass)
+    if tickets.is_whole(&rest) {
+        Ok(())
+    } else {
+        Err(WorkerFault::Token)
+    }
 }
