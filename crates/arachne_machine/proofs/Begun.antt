@@ -157,8 +157,16 @@ handed_back old child new ps cps qs box kept kept_c may forks turns is pushed =
         trace = past.0.seen.trace;
       };
       pending = past.0.pending;
-      work = omega (arith, past.0.seen.work, ap works_placed (ap seen_children pushed ∙ newest_seen (ps ++ cps) box), both.work, ap (λ s. work_in_state s) is, m.work,
-      works_seen (waiting_in box.value), works_seen (waiting_in child));
+      work = omega (
+        arith,
+        past.0.seen.work,
+        ap works_placed (ap seen_children pushed ∙ newest_seen (ps ++ cps) box),
+        both.work,
+        ap (λ s. work_in_state s) is,
+        m.work,
+        works_seen (waiting_in box.value),
+        works_seen (waiting_in child),
+      );
     }
 
 -- It is awaited, and goes on here.

@@ -130,9 +130,7 @@ impl<'p> State<'p> {
             control: self.control,
         });
         move_parents(&mut self.parents, &child.parents, start, place);
-        self.level = child
-            .level
-            .moved(child.parents.is_empty(), start, place);
+        self.level = child.level.moved(child.parents.is_empty(), start, place);
     }
 
     /// The child that ran here has ended with this value: its parent joins it, and goes on. Where memory is refused the

@@ -64,11 +64,10 @@ returns-then-not-awaits-clause-foreign c =
     let t = c.self.inside.state.value in
     let ps = c.self.inside.placed.items in
     let child = c.child.inside.state.value in
-    let cps = c.child.inside.placed.items in
-    (
+    let cps = c.child.inside.placed.items in (
       λ foreign is. both_ways c.awaits.result
-      (c.awaits.ensures.1 (ap (λ s. awaited (suspended (top s))) c.deref.ensures ∙ ap (λ v. awaited v.running) c.self.view_is ∙ is ∙ ap (λ v. Some (whole v).name) (sym c.child.view_is)
-      ∙ ap Some (name_seen child cps) ∙ ap (λ s. Some s.own.name) (sym c.deref-2.ensures))) c.if-not-awaits.true,
+          (c.awaits.ensures.1 (ap (λ s. awaited (suspended (top s))) c.deref.ensures ∙ ap (λ v. awaited v.running) c.self.view_is ∙ is ∙ ap (λ v. Some (whole v).name) (sym c.child.view_is)
+          ∙ ap Some (name_seen child cps) ∙ ap (λ s. Some s.own.name) (sym c.deref-2.ensures))) c.if-not-awaits.true,
       λ differs. tt,
     )
 
