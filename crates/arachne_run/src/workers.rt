@@ -102,7 +102,7 @@ pub(crate) fn work_all<
             let own = work_on::<H, T, K, C, R, G>(
                 rt, alloc, machine, gate, 0, own, tokens, root, of,
             );
-            joined(rt, machine, own, others)
+            join_all(rt, machine, own, others)
         },
     )
 }
@@ -136,7 +136,7 @@ fn part_off<H: Wait, C: Seats, K: Tagged + Drop, W>(
 }
 
 /// The tokens of all workers together, once the others have ended, if each gave theirs back.
-fn joined<H: Threads + Wait, C: Seats, K: Tagged + Drop>(
+fn join_all<H: Threads + Wait, C: Seats, K: Tagged + Drop>(
     rt: &H,
     machine: &Machine<C, K>,
     own: Option<Tokens<C::Seat, K>>,
@@ -148,16 +148,25 @@ fn joined<H: Threads + Wait, C: Seats, K: Tagged + Drop>(
 {
     let mut all = own;
     for other in others {
-        let theirs = other.join(rt);
-        all = match all {
-            Some(own) => match theirs {
-                Some(theirs) => Some(own.join::<H, C>(rt, machine, theirs)),
-                None => None,
-            },
-            None => None,
-        };
+        all = joined::<H, C, K>(rt, machine, all, other.join(rt));
     }
     all
+}
+
+/// The tokens of two workers together, if both gave theirs back.
+fn joined<H: Wait, C: Seats, K: Tagged + Drop>(
+    rt: &H,
+    machine: &Machine<C, K>,
+    own: Option<Tokens<C::Seat, K>>,
+    others: Option<Tokens<C::Seat, K>>,
+) -> Option<Tokens<C::Seat, K>>
+    requires own { IfSome own (AreIdle C.sits C.idle machine.now) }
+    requires others { IfSome others (AreIdle C.sits C.idle machine.now) }
+    ensures { IfSome result (AreIdle C.sits C.idle machine.now) }
+{
+    let own = own?;
+    let others = others?;
+    Some(own.join::<H, C>(rt, machine, others))
 }
 
 /// Works on one core until all stop, where there is a root from it on. The tokens, unless something is out with them
