@@ -344,15 +344,22 @@ impl<'a, H: Wait, T: RunJob, C: Contexts<T>, R: Rng + Drop> Seat<'a, H, T, C, R>
     pub(crate) fn wake(&mut self, id: ThreadId) -> bool
         ensures { self.new ≡ self.old }
     {
-        let table = &self.machine.table;
         for _ in self.rt.forever() {
-            match table.wake(self.rt, &mut self.seat, id) {
+            match self.try_wake(id) {
                 Woken::Lost(_) => {}
                 Woken::Woken => return true,
                 Woken::Already(_) | Woken::Gone => return false,
             }
         }
         unreachable!()
+    }
+
+    /// Tries once to wake the thread of an id.
+    fn try_wake(&mut self, id: ThreadId) -> Woken
+        ensures { self.new ≡ self.old }
+    {
+        let table = &self.machine.table;
+        table.wake(self.rt, &mut self.seat, id)
     }
 
     /// Moves the thread at a place of another core to this one, if workers may. Whether it was moved.
