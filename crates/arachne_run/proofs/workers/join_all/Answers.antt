@@ -5,5 +5,5 @@ use Rattle.arachne_run.proofs.workers.join_all.Goals as goal
 pub loop-other-preserved : goal.loop-other-preserved
 loop-other-preserved g c =
     let was = c.loop-other.invariant in
-    let step = c.in-Some-other.ensures.steps in
-    (c.joined-all.ensures, All-tail (λ h. h.promise.machine.value ≡ c.machine.now) _ _ (subst (All (λ h. h.promise.machine.value ≡ c.machine.now)) step.0 was.1))
+    let step = c.in-Some.ensures.steps in
+    (c.joined-all.ensures, All-tail (λ h. h.promise.machine.value ≡ c.args.machine.now) _ _ (subst (All (λ h. h.promise.machine.value ≡ c.args.machine.now)) step.0 was.1))

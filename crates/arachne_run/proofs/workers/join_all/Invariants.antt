@@ -4,4 +4,4 @@ use Rattle.arachne_run.specs.Tokens.{AreIdle}
 use Rattle.arachne_run.proofs.workers.join_all.Given as goal
 
 abbrev pub invariant-loop-other : goal.invariant-loop-other
-invariant-loop-other g l = IfSome l.all (AreIdle g.C.Seats.sits g.C.Seats.idle l.machine.now) × All (λ h. h.promise.machine.value ≡ l.machine.now) (into_iter_items l.other-iterator)
+invariant-loop-other g l = IfSome l.all (AreIdle g.C.Seats.sits g.C.Seats.idle l.machine) × All (λ h. h.promise.machine.value ≡ l.machine) (into_iter_items l.other-iterator)
