@@ -1,5 +1,6 @@
 //! What the workers of a run share.
-ghost use Rattle.std.specs.Prelude.{◌≡◌, ◌≤◌, All, Err, IfErr, IfOk, IfSome, IsOk, length};
+ghost use Rattle.std.specs.Prelude.{◌≡◌, ◌≤◌, ◌⊎◌, All, Err, IfErr, IfOk, IfSome, IsOk, length};
+ghost use Rattle.arachne_ledger.specs.Views.{IsShareOf, IsWhole as IsWholeShare};
 ghost use Rattle.arachne_policy.specs.Orders.{AreInOrder};
 ghost use Rattle.arachne_sleep.specs.History.{IsSound};
 ghost use Rattle.arachne_sleep.specs.OneHolder.{HasOneHolderAtATime};
@@ -19,7 +20,7 @@ use arachne_contexts::{Contexts, Seats, Tagged};
 use arachne_core::{CORES, SLOTS};
 use arachne_jobs::has_exclusive;
 use arachne_lang::Program;
-use arachne_ledger::Ledgers;
+use arachne_ledger::{Ledgers, Share};
 use arachne_policy::CoreOrder;
 use arachne_sleep::{LockEvent, LockSeats, SleepLocks};
 use arachne_spill::{CAPACITY, SpillPass, SpillQueue};
@@ -156,14 +157,12 @@ impl<C: Seats + Drop, K: Tagged + Drop> Machine<C, K> {
         let applied = arbiter.applied();
         close_queue::<H, K>(rt, &self.tickets, tokens.pass)?;
         let is_all = self.table.is_whole(&tokens.seat) && self.table.out(&tokens.seat) == 0;
-        if !is_all || !tokens.share.is_whole() {
+        if !is_all {
             return Err(WorkerFault::Token);
         }
         let histories = closed_locks(alloc, self.locks, tokens.lock_seats)?;
         close_table(rt, alloc, self.table, tokens.seat)?;
-        let Ok(words) = self.ledgers.close(alloc, tokens.share) else {
-            return Err(WorkerFault::Memory);
-        };
+        let words = closed_words(alloc, self.ledgers, tokens.share)?;
         Ok(Remains {
             words,
             histories,
@@ -194,7 +193,22 @@ fn closed_locks(
     }
 }
 
-/// Closes the table. No thread may be left there.
+/// The words of the ledgers. Where the share is not the whole a token is missing.
+fn closed_words(alloc: Global, ledgers: Ledgers, share: Share) -> Result<Vec<u64>, WorkerFault>
+    requires { IsShareOf ledgers share }
+    ensures missing { (IsWholeShare share → ⊥) → result ≡ Err Token }
+    ensures whole { IsWholeShare share → IfErr result (λ fault. fault ≡ Memory) }
+{
+    if !share.is_whole() {
+        return Err(WorkerFault::Token);
+    }
+    match ledgers.close(alloc, share) {
+        Ok(words) => Ok(words),
+        Err(_) => Err(WorkerFault::Memory),
+    }
+}
+
+/// Closes the table. No thread may be left there; one that is there is told as a missing token.
 fn close_table<H: Wait, T: Tagged + Drop, C: Contexts<T> + Drop>(
     rt: &H,
     alloc: Global,
@@ -204,6 +218,7 @@ fn close_table<H: Wait, T: Tagged + Drop, C: Contexts<T> + Drop>(
     requires seat { C.sits table seat }
     requires all { C.weight seat ≡ whole }
     requires idle { C.idle table seat }
+    ensures { IfErr result (λ fault. (fault ≡ Memory) ⊎ (fault ≡ Token)) }
 {
     let Ok(rest) = table.close(rt, alloc, seat) else {
         return Err(WorkerFault::Memory);
