@@ -176,7 +176,7 @@ impl<'p> RunJob for Job<'p> {
 
     fn of_ticket(alloc: Global, ticket: Ticket<'p>, _spares: &mut Spares<'p>) -> Option<Job<'p>> {
         let mut links = Vec::with_capacity(alloc, 2).ok()?;
-        let (waiting, cell, end) = ticket.take()?;
+        let (waiting, cell, end) = ticket.take(&links)?;
         let Waiting { mut thread, parent } = waiting;
         thread.set_spilled();
         links.push_reserved(Link::Waits(cell, Some(end)));
