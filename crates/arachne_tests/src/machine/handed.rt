@@ -131,22 +131,12 @@ fn is_meant(meaning: &Meaning, parts: &OutcomeParts) -> bool {
 
 /// The child of the first fork forks one that has a place, then one that has none and begins in its place; that one forks one
 /// that has a place, in whose place another begins and forks one that has a place.
-const TEXT: &str = "arachne 1
-ledgers 1
-locks 1
-(fork x
-  (fork x (tally 0 (num 1) (num 3))
-    (fork n
-      (fork x
-        (fork n (fork x (hold 0 (num 7)) (num 8) (sub (var 0) (var 1))) (num 11) (tally 0 (num 10) (mul (var 0) (var 1))))
-        (num 12)
-        (tally 0 (num 100) (sub (var 0) (var 1))))
-      (num 13)
-      (hold 0 (add (var 0) (var 1))))
-    (sub (var 0) (var 1)))
-  (num 14)
-  (tally 0 (num 1000) (sub (var 0) (mul (num 3) (var 1)))))
-";
+const TEXT: &str = "arachne 1\nledgers 1\nlocks 1\n\
+    (fork x (fork x (tally 0 (num 1) (num 3)) \
+    (fork n (fork x (fork n (fork x (hold 0 (num 7)) (num 8) (sub (var 0) (var 1))) (num 11) \
+    (tally 0 (num 10) (mul (var 0) (var 1)))) (num 12) (tally 0 (num 100) (sub (var 0) (var 1)))) (num 13) \
+    (hold 0 (add (var 0) (var 1)))) (sub (var 0) (var 1))) (num 14) \
+    (tally 0 (num 1000) (sub (var 0) (mul (num 3) (var 1)))))\n";
 
 /// Whether both ways come to what the program means.
 fn comes_to_its_meaning(alloc: Global, program: &Program, budget: u32) -> Result<bool, Fail>
@@ -167,7 +157,10 @@ fn a_grown_child_is_handed_back(rt: HostRuntime) -> Result<(), Fail> {
     let program = parse(rt.alloc(), TEXT.as_bytes())?;
     check(&program)?;
     for budget in [1, 2, 1000] {
-        assert!(rt; comes_to_its_meaning(rt.alloc(), &program, budget)?, "{budget}");
+        assert!(rt;
+            comes_to_its_meaning(rt.alloc(), &program, budget)?,
+            "{budget}"
+        );
     }
     Ok(())
 }
