@@ -4,22 +4,24 @@
 //! children, waits for their results, and ends with a result, which its handle gives to whoever spawned it.
 #![tactic(auto)]
 
+mod calls;
+mod closing;
 mod desk;
 mod handle;
 mod job;
 mod links;
 mod outcome;
-mod part;
 mod pool;
+mod round;
 mod spawned;
 mod stop;
 mod tally;
 mod worker;
 
+pub use closing::{Left, NotClosed};
 pub use handle::Handle;
 pub use job::{PoolJob, Step};
 pub use outcome::{Outcome, Wanted};
-pub use part::{Left, NotClosed, Part};
 pub use pool::Pool;
 pub use spawned::Spawned;
 pub use tally::Tally;

@@ -2,12 +2,11 @@
 #![tactic(auto)]
 
 ghost use Rattle.std.specs.Prelude.{◌≡◌, ◌+◌, ◌<◌, IfSome, map, sum};
-ghost use Rattle.arachne_pool.specs.Parts.{IsPartOf};
+ghost use Rattle.arachne_pool.specs.Workers.{IsWorkerOf};
 
 use anyhow::{Result, bail};
-use arachne_pool::{Handle, Part, Pool, PoolJob, Spawned, Step, Worker};
+use arachne_pool::{Handle, Pool, PoolJob, Spawned, Step, Worker};
 use arachne_table::{Contexts, Tagged, WordContexts};
-use std::alloc::Global;
 use std::sync::Wait;
 use std::thread;
 
@@ -68,73 +67,54 @@ impl PoolJob for Heap {
     }
 }
 
-/// Spawns a heap of this size. Its handle.
-fn spawn<C: Contexts<Spawned<Heap>>, R: Wait>(
-    rt: &R,
-    alloc: Global,
-    pool: &Pool<C>,
-    part: Part<C::Seat, Heap>,
-    size: u64,
-) -> Option<(Handle<Heap>, Part<C::Seat, Heap>)>
-    requires part { IsPartOf C.sits C.idle pool.now.table pool.now.cores part }
-    requires core { 0 < pool.now.cores }
-    ensures handle { IfSome result (λ made. made.0.size ≡ size) }
-    ensures part { IfSome result (λ made. IsPartOf C.sits C.idle pool.now.table pool.now.cores made.1) }
-{
-    let mut worker: Worker<'_, R, Heap, C> = Worker::new(rt, alloc, pool, 0, part);
-    let handle = worker.spawn(Heap::new(size)).ok()?;
-    Some((handle, worker.into_part().ok()?))
-}
-
 /// Works on one core until all heaps are counted.
 fn work<C: Contexts<Spawned<Heap>>, R: Wait>(
     rt: &R,
-    alloc: Global,
     pool: &Pool<C>,
+    mut worker: Worker<C::Seat, Heap>,
     core: u8,
-    part: Part<C::Seat, Heap>,
-) -> Option<Part<C::Seat, Heap>>
-    requires part { IsPartOf C.sits C.idle pool.now.table pool.now.cores part }
+) -> Option<Worker<C::Seat, Heap>>
+    requires worker { IsWorkerOf C.sits C.idle pool.now.table pool.now.cores worker }
     requires core { core < pool.now.cores }
-    ensures { IfSome result (IsPartOf C.sits C.idle pool.now.table pool.now.cores) }
+    ensures { IfSome result (IsWorkerOf C.sits C.idle pool.now.table pool.now.cores) }
 {
-    let mut worker: Worker<'_, R, Heap, C> = Worker::new(rt, alloc, pool, core, part);
-    worker.work().ok()?;
-    worker.into_part().ok()
+    pool.work(rt, &mut worker, core).ok()?;
+    Some(worker)
 }
 
 /// The count of a heap, which is its size.
-fn counted(handle: Handle<Heap>) -> Option<u64>
+fn count_of(handle: Handle<Heap>) -> Option<u64>
     ensures { IfSome result (λ count. count ≡ handle.size) }
 {
     handle.poll().ok()
 }
 
+type Table = WordContexts<Spawned<Heap>>;
+
 fn main(rt: HostRuntime) -> Result<()> {
     let alloc = rt.alloc();
-    let (pool, part) =
-        Pool::<WordContexts<Spawned<Heap>>>::new::<Heap>(alloc, 2, 8, Vec::new(alloc))?;
-    let Some((handle, part)) = spawn(&rt, alloc, &pool, part, GRAINS) else {
+    let (pool, mut worker) = Pool::<Table>::new::<Heap>(alloc, 2, 8, Vec::new(alloc))?;
+    let Ok(handle) = pool.spawn(&rt, &mut worker, Heap::new(GRAINS)) else {
         bail!("memory was refused");
     };
-    let (first, second) = pool.split(&rt, alloc, part);
+    let (first, second) = pool.split(&rt, worker);
     let (first, second) = thread::join(
         &rt,
-        || work::<WordContexts<Spawned<Heap>>, HostRuntime>(&rt, alloc, &pool, 0, first),
-        || work::<WordContexts<Spawned<Heap>>, HostRuntime>(&rt, alloc, &pool, 1, second),
+        || work::<Table, HostRuntime>(&rt, &pool, first, 0),
+        || work::<Table, HostRuntime>(&rt, &pool, second, 1),
     );
     let (Some(first), Some(second)) = (first, second) else {
         bail!("memory was refused");
     };
-    let Ok(part) = pool.join(&rt, first, second) else {
+    let Ok(worker) = pool.join_workers(&rt, first, second) else {
         bail!("memory was refused");
     };
-    let Ok(left) = pool.close(&rt, alloc, part) else {
+    let Ok(left) = pool.close(&rt, alloc, worker) else {
         bail!("the pool was not closed");
     };
-    let Some(count) = counted(handle) else {
+    let Some(count) = count_of(handle) else {
         bail!("the heap was not counted");
     };
-    println!(rt; "{count} grains, and {} heaps are left", left.placed.len() + left.near.len())?;
+    println!(rt; "{count} grains; {} and {} heaps are left", left.placed.len(), left.near.len())?;
     Ok(())
 }

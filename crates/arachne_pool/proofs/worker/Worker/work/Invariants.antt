@@ -1,6 +1,0 @@
-use Rattle.std.proofs.Common.{◌≡◌}
-use Rattle.arachne_pool.proofs.worker.Worker.work.Given as goal
-
--- it is a worker at the same table
-abbrev pub invariant-loop : goal.invariant-loop
-invariant-loop g l = (l.self.table ≡ l.initial.self.table) × (l.self.cores ≡ l.initial.self.cores)
