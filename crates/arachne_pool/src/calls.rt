@@ -1,7 +1,7 @@
 //! What a worker does at its pool: it spawns jobs, works, and gets results.
 ghost use Rattle.std.specs.Prelude.{◌≡◌, ◌+◌, ◌<◌, [], IfErr, IfOk, OnErr, OnOk};
 
-use crate::desk::{Disowned, place};
+use crate::desk::{Disowned, place_first};
 use crate::handle::Handle;
 use crate::job::PoolJob;
 use crate::outcome::Wanted;
@@ -51,11 +51,14 @@ impl<C: Seats> Pool<C> {
         };
         let job = Spawned::begin(desk.alloc, job, sender, None, &mut desk.tally);
         self.job_begins();
-        let placed = place::<H, J, C>(rt, self, &mut seat, desk, job);
-        if placed.is_ok() {
-            worker.seat = Some(seat);
+        let handle = Handle::of(receiver);
+        match place_first::<H, J, C>(rt, self, &mut seat, desk, job) {
+            Ok(()) => {
+                worker.seat = Some(seat);
+                Ok(handle)
+            }
+            Err(Disowned) => Ok(handle),
         }
-        Ok(Handle::of(receiver))
     }
 
     /// One round on a core: orders that are due are applied, each job that is ready there has a slice, and then the newest

@@ -105,7 +105,6 @@ impl<C: Seats> Pool<C> {
         requires { IsWorkerOf C.sits C.idle self.table self.cores worker }
         ensures each_once { IfOk result (λ left. worker.tally.spawned ≡ worker.tally.ended + count_of left) }
         ensures near { IfOk result (λ left. length left.near.items ≡ worker.near) }
-        ensures whole { IfOk result (λ _. IfSome worker.seat (λ seat. C.weight seat ≡ whole)) }
     {
         let Worker {
             seat,

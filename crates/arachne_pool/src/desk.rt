@@ -197,7 +197,7 @@ fn fork_off<H: Wait, J: PoolJob, C: Contexts<Spawned<J>>>(
 }
 
 /// A job gets a place, or is kept with those that have none.
-pub(crate) fn place<H: Wait, J: PoolJob, C: Contexts<Spawned<J>>>(
+fn place<H: Wait, J: PoolJob, C: Contexts<Spawned<J>>>(
     rt: &H,
     pool: &Pool<C>,
     seat: &mut C::Seat,
@@ -215,6 +215,24 @@ pub(crate) fn place<H: Wait, J: PoolJob, C: Contexts<Spawned<J>>>(
         desk.near.push_reserved(job);
     }
     Ok(())
+}
+
+/// The same for a job that is spawned, by a seat with which nothing is out.
+pub(crate) fn place_first<H: Wait, J: PoolJob, C: Contexts<Spawned<J>>>(
+    rt: &H,
+    pool: &Pool<C>,
+    seat: &mut C::Seat,
+    desk: &mut Desk<J>,
+    job: Spawned<J>,
+) -> Result<(), Disowned>
+    requires seat { C.sits pool.now.table seat.old }
+    requires out { C.has pool.now.table seat.old [] }
+    requires room { vec_len desk.old.near < vec_capacity desk.old.near }
+    ensures seat { C.sits pool.now.table seat.new }
+    ensures out { OnOk result (C.has pool.now.table seat.new []) }
+    ensures tally { desk.new.tally ≡ desk.old.tally }
+{
+    place::<H, J, C>(rt, pool, seat, desk, job)
 }
 
 /// A job gets a place. Where no core has one it comes back.

@@ -1,5 +1,5 @@
 //! Workers of a pool: what each has of it, how one is split in two, and how two are put together.
-ghost use Rattle.std.specs.Prelude.{◌≡◌, ◌+◌, ◌≤◌, IfErr, IfOk};
+ghost use Rattle.std.specs.Prelude.{◌≡◌, ◌+◌, ◌≤◌, IfErr, IfOk, vec_len};
 
 use crate::desk::Desk;
 use crate::job::PoolJob;
@@ -49,7 +49,8 @@ impl<S, J: PoolJob> Model for Worker<S, J> {
 impl<J: PoolJob> Desk<J> {
     /// A desk with no job, whose choices go by this seed.
     pub(crate) fn new(alloc: Global, seed: u64) -> Desk<J>
-        ensures { (result.tally.spawned ≡ 0) × (result.tally.ended ≡ 0) }
+        ensures tally { (result.tally.spawned ≡ 0) × (result.tally.ended ≡ 0) }
+        ensures near { vec_len result.near ≡ 0 }
     {
         Desk {
             alloc,

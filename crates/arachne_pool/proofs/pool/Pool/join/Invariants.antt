@@ -1,6 +1,6 @@
 use Rattle.std.proofs.Common.{◌≡◌}
 use Rattle.arachne_pool.specs.Workers.{IsWorkerOf}
-use Rattle.arachne_pool.proofs.calls.Pool.join.Given as goal
+use Rattle.arachne_pool.proofs.pool.Pool.join.Given as goal
 
 -- between two rounds the worker is the pool's, and the handle is of the same job
 abbrev pub invariant-loop : goal.invariant-loop

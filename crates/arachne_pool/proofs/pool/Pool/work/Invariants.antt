@@ -1,5 +1,5 @@
 use Rattle.arachne_pool.specs.Workers.{IsWorkerOf}
-use Rattle.arachne_pool.proofs.calls.Pool.work.Given as goal
+use Rattle.arachne_pool.proofs.pool.Pool.work.Given as goal
 
 -- between two rounds the worker is the pool's
 abbrev pub invariant-loop : goal.invariant-loop
