@@ -115,6 +115,10 @@ fn main(rt: HostRuntime) -> Result<()> {
     let Some(count) = count_of(handle) else {
         bail!("the heap was not counted");
     };
-    println!(rt; "{count} grains; {} and {} heaps are left", left.placed.len(), left.near.len())?;
+    println!(rt;
+        "{count} grains; {} and {} heaps are left",
+        left.placed.len(),
+        left.near.len()
+    )?;
     Ok(())
 }
