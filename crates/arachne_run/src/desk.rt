@@ -1,5 +1,88 @@
-//! What the calls of a worker's seat answer.
+//! What a worker asks of its seat, and what comes of it.
+ghost use Rattle.std.specs.Prelude.{◌≡◌, ◌≤◌};
+
+use crate::fault::WorkerFault;
 use crate::queue::Post;
+use arachne_contexts::Woken;
+use arachne_core::{MarkWord, OccWord, Place, Rest, ThreadId};
+use arachne_sleep::Who;
+
+/// A worker's place at the table, as its loop sees it: it holds one thread in hand at most, and may keep places. Each
+/// call leaves it at the same table.
+pub(crate) trait Desk: Drop {
+    /// Takes the thread at an index of the core in hand, if it is ready and none is.
+    fn take(&mut self, index: u8) -> Grip
+        ensures { self.new ≡ self.old };
+
+    /// The thread in hand as the locks know it: by the tag of the one that goes on next in its place, under its own id.
+    fn in_hand(&self) -> Result<Who, WorkerFault>;
+
+    /// The thread in hand goes on for at most as many steps as are left, and its forks are answered.
+    fn advance(&mut self, left: &mut u32) -> Result<Stop, WorkerFault>
+        requires { 1 ≤ left.old }
+        ensures { self.new ≡ self.old };
+
+    /// What the thread in hand asks for is done.
+    fn answer(&mut self) -> Result<(), WorkerFault>
+        ensures { self.new ≡ self.old };
+
+    /// Puts the thread in hand back, as ready or blocked by its pause. How it rests then: one that was woken meanwhile
+    /// is ready.
+    fn rest(&mut self) -> Result<Rest, WorkerFault>
+        ensures { self.new ≡ self.old };
+
+    /// Ends the thread in hand, which leaves its outcome for its parent. The parent's id; the root has none.
+    fn end(&mut self) -> Result<Option<ThreadId>, WorkerFault>
+        ensures { self.new ≡ self.old };
+
+    /// Keeps the place that a thread has left, if the core was full before. Then what is kept is given back, if that is
+    /// due.
+    fn settle_places(&mut self, before: OccWord) -> Result<(), WorkerFault>
+        ensures { self.new ≡ self.old };
+
+    /// Gives back all places that are kept, if that is due by what is on the core.
+    fn thin_out(&mut self) -> Result<(), WorkerFault>
+        ensures { self.new ≡ self.old };
+
+    /// How many places are kept.
+    fn kept(&self) -> usize;
+
+    /// Gives back all places that are kept.
+    fn give_all_back(&mut self) -> Result<(), WorkerFault>
+        ensures { self.new ≡ self.old };
+
+    /// What is on the core.
+    fn look(&mut self) -> OccWord
+        ensures { self.new ≡ self.old };
+
+    /// What is marked of a context. None where there is no such context.
+    fn mark_of(&mut self, context: u32) -> Option<MarkWord>
+        ensures { self.new ≡ self.old };
+
+    /// Tries once to wake the thread of an id.
+    fn wake(&mut self, id: ThreadId) -> Woken
+        ensures { self.new ≡ self.old };
+
+    /// Moves the thread at a place of another core to this one, if workers may. Whether it was moved.
+    fn pull(&mut self, place: Place) -> bool
+        ensures { self.new ≡ self.old };
+
+    /// Takes a ticket from the queue, and posts its child on the core if that waits still and there is a place. Whether
+    /// there was a ticket, and the index of the child.
+    fn take_ticket(&mut self) -> Result<(bool, Option<u8>), WorkerFault>
+        ensures { self.new ≡ self.old };
+
+    /// Applies the orders that are due, and moves threads away from a closed core, if this worker is to.
+    fn tend(&mut self) -> Tended
+        ensures { self.new ≡ self.old };
+
+    /// Whether this worker is to apply orders and some are left.
+    fn has_orders_left(&self) -> bool;
+
+    /// Parks while the core is closed and nothing is left on it. Whether it was.
+    fn park(&mut self) -> bool
+        ensures { self.new ≡ self.old };
+}
 
 /// Where the thread in hand stops.
 #[derive(Clone, Copy, Debug, PartialEq, Eq)]

@@ -1,20 +1,16 @@
 //! A slice of a thread, the answers to what it asks for, and its end.
 ghost use Rattle.std.specs.Prelude.{◌≡◌};
 
-use crate::desk::Stop;
+use crate::desk::{Desk, Stop};
 use crate::fault::WorkerFault;
 use crate::gate::Gate;
 use crate::locks::Locks;
 use crate::policy;
 use crate::queue::Agenda;
-use crate::seat::Seat;
 use crate::shared::Shared;
 use crate::sums::Sums;
 use crate::wake::Cause;
-use arachne_contexts::Contexts;
 use arachne_core::Rest;
-use arachne_jobs::RunJob;
-use rand_core::Rng;
 use std::sync::Wait;
 
 /// How a slice ends.
@@ -30,14 +26,14 @@ pub(crate) enum SliceEnd {
 
 /// The worker of one core.
 #[derive(Drop)]
-pub(crate) struct Worker<'a, H, T: RunJob, C: Contexts<T>, R, G> {
+pub(crate) struct Worker<'a, H, D: Drop, G> {
     pub(crate) rt: &'a H,
     pub(crate) gate: &'a G,
     pub(crate) shared: &'a Shared,
     pub(crate) core: u8,
     pub(crate) slots: u8,
     pub(crate) quantum: u32,
-    pub(crate) desk: Seat<'a, H, T, C, R>,
+    pub(crate) desk: D,
     pub(crate) locks: Locks<'a>,
     pub(crate) sums: Sums<'a>,
     pub(crate) agenda: Agenda,
@@ -45,7 +41,7 @@ pub(crate) struct Worker<'a, H, T: RunJob, C: Contexts<T>, R, G> {
     pub(crate) slices: u64,
 }
 
-impl<'a, H: Wait, T: RunJob, C: Contexts<T>, R: Rng + Drop, G: Gate> Worker<'a, H, T, C, R, G> {
+impl<'a, H: Wait, D: Desk, G: Gate> Worker<'a, H, D, G> {
     /// The thread in hand, which was at this index, has a slice, and more as long as nothing else is to go on. Then it
     /// rests, or has ended. Whether it waits.
     pub(crate) fn turn(&mut self, index: u8) -> Result<bool, WorkerFault>

@@ -1,21 +1,18 @@
 //! What a worker does next: a scan of what may be ready, a ticket, a look at all, and else it waits.
 ghost use Rattle.std.specs.Prelude.{◌≡◌};
 
-use crate::desk::Grip;
+use crate::desk::{Desk, Grip};
 use crate::execute::Worker;
 use crate::fault::WorkerFault;
 use crate::gate::Gate;
 use crate::policy;
-use arachne_contexts::Contexts;
 use arachne_core::SLOTS;
-use arachne_jobs::RunJob;
-use rand_core::Rng;
 use std::hint::spin_loop;
 use std::sync::Wait;
 use std::thread;
 use std::time::Duration;
 
-impl<'a, H: Wait, T: RunJob, C: Contexts<T>, R: Rng + Drop, G: Gate> Worker<'a, H, T, C, R, G> {
+impl<'a, H: Wait, D: Desk, G: Gate> Worker<'a, H, D, G> {
     /// Runs threads until all workers stop, and gives back the places that it keeps.
     pub(crate) fn work(&mut self) -> Result<(), WorkerFault>
         ensures { (self.new.desk ≡ self.old.desk) × (self.new.locks ≡ self.old.locks) × (self.new.sums ≡ self.old.sums) }

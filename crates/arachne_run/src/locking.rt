@@ -2,18 +2,16 @@
 //! lock.
 ghost use Rattle.std.specs.Prelude.{◌≡◌};
 
+use crate::desk::Desk;
 use crate::execute::Worker;
 use crate::fault::WorkerFault;
 use crate::gate::Gate;
-use arachne_contexts::Contexts;
 use arachne_core::ThreadId;
-use arachne_jobs::RunJob;
 use arachne_sleep::{AskFault, Asked, Freed, Tried, Who};
 use crossbeam_utils::Backoff;
-use rand_core::Rng;
 use std::sync::Wait;
 
-impl<'a, H: Wait, T: RunJob, C: Contexts<T>, R: Rng + Drop, G: Gate> Worker<'a, H, T, C, R, G> {
+impl<'a, H: Wait, D: Desk, G: Gate> Worker<'a, H, D, G> {
     /// Asks for a lock. Whether the thread holds it at once; else it waits.
     pub(crate) fn ask(&mut self, lock: u64, who: Who) -> Result<bool, WorkerFault>
         ensures { (self.new.desk ≡ self.old.desk) × (self.new.locks ≡ self.old.locks) × (self.new.sums ≡ self.old.sums) }

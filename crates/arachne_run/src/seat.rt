@@ -7,7 +7,7 @@ ghost use Rattle.arachne_run.specs.Tokens.{IsArbiterOf, IsSetUp, ground_of};
 ghost use Rattle.arachne_spill.specs.Views.{IsPassOf};
 
 use crate::claims::Claims;
-use crate::desk::{Grip, Stop, Tended};
+use crate::desk::{Desk, Grip, Stop, Tended};
 use crate::fault::WorkerFault;
 use crate::forking::{free_place, go_on, post_waiting};
 use crate::machine::Machine;
@@ -106,11 +106,29 @@ impl<'a, H: Wait, T: RunJob, C: Contexts<T>, R: Rng + Drop> Seat<'a, H, T, C, R>
         }
     }
 
-    /// Takes the thread at an index of the core in hand, if it is ready and none is.
-    #[inline(always)]
-    pub(crate) fn take(&mut self, index: u8) -> Grip
+    /// Gives back the newest place that is kept. Whether there was one.
+    pub(crate) fn give_one_back(&mut self) -> Result<bool, WorkerFault>
         ensures { self.new ≡ self.old }
     {
+        if self.is_broken {
+            return Err(WorkerFault::Token);
+        }
+        let Some(claim) = self.kept.take() else {
+            return Ok(false);
+        };
+        let table = &self.machine.table;
+        if table.give_back(self.rt, &mut self.spare, claim).is_err() {
+            self.is_broken = true;
+            return Err(WorkerFault::Token);
+        }
+        self.machine.shared.room().place_was_left();
+        Ok(true)
+    }
+}
+
+impl<'a, H: Wait, T: RunJob, C: Contexts<T>, R: Rng + Drop> Desk for Seat<'a, H, T, C, R> {
+    #[inline(always)]
+    fn take(&mut self, index: u8) -> Grip {
         if index >= self.machine.slots || self.held.is_some() || self.is_broken {
             return Grip::None;
         }
@@ -125,8 +143,7 @@ impl<'a, H: Wait, T: RunJob, C: Contexts<T>, R: Rng + Drop> Seat<'a, H, T, C, R>
         }
     }
 
-    /// The thread in hand as the locks know it: by the tag of the one that goes on next in its place, under its own id.
-    pub(crate) fn in_hand(&self) -> Result<Who, WorkerFault> {
+    fn in_hand(&self) -> Result<Who, WorkerFault> {
         match &self.held {
             Some(held) => Ok(Who {
                 tag: held.value.running_tag(),
@@ -136,12 +153,8 @@ impl<'a, H: Wait, T: RunJob, C: Contexts<T>, R: Rng + Drop> Seat<'a, H, T, C, R>
         }
     }
 
-    /// The thread in hand goes on for at most as many steps as are left, and its forks are answered.
     #[inline(always)]
-    pub(crate) fn advance(&mut self, left: &mut u32) -> Result<Stop, WorkerFault>
-        requires { 1 ≤ left.old }
-        ensures { self.new ≡ self.old }
-    {
+    fn advance(&mut self, left: &mut u32) -> Result<Stop, WorkerFault> {
         if self.is_broken {
             return Err(WorkerFault::Token);
         }
@@ -165,22 +178,15 @@ impl<'a, H: Wait, T: RunJob, C: Contexts<T>, R: Rng + Drop> Seat<'a, H, T, C, R>
         Ok(stop)
     }
 
-    /// What the thread in hand asks for is done.
-    pub(crate) fn answer(&mut self) -> Result<(), WorkerFault>
-        ensures { self.new ≡ self.old }
-    {
+    fn answer(&mut self) -> Result<(), WorkerFault> {
         match &mut self.held {
             Some(held) => Ok(held.value.answer()?),
             None => Err(WorkerFault::Token),
         }
     }
 
-    /// Puts the thread in hand back, as ready or blocked by its pause. How it rests then: one that was woken meanwhile
-    /// is ready.
     #[inline(always)]
-    pub(crate) fn rest(&mut self) -> Result<Rest, WorkerFault>
-        ensures { self.new ≡ self.old }
-    {
+    fn rest(&mut self) -> Result<Rest, WorkerFault> {
         if self.is_broken {
             return Err(WorkerFault::Token);
         }
@@ -202,11 +208,8 @@ impl<'a, H: Wait, T: RunJob, C: Contexts<T>, R: Rng + Drop> Seat<'a, H, T, C, R>
         }
     }
 
-    /// Ends the thread in hand, which leaves its outcome for its parent. The parent's id; the root has none.
     #[inline(always)]
-    pub(crate) fn end(&mut self) -> Result<Option<ThreadId>, WorkerFault>
-        ensures { self.new ≡ self.old }
-    {
+    fn end(&mut self) -> Result<Option<ThreadId>, WorkerFault> {
         if self.is_broken {
             return Err(WorkerFault::Token);
         }
@@ -226,11 +229,7 @@ impl<'a, H: Wait, T: RunJob, C: Contexts<T>, R: Rng + Drop> Seat<'a, H, T, C, R>
         }
     }
 
-    /// Keeps the place that a thread has left, if the core was full before. Then what is kept is given back, if that is
-    /// due.
-    pub(crate) fn settle_places(&mut self, before: OccWord) -> Result<(), WorkerFault>
-        ensures { self.new ≡ self.old }
-    {
+    fn settle_places(&mut self, before: OccWord) -> Result<(), WorkerFault> {
         if !self.machine.may_keep || self.is_broken {
             return Ok(());
         }
@@ -253,11 +252,8 @@ impl<'a, H: Wait, T: RunJob, C: Contexts<T>, R: Rng + Drop> Seat<'a, H, T, C, R>
         self.thin_out()
     }
 
-    /// Gives back all places that are kept, if that is due by what is on the core.
     #[inline(always)]
-    pub(crate) fn thin_out(&mut self) -> Result<(), WorkerFault>
-        ensures { self.new ≡ self.old }
-    {
+    fn thin_out(&mut self) -> Result<(), WorkerFault> {
         let kept = self.kept.count();
         if kept > 0 && policy::gives_back(self.look(), kept, self.machine.slots) {
             return self.give_all_back();
@@ -265,34 +261,11 @@ impl<'a, H: Wait, T: RunJob, C: Contexts<T>, R: Rng + Drop> Seat<'a, H, T, C, R>
         Ok(())
     }
 
-    /// How many places are kept.
-    pub(crate) fn kept(&self) -> usize {
+    fn kept(&self) -> usize {
         self.kept.count()
     }
 
-    /// Gives back the newest place that is kept. Whether there was one.
-    pub(crate) fn give_one_back(&mut self) -> Result<bool, WorkerFault>
-        ensures { self.new ≡ self.old }
-    {
-        if self.is_broken {
-            return Err(WorkerFault::Token);
-        }
-        let Some(claim) = self.kept.take() else {
-            return Ok(false);
-        };
-        let table = &self.machine.table;
-        if table.give_back(self.rt, &mut self.spare, claim).is_err() {
-            self.is_broken = true;
-            return Err(WorkerFault::Token);
-        }
-        self.machine.shared.room().place_was_left();
-        Ok(true)
-    }
-
-    /// Gives back all places that are kept.
-    pub(crate) fn give_all_back(&mut self) -> Result<(), WorkerFault>
-        ensures { self.new ≡ self.old }
-    {
+    fn give_all_back(&mut self) -> Result<(), WorkerFault> {
         for _ in 0..SLOTS {
             if !self.give_one_back()? {
                 break;
@@ -301,11 +274,8 @@ impl<'a, H: Wait, T: RunJob, C: Contexts<T>, R: Rng + Drop> Seat<'a, H, T, C, R>
         Ok(())
     }
 
-    /// What is on the core.
     #[inline(always)]
-    pub(crate) fn look(&mut self) -> OccWord
-        ensures { self.new ≡ self.old }
-    {
+    fn look(&mut self) -> OccWord {
         let table = &self.machine.table;
         let word = table.look(self.rt, &mut self.seat, self.core);
         match OccWord::from_word(word) {
@@ -314,10 +284,7 @@ impl<'a, H: Wait, T: RunJob, C: Contexts<T>, R: Rng + Drop> Seat<'a, H, T, C, R>
         }
     }
 
-    /// What is marked of a context. None where there is no such context.
-    pub(crate) fn mark_of(&mut self, context: u32) -> Option<MarkWord>
-        ensures { self.new ≡ self.old }
-    {
+    fn mark_of(&mut self, context: u32) -> Option<MarkWord> {
         if context >= u32::from(self.machine.cores) * u32::from(self.machine.slots) {
             return None;
         }
@@ -326,18 +293,12 @@ impl<'a, H: Wait, T: RunJob, C: Contexts<T>, R: Rng + Drop> Seat<'a, H, T, C, R>
         MarkWord::from_word(word)
     }
 
-    /// Tries once to wake the thread of an id.
-    pub(crate) fn wake(&mut self, id: ThreadId) -> Woken
-        ensures { self.new ≡ self.old }
-    {
+    fn wake(&mut self, id: ThreadId) -> Woken {
         let table = &self.machine.table;
         table.wake(self.rt, &mut self.seat, id)
     }
 
-    /// Moves the thread at a place of another core to this one, if workers may. Whether it was moved.
-    pub(crate) fn pull(&mut self, place: Place) -> bool
-        ensures { self.new ≡ self.old }
-    {
+    fn pull(&mut self, place: Place) -> bool {
         if !self.machine.may_pull
             || place.core == self.core
             || place.core >= self.machine.cores
@@ -352,11 +313,7 @@ impl<'a, H: Wait, T: RunJob, C: Contexts<T>, R: Rng + Drop> Seat<'a, H, T, C, R>
         )
     }
 
-    /// Takes a ticket from the queue, and posts its child on the core if that waits still and there is a place. Whether
-    /// there was a ticket, and the index of the child.
-    pub(crate) fn take_ticket(&mut self) -> Result<(bool, Option<u8>), WorkerFault>
-        ensures { self.new ≡ self.old }
-    {
+    fn take_ticket(&mut self) -> Result<(bool, Option<u8>), WorkerFault> {
         if self.is_broken {
             return Err(WorkerFault::Token);
         }
@@ -382,10 +339,7 @@ impl<'a, H: Wait, T: RunJob, C: Contexts<T>, R: Rng + Drop> Seat<'a, H, T, C, R>
         Ok((true, index))
     }
 
-    /// Applies the orders that are due, and moves threads away from a closed core, if this worker is to.
-    pub(crate) fn tend(&mut self) -> Tended
-        ensures { self.new ≡ self.old }
-    {
+    fn tend(&mut self) -> Tended {
         let nothing = Tended {
             applied: None,
             receivers: 0,
@@ -414,18 +368,14 @@ impl<'a, H: Wait, T: RunJob, C: Contexts<T>, R: Rng + Drop> Seat<'a, H, T, C, R>
         }
     }
 
-    /// Whether this worker is to apply orders and some are left.
-    pub(crate) fn has_orders_left(&self) -> bool {
+    fn has_orders_left(&self) -> bool {
         match &self.arbiter {
             Some(arbiter) => arbiter.applied() < self.machine.orders,
             None => false,
         }
     }
 
-    /// Parks while the core is closed and nothing is left on it. Whether it was.
-    pub(crate) fn park(&mut self) -> bool
-        ensures { self.new ≡ self.old }
-    {
+    fn park(&mut self) -> bool {
         let table = &self.machine.table;
         let drained = table.is_drained(self.rt, &mut self.seat, self.core);
         if drained {

@@ -1,14 +1,13 @@
 //! Threads that a worker posts or wakes, and how the workers of their cores learn of them.
 ghost use Rattle.std.specs.Prelude.{◌≡◌};
 
+use crate::desk::Desk;
 use crate::execute::Worker;
 use crate::gate::Gate;
 use crate::policy;
 use crate::queue::Post;
-use arachne_contexts::{Contexts, Woken};
+use arachne_contexts::Woken;
 use arachne_core::{Mark, Place, ThreadId};
-use arachne_jobs::RunJob;
-use rand_core::Rng;
 use std::sync::Wait;
 
 /// Why a thread is woken.
@@ -20,7 +19,7 @@ pub(crate) enum Cause {
     HoldsLock,
 }
 
-impl<'a, H: Wait, T: RunJob, C: Contexts<T>, R: Rng + Drop, G: Gate> Worker<'a, H, T, C, R, G> {
+impl<'a, H: Wait, D: Desk, G: Gate> Worker<'a, H, D, G> {
     /// Wakes the thread of this id, if it has not ended, and has it go on. One that holds a lock goes on here, as
     /// others may wait for it; another one too where its core's worker sleeps: moving it takes less than waking a
     /// kernel thread.

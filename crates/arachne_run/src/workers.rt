@@ -3,6 +3,7 @@ ghost use Rattle.std.specs.Prelude.{◌≡◌, ◌<◌, ◌≤◌, IfSome, vec_c
 ghost use Rattle.std.specs.Thread.{IsSync};
 ghost use Rattle.arachne_run.specs.Tokens.{AreIdle, IsSetUp, ground_of};
 
+use crate::desk::Desk;
 use crate::execute::Worker;
 use crate::fault::WorkerFault;
 use crate::gate::Gate;
@@ -220,7 +221,7 @@ fn work_on<
     let desk = Seat::new(
         rt, alloc, machine, core, seat, spare, pass, arbiter, chooser,
     );
-    let mut worker: Worker<'_, H, T, C, R, G> = Worker {
+    let mut worker: Worker<'_, H, Seat<'_, H, T, C, R>, G> = Worker {
         rt,
         gate,
         shared: &machine.shared,
@@ -237,45 +238,45 @@ fn work_on<
         machine.shared.fail(rt, fault);
         return None;
     }
-    worker.into_tokens(machine)
+    let Worker {
+        desk, locks, sums, ..
+    } = worker;
+    into_tokens(rt, machine, desk, locks, sums)
 }
 
-impl<'a, H: Wait, T: RunJob, C: Contexts<T>, R: Rng + Drop, G: Gate> Worker<'a, H, T, C, R, G> {
-    /// The tokens of a worker that has ended, unless something is out with them.
-    fn into_tokens(self, machine: &Machine<C, T::Ticket>) -> Option<Tokens<C::Seat, T::Ticket>>
-        requires desk { self.desk ≡ ground_of machine.now }
-        requires locks { self.locks ≡ machine.now.locks }
-        requires sums { self.sums ≡ machine.now.ledgers }
-        ensures { IfSome result (AreIdle C.sits C.idle machine.now) }
-    {
-        let Worker {
-            rt,
-            desk,
-            locks,
-            sums,
-            ..
-        } = self;
-        let Seat {
-            is_broken,
-            seat,
-            held,
-            spare,
-            kept,
-            pass,
-            arbiter,
-            ..
-        } = desk;
-        let mut kept = kept;
-        if is_broken || held.is_some() || kept.take().is_some() {
-            machine.shared.fail(rt, WorkerFault::Token);
-            return None;
-        }
-        Some(Tokens {
-            seat: machine.table.join_seats(rt, seat, spare),
-            share: sums.into_share(),
-            lock_seats: locks.into_seats(),
-            pass,
-            arbiter,
-        })
+/// The tokens of a worker that has ended, unless something is out with them.
+fn into_tokens<H: Wait, T: RunJob, C: Contexts<T>, R: Drop>(
+    rt: &H,
+    machine: &Machine<C, T::Ticket>,
+    desk: Seat<'_, H, T, C, R>,
+    locks: Locks<'_>,
+    sums: Sums<'_>,
+) -> Option<Tokens<C::Seat, T::Ticket>>
+    requires desk { desk ≡ ground_of machine.now }
+    requires locks { locks ≡ machine.now.locks }
+    requires sums { sums ≡ machine.now.ledgers }
+    ensures { IfSome result (AreIdle C.sits C.idle machine.now) }
+{
+    let Seat {
+        is_broken,
+        seat,
+        held,
+        spare,
+        kept,
+        pass,
+        arbiter,
+        ..
+    } = desk;
+    let mut kept = kept;
+    if is_broken || held.is_some() || kept.take().is_some() {
+        machine.shared.fail(rt, WorkerFault::Token);
+        return None;
     }
+    Some(Tokens {
+        seat: machine.table.join_seats(rt, seat, spare),
+        share: sums.into_share(),
+        lock_seats: locks.into_seats(),
+        pass,
+        arbiter,
+    })
 }
