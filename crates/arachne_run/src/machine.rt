@@ -5,6 +5,7 @@ ghost use Rattle.arachne_sleep.specs.History.{IsSound};
 ghost use Rattle.arachne_sleep.specs.OneHolder.{HasOneHolderAtATime};
 ghost use Rattle.arachne_sleep.specs.SleepLocks.{AreSeatsOf};
 ghost use Rattle.arachne_spill.specs.Views.{IsPassOf};
+ghost use Rattle.arachne_weights.specs.Weight.{whole};
 ghost use Rattle.arachne_run.specs.Tokens.{AreIdle, IsSetUp};
 
 use crate::fault::WorkerFault;
@@ -159,12 +160,7 @@ impl<C: Seats + Drop, K: Tagged + Drop> Machine<C, K> {
             return Err(WorkerFault::Token);
         }
         let histories = closed_locks(alloc, self.locks, tokens.lock_seats)?;
-        let Ok(rest) = self.table.close(rt, alloc, tokens.seat) else {
-            return Err(WorkerFault::Memory);
-        };
-        if !rest.is_empty() {
-            return Err(WorkerFault::Token);
-        }
+        close_table(rt, alloc, self.table, tokens.seat)?;
         let Ok(words) = self.ledgers.close(alloc, tokens.share) else {
             return Err(WorkerFault::Memory);
         };
@@ -193,6 +189,27 @@ fn closed_locks(
     match locks.close(alloc, seats) {
         Ok(histories) => Ok(histories),
         Err(_) => Err(WorkerFault::Memory),
+    }
+}
+
+/// Closes the table. No thread may be left there.
+fn close_table<H: Wait, T: Tagged + Drop, C: Contexts<T> + Drop>(
+    rt: &H,
+    alloc: Global,
+    table: C,
+    seat: C::Seat,
+) -> Result<(), WorkerFault>
+    requires seat { C.sits table seat }
+    requires all { C.weight seat ≡ whole }
+    requires idle { C.idle table seat }
+{
+    let Ok(rest) = table.close(rt, alloc, seat) else {
+        return Err(WorkerFault::Memory);
+    };
+    if rest.is_empty() {
+        Ok(())
+    } else {
+        Err(WorkerFault::Token)
     }
 }
 
