@@ -149,9 +149,13 @@ fn joined<H: Threads + Wait, C: Seats, K: Tagged + Drop>(
 {
     let mut all = own;
     for other in others {
-        all = match (all, other.join(rt)) {
-            (Some(all), Some(theirs)) => Some(all.join::<H, C>(rt, machine, theirs)),
-            _ => None,
+        let theirs = other.join(rt);
+        all = match all {
+            Some(own) => match theirs {
+                Some(theirs) => Some(own.join::<H, C>(rt, machine, theirs)),
+                None => None,
+            },
+            None => None,
         };
     }
     all
