@@ -46,6 +46,9 @@ pub fn run<
     choosers: Vec<R>,
     gate: &G,
 ) -> Result<Report, RunFault>
+where
+    T::Ticket: Send,
+    C::Seat: Send,
     requires { IsChecked (source_of program.now) }
     ensures meaning { IfOk result (λ report. meaning_in report ≡ meaning_of (source_of program.now)) }
     ensures tags { IfOk result (λ report. AreDistinct (tags_of report)) }

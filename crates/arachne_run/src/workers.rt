@@ -60,6 +60,8 @@ pub(crate) fn work_all<
     choosers: Vec<R>,
     tokens: Tokens<C::Seat, K>,
 ) -> Option<Tokens<C::Seat, K>>
+where
+    C::Seat: Send,
     requires tokens { AreIdle C.sits C.idle machine.now tokens }
     requires set_up { IsSetUp C.core_count C.slot_count machine.now }
     ensures { IfSome result (AreIdle C.sits C.idle machine.now) }
