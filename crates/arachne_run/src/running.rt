@@ -74,7 +74,7 @@ where
         setup.orders,
         program,
     )?;
-    let tokens = work_all::<H, T, T::Ticket, C, R, G>(
+    let tokens = work_all::<H, T, T::Ticket, C::Seat, C, R, G>(
         rt, alloc, &machine, gate, root, choosers, tokens,
     );
     let remains = machine.close::<H, T>(rt, alloc, tokens)?;

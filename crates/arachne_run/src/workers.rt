@@ -48,7 +48,8 @@ pub(crate) fn work_all<
     H: Threads + Wait + Sync,
     T: RunJob<Ticket = K> + Send,
     K: Tagged + Drop + Send,
-    C: Contexts<T> + Sync,
+    S: Drop + Send,
+    C: Contexts<T> + Seats<Seat = S> + Sync,
     R: Rng + Drop + Send,
     G: Gate + Sync,
 >(
@@ -58,10 +59,8 @@ pub(crate) fn work_all<
     gate: &G,
     root: T,
     choosers: Vec<R>,
-    tokens: Tokens<C::Seat, K>,
-) -> Option<Tokens<C::Seat, K>>
-where
-    C::Seat: Send,
+    tokens: Tokens<S, K>,
+) -> Option<Tokens<S, K>>
     requires tokens { AreIdle C.sits C.idle machine.now tokens }
     requires set_up { IsSetUp C.core_count C.slot_count machine.now }
     ensures { IfSome result (AreIdle C.sits C.idle machine.now) }
@@ -69,7 +68,7 @@ where
     thread::scope(
         thread::scope_env(),
         rt,
-        |scope| -> Option<Tokens<C::Seat, K>>
+        |scope| -> Option<Tokens<S, K>>
             requires { IsSync H.row × AreIdle C.sits C.idle machine.now tokens × IsSetUp C.core_count C.slot_count machine.now }
             ensures { IfSome result (AreIdle C.sits C.idle machine.entry.now) }
         {
@@ -86,11 +85,11 @@ where
                 };
                 let started = scope.spawn_with(
                     Returns::to(machine),
-                    move || -> Option<Tokens<C::Seat, K>>
+                    move || -> Option<Tokens<S, K>>
                         requires { AreIdle C.sits C.idle machine.now theirs × IsSetUp C.core_count C.slot_count machine.now × (core < machine.now.cores) }
                         ensures { IfSome result (AreIdle C.sits C.idle machine.entry.now) }
                     {
-                        work_on::<H, T, K, C, R, G>(
+                        work_on::<H, T, K, S, C, R, G>(
                             rt, alloc, machine, gate, core, chooser, theirs, None, of,
                         )
                     },
@@ -102,7 +101,7 @@ where
                 others.push_reserved(other);
             }
             let root = Some(root);
-            let own = work_on::<H, T, K, C, R, G>(
+            let own = work_on::<H, T, K, S, C, R, G>(
                 rt, alloc, machine, gate, 0, own, tokens, root, of,
             );
             joined(rt, machine, own, others)
@@ -169,7 +168,8 @@ fn work_on<
     H: Wait,
     T: RunJob<Ticket = K>,
     K: Tagged + Drop + Send,
-    C: Contexts<T>,
+    S: Drop,
+    C: Contexts<T> + Seats<Seat = S>,
     R: Rng + Drop,
     G: Gate,
 >(
@@ -179,10 +179,10 @@ fn work_on<
     gate: &G,
     core: u8,
     chooser: Option<R>,
-    tokens: Tokens<C::Seat, K>,
+    tokens: Tokens<S, K>,
     root: Option<T>,
     _of: PhantomData<(T, R)>,
-) -> Option<Tokens<C::Seat, K>>
+) -> Option<Tokens<S, K>>
     requires tokens { AreIdle C.sits C.idle machine.now tokens }
     requires set_up { IsSetUp C.core_count C.slot_count machine.now }
     requires core { core < machine.now.cores }
