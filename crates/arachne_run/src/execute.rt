@@ -17,15 +17,6 @@ use arachne_jobs::RunJob;
 use rand_core::Rng;
 use std::sync::Wait;
 
-/// What comes of what a thread asks for.
-#[derive(Clone, Copy, Debug, PartialEq, Eq)]
-enum Served {
-    /// It goes on for so many steps.
-    Left(u32),
-    /// It awaits this lock.
-    Awaits(u64),
-}
-
 /// The worker of one core.
 #[derive(Drop)]
 pub(crate) struct Worker<'a, H, T: RunJob, C: Contexts<T>, R, G> {
@@ -129,8 +120,8 @@ impl<'a, H: Wait, T: RunJob, C: Contexts<T>, R: Rng + Drop, G: Gate> Worker<'a, 
                 Stop::Ends => return Ok((made, SliceEnd::Ended)),
                 Stop::Blocks => return Ok((made, SliceEnd::AwaitsChild)),
                 stop => match self.serve(stop, left)? {
-                    Served::Left(most) => left = most,
-                    Served::Awaits(lock) => return Ok((made, SliceEnd::AwaitsLock(lock))),
+                    Some(most) => left = most,
+                    None => return Ok((made, SliceEnd::AwaitsLock)),
                 },
             }
         }
@@ -138,24 +129,26 @@ impl<'a, H: Wait, T: RunJob, C: Contexts<T>, R: Rng + Drop, G: Gate> Worker<'a, 
         Ok((made, SliceEnd::GoesOn))
     }
 
-    /// Does what the thread in hand asks for, which had so many steps left.
-    fn serve(&mut self, stop: Stop, left: u32) -> Result<Served, WorkerFault>
+    /// Does what the thread in hand asks for, which had so many steps left. How many it has then; none where it waits.
+    fn serve(&mut self, stop: Stop, left: u32) -> Result<Option<u32>, WorkerFault>
         ensures { (self.new.desk ≡ self.old.desk) × (self.new.locks ≡ self.old.locks) × (self.new.sums ≡ self.old.sums) }
     {
         let who = self.desk.in_hand()?;
         match stop {
             Stop::Posted(post) => {
                 posted(&mut self.agenda, self.shared.signals(), self.core, post);
-                return Ok(Served::Left(left));
+                return Ok(Some(left));
             }
             Stop::Asks(lock) => {
                 if !self.locks.ask(self.rt, lock, who)? {
-                    return Ok(Served::Awaits(lock));
+                    self.gate.told(self.core, Event::Awaits(lock));
+                    return Ok(None);
                 }
             }
             Stop::Awaits(lock) => {
                 if !self.locks.check(self.rt, lock, who)? {
-                    return Ok(Served::Awaits(lock));
+                    self.gate.told(self.core, Event::Awaits(lock));
+                    return Ok(None);
                 }
             }
             Stop::Frees(lock) => {
@@ -165,15 +158,15 @@ impl<'a, H: Wait, T: RunJob, C: Contexts<T>, R: Rng + Drop, G: Gate> Worker<'a, 
             }
             Stop::Tallies(ledger, amount) => self.sums.add(ledger, amount)?,
             Stop::Goes | Stop::Spilled | Stop::Blocks | Stop::Ends => {
-                return Ok(Served::Left(left));
+                return Ok(Some(left));
             }
         }
         self.desk.answer()?;
         if self.agenda.has_next() {
             // The next holder of a lock is to go on here.
-            return Ok(Served::Left(left.min(policy::STEPS_PAST_FREE)));
+            return Ok(Some(left.min(policy::STEPS_PAST_FREE)));
         }
-        Ok(Served::Left(left))
+        Ok(Some(left))
     }
 
     /// Ends the thread in hand, and wakes its parent. With the root all workers stop. Then places of the core are kept

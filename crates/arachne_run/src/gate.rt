@@ -18,6 +18,8 @@ pub enum Event<'n> {
     Turn(ThreadId, &'n Name),
     /// A slice has ended so, after so many steps. Of one that meets a fault nothing is told.
     Sliced(u32, SliceEnd),
+    /// The thread in hand has asked for this lock, and awaits it.
+    Awaits(u64),
     /// A blocked thread was woken.
     Woken(ThreadId, Cause),
     /// A thread was moved here from this core, to go on here.
@@ -43,8 +45,8 @@ pub enum SliceEnd {
     GoesOn,
     /// It awaits a child.
     AwaitsChild,
-    /// It awaits this lock.
-    AwaitsLock(u64),
+    /// It awaits a lock.
+    AwaitsLock,
     /// It has ended.
     Ended,
 }
