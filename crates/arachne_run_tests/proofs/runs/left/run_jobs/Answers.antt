@@ -1,0 +1,47 @@
+use Rattle.std.proofs.Common.{refl}
+use denote.Param.Send.{sendable}
+use Rattle.std.proofs.Crossing as std
+use Rattle.arachne_words.proofs.table.WordContexts.TheSendSync as words
+use Rattle.arachne_words.proofs.seat.WordSeat.TheSendSync as seat
+use Rattle.arachne_words.proofs.seat.WordClaim.TheSendSync as claim
+use Rattle.arachne_words.proofs.seat.WordHold.TheSendSync as hold
+use Rattle.arachne_run_tests.proofs.choosers.Progression.TheSendSync as chooser
+use Rattle.arachne_run_tests.proofs.gates.Watch.TheSendSync as watch
+use Rattle.arachne_run_tests.proofs.runs.left.run_jobs.Goals as goal
+
+-- what a run sends to its kernel threads and shares with them may cross; the program is checked
+pub run-requires : goal.run-requires
+run-requires g c κs = (
+  search (sendable, c.type_bounds.send-T) depth 20,
+  (
+    search (sendable, chooser.the_send) depth 20,
+    (
+      search (sendable, c.type_bounds.send-T) depth 20,
+      (
+        search (sendable, c.type_bounds.send-T) depth 20,
+        (
+          search (sendable, c.type_bounds.send-T) depth 20,
+          (
+            search (sendable, claim.the_send) depth 20,
+            (
+              search (sendable, hold.the_send) depth 20,
+              (
+                search (sendable, seat.the_send, c.type_bounds.send-T) depth 20,
+                (
+                  search (sendable, c.type_bounds.sync-R) depth 20,
+                  (
+                    search (sendable, std.crosses, words.the_sync, c.type_bounds.send-T) depth 20,
+                    (
+                      search (sendable, std.crosses, watch.the_sync) depth 20,
+                      ((refl, tt), c.requires),
+                    ),
+                  ),
+                ),
+              ),
+            ),
+          ),
+        ),
+      ),
+    ),
+  ),
+)
