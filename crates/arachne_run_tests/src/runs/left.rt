@@ -8,7 +8,6 @@ use super::{checked, setup_of, text_of};
 use crate::choosers::{Progression, ZEROS};
 use crate::gates::{Watch, Watching};
 use crate::hasty::Hasty;
-use arachne_jobs::JobOf;
 use arachne_lang::Program;
 use arachne_run::{Report, RunFault, Setup, run};
 use arachne_words::WordContexts;
@@ -16,20 +15,6 @@ use std::alloc::Global;
 use std::sync::Wait;
 use std::test::Fail;
 use std::thread::Threads;
-
-/// Runs a program's jobs of some kind over a table on words.
-fn run_jobs<'p, R: Threads + Wait + Sync, T: JobOf<'p> + Send>(
-    rt: &R,
-    alloc: Global,
-    program: &'p Program,
-    setup: Setup,
-    choosers: Vec<Progression>,
-    gate: &Watch,
-) -> Result<Report, RunFault>
-    requires { IsChecked (source_of program.now) }
-{
-    run::<R, T, WordContexts<T>, Progression, Watch>(rt, alloc, program, setup, choosers, gate)
-}
 
 /// Runs a program whose threads end before they await what they have forked.
 fn run_hastily<'p, R: Threads + Wait + Sync>(
@@ -42,7 +27,9 @@ fn run_hastily<'p, R: Threads + Wait + Sync>(
 ) -> Result<Report, RunFault>
     requires { IsChecked (source_of program.now) }
 {
-    run_jobs::<R, Hasty<'p>>(rt, alloc, program, setup, choosers, gate)
+    run::<R, Hasty<'p>, WordContexts<Hasty<'p>>, Progression, Watch>(
+        rt, alloc, program, setup, choosers, gate,
+    )
 }
 
 /// The root ends before its child has begun, which the table hands back then.
