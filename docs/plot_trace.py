@@ -108,7 +108,7 @@ def lanes(page):
             if span["tid"] != core:
                 continue
             kind = "parked"
-            if span["name"] == "slice":
+            if span["cat"] == "slice":
                 kind = "odd" if slices % 2 else "even"
                 slices += 1
             x = page.x(span["ts"])

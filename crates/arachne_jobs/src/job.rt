@@ -22,7 +22,7 @@ use crate::waiting::{Ticket, WaitCell};
 use crate::wanted::{OutcomeReceiver, Wanted};
 use arachne_contexts::Tagged;
 use arachne_core::{Rest, ThreadId};
-use arachne_lang::Program;
+use arachne_lang::{Name, Program};
 use arachne_machine::{NotJoined, NotPlaced, Pause, Pending, Thread};
 use std::alloc::{AllocError, Global};
 use std::marker::Model;
@@ -66,11 +66,18 @@ impl<'p> Tagged for Job<'p> {
 }
 
 impl<'p> RunThread for Job<'p> {
+    ghost name_of = { λ j. name_of j.thread };
+
     ghost running_tag_of = { λ j. running_tag_of j.thread };
 
     ghost parent_of = { λ j. j.parent };
 
     ghost pause_of = { λ j. pause_of j.thread };
+
+    #[inline(always)]
+    fn name(&self) -> &Name {
+        self.thread.name()
+    }
 
     fn running_tag(&self) -> u64 {
         self.thread.running_tag()
@@ -169,7 +176,7 @@ impl<'p> RunJob for Job<'p> {
 
     fn of_ticket(alloc: Global, ticket: Ticket<'p>, _spares: &mut Spares<'p>) -> Option<Job<'p>> {
         let mut links = Vec::with_capacity(alloc, 2).ok()?;
-        let (waiting, cell, end) = ticket.take()?;
+        let (waiting, cell, end) = ticket.take(&links)?;
         let Waiting { mut thread, parent } = waiting;
         thread.set_spilled();
         links.push_reserved(Link::Waits(cell, Some(end)));

@@ -2,7 +2,7 @@
 ghost use Rattle.std.specs.Prelude.{◌≡◌, ◌≤◌, [], IfOk, IfSome, OnOk};
 ghost use Rattle.arachne_lang.specs.Program.{source_of};
 ghost use Rattle.arachne_lang.specs.Checked.{IsChecked};
-ghost use Rattle.std.specs.Prelude.{ℕ, Option, None, Some};
+ghost use Rattle.std.specs.Prelude.{ℕ, List, Option, None, Some};
 ghost use Rattle.arachne_core.specs.declared.thread_id.ThreadId.{ThreadId};
 ghost use Rattle.arachne_machine.specs.declared.pause.Pending.{Pending};
 ghost use Rattle.arachne_machine.specs.declared.pause.Pending.TheVariants as pause;
@@ -14,7 +14,7 @@ use crate::room::Room;
 use crate::wanted::OutcomeReceiver;
 use arachne_contexts::Tagged;
 use arachne_core::{Rest, ThreadId};
-use arachne_lang::{Class, Program};
+use arachne_lang::{Class, Name, Program};
 use std::alloc::{AllocError, Global};
 
 /// Where a job stops.
@@ -38,8 +38,12 @@ pub enum Slice<Child> {
     Ends,
 }
 
-/// A thread that runs, as its workers see it: whose turn it is, how it rests, and the answer to what it asks for.
+/// A thread that runs, as its workers see it: its name, whose turn it is, how it rests, and the answer to what it asks
+/// for.
 pub trait RunThread: Tagged + Drop {
+    /// The numbers of the forks that lead to it from the root.
+    ghost name_of: { Self → List ℕ };
+
     /// The tag of the thread that goes on next: the job's own, or that of one that runs in its place.
     ghost running_tag_of: { Self → ℕ };
 
@@ -48,6 +52,10 @@ pub trait RunThread: Tagged + Drop {
 
     /// The pause that is not answered.
     ghost pause_of: { Self → Option Pending };
+
+    /// Its name. A thread that runs in its place has another one.
+    fn name(&self) -> &Name
+        ensures { result.now ≡ name_of self.now };
 
     /// The tag of the thread that goes on next, and whose the pause is that is not answered.
     fn running_tag(&self) -> u64

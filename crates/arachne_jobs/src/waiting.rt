@@ -1,9 +1,10 @@
 //! A child that waits in its join cell, for a place or for its parent.
-ghost use Rattle.std.specs.Prelude.{◌≡◌, IfOk, IfErr, IfSome};
+ghost use Rattle.std.specs.Prelude.{◌≡◌, ◌+◌, ◌≤◌, IfOk, IfErr, IfSome, vec_capacity, vec_len};
 ghost use Rattle.std.specs.Arc.{arc_value};
 ghost use Rattle.arachne_jobs.specs.Cells.{HasNotBegun, IsFor, IsFoundFor, IsWanted};
 ghost use Rattle.arachne_jobs.specs.Threads.{tag_of};
 
+use crate::ends::Link;
 use crate::left::{Found, Left, Waiting};
 use crate::slice::RunTicket;
 use crate::wanted::Wanted;
@@ -126,11 +127,17 @@ impl<'p> RunTicket for Ticket<'p> {
 }
 
 impl<'p> Ticket<'p> {
-    /// The child, if it waits still, with its cell and the end with which it leaves its outcome there.
-    pub(crate) fn take(self) -> Option<(Waiting<'p>, WaitCell<'p>, SendingEnd<Left<'p>, Wanted>)>
+    /// The child, if it waits still, with its cell and the end with which it leaves its outcome there. It is taken only
+    /// where there is room in the list of its job's ends, so that no want of memory comes between.
+    pub(crate) fn take(
+        self,
+        links: &Vec<Link<'p>>,
+    ) -> Option<(Waiting<'p>, WaitCell<'p>, SendingEnd<Left<'p>, Wanted>)>
+        requires { vec_len links.now + 1 ≤ vec_capacity links.now }
         ensures child { IfSome result (λ taken. IsFor taken.0.thread taken.1.key × HasNotBegun taken.0.thread) }
         ensures end { IfSome result (λ taken. taken.2 ≡ taken.1.table) }
     {
+        let _ = links;
         let Ticket { cell, tag: _ } = self;
         match cell.take_back() {
             Ok((left, end)) => match left {

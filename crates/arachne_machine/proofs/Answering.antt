@@ -17,7 +17,7 @@ use Rattle.arachne_machine.specs.Trace.{At}
 use Rattle.arachne_machine.specs.Ending.{AwaitsFork, fork_awaited, forks_of, lock_freed, releases, frames_left, locks_of}
 use Rattle.arachne_machine.specs.Strands.{Strand, owned_at, below_at, own_line}
 use Rattle.arachne_machine.specs.Suspended.{Suspended, SameThread, IsAnswered}
-use Rattle.arachne_machine.specs.Nested.{Nested, Await, ArePlaced, IsNested, SameWhole, work_in, works}
+use Rattle.arachne_machine.specs.Nested.{Nested, Await, ArePlaced, IsNested, Placed, SameWhole, work_in, works}
 use Rattle.arachne_machine.specs.Steps.{Becomes, Goes, LeavesOthers, Changes, Turns, pending_of, suspended, top, waiting_in}
 use Rattle.arachne_machine.specs.Sound.{IsSoundState, AreSound}
 use Rattle.arachne_machine.specs.Kept.{IsKept, IsSoundChild, nested}
@@ -104,7 +104,7 @@ await_same a b (parent ∷ parents) program name label h = (
   h.1,
 )
 
-pub nested_same : (a b : Suspended) (parents placed : List Suspended) (sums others : List ℕ) → b.program ≡ a.program → b.name ≡ a.name → b.label ≡ a.label →
+pub nested_same : (a b : Suspended) (parents : List Suspended) (placed : List Placed) (sums others : List ℕ) → b.program ≡ a.program → b.name ≡ a.name → b.label ≡ a.label →
     IsNested (record { running = a; parents = parents; placed = placed; sums = sums }) → IsNested (record { running = b; parents = parents; placed = placed; sums = others })
 nested_same a b parents placed sums others program name label h = record {
   awaiting = await_same a b parents program name label h.awaiting;

@@ -1,28 +1,30 @@
 -- A child comes back to run in its parent's place.
-use Rattle.std.proofs.Common.{◌≡◌, length, ◌+◌, List, [], ◌∷◌, ◌++◌, None, Some, refl, ap, sym, ◌∙◌, subst, arith}
+use Rattle.std.proofs.Common.{◌≡◌, ◌+◌, List, [], ◌∷◌, ◌++◌, None, Some, refl, ap, sym, ◌∙◌, subst, arith}
 use Rattle.std.specs.Prelude.{map, reverse, All}
 use Rattle.std.specs.Global.{Box}
+use Rattle.std.proofs.lemmas.List.{map-append, reverse-append}
 use Rattle.std.proofs.lemmas.List.Elements.{All-append}
+use Rattle.arachne_lang.specs.Tree.{Source}
 use Rattle.arachne_lang.specs.Program.{source_of}
 use Rattle.arachne_machine.specs.declared.line.Label.{Label}
 use Rattle.arachne_machine.specs.declared.line.ThreadLine.{ThreadLine}
-use Rattle.arachne_machine.specs.declared.line.Ran.TheVariants as ways
 use Rattle.arachne_machine.specs.declared.pause.Pending.TheVariants as pause
 use Rattle.arachne_machine.specs.declared.state.State.{State}
 use Rattle.arachne_machine.specs.Ending.{work_left}
 use Rattle.arachne_machine.specs.Strands.{below_at, owned_at, own_line}
-use Rattle.arachne_machine.specs.Steps.{Turns, pending_of, suspended, top}
+use Rattle.arachne_machine.specs.Steps.{Turns, pending_of, suspended, top, waiting_in}
 use Rattle.arachne_machine.specs.Sound.{AreSound, IsSoundState, RunFor}
-use Rattle.arachne_machine.specs.Runs.{LooksSame, TakesIn, after_fork, last_of}
+use Rattle.arachne_machine.specs.Runs.{LooksSame, TakesIn, after_fork, last_of, work_in_state}
 use Rattle.arachne_machine.specs.Suspended.{awaited, own_line_of}
-use Rattle.arachne_machine.specs.Nested.{ArePlaced, IsSingle, IsPlaced, MayBePlaced, PlacesAtFork, SameWhole, begun_in, in_place_of, whole, work_in, works}
-use Rattle.arachne_machine.specs.Kept.{IsKept, IsSoundChild, nested, seen_children}
+use Rattle.arachne_machine.specs.Nested.{ArePlaced, IsPlaced, MayBePlaced, Placed, PlacesAtFork, SameWhole, begun_in, placed_of, whole, work_in, works_placed}
+use Rattle.arachne_machine.specs.Kept.{IsKept, nested, seen_child, seen_children}
 use Rattle.arachne_machine.proofs.Levels.{alone_waiting}
-use Rattle.arachne_machine.proofs.Nesting.{program_seen, same_whole, whole_seen}
+use Rattle.arachne_machine.proofs.Nesting.{label_seen, program_seen, same_whole, whole_seen, works_seen}
 use Rattle.arachne_machine.proofs.Answering.{fork_past, going}
-use Rattle.arachne_machine.proofs.Taking.{IsCopy, copy_seen, copy_sound, copy_work, here_sound, relabelled, taken}
-use Rattle.arachne_machine.proofs.Handed.{all_one, kept_sound, looks_nested, looks_sound, newest_seen, none_parents, own_name}
-use Rattle.arachne_machine.proofs.Tabulated.{length-tabulated}
+use Rattle.arachne_machine.proofs.Copies.{IsCopy, copy_seen, copy_sound, copy_work, here_sound, relabelled}
+use Rattle.arachne_machine.proofs.Marking.{here_state, marks}
+use Rattle.arachne_machine.proofs.Taking.{taken}
+use Rattle.arachne_machine.proofs.Handed.{all_one, kept_sound, looks_nested, looks_sound, newest_seen, work_seen}
 
 -- A thread by itself has another label.
 pub record Relabelled (t u : State) (label : Label) : Type 0 where
@@ -73,20 +75,39 @@ lines_alone t none =
     let line : ThreadLine = record { name = own.name; tag = own.label.tag; holds = own.holds; ran = own.label.ran } in
     line ∷ below_at (reverse ps) t.lines t.level.place) none
 
-pub single_kept : (t : State) (ps : List (Box State)) → IsKept t ps → IsSingle (nested t ps) → IsSoundChild t
-single_kept t ps kept alone = record { sound = kept.sound; alone = none_parents t alone.0 }
-
-pub single_work : (t : State) (ps : List (Box State)) → IsSingle (nested t ps) → work_in (nested t ps) ≡ work_left (top t)
-single_work t ps alone = omega (arith, ap works alone.0, ap works alone.1)
-
--- as many sums as its parent has
-pub childs_sums : (t child : State) → IsSoundState t → IsSoundState child → source_of child.program.now ≡ source_of t.program.now → length child.sums.items ≡ length t.sums.items
-childs_sums t child s c source =
-    ap length c.sums ∙ length-tabulated (source_of child.program.now).ledgers c.sums_of ∙ ap (λ x. x.ledgers) source
-    ∙ sym (ap length s.sums ∙ length-tabulated (source_of t.program.now).ledgers s.sums_of)
-
 pub source_seen : (t child : State) (ps cps : List (Box State)) → MayBePlaced (nested t ps) (nested child cps) → source_of child.program.now ≡ source_of t.program.now
 source_seen t child ps cps may = ap source_of (sym (program_seen child cps)) ∙ may.same_source ∙ ap source_of (program_seen t ps)
+
+-- Those that were handed back to the child are handed back with it.
+seen_both : (ps qs : List (Box State)) → seen_children (ps ++ qs) ≡ seen_children qs ++ seen_children ps
+seen_both ps qs = ap (map seen_child) (reverse-append ps qs) ∙ map-append seen_child (reverse qs) (reverse ps)
+
+placed_both : (source : Source) (xs ys : List Placed) → ArePlaced source xs → ArePlaced source ys → ArePlaced source (xs ++ ys)
+placed_both source [] ys h g = g
+placed_both source (x ∷ xs) ys h g = (h.0, placed_both source xs ys h.1 g)
+
+works_both : (xs ys : List Placed) → works_placed (xs ++ ys) ≡ works_placed xs + works_placed ys
+works_both [] ys = omega arith
+works_both (x ∷ xs) ys = omega (arith, works_both xs ys)
+
+-- They are sound, and may run here.
+record Together (t : State) (ps cps : List (Box State)) : Type 0 where
+  children : All (λ c. IsSoundState c.value) (ps ++ cps)
+  placed : ArePlaced (source_of t.program.now) (seen_children (ps ++ cps))
+  seen : seen_children (ps ++ cps) ≡ seen_children cps ++ seen_children ps
+  work : works_placed (seen_children (ps ++ cps)) ≡ works_placed (seen_children ps) + works_placed (seen_children cps)
+
+together : (t old child : State) (ps cps : List (Box State)) → IsKept old ps → IsKept child cps → source_of child.program.now ≡ source_of old.program.now → t.program ≡ old.program → Together t ps cps
+together t old child ps cps kept kept_c source program =
+    let seen = seen_both ps cps in
+    let here : source_of old.program.now ≡ source_of t.program.now = ap (λ p. source_of p.now) (sym program) in
+    record {
+      children = All-append (λ c. IsSoundState c.value) ps cps kept.children kept_c.children;
+      placed = subst (ArePlaced (source_of t.program.now)) (sym seen) (placed_both (source_of t.program.now) (seen_children cps) (seen_children ps)
+          (subst (λ x. ArePlaced x (seen_children cps)) (source ∙ here) kept_c.nested_is.waiting) (subst (λ x. ArePlaced x (seen_children ps)) here kept.nested_is.waiting));
+      seen = seen;
+      work = omega (arith, ap works_placed seen, works_both (seen_children cps) (seen_children ps));
+    }
 
 -- It is handed back at its fork.
 pub record HandedBack (old child new : State) (ps cps qs : List (Box State)) : Type 0 where
@@ -97,27 +118,34 @@ pub record HandedBack (old child new : State) (ps cps qs : List (Box State)) : T
   pub work : work_in (nested new qs) ≡ work_in (nested old ps) + work_in (nested child cps)
 
 pub handed_back : (old child new : State) (ps cps qs : List (Box State)) (box : Box State) → IsKept old ps → IsKept child cps → MayBePlaced (nested old ps) (nested child cps) →
-    pending_of old.control ≡ Some pause.Forks → Turns old new (after_fork old.control) → box.value ≡ record child { own = record child.own { label = record child.own.label { ran = ways.InPlace } } } →
-    qs ≡ ps ++ box ∷ [] → HandedBack old child new ps cps qs
+    pending_of old.control ≡ Some pause.Forks → Turns old new (after_fork old.control) → box.value ≡ here_state child →
+    qs ≡ ps ++ cps ++ box ∷ [] → HandedBack old child new ps cps qs
 handed_back old child new ps cps qs box kept kept_c may forks turns is pushed =
-    let c = single_kept child cps kept_c may.single in
-    let label : Label = record child.own.label { ran = ways.InPlace } in
-    let u : State = record child { own = record child.own { label = label } } in
-    let r = label_given child label c.sound c.alone in
-    let own = own_name child c.alone in
-    let seen_u : suspended (top u) ≡ in_place_of (suspended (top child)) = r.seen ∙ ap (λ o. record (suspended (top child)) { label = record o.label { ran = ways.InPlace } }) (sym own) in
-    let seen_box : suspended (top box.value) ≡ in_place_of (suspended (top child)) = ap (λ s. suspended (top s)) is ∙ seen_u in
-    let sound_box : IsSoundChild box.value = subst IsSoundChild (sym is) (record { sound = r.sound; alone = c.alone }) in
+    let u = here_state child in
+    let m = marks child kept_c.sound in
+    let placed_child = placed_of (nested child cps) in
+    let seen_box : seen_child box ≡ placed_child =
+    ap (λ s. record { running = suspended (top s); parents = map suspended (waiting_in s) }) is
+    ∙ ap (λ r. record { running = r; parents = map suspended (waiting_in u) }) m.seen
+    ∙ ap (λ l. record { running = placed_child.running; parents = l }) m.waits in
     let past = fork_past old new ps kept forks turns in
-    let placed : seen_children qs ≡ in_place_of (suspended (top child)) ∷ seen_children ps = ap seen_children pushed ∙ newest_seen ps box ∙ ap (λ s. s ∷ seen_children ps) seen_box in
     let source = source_seen old child ps cps may in
-    let one : IsPlaced (source_of new.program.now) (in_place_of (suspended (top child))) =
-    record { same_source = source ∙ ap (λ p. source_of p.now) (sym turns.program); not_paused = may.not_paused; in_place = refl } in
+    let both = together new old child ps cps kept kept_c source turns.program in
+    let placed : seen_children qs ≡ placed_child ∷ (seen_children cps ++ seen_children ps) =
+    ap seen_children pushed ∙ newest_seen (ps ++ cps) box ∙ ap (λ s. s ∷ seen_children (ps ++ cps)) seen_box ∙ ap (λ l. placed_child ∷ l) both.seen in
+    let sound_box : IsSoundState box.value = subst IsSoundState (sym is) m.sound in
+    let one : IsPlaced (source_of new.program.now) (seen_child box) =
+    subst (IsPlaced (source_of new.program.now)) (ap (λ s. record { running = suspended (top s); parents = map suspended (waiting_in s) }) (sym is)) (record {
+      same_source = source ∙ ap (λ p. source_of p.now) (sym turns.program);
+      not_paused = may.not_paused;
+      in_place = ap (λ l. l.ran) (label_seen u []);
+      awaiting = (kept_sound u [] m.sound (λ k d lt. absurd (omega (arith, lt))) tt (going u may.not_paused)).nested_is.awaiting;
+    }) in
     let others = past.0.seen.others in
     record {
       kept = kept_sound new qs past.0.kept.sound
-          (subst (λ l. All (λ c. IsSoundChild c.value) l) (sym pushed) (All-append (λ c. IsSoundChild c.value) ps (box ∷ []) kept.children (all_one (λ c. IsSoundChild c.value) box sound_box)))
-          (subst (ArePlaced (source_of new.program.now)) (sym placed) (one, past.0.kept.nested_is.waiting)) (going new past.0.pending);
+          (subst (λ l. All (λ c. IsSoundState c.value) l) (sym pushed) (All-append (λ c. IsSoundState c.value) (ps ++ cps) (box ∷ []) both.children (all_one (λ c. IsSoundState c.value) box sound_box)))
+          (subst (ArePlaced (source_of new.program.now)) (sym (ap seen_children pushed ∙ newest_seen (ps ++ cps) box)) (one, both.placed)) (going new past.0.pending);
       whole = same_whole old new ps qs turns.program turns.own;
       places = record {
         same = past.0.seen.same;
@@ -129,26 +157,42 @@ handed_back old child new ps cps qs box kept kept_c may forks turns is pushed =
         trace = past.0.seen.trace;
       };
       pending = past.0.pending;
-      work = omega (arith, past.0.seen.work, ap works placed, single_work child cps may.single);
+      work = omega (
+        arith,
+        past.0.seen.work,
+        ap works_placed (ap seen_children pushed ∙ newest_seen (ps ++ cps) box),
+        both.work,
+        ap (λ s. work_in_state s) is,
+        m.work,
+        works_seen (waiting_in box.value),
+        works_seen (waiting_in child),
+      );
     }
 
 -- It is awaited, and goes on here.
 pub record BegunHere (old child new : State) (ps cps : List (Box State)) : Type 0 where
-  pub kept : IsKept new ps
-  pub whole : SameWhole (nested old ps) (nested new ps)
-  pub seen : nested new ps ≡ begun_in (nested old ps) (nested child cps)
+  pub kept : IsKept new (ps ++ cps)
+  pub whole : SameWhole (nested old ps) (nested new (ps ++ cps))
+  pub seen : nested new (ps ++ cps) ≡ begun_in (nested old ps) (nested child cps)
+  pub pending : pending_of new.control ≡ None
+  pub work : work_in (nested new (ps ++ cps)) ≡ work_in (nested old ps) + work_in (nested child cps)
 
 pub begun_here : (old child new : State) (ps cps : List (Box State)) → IsKept old ps → IsKept child cps → MayBePlaced (nested old ps) (nested child cps) → pending_of old.control ≡ Some pause.Joins →
     awaited (suspended (top old)) ≡ Some child.own.name → TakesIn old child new → BegunHere old child new ps cps
 begun_here old child new ps cps kept kept_c may joins of_child takes =
-    let c = single_kept child cps kept_c may.single in
-    let t = taken old child new kept.sound c.sound c.alone (source_seen old child ps cps may) joins of_child takes in
+    let source = source_seen old child ps cps may in
+    let t = taken old child new kept.sound kept_c.sound source joins of_child takes in
+    let both = together new old child ps cps kept kept_c source takes.program in
+    let begun = begun_in (nested old ps) (nested child cps) in
     record {
-      kept = kept_sound new ps t.sound kept.children (subst (λ p. ArePlaced (source_of p.now) (seen_children ps)) (sym takes.program) kept.nested_is.waiting) (going new (ap pending_of takes.control_is ∙ may.not_paused));
-      whole = same_whole old new ps ps takes.program takes.own;
-      seen = ap (λ r. record (nested new ps) { running = r }) t.seen
-          ∙ ap (λ ts. record (nested new ps) { running = record (in_place_of (suspended (top child))) { program = old.program.now }; parents = map suspended ts }) t.waits
-          ∙ ap (λ x. record (begun_in (nested old ps) (nested child cps)) { sums = x }) t.sums;
+      kept = kept_sound new (ps ++ cps) t.sound both.children both.placed (going new (ap pending_of takes.control_is ∙ may.not_paused));
+      whole = same_whole old new ps (ps ++ cps) takes.program takes.own;
+      seen = ap (λ r. record (nested new (ps ++ cps)) { running = r }) t.seen
+          ∙ ap (λ l. record (nested new (ps ++ cps)) { running = begun.running; parents = l }) t.waits
+          ∙ ap (λ l. record (nested new (ps ++ cps)) { running = begun.running; parents = begun.parents; placed = l }) both.seen
+          ∙ ap (λ x. record begun { sums = x }) t.sums;
+      pending = ap pending_of takes.control_is ∙ may.not_paused;
+      work = omega (arith, t.work, both.work, work_seen new (ps ++ cps), work_seen old ps, work_seen child cps);
     }
 
 -- Memory was refused: the child is as it was.
@@ -156,11 +200,11 @@ pub record AsItWas (child back : State) (cps : List (Box State)) : Type 0 where
   pub kept : IsKept back cps
   pub seen : nested back cps ≡ nested child cps
 
-pub as_it_was : (child back : State) (cps : List (Box State)) → IsKept child cps → IsSingle (nested child cps) → LooksSame child back → AsItWas child back cps
-as_it_was child back cps kept alone l =
-    let c = single_kept child cps kept alone in
-    let looks = looks_sound child back c.sound l c.alone in
+pub as_it_was : (child back : State) (cps : List (Box State)) → IsKept child cps → LooksSame child back → AsItWas child back cps
+as_it_was child back cps kept l =
+    let looks = looks_sound child back kept.sound l in
     record {
-      kept = kept_sound back cps looks.sound kept.children (subst (λ p. ArePlaced (source_of p.now) (seen_children cps)) (sym l.program) kept.nested_is.waiting) (λ e. l.parents ∙ c.alone);
-      seen = looks_nested child back l c.alone looks cps;
+      kept = kept_sound back cps looks.sound kept.children (subst (λ p. ArePlaced (source_of p.now) (seen_children cps)) (sym l.program) kept.nested_is.waiting)
+          (λ e. l.parents ∙ kept.ended (ap pending_of (sym l.control) ∙ e));
+      seen = looks_nested child back l looks cps;
     }

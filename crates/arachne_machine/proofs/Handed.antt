@@ -1,5 +1,5 @@
 -- A state with the children that were handed back to it.
-use Rattle.std.proofs.Common.{◌≡◌, ◌≢◌, ◌≤◌, ◌<◌, ◌-◌, get_or, take, drop, length, length-append, ℕ, ◌+◌, List, [], ◌∷◌, ◌++◌, None, Some, Option, refl, ap, sym, ◌∙◌, subst, arith}
+use Rattle.std.proofs.Common.{◌≡◌, ◌≢◌, ◌≤◌, ◌<◌, ◌-◌, get_or, take, length, length-append, ℕ, ◌+◌, List, [], ◌∷◌, ◌++◌, None, Some, Option, refl, ap, sym, ◌∙◌, subst, arith}
 use Rattle.std.specs.Prelude.{zero, suc, map, reverse, option_map, slice_get, All}
 use Rattle.std.specs.Borrow.{Bor}
 use Rattle.std.proofs.lemmas.List.Elements.{All-append}
@@ -21,19 +21,20 @@ use Rattle.arachne_machine.specs.declared.level.Parent.{Parent}
 use Rattle.arachne_machine.specs.declared.pause.Pending.{Pending}
 use Rattle.arachne_machine.specs.declared.pause.Pending.TheVariants as pause
 use Rattle.arachne_machine.specs.declared.state.State.{State}
-use Rattle.arachne_machine.specs.Ending.{ending, here_of, fork_awaited, forks_of, work_left}
-use Rattle.arachne_machine.specs.Strands.{Strand, Fits, owned_at, below_at, strand_at}
-use Rattle.arachne_machine.specs.Steps.{AfterSteps, Becomes, GoesWithin, LeavesOthers, pending_of, suspended, top, waiting, waiting_in}
+use Rattle.arachne_machine.specs.Ending.{ending, here_of, fork_awaited, forks_of}
+use Rattle.arachne_machine.specs.Strands.{Strand, Fits, own_line, strand_at}
+use Rattle.arachne_machine.specs.declared.level.Level.{Level}
+use Rattle.arachne_machine.specs.Steps.{AfterSteps, GoesWithin, LeavesOthers, pending_of, suspended, top, waiting, waiting_in}
 use Rattle.arachne_machine.specs.Sound.{AreSound, IsSoundState, RunFor}
-use Rattle.arachne_machine.specs.Runs.{Advances, LooksSame, RunsOn, RunsWithin, RunsToPause, RunsToFork, TakesIn, work_in_state}
+use Rattle.arachne_machine.specs.Runs.{Advances, FitsInto, LooksSame, RunsOn, RunsWithin, RunsToPause, RunsToFork, TakesIn, work_in_state}
 use Rattle.arachne_machine.specs.Suspended.{Suspended, awaited}
-use Rattle.arachne_machine.specs.Nested.{ArePlaced, Await, AwaitsElsewhere, IsPlaced, work_in, works}
-use Rattle.arachne_machine.specs.Kept.{AdvancesWith, IsKept, IsSoundChild, StandsBack, Went, WentToFork, WentWithin, nested, seen_children}
-use Rattle.arachne_machine.proofs.Soundness.{goes_nowhere, sound_goes, unchanged_seen}
-use Rattle.arachne_machine.proofs.Levels.{alone_waiting, leaves_waiting, runs_on, sound_top}
+use Rattle.arachne_machine.specs.Nested.{ArePlaced, Await, AwaitsElsewhere, IsPlaced, Placed, work_in, works, works_placed}
+use Rattle.arachne_machine.specs.Kept.{AdvancesWith, IsKept, StandsBack, Went, WentToFork, WentWithin, nested, seen_child, seen_children}
+use Rattle.arachne_machine.proofs.Levels.{leaves_waiting, runs_on, sound_top}
 use Rattle.arachne_machine.proofs.Advancing.{sound_after}
 use Rattle.arachne_machine.proofs.Tabulated.{length-tabulated}
-use Rattle.arachne_machine.proofs.Nesting.{works_seen}
+use Rattle.arachne_machine.proofs.Nesting.{name_seen, works_seen}
+use Rattle.arachne_machine.proofs.Moving.{Programs, programs_waiting}
 use Rattle.arachne_machine.proofs.Answering.{going}
 use Rattle.arachne_machine.proofs.Going.{runs_nothing, as_is}
 use Rattle.arachne_machine.proofs.Lasting.{stopped_pending, same_kept, same_seen}
@@ -51,10 +52,10 @@ none_before t (q ∷ qs) e h =
 pub none_parents : (t : State) → map suspended (waiting_in t) ≡ [] → t.parents.items ≡ []
 none_parents t h = none_before t (reverse t.parents.items) refl h
 
-cons_box : (s : Suspended) (ss : List Suspended) → s ∷ ss ≡ [] → ⊥
+cons_box : (s : Placed) (ss : List Placed) → s ∷ ss ≡ [] → ⊥
 cons_box s ss e = cc
 
-none_listed : (ps : List (Box State)) → map (λ child. suspended (top child.value)) ps ≡ [] → ps ≡ []
+none_listed : (ps : List (Box State)) → map seen_child ps ≡ [] → ps ≡ []
 none_listed [] h = refl
 none_listed (p ∷ ps) h = absurd (cons_box _ _ h)
 
@@ -62,72 +63,95 @@ pub none_placed : (ps : List (Box State)) → seen_children ps ≡ [] → ps ≡
 none_placed ps h = sym (reverse-reverse ps) ∙ ap reverse (none_listed (reverse ps) h)
 
 -- A child among those that callers see.
-pub record SeenAmong (ss : List Suspended) (s : Suspended) : Type 0 where
+pub record SeenAmong (ss : List Placed) (s : Placed) : Type 0 where
   pub place : ℕ
   pub there : place < length ss
-  pub is : (d : Suspended) → get_or ss place d ≡ s
+  pub is : (d : Placed) → get_or ss place d ≡ s
 
-placed_at : (source : Source) (ss : List Suspended) (d : Suspended) (k : ℕ) → ArePlaced source ss → k < length ss → source_of (get_or ss k d).program ≡ source
+placed_at : (source : Source) (ss : List Placed) (d : Placed) (k : ℕ) → ArePlaced source ss → k < length ss → source_of (get_or ss k d).running.program ≡ source
 placed_at source [] d k h lt = absurd (omega (arith, lt))
 placed_at source (s ∷ ss) d zero h lt = h.0.same_source
 placed_at source (s ∷ ss) d (suc k) h lt = placed_at source ss d k h.1 (omega (arith, lt))
 
-placed_source : (source : Source) (ss : List Suspended) (s : Suspended) → ArePlaced source ss → SeenAmong ss s → source_of s.program ≡ source
-placed_source source ss s h among = subst (λ x. source_of x.program ≡ source) (among.is s) (placed_at source ss s among.place h among.there)
+placed_source : (source : Source) (ss : List Placed) (s : Placed) → ArePlaced source ss → SeenAmong ss s → source_of s.running.program ≡ source
+placed_source source ss s h among = subst (λ x. source_of x.running.program ≡ source) (among.is s) (placed_at source ss s among.place h among.there)
 
 -- The newest of the children.
-pub newest_seen : (rest : List (Box State)) (child : Box State) → seen_children (rest ++ child ∷ []) ≡ suspended (top child.value) ∷ seen_children rest
-newest_seen rest child = ap (map (λ c. suspended (top c.value))) (reverse-append rest (child ∷ []))
+pub newest_seen : (rest : List (Box State)) (child : Box State) → seen_children (rest ++ child ∷ []) ≡ seen_child child ∷ seen_children rest
+newest_seen rest child = ap (map seen_child) (reverse-append rest (child ∷ []))
 
 -- A state that looks the same is as sound.
 pub record Looks (old new : State) : Type 0 where
   pub sound : IsSoundState new
-  pub seen : suspended (top new) ≡ suspended (top old)
-  pub work : work_left (top new) ≡ work_left (top old)
-  pub own : (top new).own ≡ (top old).own
+  pub top_is : top new ≡ top old
+  pub waits : waiting_in new ≡ waiting_in old
 
-looks_top : (old new : State) → LooksSame old new → old.parents.items ≡ [] → Becomes (top old) (top new) (top old).environment (top old).frames (top old).control
-looks_top old new l none =
-    let none' : new.parents.items ≡ [] = l.parents ∙ none in
-    record {
-      program = l.program;
-      own = ap (λ ps. owned_at new.own (reverse ps) new.lines new.level.place) none' ∙ ap (λ x. record { name = x.name; label = record { tag = x.tag; ran = x.ran }; holds = x.holds }) l.own
-          ∙ ap (λ ps. owned_at old.own (reverse ps) old.lines old.level.place) (sym none);
-      below = ap (λ ps. below_at (reverse ps) new.lines new.level.place) none' ∙ l.lines ∙ ap (λ ps. below_at (reverse ps) old.lines old.level.place) (sym none);
-      forks = ap (λ v. v.forks) l.level;
-      environment_is = l.environment;
-      frames_are = ap (λ v. drop v.start new.frames.items) l.level ∙ ap (drop old.level.start) l.frames;
-      control_is = l.control;
-    }
+looks_strand : (program : Bor Program) (own own' : Own) (ps : List Parent) (lines : List ThreadLine) (level : Level) (env : Environment) (frames : List Frame) (k : Control) → own_line own' ≡ own_line own →
+    strand_at program own' ps lines level env frames k ≡ strand_at program own ps lines level env frames k
+looks_strand program own own' [] lines level env frames k e =
+    ap (λ x. record (strand_at program own [] lines level env frames k) { own = record { name = x.name; label = record { tag = x.tag; ran = x.ran }; holds = x.holds } }) e
+looks_strand program own own' (p ∷ ps) lines level env frames k e = refl
 
-pub looks_sound : (old new : State) → IsSoundState old → LooksSame old new → old.parents.items ≡ [] → Looks old new
-looks_sound old new s l none =
-    let b = looks_top old new l none in
-    let g = goes_nowhere (top old) (top new) b in
-    let none' : new.parents.items ≡ [] = l.parents ∙ none in
-    let alone : AreSound (top old ∷ []) s.sums_of = subst (λ ts. AreSound (top old ∷ ts) s.sums_of) (alone_waiting old none) s.sound in
+looks_waiting : (program : Bor Program) (own own' : Own) (ps : List Parent) (lines : List ThreadLine) (frames : List Frame) (start place : ℕ) (env : Environment) → own_line own' ≡ own_line own →
+    waiting program own' ps lines frames start place env ≡ waiting program own ps lines frames start place env
+looks_waiting program own own' [] lines frames start place env e = refl
+looks_waiting program own own' (p ∷ ps) lines frames start place env e =
+    let t = strand_at program own ps (take place lines) p.level env (take start frames) p.control in
+    ap (λ u. u ∷ waiting program own' ps (take place lines) (take start frames) p.level.start p.level.place (ending u).env)
+    (looks_strand program own own' ps (take place lines) p.level env (take start frames) p.control e)
+    ∙ ap (λ ts. t ∷ ts) (looks_waiting program own own' ps (take place lines) (take start frames) p.level.start p.level.place (ending t).env e)
+
+looks_top : (old new : State) → LooksSame old new → top new ≡ top old
+looks_top old new l =
+    ap (λ x. strand_at x new.own (reverse new.parents.items) new.lines new.level new.environment.items new.frames.items new.control) l.program
+    ∙ looks_strand old.program old.own new.own (reverse new.parents.items) new.lines new.level new.environment.items new.frames.items new.control l.own
+    ∙ ap (λ x. strand_at old.program old.own (reverse x) new.lines new.level new.environment.items new.frames.items new.control) l.parents
+    ∙ ap (λ x. strand_at old.program old.own (reverse old.parents.items) x new.level new.environment.items new.frames.items new.control) l.lines
+    ∙ ap (λ x. strand_at old.program old.own (reverse old.parents.items) old.lines x new.environment.items new.frames.items new.control) l.level
+    ∙ ap (λ x. strand_at old.program old.own (reverse old.parents.items) old.lines old.level x new.frames.items new.control) l.environment
+    ∙ ap (λ x. strand_at old.program old.own (reverse old.parents.items) old.lines old.level old.environment.items x new.control) l.frames
+    ∙ ap (λ x. strand_at old.program old.own (reverse old.parents.items) old.lines old.level old.environment.items old.frames.items x) l.control
+
+looks_waits : (old new : State) → LooksSame old new → waiting_in new ≡ waiting_in old
+looks_waits old new l =
+    ap (λ t. waiting new.program new.own (reverse new.parents.items) new.lines new.frames.items new.level.start new.level.place (ending t).env) (looks_top old new l)
+    ∙ ap (λ x. waiting x new.own (reverse new.parents.items) new.lines new.frames.items new.level.start new.level.place (ending (top old)).env) l.program
+    ∙ looks_waiting old.program old.own new.own (reverse new.parents.items) new.lines new.frames.items new.level.start new.level.place (ending (top old)).env l.own
+    ∙ ap (λ x. waiting old.program old.own (reverse x) new.lines new.frames.items new.level.start new.level.place (ending (top old)).env) l.parents
+    ∙ ap (λ x. waiting old.program old.own (reverse old.parents.items) x new.frames.items new.level.start new.level.place (ending (top old)).env) l.lines
+    ∙ ap (λ x. waiting old.program old.own (reverse old.parents.items) old.lines x new.level.start new.level.place (ending (top old)).env) l.frames
+    ∙ ap (λ x. waiting old.program old.own (reverse old.parents.items) old.lines old.frames.items x.start x.place (ending (top old)).env) l.level
+
+pub looks_sound : (old new : State) → IsSoundState old → LooksSame old new → Looks old new
+looks_sound old new s l =
+    let top_is = looks_top old new l in
+    let waits = looks_waits old new l in
     record {
       sound = record {
         sums_of = s.sums_of;
         sums = l.sums ∙ subst (λ p. old.sums.items ≡ tabulated (source_of p.now).ledgers s.sums_of) (sym l.program) s.sums;
-        sound = subst (λ ts. AreSound (top new ∷ ts) s.sums_of) (sym (alone_waiting new none'))
-            (alone.0, alone.1, sound_goes 0 [] (top old) (top new) alone.0 alone.2 g, alone.3, alone.4);
-        run_for = subst (RunFor (top new)) (sym (alone_waiting new none')) tt;
-        fits = subst (λ ps. Fits (reverse ps) new.level.start new.level.place (length new.frames.items) (length new.lines)) (sym none')
-            (ap (λ v. v.start) l.level ∙ subst (λ ps. Fits (reverse ps) old.level.start old.level.place (length old.frames.items) (length old.lines)) none s.fits);
+        sound = subst (λ t. AreSound (t ∷ waiting_in new) s.sums_of) (sym top_is) (subst (λ ts. AreSound (top old ∷ ts) s.sums_of) (sym waits) s.sound);
+        run_for = subst (λ t. RunFor t (waiting_in new)) (sym top_is) (subst (RunFor (top old)) (sym waits) s.run_for);
+        fits = subst (λ ps. Fits (reverse ps) new.level.start new.level.place (length new.frames.items) (length new.lines)) (sym l.parents)
+            (subst (λ v. Fits (reverse old.parents.items) v.start v.place (length new.frames.items) (length new.lines)) (sym l.level)
+            (subst (λ fs. Fits (reverse old.parents.items) old.level.start old.level.place (length fs) (length new.lines)) (sym l.frames)
+            (subst (λ ls. Fits (reverse old.parents.items) old.level.start old.level.place (length old.frames.items) (length ls)) (sym l.lines) s.fits)));
         few = omega (arith, s.few, ap length l.lines);
       };
-      seen = unchanged_seen (top old) (top new) b;
-      work = omega (arith, g.work);
-      own = b.own;
+      top_is = top_is;
+      waits = waits;
     }
 
--- what callers see of it by itself
-pub looks_nested : (old new : State) → LooksSame old new → old.parents.items ≡ [] → Looks old new → (ps : List (Box State)) → nested new ps ≡ nested old ps
-looks_nested old new l none looks ps =
-    ap (λ r. record (nested new ps) { running = r }) looks.seen
-    ∙ ap (λ ts. record (nested new ps) { running = suspended (top old); parents = map suspended ts }) (alone_waiting new (l.parents ∙ none) ∙ sym (alone_waiting old none))
+-- what callers see of it
+pub looks_nested : (old new : State) → LooksSame old new → Looks old new → (ps : List (Box State)) → nested new ps ≡ nested old ps
+looks_nested old new l looks ps =
+    ap (λ t. record (nested new ps) { running = suspended t }) looks.top_is
+    ∙ ap (λ ts. record (nested new ps) { running = suspended (top old); parents = map suspended ts }) looks.waits
     ∙ ap (λ x. record (nested old ps) { sums = x }) l.sums
+
+pub looks_child : (old new : Box State) → Looks old.value new.value → seen_child new ≡ seen_child old
+looks_child old new looks =
+    ap (λ t. record (seen_child new) { running = suspended t }) looks.top_is ∙ ap (λ ts. record (seen_child old) { parents = map suspended ts }) looks.waits
 
 -- All of these, and one of them.
 all_left : {X : Type 0} (P : X → Type 0) (xs ys : List X) → All P (xs ++ ys) → All P xs
@@ -141,26 +165,9 @@ all_one P x p zero d lt = p
 all_one P x p (suc k) d lt = absurd (omega (arith, lt))
 
 abbrev Sound : Box State → Type 0
-Sound child = IsSoundChild child.value
-
--- The name of a thread by itself.
-pub own_name : (t : State) → t.parents.items ≡ [] → (top t).own ≡ owned_at t.own [] t.lines t.level.place
-own_name t none = ap (λ ps. owned_at t.own (reverse ps) t.lines t.level.place) none
+Sound child = IsSoundState child.value
 
 -- Those that wait are of one program, and each awaits the one before it.
-abbrev Programs : Bor Program → List Strand → Type 0
-Programs program [] = Unit {0}
-Programs program (t ∷ ts) = (t.program ≡ program) × Programs program ts
-
-programs_waiting : (program : Bor Program) (own : Own) (ps : List Parent) (lines : List ThreadLine) (frames : List Frame) (start place : ℕ) (env : Environment) →
-    Programs program (waiting program own ps lines frames start place env)
-programs_waiting program own [] lines frames start place env = tt
-programs_waiting program own (p ∷ ps) lines frames start place env = (
-  refl,
-  programs_waiting program own ps (take place lines) (take start frames) p.level.start p.level.place
-      (ending (strand_at program own ps (take place lines) p.level env (take start frames) p.control)).env,
-)
-
 joins_then : (k : Control) (n : ℕ) → fork_awaited k ≡ n ∷ [] → pending_of k ≡ Some pause.Joins
 joins_then (Awaits number during next) n e = refl
 joins_then (AwaitsHalf number right reduction) n e = refl
@@ -187,7 +194,7 @@ await_all t (u ∷ us) h p = (
 )
 
 -- A sound state with sound children that may run here is kept.
-pub kept_sound : (t : State) (qs : List (Box State)) → IsSoundState t → All (λ child. IsSoundChild child.value) qs → ArePlaced (source_of t.program.now) (seen_children qs) →
+pub kept_sound : (t : State) (qs : List (Box State)) → IsSoundState t → All (λ child. IsSoundState child.value) qs → ArePlaced (source_of t.program.now) (seen_children qs) →
     (pending_of t.control ≡ Some pause.Ended → t.parents.items ≡ []) → IsKept t qs
 kept_sound t qs s children placed ended = record {
   sound = s;
@@ -200,22 +207,22 @@ kept_sound t qs s children placed ended = record {
   ended = ended;
 }
 
-pub work_seen : (t : State) (qs : List (Box State)) → work_in (nested t qs) ≡ work_in_state t + works (seen_children qs)
+pub work_seen : (t : State) (qs : List (Box State)) → work_in (nested t qs) ≡ work_in_state t + works_placed (seen_children qs)
 work_seen t qs = omega (arith, works_seen (waiting_in t))
 
 -- The newest child.
 record Newest (t : State) (ps qs : List (Box State)) (child : Box State) : Type 0 where
-  seen : seen_children ps ≡ suspended (top child.value) ∷ seen_children qs
-  sound : IsSoundChild child.value
-  others : All (λ c. IsSoundChild c.value) qs
+  seen : seen_children ps ≡ seen_child child ∷ seen_children qs
+  sound : IsSoundState child.value
+  others : All (λ c. IsSoundState c.value) qs
   source : source_of child.value.program.now ≡ source_of t.program.now
-  placed : IsPlaced (source_of t.program.now) (suspended (top child.value))
+  placed : IsPlaced (source_of t.program.now) (seen_child child)
   rest : ArePlaced (source_of t.program.now) (seen_children qs)
 
 newest_of : (t : State) (ps qs : List (Box State)) (child : Box State) → IsKept t ps → ps ≡ qs ++ child ∷ [] → Newest t ps qs child
 newest_of t ps qs child kept is =
     let seen = ap seen_children is ∙ newest_seen qs child in
-    let all = subst (λ l. All (λ c. IsSoundChild c.value) l) is kept.children in
+    let all = subst (λ l. All (λ c. IsSoundState c.value) l) is kept.children in
     let placed = subst (ArePlaced (source_of t.program.now)) seen kept.nested_is.waiting in
     record {
       seen = seen;
@@ -236,10 +243,10 @@ pub taken_up : (old new : State) (ps qs : List (Box State)) (child : Box State) 
     awaited (suspended (top old)) ≡ Some child.value.own.name → TakesIn old child.value new → Up old ps new qs
 taken_up old new ps qs child kept is joins of_child takes =
     let n = newest_of old ps qs child kept is in
-    let t = taken old child.value new kept.sound n.sound.sound n.sound.alone n.source joins of_child takes in
+    let t = taken old child.value new kept.sound n.sound n.source joins of_child takes in
     record {
       kept = kept_sound new qs t.sound n.others (subst (λ p. ArePlaced (source_of p.now) (seen_children qs)) (sym takes.program) n.rest) (going new (ap pending_of takes.control_is ∙ n.placed.not_paused));
-      work = omega (arith, t.work, ap works (ap (map suspended) t.waits), ap works n.seen);
+      work = omega (arith, t.work, work_seen new qs, work_seen old ps, works_seen (waiting_in child.value), ap works_placed n.seen);
       pending = ap pending_of takes.control_is ∙ n.placed.not_paused;
     }
 
@@ -256,53 +263,55 @@ stood_back old new ps qs kept b =
     let n = newest_of old ps b.rest b.child kept b.were in
     let mid = same_kept old b.mid ps kept b.same in
     let u = unstepped b.mid new mid.sound b.stands in
-    let looks = looks_sound b.child.value b.back.value n.sound.sound b.looks n.sound.alone in
+    let looks = looks_sound b.child.value b.back.value n.sound b.looks in
     let program : new.program ≡ old.program = u.leaves.program ∙ b.same.program in
-    let seen : seen_children qs ≡ suspended (top b.child.value) ∷ seen_children b.rest = ap seen_children b.are ∙ newest_seen b.rest b.back ∙ ap (λ s. s ∷ seen_children b.rest) looks.seen in
-    let one : All (λ c. IsSoundChild c.value) (b.back ∷ []) = all_one Sound b.back (record { sound = looks.sound; alone = b.looks.parents ∙ n.sound.alone }) in
+    let seen : seen_children qs ≡ seen_child b.child ∷ seen_children b.rest = ap seen_children b.are ∙ newest_seen b.rest b.back ∙ ap (λ s. s ∷ seen_children b.rest) (looks_child b.child b.back looks) in
+    let one : All (λ c. IsSoundState c.value) (b.back ∷ []) = all_one Sound b.back looks.sound in
     let whole : work_in (nested b.mid ps) ≡ work_in (nested old ps) = ap work_in (same_seen old b.mid ps kept.sound b.same) in
     record {
-      kept = kept_sound new qs u.sound (subst (λ l. All (λ c. IsSoundChild c.value) l) (sym b.are) (All-append Sound b.rest (b.back ∷ []) n.others one))
+      kept = kept_sound new qs u.sound (subst (λ l. All (λ c. IsSoundState c.value) l) (sym b.are) (All-append Sound b.rest (b.back ∷ []) n.others one))
           (subst (ArePlaced (source_of new.program.now)) (sym seen)
-          (subst (λ p. ArePlaced (source_of p.now) (suspended (top b.child.value) ∷ seen_children b.rest)) (sym program) (n.placed, n.rest))) (going new u.pending);
+          (subst (λ p. ArePlaced (source_of p.now) (seen_child b.child ∷ seen_children b.rest)) (sym program) (n.placed, n.rest))) (going new u.pending);
       program = program;
       own = u.leaves.own ∙ b.same.own;
-      work = omega (arith, whole, u.work, ap works (ap (map suspended) u.waits), ap works seen, ap works n.seen);
+      work = omega (arith, whole, u.work, ap works (ap (map suspended) u.waits), ap works_placed seen, ap works_placed n.seen);
       pending = u.pending;
     }
 
 -- Not the newest child is awaited.
-elsewhere_at : (t : State) (qs cs : List (Box State)) → reverse qs ≡ cs → All (λ c. IsSoundChild c.value) qs →
+elsewhere_at : (t : State) (qs cs : List (Box State)) → reverse qs ≡ cs →
     ((rest : List (Box State)) (child : Box State) → qs ≡ rest ++ child ∷ [] → awaited (suspended (top t)) ≢ Some child.value.own.name) →
-    AwaitsElsewhere (suspended (top t)) (map (λ child. suspended (top child.value)) cs)
-elsewhere_at t qs [] e all other = tt
-elsewhere_at t qs (c ∷ cs) e all other =
+    AwaitsElsewhere (suspended (top t)) (map seen_child cs)
+elsewhere_at t qs [] e other = tt
+elsewhere_at t qs (c ∷ cs) e other =
     let is : qs ≡ reverse cs ++ c ∷ [] = sym (reverse-reverse qs) ∙ ap reverse e ∙ reverse-append (c ∷ []) cs in
-    let one = all_last Sound (reverse cs) c (subst (λ l. All (λ c. IsSoundChild c.value) l) is all) in
-    λ awaits. other (reverse cs) c is (awaits ∙ ap (λ o. Some o.name) (own_name c.value one.alone))
+    λ awaits. other (reverse cs) c is (awaits ∙ ap Some (name_seen c.value []))
 
-pub awaits_elsewhere : (t : State) (qs : List (Box State)) → All (λ c. IsSoundChild c.value) qs →
+pub awaits_elsewhere : (t : State) (qs : List (Box State)) →
     ((rest : List (Box State)) (child : Box State) → qs ≡ rest ++ child ∷ [] → awaited (suspended (top t)) ≢ Some child.value.own.name) → AwaitsElsewhere (suspended (top t)) (seen_children qs)
-awaits_elsewhere t qs all other = elsewhere_at t qs (reverse qs) refl all other
+awaits_elsewhere t qs other = elsewhere_at t qs (reverse qs) refl other
 
-seen_at : (qs : List (Box State)) (k : ℕ) (d : Box State) → k < length qs → SeenAmong (seen_children qs) (suspended (top (get_or qs k d).value))
+seen_at : (qs : List (Box State)) (k : ℕ) (d : Box State) → k < length qs → SeenAmong (seen_children qs) (seen_child (get_or qs k d))
 seen_at qs k d lt =
-    let f : Box State → Suspended = λ c. suspended (top c.value) in
     let long = length-reverse qs in
     let back : length qs - 1 - (length qs - 1 - k) ≡ k = omega (arith, lt) in
     record {
       place = length qs - 1 - k;
-      there = omega (arith, lt, length-map (reverse qs) f, long);
-      is = λ e. get_or-map f (reverse qs) (length qs - 1 - k) d e (omega (arith, lt, long)) ∙ ap f (get_or-reverse qs (length qs - 1 - k) d (omega (arith, lt)) ∙ ap (λ n. get_or qs n d) back);
+      there = omega (arith, lt, length-map (reverse qs) seen_child, long);
+      is = λ e. get_or-map seen_child (reverse qs) (length qs - 1 - k) d e (omega (arith, lt, long)) ∙ ap seen_child (get_or-reverse qs (length qs - 1 - k) d (omega (arith, lt)) ∙ ap (λ n. get_or qs n d) back);
     }
 
-pub as_many_here : (t : State) (qs : List (Box State)) → IsKept t qs → All (λ child. length child.value.sums.items ≡ length t.sums.items) qs
-as_many_here t qs kept = λ k d lt.
+pub fits_into : (t child : State) → IsSoundState t → IsSoundState child → source_of child.program.now ≡ source_of t.program.now → FitsInto t child
+fits_into t child s c source = record {
+  sums = ap length c.sums ∙ length-tabulated (source_of child.program.now).ledgers c.sums_of ∙ ap (λ x. x.ledgers) source
+      ∙ sym (ap length s.sums ∙ length-tabulated (source_of t.program.now).ledgers s.sums_of);
+  fits = c.fits;
+}
+
+pub all_fit : (t : State) (qs : List (Box State)) → IsKept t qs → All (λ child. FitsInto t child.value) qs
+all_fit t qs kept = λ k d lt.
     let c = get_or qs k d in
-    let sound = kept.children k d lt in
-    let source = placed_source (source_of t.program.now) (seen_children qs) (suspended (top c.value)) kept.nested_is.waiting (seen_at qs k d lt) in
-    ap length sound.sound.sums ∙ length-tabulated (source_of c.value.program.now).ledgers sound.sound.sums_of ∙ ap (λ x. x.ledgers) source
-    ∙ sym (ap length kept.sound.sums ∙ length-tabulated (source_of t.program.now).ledgers kept.sound.sums_of)
+    fits_into t c.value kept.sound (kept.children k d lt) (placed_source (source_of t.program.now) (seen_children qs) (seen_child c) kept.nested_is.waiting (seen_at qs k d lt))
 
 same_next : (a b : Pending) → ◌≡◌ {A = Option Pending} (Some a) (Some b) → a ≡ b
 same_next a b e = cc
@@ -473,7 +482,7 @@ went_paused Q had some left a b c ps qs (Some next) w r is other =
         leaves = r.2.leaves;
         stops = r.2.stops;
         ended = r.2.ended;
-        elsewhere = λ joins. awaits_elsewhere c qs last.kept.children (other (sym is ∙ ap Some joins));
+        elsewhere = λ joins. awaits_elsewhere c qs (other (sym is ∙ ap Some joins));
       },
     )
 

@@ -26,6 +26,9 @@ pub mod Nesting
 pub mod Answering
 pub mod Counting
 pub mod Rejoining
+pub mod Copies
+pub mod Marking
+pub mod Moving
 pub mod Taking
 pub mod Handed
 pub mod Showing

@@ -1,8 +1,7 @@
 -- A child of another state goes on in the place of the thread that awaits it.
 use Rattle.std.proofs.Common.{◌≡◌, length, length-append, ℕ, ◌+◌, List, [], ◌∷◌, ◌++◌, false, None, Some, refl, ap, sym, ◌∙◌, subst, arith, take, drop}
 use Rattle.std.specs.Prelude.{map, reverse}
-use Rattle.std.proofs.lemmas.List.{get_or-append-add, reverse-append}
-use Rattle.std.proofs.Math.Seq.{drop-append-add, take-append_seam}
+use Rattle.std.proofs.lemmas.List.{map-append}
 use Rattle.arachne_lang.specs.Program.{source_of}
 use Rattle.arachne_lang.specs.Tree.{Source}
 use Rattle.arachne_lang.specs.Value.{Environment}
@@ -23,117 +22,24 @@ use Rattle.arachne_machine.specs.Trace.{At, Event}
 use Rattle.arachne_machine.specs.Ending.{begun_trace, resume_trace, forks_of, forks_here, lock_freed, releases, AwaitsFork, IsForkedIn, KeepsForks, begun, ending, environment_of, fork_awaited, frames_left, trace_left, work_left}
 use Rattle.arachne_machine.specs.Faultless.{IsFaultlessFrame, IsFaultlessNext, IsWithoutFault, held_by}
 use Rattle.arachne_machine.specs.Outcome.{named_holds}
-use Rattle.arachne_machine.specs.Strands.{Strand, Fits, below_at, line_at, owned_at, owned_of, own_line, strand_at}
+use Rattle.arachne_machine.specs.Strands.{Strand, Fits, moved_level, moved_parents, moved_place, own_line, strand_at}
 use Rattle.arachne_machine.specs.Steps.{AfterSteps, Becomes, IsPopped, Changes, LeavesOthers, giving, pending_of, suspended, top, waiting, waiting_in}
-use Rattle.arachne_machine.specs.Sound.{AreSound, IsSound, IsSoundState, RunFor}
-use Rattle.arachne_machine.specs.Runs.{StandsBefore, TakesIn}
+use Rattle.arachne_machine.specs.Sound.{AreSound, IsRunningFor, IsSoundState, RunFor}
+use Rattle.arachne_machine.specs.Runs.{StandsBefore, TakesIn, outermost_in, work_in_state, works_left}
 use Rattle.arachne_machine.specs.Suspended.{Suspended, added, awaited}
-use Rattle.arachne_machine.specs.Nested.{in_place_of}
+use Rattle.arachne_machine.specs.Nested.{marked, marked_parents, of_program}
 use Rattle.arachne_machine.proofs.Tabulated.{added_is}
 use Rattle.arachne_machine.proofs.Faultlessness.{append-faultless}
 use Rattle.arachne_machine.proofs.Outlooks.{IsAt, account_at, append-keeps, at_faultless, ending_at, faultless_at, keeps_there, there_keeps, work_at}
 use Rattle.arachne_machine.proofs.Soundness.{sound_same}
+use Rattle.arachne_machine.proofs.Copies.{copy_ending, copy_seen}
+use Rattle.arachne_machine.proofs.Marking.{here_state, marks}
+use Rattle.arachne_machine.proofs.Moving.{Programs, all_sound, copy_under, fits_moved, last_sound, moved_strand, moved_waiting, programs_waiting, run_moved, seen_under, under, works_moved}
+use Rattle.arachne_machine.proofs.Nesting.{outermost_own, outermost_program}
 use Rattle.arachne_machine.proofs.Joining.{awaited_child}
 use Rattle.arachne_machine.proofs.Handings.{hand_join, hand_merge}
-use Rattle.arachne_machine.proofs.Levels.{alone_waiting, changes_leave, leaves_waiting, sound_top, top_becomes}
+use Rattle.arachne_machine.proofs.Levels.{changes_leave, leaves_waiting, sound_top, top_becomes}
 use Rattle.arachne_machine.proofs.Going.{start_in}
-
--- with another label
-abbrev pub relabelled : Label → Strand → Strand
-relabelled label t = record t { own = record t.own { label = label } }
-
--- as one that runs in its parent's place
-abbrev pub placed_here : Strand → Strand
-placed_here t = relabelled (record t.own.label { ran = ways.InPlace }) t
-
-pub here_sound : (t : Strand) (label : Label) (account : Account) → IsSound t account → IsSound (relabelled label t) account
-here_sound t label account s = record {
-  task = s.task;
-  has_task = s.has_task;
-  holds = s.holds;
-  lines = s.lines;
-  forks = s.forks;
-  value = s.value;
-  environment = s.environment;
-  whole = s.whole;
-  numbered = s.numbered;
-  faultless = s.faultless;
-  keeps = s.keeps;
-}
-
--- Two threads that differ at most in their program, whose text is one.
-pub record IsCopy (t u : Strand) : Type 0 where
-  pub source : source_of u.program.now ≡ source_of t.program.now
-  pub own : u.own ≡ t.own
-  pub below : u.below ≡ t.below
-  pub forks : u.forks ≡ t.forks
-  pub environment : u.environment ≡ t.environment
-  pub frames : u.frames ≡ t.frames
-  pub control : u.control ≡ t.control
-
-at_itself : (t : Strand) → IsAt (source_of t.program.now) t.own.name t.control t.frames t.environment t
-at_itself t = record { source_is = refl; name_is = refl; control_is = refl; frames_are = refl; environment_is = refl }
-
-at_copy : (t u : Strand) → IsCopy t u → IsAt (source_of t.program.now) t.own.name t.control t.frames t.environment u
-at_copy t u c = record { source_is = c.source; name_is = ap (λ o. o.name) c.own; control_is = c.control; frames_are = c.frames; environment_is = c.environment }
-
-pub copy_ending : (t u : Strand) → IsCopy t u → ending u ≡ ending t
-copy_ending t u c =
-    ending_at (source_of t.program.now) t.own.name t.control t.frames t.environment u (at_copy t u c)
-    ∙ sym (ending_at (source_of t.program.now) t.own.name t.control t.frames t.environment t (at_itself t))
-
-pub copy_work : (t u : Strand) → IsCopy t u → work_left u ≡ work_left t
-copy_work t u c =
-    work_at (source_of t.program.now) t.own.name t.control t.frames t.environment u (at_copy t u c)
-    ∙ sym (work_at (source_of t.program.now) t.own.name t.control t.frames t.environment t (at_itself t))
-
-pub copy_sound : (t u : Strand) (account : Account) → IsCopy t u → IsSound t account → IsSound u account
-copy_sound t u account c s =
-    let source = source_of t.program.now in
-    let name = t.own.name in
-    let k = t.control in
-    let fs = t.frames in
-    let env = t.environment in
-    let at = at_copy t u c in
-    let was = at_itself t in
-    sound_same t u account account s (record {
-      program = c.source;
-      name = ap (λ o. o.name) c.own;
-      holds = λ locks h. ap (λ o. o.holds) c.own ∙ h;
-      lines = λ h. ap (map named_holds) c.below ∙ h;
-      forks = λ h. c.forks ∙ h;
-      ending = copy_ending t u c;
-      whole = account_at source name k fs env u account at ∙ sym (account_at source name k fs env t account was);
-      numbered = λ h. (
-        omega (arith, h.0, c.forks, ap length c.below, ap length (ap (λ x. fork_awaited x ++ forks_of u.frames) c.control ∙ ap (λ x. fork_awaited k ++ forks_of x) c.frames)),
-        omega (arith, h.1, ap length c.below),
-      );
-      faultless = λ h. at_faultless source name k fs env u at (faultless_at source name k fs env t was h);
-      keeps = λ h. there_keeps source name k fs env u at (keeps_there source name k fs env t was h);
-    })
-
-abbrev trace_by : Source → List ℕ → Control → List Frame → Environment → List Event
-trace_by source name k fs env = begun_trace source name k env ++ resume_trace source name (frames_left k fs) (begun source name k env) ++ At pause.Ended ∷ []
-
-copy_trace : (t u : Strand) → IsCopy t u → trace_left u ≡ trace_left t
-copy_trace t u c =
-    ap (λ x. trace_by x u.own.name u.control u.frames u.environment) c.source ∙ ap (λ x. trace_by (source_of t.program.now) x.name u.control u.frames u.environment) c.own
-    ∙ ap (λ x. trace_by (source_of t.program.now) t.own.name x u.frames u.environment) c.control ∙ ap (λ x. trace_by (source_of t.program.now) t.own.name t.control x u.environment) c.frames
-    ∙ ap (λ x. trace_by (source_of t.program.now) t.own.name t.control t.frames x) c.environment
-
--- what callers see of it
-pub copy_seen : (t u : Strand) → IsCopy t u → suspended u ≡ record (suspended t) { program = u.program.now }
-copy_seen t u c =
-    let all : Suspended → Suspended = λ s. s in
-    let work = copy_work t u c in
-    let trace = copy_trace t u c in
-    ap (λ o. record (suspended u) { name = o.name; label = o.label; holds = o.holds }) c.own
-    ∙ ap (λ l. record (suspended u) { name = t.own.name; label = t.own.label; holds = t.own.holds; below = l }) c.below
-    ∙ ap (λ n. record (suspended u) { name = t.own.name; label = t.own.label; holds = t.own.holds; below = t.below; forks = n }) c.forks
-    ∙ ap (λ w. record (suspended u) { name = t.own.name; label = t.own.label; holds = t.own.holds; below = t.below; forks = t.forks; work = w }) work
-    ∙ ap (λ w. record (suspended u) { name = t.own.name; label = t.own.label; holds = t.own.holds; below = t.below; forks = t.forks; work = work_left t; trace = w }) trace
-    ∙ ap (λ f. record (suspended t) { program = u.program.now; unjoined = fork_awaited u.control ++ forks_of f; here = forks_here f; locks = lock_freed u.control ++ releases f; pending = pending_of u.control }) c.frames
-    ∙ ap (λ x. record (suspended t) { program = u.program.now; unjoined = fork_awaited x ++ forks_of t.frames; here = forks_here t.frames; locks = lock_freed x ++ releases t.frames; pending = pending_of x }) c.control
 
 -- The task of the child that a thread awaits.
 pub record AwaitsTask (t : Strand) (name : List ℕ) : Type 0 where
@@ -176,99 +82,115 @@ same_environment t name task a has =
 -- What is so of the state then.
 pub record Taken (old child new : State) : Type 0 where
   pub sound : IsSoundState new
-  pub waits : waiting_in new ≡ top old ∷ waiting_in old
-  pub seen : suspended (top new) ≡ record (in_place_of (suspended (top child))) { program = old.program.now }
+  pub seen : suspended (top new) ≡ of_program old.program.now (marked (suspended (top child)) (map suspended (waiting_in child)))
+  pub waits : map suspended (waiting_in new) ≡ map (of_program old.program.now) (marked_parents (map suspended (waiting_in child))) ++ map suspended (top old ∷ waiting_in old)
   pub sums : new.sums.items ≡ added old.sums.items child.sums.items
-  pub work : work_left (top new) ≡ work_left (top child)
+  pub work : work_in_state new ≡ work_in_state old + work_in_state child
 
-child_start : (child : State) → IsSoundState child → child.parents.items ≡ [] → child.level.start ≡ 0
-child_start child s none = subst (λ ps. Fits (reverse ps) child.level.start child.level.place (length child.frames.items) (length child.lines)) none s.fits
+-- where the threads are
+record Placement (old child new : State) : Type 0 where
+  top_is : top new ≡ under old.program (top child)
+  waits : waiting_in new ≡ map (under old.program) (waiting_in child) ++ top old ∷ waiting_in old
 
-seam_line : (xs ys : List ThreadLine) (x : ThreadLine) → line_at (xs ++ x ∷ ys) (length xs) ≡ x
-seam_line xs ys x = ap (λ n. line_at (xs ++ x ∷ ys) n) (omega arith) ∙ get_or-append-add xs (x ∷ ys) 0 _
-
-drop_behind : (xs ys : List Frame) → drop (length xs) (xs ++ ys) ≡ ys
-drop_behind xs ys = ap (λ n. drop n (xs ++ ys)) (omega arith) ∙ drop-append-add xs ys 0
-
-taken_copy : (old child new : State) → IsSoundState child → child.parents.items ≡ [] → source_of child.program.now ≡ source_of old.program.now → TakesIn old child new → IsCopy (placed_here (top child)) (top new)
-taken_copy old child new s none source t =
+placement : (old child new : State) → IsSoundState child → source_of child.program.now ≡ source_of old.program.now → (ending (outermost_in child)).env ≡ old.environment.items →
+    TakesIn old child new → new.lines ≡ old.lines ++ own_line child.own ∷ child.lines → Placement old child new
+placement old child new c source left t lines =
     let q : Parent = record { level = old.level; control = old.control } in
-    let ps : reverse new.parents.items ≡ q ∷ reverse old.parents.items = ap reverse t.parents ∙ reverse-append old.parents.items (q ∷ []) in
-    let x : ThreadLine = record (own_line child.own) { ran = ways.InPlace } in
+    let qs = reverse old.parents.items in
+    let ps = reverse child.parents.items in
+    let p = old.program in
+    let rs = moved_parents (length old.frames.items) (length old.lines) ps ++ q ∷ qs in
+    let level = moved_level (length old.frames.items) (length old.lines) ps child.level in
+    let all = old.lines ++ own_line child.own ∷ child.lines in
+    let frames = old.frames.items ++ child.frames.items in
+    let top_is : top new ≡ under p (top child) =
+    ap (λ x. strand_at x new.own (reverse new.parents.items) new.lines new.level new.environment.items new.frames.items new.control) t.program
+    ∙ ap (λ x. strand_at p x (reverse new.parents.items) new.lines new.level new.environment.items new.frames.items new.control) t.own
+    ∙ ap (λ x. strand_at p old.own x new.lines new.level new.environment.items new.frames.items new.control) t.parents
+    ∙ ap (λ x. strand_at p old.own rs x new.level new.environment.items new.frames.items new.control) lines
+    ∙ ap (λ x. strand_at p old.own rs all x new.environment.items new.frames.items new.control) t.level
+    ∙ ap (λ x. strand_at p old.own rs all level x new.frames.items new.control) t.environment
+    ∙ ap (λ x. strand_at p old.own rs all level child.environment.items x new.control) t.frames
+    ∙ ap (λ x. strand_at p old.own rs all level child.environment.items frames x) t.control_is
+    ∙ moved_strand p child.program old.own child.own q qs ps old.lines child.lines old.frames.items child.frames.items child.level child.environment.items child.control in
+    let end : ending (top new) ≡ ending (top child) = ap ending top_is ∙ copy_ending (top child) (under p (top child)) (copy_under p (top child) (sym source)) in
     record {
-      source = ap (λ p. source_of p.now) t.program ∙ sym source;
-      own = ap (λ x. owned_at new.own x new.lines new.level.place) ps ∙ ap (λ v. owned_of (line_at new.lines v.place)) t.level ∙ ap (λ l. owned_of (line_at l (length old.lines))) t.lines
-          ∙ ap owned_of (seam_line old.lines child.lines x)
-          ∙ ap (λ ps. let o = owned_at child.own (reverse ps) child.lines child.level.place in record o { label = record o.label { ran = ways.InPlace } }) (sym none);
-      below = ap (λ x. below_at x new.lines new.level.place) ps ∙ ap (λ v. drop (v.place + 1) new.lines) t.level ∙ ap (drop (length old.lines + 1)) t.lines
-          ∙ drop-append-add old.lines (x ∷ child.lines) 1 ∙ ap (λ ps. below_at (reverse ps) child.lines child.level.place) (sym none);
-      forks = ap (λ v. v.forks) t.level;
-      environment = t.environment;
-      frames = ap (λ v. drop v.start new.frames.items) t.level ∙ ap (drop (length old.frames.items)) t.frames ∙ drop_behind old.frames.items child.frames.items
-          ∙ ap (λ n. drop n child.frames.items) (sym (child_start child s none));
-      control = t.control_is;
+      top_is = top_is;
+      waits = ap (λ x. waiting x new.own (reverse new.parents.items) new.lines new.frames.items new.level.start new.level.place (ending (top new)).env) t.program
+          ∙ ap (λ x. waiting p x (reverse new.parents.items) new.lines new.frames.items new.level.start new.level.place (ending (top new)).env) t.own
+          ∙ ap (λ x. waiting p old.own x new.lines new.frames.items new.level.start new.level.place (ending (top new)).env) t.parents
+          ∙ ap (λ x. waiting p old.own rs x new.frames.items new.level.start new.level.place (ending (top new)).env) lines
+          ∙ ap (λ x. waiting p old.own rs all x new.level.start new.level.place (ending (top new)).env) t.frames
+          ∙ ap (λ x. waiting p old.own rs all frames x.start x.place (ending (top new)).env) t.level
+          ∙ ap (λ x. waiting p old.own rs all frames level.start level.place x.env) end
+          ∙ moved_waiting p child.program old.own child.own q qs old.lines old.frames.items old.environment.items (sym source) ps child.lines child.frames.items child.level.start child.level.place
+          (length child.frames.items) (length child.lines) (top child) c.fits left;
     }
 
-pub taken : (old child new : State) → IsSoundState old → IsSoundState child → child.parents.items ≡ [] → source_of child.program.now ≡ source_of old.program.now →
+pub taken : (old child new : State) → IsSoundState old → IsSoundState child → source_of child.program.now ≡ source_of old.program.now →
     pending_of old.control ≡ Some pause.Joins → awaited (suspended (top old)) ≡ Some child.own.name → TakesIn old child new → Taken old child new
-taken old child new s c none source joins of_child t =
+taken old child new s c source joins of_child t =
+    let u = here_state child in
+    let m = marks child c in
+    let p = old.program in
     let q : Parent = record { level = old.level; control = old.control } in
-    let ps = reverse old.parents.items in
-    let parents : reverse new.parents.items ≡ q ∷ ps = ap reverse t.parents ∙ reverse-append old.parents.items (q ∷ []) in
-    let copy = taken_copy old child new c none source t in
-    let end : ending (top new) ≡ ending (top child) = copy_ending (placed_here (top child)) (top new) copy in
-    let own : (top child).own ≡ owned_at child.own [] child.lines child.level.place = ap (λ ps. owned_at child.own (reverse ps) child.lines child.level.place) none in
+    let qs = reverse old.parents.items in
+    let ps = reverse child.parents.items in
     let awaits = awaits_task (top old) child.own.name old.control refl joins s.sound.2.keeps of_child in
-    let sound_c : AreSound (top child ∷ []) c.sums_of = subst (λ ts. AreSound (top child ∷ ts) c.sums_of) (alone_waiting child none) c.sound in
-    let has : task_of (source_of old.program.now) child.own.name ≡ Some sound_c.2.task =
-    ap (λ x. task_of x child.own.name) (sym source) ∙ ap (λ o. task_of (source_of child.program.now) o.name) (sym own) ∙ sound_c.2.has_task in
-    let env : (ending (top new)).env ≡ old.environment.items = ap (λ e. e.env) end ∙ sound_c.2.environment ∙ same_environment (top old) child.own.name sound_c.2.task awaits has in
-    let by : List ThreadLine → List Frame → Environment → List Strand = λ lines frames e.
-    let u = strand_at old.program old.own ps lines old.level e frames old.control in
-    u ∷ waiting old.program old.own ps lines frames old.level.start old.level.place (ending u).env in
-    let waits : waiting_in new ≡ top old ∷ waiting_in old =
-    ap (λ x. waiting x new.own (reverse new.parents.items) new.lines new.frames.items new.level.start new.level.place (ending (top new)).env) t.program
-    ∙ ap (λ x. waiting old.program x (reverse new.parents.items) new.lines new.frames.items new.level.start new.level.place (ending (top new)).env) t.own
-    ∙ ap (λ x. waiting old.program old.own x new.lines new.frames.items new.level.start new.level.place (ending (top new)).env) parents
-    ∙ ap (λ x. waiting old.program old.own (q ∷ ps) new.lines new.frames.items x.start x.place (ending (top new)).env) t.level
-    ∙ ap (λ x. by x (take (length old.frames.items) new.frames.items) (ending (top new)).env) (ap (take (length old.lines)) t.lines ∙ take-append_seam old.lines (record (own_line child.own) { ran = ways.InPlace } ∷ child.lines))
-    ∙ ap (λ x. by old.lines x (ending (top new)).env) (ap (take (length old.frames.items)) t.frames ∙ take-append_seam old.frames.items child.frames.items)
-    ∙ ap (λ x. by old.lines old.frames.items x) env in
-    let all : ℕ → ℕ = λ ledger. s.sums_of ledger + c.sums_of ledger in
-    let childs : child.sums.items ≡ tabulated (source_of old.program.now).ledgers c.sums_of = subst (λ x. child.sums.items ≡ tabulated x.ledgers c.sums_of) source c.sums in
-    let sums = t.sums (source_of old.program.now).ledgers s.sums_of c.sums_of s.sums childs in
+    let last = last_sound (top u) (waiting_in u) m.sound.sums_of m.sound.sound in
+    let own = outermost_own u in
+    let task = last.1.task in
+    let has : task_of (source_of p.now) child.own.name ≡ Some task =
+    ap (λ x. task_of x child.own.name) (sym source) ∙ ap (λ x. task_of (source_of x.now) child.own.name) (sym (outermost_program u)) ∙ ap (λ o. task_of (source_of (outermost_in u).program.now) o.name) (sym own)
+    ∙ last.1.has_task in
+    let left : (ending (outermost_in u)).env ≡ old.environment.items = last.1.environment ∙ same_environment (top old) child.own.name task awaits has in
+    let is = placement old u new m.sound source left (record {
+      program = t.program;
+      own = t.own;
+      lines = t.lines;
+      few = t.few;
+      sums = t.sums;
+      parents = t.parents;
+      level = t.level;
+      environment = t.environment;
+      frames = t.frames;
+      control_is = t.control_is;
+    }) t.lines in
+    let one : IsRunningFor (outermost_in u) (top old) = record {
+      number = awaits.number;
+      awaits = awaits.awaits;
+      named = ap (λ o. o.name) own ∙ awaits.named;
+      in_place = ap (λ o. o.label.ran) own;
+    } in
+    let us = top u ∷ waiting_in u in
+    let programs : Programs u.program us = (refl, programs_waiting u.program u.own ps u.lines u.frames.items u.level.start u.level.place (ending (top u)).env) in
+    let everyone : ◌≡◌ {A = List Strand} (top new ∷ waiting_in new) (map (under p) us ++ top old ∷ waiting_in old) = ap (λ x. x ∷ waiting_in new) is.top_is ∙ ap (λ ts. under p (top u) ∷ ts) is.waits in
+    let both : ℕ → ℕ = λ ledger. s.sums_of ledger + m.sound.sums_of ledger in
+    let childs : child.sums.items ≡ tabulated (source_of p.now).ledgers m.sound.sums_of = subst (λ x. child.sums.items ≡ tabulated x.ledgers m.sound.sums_of) source m.sound.sums in
+    let sums = t.sums (source_of p.now).ledgers s.sums_of m.sound.sums_of s.sums childs in
+    let frames : length new.frames.items ≡ length old.frames.items + length child.frames.items = ap length t.frames ∙ length-append old.frames.items child.frames.items in
+    let x : ThreadLine = own_line u.own in
+    let lines : length new.lines ≡ length old.lines + 1 + length child.lines = omega (arith, ap length t.lines, length-append old.lines (x ∷ child.lines)) in
     record {
       sound = record {
-        sums_of = all;
-        sums = sums ∙ ap (λ p. tabulated (source_of p.now).ledgers all) (sym t.program);
-        sound = subst (λ ts. AreSound (top new ∷ ts) all) (sym waits) (
-          sound_c.0,
-          s.sums_of,
-          copy_sound (placed_here (top child)) (top new) sound_c.0 copy (here_sound (top child) (record (top child).own.label { ran = ways.InPlace }) sound_c.0 sound_c.2),
-          s.sound,
-          λ ledger. omega (arith, sound_c.4 ledger, sound_c.3 ledger),
-        );
-        run_for = subst (RunFor (top new)) (sym waits) (
-          record {
-            number = awaits.number;
-            awaits = awaits.awaits;
-            named = ap (λ o. o.name) copy.own ∙ ap (λ o. o.name) own ∙ awaits.named;
-            in_place = ap (λ o. o.label.ran) copy.own;
-          },
-          s.run_for,
-        );
-        fits = subst (λ x. Fits x new.level.start new.level.place (length new.frames.items) (length new.lines)) (sym parents)
-            (subst (λ v. Fits (q ∷ ps) v.start v.place (length new.frames.items) (length new.lines)) (sym t.level) (
-              omega (arith, ap length t.frames, length-append old.frames.items child.frames.items),
-              omega (arith, ap length t.lines, length-append old.lines (record (own_line child.own) { ran = ways.InPlace } ∷ child.lines)),
-              s.fits,
-            ));
+        sums_of = both;
+        sums = sums ∙ ap (λ p. tabulated (source_of p.now).ledgers both) (sym t.program);
+        sound = subst (λ ts. AreSound ts both) (sym everyone)
+            (all_sound p u.program (sym source) us (top old ∷ waiting_in old) m.sound.sums_of s.sums_of both programs (λ ledger. omega arith) m.sound.sound s.sound);
+        run_for = subst (λ x. RunFor x (waiting_in new)) (sym is.top_is) (subst (RunFor (under p (top u))) (sym is.waits) (run_moved p (top u) (waiting_in u) (top old) (waiting_in old) m.sound.run_for one s.run_for));
+        fits = subst (λ x. Fits x new.level.start new.level.place (length new.frames.items) (length new.lines)) (sym t.parents)
+            (subst (λ v. Fits (moved_parents (length old.frames.items) (length old.lines) ps ++ q ∷ qs) v.start v.place (length new.frames.items) (length new.lines)) (sym t.level)
+            (subst (λ n. Fits (moved_parents (length old.frames.items) (length old.lines) ps ++ q ∷ qs) (length old.frames.items + child.level.start) (moved_place (length old.lines) ps child.level.place) n (length new.lines)) (sym frames)
+            (subst (λ n. Fits (moved_parents (length old.frames.items) (length old.lines) ps ++ q ∷ qs) (length old.frames.items + child.level.start) (moved_place (length old.lines) ps child.level.place)
+            (length old.frames.items + length child.frames.items) n) (sym lines)
+            (fits_moved q qs (length old.frames.items) (length old.lines) s.fits ps child.level.start child.level.place (length child.frames.items) (length child.lines) c.fits))));
         few = t.few;
       };
-      waits = waits;
-      seen = copy_seen (placed_here (top child)) (top new) copy ∙ ap (λ p. record (in_place_of (suspended (top child))) { program = p.now }) t.program;
-      sums = added_is (source_of old.program.now).ledgers s.sums_of c.sums_of old.sums.items child.sums.items new.sums.items s.sums childs sums;
-      work = copy_work (placed_here (top child)) (top new) copy;
+      seen = ap suspended is.top_is ∙ copy_seen (top u) (under p (top u)) (copy_under p (top u) (sym source)) ∙ ap (of_program p.now) m.seen;
+      waits = ap (map suspended) is.waits ∙ map-append suspended (map (under p) (waiting_in u)) (top old ∷ waiting_in old)
+          ∙ ap (λ l. l ++ map suspended (top old ∷ waiting_in old)) (seen_under p u.program (sym source) (waiting_in u) programs.1 ∙ ap (map (of_program p.now)) m.waits);
+      sums = added_is (source_of p.now).ledgers s.sums_of m.sound.sums_of old.sums.items child.sums.items new.sums.items s.sums childs sums;
+      work = omega (arith, ap works_left everyone, works_moved p u.program (sym source) us (top old ∷ waiting_in old) programs, m.work);
     }
 
 -- The thread stands before the step in which it came to await a child.

@@ -6,36 +6,40 @@ use Rattle.arachne_lang.specs.declared.program.Class.{Class}
 use Rattle.arachne_lang.specs.Effects.{tabulated}
 use Rattle.arachne_machine.specs.declared.pause.Pending.{Pending}
 use Rattle.arachne_machine.specs.declared.pause.Pending.TheVariants as pause
-use Rattle.arachne_machine.specs.Suspended.{Suspended, awaited}
-use Rattle.arachne_machine.specs.Nested.{AwaitsElsewhere, Nested, IsNested, work_in}
+use Rattle.arachne_machine.specs.Suspended.{awaited}
+use Rattle.arachne_machine.specs.Nested.{AwaitsElsewhere, Nested, Placed, IsNested, work_in}
 use Rattle.arachne_machine.specs.Runs.{LooksSame, RunsOn, RunsWithin, StandsBefore, TakesIn}
 use Rattle.arachne_machine.specs.Steps.{AfterSteps, GivesChild, IsSame, LeavesOthers, pending_of, suspended, task_begun, top, waiting_in}
 use Rattle.arachne_machine.specs.Sound.{IsSoundState}
+
+-- a child that was handed back
+abbrev pub seen_child : Box State → Placed
+seen_child child = record { running = suspended (top child.value); parents = map suspended (waiting_in child.value) }
 
 -- a state with the children that were handed back to it, the newest of which is the last
 abbrev pub nested : State → List (Box State) → Nested
 nested t placed = record {
   running = suspended (top t);
   parents = map suspended (waiting_in t);
-  placed = map (λ child. suspended (top child.value)) (reverse placed);
+  placed = map seen_child (reverse placed);
   sums = t.sums.items;
 }
 
--- a child that was handed back, in whose place no other is
+-- a child in whose place no other is
 pub record IsSoundChild (t : State) : Type 0 where
   pub sound : IsSoundState t
   pub alone : t.parents.items ≡ []
 
 pub record IsKept (t : State) (placed : List (Box State)) : Type 0 where
   pub sound : IsSoundState t
-  pub children : All (λ child. IsSoundChild child.value) placed
+  pub children : All (λ child. IsSoundState child.value) placed
   pub nested_is : IsNested (nested t placed)
   -- a thread that others wait for does not rest once it has ended
   pub ended : pending_of t.control ≡ Some pause.Ended → t.parents.items ≡ []
 
 -- what callers see of children that were handed back, the newest first
-abbrev pub seen_children : List (Box State) → List Suspended
-seen_children placed = map (λ child. suspended (top child.value)) (reverse placed)
+abbrev pub seen_children : List (Box State) → List Placed
+seen_children placed = map seen_child (reverse placed)
 
 -- So many steps were left and so many are, and no thread pauses. Where no child was handed back it is so of the state by itself.
 pub record Went (Q : Type 0) (had left : ℕ) (old : State) (ps : List (Box State)) (new : State) (qs : List (Box State)) : Type 0 where

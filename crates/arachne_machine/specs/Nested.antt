@@ -1,5 +1,6 @@
 -- What callers see of a thread with the threads that run in its place.
-use Rattle.std.specs.Prelude.{◌≡◌, ◌≢◌, ◌≤◌, ℕ, ◌+◌, List, [], ◌∷◌, ◌++◌, Option, None, Some}
+use Rattle.std.specs.Prelude.{◌≡◌, ◌≢◌, ◌≤◌, ℕ, ◌+◌, List, [], ◌∷◌, ◌++◌, map, Option, None, Some}
+use Rattle.arachne_lang.specs.declared.program.Program.{Program}
 use Rattle.arachne_lang.specs.declared.program.Class.{Class}
 use Rattle.arachne_lang.specs.Effects.{Task, tabulated}
 use Rattle.arachne_lang.specs.Meaning.{child_of}
@@ -10,13 +11,18 @@ use Rattle.arachne_machine.specs.declared.pause.Pending.{Pending}
 use Rattle.arachne_machine.specs.declared.pause.Pending.TheVariants as pause
 use Rattle.arachne_machine.specs.Suspended.{Suspended, IsAnswered, IsFresh, SameThread, added, awaited}
 
+-- a child that was handed back to run in its parent's place and is not awaited yet, with the threads that run in its own
+pub record Placed : Type 0 where
+  pub running : Suspended
+  pub parents : List Suspended
+
 pub record Nested : Type 0 where
   -- the innermost thread, which goes on next
   pub running : Suspended
   -- Each of these awaits the one before it, and the first the innermost thread. The last is the one in whose place all the others run.
   pub parents : List Suspended
-  -- the children that were handed back to run here and have not begun, the newest first
-  pub placed : List Suspended
+  -- the children that were handed back to run here and are not awaited yet, the newest first
+  pub placed : List Placed
   -- for each ledger, what all that have begun here and the threads that they have joined have added to it, modulo 2 ^ 64
   pub sums : List ℕ
 
@@ -44,9 +50,13 @@ abbrev pub works : List Suspended → ℕ
 works [] = 0
 works (thread ∷ threads) = thread.work + works threads
 
+abbrev pub works_placed : List Placed → ℕ
+works_placed [] = 0
+works_placed (child ∷ children) = child.running.work + works child.parents + works_placed children
+
 -- the steps that all of them have left
 abbrev pub work_in : Nested → ℕ
-work_in t = t.running.work + works t.parents + works t.placed
+work_in t = t.running.work + works t.parents + works_placed t.placed
 
 -- one number is less than another by at least so many, and at most so many
 pub record FallsBy (least most from to : ℕ) : Type 0 where
@@ -62,6 +72,19 @@ with_tag tag thread = record thread { label = record thread.label { tag = tag } 
 -- as one that runs in its parent's place
 abbrev pub in_place_of : Suspended → Suspended
 in_place_of thread = record thread { label = record thread.label { ran = ways.InPlace } }
+
+-- The outermost of a thread and those that wait for it is marked so, and the others are as they were.
+abbrev pub marked : Suspended → List Suspended → Suspended
+marked thread [] = in_place_of thread
+marked thread (parent ∷ parents) = thread
+
+abbrev pub marked_parents : List Suspended → List Suspended
+marked_parents [] = []
+marked_parents (parent ∷ parents) = marked parent parents ∷ marked_parents parents
+
+-- as a thread of this program
+abbrev pub of_program : Program → Suspended → Suspended
+of_program program thread = record thread { program = program }
 
 -- as one for which a place was found while it waited
 abbrev pub spilled_of : Suspended → Suspended
@@ -79,12 +102,13 @@ Await child [] = Unit {0}
 Await child (parent ∷ parents) = IsAwaiting child parent × Await parent parents
 
 -- a child that was placed in a thread of this program
-pub record IsPlaced (source : Source) (child : Suspended) : Type 0 where
-  pub same_source : source_of child.program ≡ source
-  pub not_paused : child.pending ≡ None
-  pub in_place : child.label.ran ≡ ways.InPlace
+pub record IsPlaced (source : Source) (child : Placed) : Type 0 where
+  pub same_source : source_of child.running.program ≡ source
+  pub not_paused : child.running.pending ≡ None
+  pub in_place : (outermost child.running child.parents).label.ran ≡ ways.InPlace
+  pub awaiting : Await child.running child.parents
 
-abbrev pub ArePlaced : Source → List Suspended → Type 0
+abbrev pub ArePlaced : Source → List Placed → Type 0
 ArePlaced source [] = Unit {0}
 ArePlaced source (child ∷ children) = IsPlaced source child × ArePlaced source children
 
@@ -93,9 +117,9 @@ pub record IsNested (t : Nested) : Type 0 where
   pub waiting : ArePlaced (source_of t.running.program) t.placed
 
 -- What a thread awaits is not the newest child that was placed here.
-abbrev pub AwaitsElsewhere : Suspended → List Suspended → Type 0
+abbrev pub AwaitsElsewhere : Suspended → List Placed → Type 0
 AwaitsElsewhere thread [] = Unit {0}
-AwaitsElsewhere thread (child ∷ children) = awaited thread ≢ Some child.name
+AwaitsElsewhere thread (child ∷ children) = awaited thread ≢ Some (outermost child.running child.parents).name
 
 -- both are of one program, and have one name and label
 pub record SameWhole (old new : Nested) : Type 0 where
@@ -110,15 +134,10 @@ pub record IsChildOf (t child : Nested) : Type 0 where
   pub not_paused : pending_in child ≡ None
   pub alone : IsAlone child
 
--- no other thread goes on in its place, and none was handed back to it
-abbrev pub IsSingle : Nested → Type 0
-IsSingle t = (t.parents ≡ []) × (t.placed ≡ [])
-
--- The child may run in the thread's place: it is of an equal program, has no pause that is not answered, and is single.
+-- The child may run in the thread's place: it is of an equal program, and has no pause that is not answered.
 pub record MayBePlaced (t child : Nested) : Type 0 where
   pub same_source : source_of (whole child).program ≡ source_of (whole t).program
   pub not_paused : pending_in child ≡ None
-  pub single : IsSingle child
 
 -- a child may be placed at a fork or at a join
 abbrev pub IsPlacing : Option Pending → Type 0
@@ -126,19 +145,29 @@ IsPlacing (Some pause.Forks) = Unit {0}
 IsPlacing (Some pause.Joins) = Unit {0}
 IsPlacing _ = ⊥
 
--- The innermost thread goes on with what is done meanwhile, and the child is placed.
+-- a child with those in its place, which is to run in its parent's
+abbrev pub placed_of : Nested → Placed
+placed_of child = record { running = marked child.running child.parents; parents = marked_parents child.parents }
+
+-- The innermost thread goes on with what is done meanwhile, and the child is placed. Those that were placed in the child come behind it.
 pub record PlacesAtFork (old child new : Nested) : Type 0 where
   pub same : SameThread old.running new.running
   pub sums : new.sums ≡ old.sums
   pub holds : new.running.holds ≡ old.running.holds
   pub locks : new.running.locks ≡ old.running.locks
   pub parents : new.parents ≡ old.parents
-  pub placed : new.placed ≡ in_place_of child.running ∷ old.placed
+  pub placed : new.placed ≡ placed_of child ∷ (child.placed ++ old.placed)
   pub trace : IsAnswered old.running new.running
 
--- the child goes on in the place of the innermost thread, which awaits it, as a thread of its program
+-- The child goes on in the place of the innermost thread, which awaits it, with those in its own place, as threads of its program. Those that were placed in the
+-- child are the newest.
 abbrev pub begun_in : Nested → Nested → Nested
-begun_in t child = record { running = record (in_place_of child.running) { program = t.running.program }; parents = t.running ∷ t.parents; placed = t.placed; sums = added t.sums child.sums }
+begun_in t child = record {
+  running = of_program t.running.program (marked child.running child.parents);
+  parents = map (of_program t.running.program) (marked_parents child.parents) ++ t.running ∷ t.parents;
+  placed = child.placed ++ t.placed;
+  sums = added t.sums child.sums;
+}
 
 -- The child is new, and its class and task are those that the program gives to the thread's newest fork.
 pub record IsForked (class : Class) (thread : Suspended) (child : Nested) : Type 0 where

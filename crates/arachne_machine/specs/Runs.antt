@@ -22,7 +22,7 @@ use Rattle.arachne_machine.specs.Lines.{CountsHoldAt}
 use Rattle.arachne_machine.specs.Ending.{fork_awaited, here_of, locks_of, work_left}
 use Rattle.arachne_machine.specs.Outcome.{Finished}
 use Rattle.arachne_machine.specs.Suspended.{awaited}
-use Rattle.arachne_machine.specs.Strands.{Strand, own_line}
+use Rattle.arachne_machine.specs.Strands.{Fits, Strand, moved_level, moved_parents, own_line}
 use Rattle.arachne_machine.specs.declared.pause.Pending.{Pending}
 use Rattle.arachne_machine.specs.declared.pause.Pending.TheVariants as pause
 use Rattle.arachne_machine.specs.Steps.{AfterSteps, HasRoom, Changes, GivesChild, Goes, IsLeftOver, IsSame, LeavesOthers, Turns, pending_of, suspended, task_begun, top, waiting_in}
@@ -295,15 +295,26 @@ pub record JoinsOutcome (old : State) (outcome : Finished) (new : State) : Type 
   pub level : new.level ≡ old.level
   pub resumes : ResumesAs old.control old.environment.items old.frames.items outcome.value new
 
--- The child of another state, which the innermost awaits, goes on in this one.
+-- Another state may go on in this one: it has as many sums, and its frames and lines are where its levels say.
+pub record FitsInto (t child : State) : Type 0 where
+  pub sums : length child.sums.items ≡ length t.sums.items
+  pub fits : Fits (reverse child.parents.items) child.level.start child.level.place (length child.frames.items) (length child.lines)
+
+-- The innermost waits, and the levels of another state come behind its frames and, from this place on, its lines.
+pub record TakesLevels (old child new : State) (place : ℕ) : Type 0 where
+  pub others : new ≡ record old { parents = new.parents; level = new.level }
+  pub parents : reverse new.parents.items ≡ moved_parents (length old.frames.items) place (reverse child.parents.items) ++ record { level = old.level; control = old.control } ∷ reverse old.parents.items
+  pub level : new.level ≡ moved_level (length old.frames.items) place (reverse child.parents.items) child.level
+
+-- The child of another state, which the innermost awaits, goes on in this one with those that run in its place.
 pub record TakesIn (old child new : State) : Type 0 where
   pub program : new.program ≡ old.program
   pub own : new.own ≡ old.own
   pub lines : new.lines ≡ old.lines ++ record (own_line child.own) { ran = ways.InPlace } ∷ child.lines
   pub few : length new.lines < 2 ^ 63
   pub sums : (n : ℕ) (own others : ℕ → ℕ) → old.sums.items ≡ tabulated n own → child.sums.items ≡ tabulated n others → new.sums.items ≡ tabulated n (λ ledger. own ledger + others ledger)
-  pub parents : new.parents.items ≡ old.parents.items ++ record { level = old.level; control = old.control } ∷ []
-  pub level : new.level ≡ record { start = length old.frames.items; forks = child.level.forks; place = length old.lines }
+  pub parents : reverse new.parents.items ≡ moved_parents (length old.frames.items) (length old.lines) (reverse child.parents.items) ++ record { level = old.level; control = old.control } ∷ reverse old.parents.items
+  pub level : new.level ≡ moved_level (length old.frames.items) (length old.lines) (reverse child.parents.items) child.level
   pub environment : new.environment.items ≡ child.environment.items
   pub frames : new.frames.items ≡ old.frames.items ++ child.frames.items
   pub control_is : new.control ≡ child.control

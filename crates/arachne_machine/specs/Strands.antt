@@ -69,3 +69,18 @@ abbrev pub Fits : List Parent → ℕ → ℕ → ℕ → ℕ → Type 0
 Fits [] start place frames lines = start ≡ 0
 Fits (parent ∷ parents) start place frames lines =
     (start ≤ frames) × (place < lines) × Fits parents parent.level.start parent.level.place start place
+
+-- Where these come behind so many frames and lines of another state: the line of the outermost, which lay apart, is the first behind those lines, and the
+-- others' are behind it.
+abbrev pub moved_place : ℕ → List Parent → ℕ → ℕ
+moved_place lines [] place = lines
+moved_place lines (parent ∷ parents) place = lines + 1 + place
+
+abbrev pub moved_level : ℕ → ℕ → List Parent → Level → Level
+moved_level frames lines parents level = record { start = frames + level.start; forks = level.forks; place = moved_place lines parents level.place }
+
+-- and those that wait, the newest first
+abbrev pub moved_parents : ℕ → ℕ → List Parent → List Parent
+moved_parents frames lines [] = []
+moved_parents frames lines (parent ∷ parents) =
+    record { level = moved_level frames lines parents parent.level; control = parent.control } ∷ moved_parents frames lines parents

@@ -1,6 +1,6 @@
 //! How children begin in their parent's place, and how they are joined.
 use crate::frame::{Control, Frame};
-use crate::level::{Level, Parent};
+use crate::level::{Level, Parent, move_parents};
 use crate::line::{Ran, ThreadLine};
 use crate::lines::Lines;
 use crate::outcome::Outcome;
@@ -14,13 +14,14 @@ use std::mem::{replace, swap};
 
 /// How children begin in their parent's place, and how they are joined.
 impl<'p> State<'p> {
-    ghost use Rattle.std.specs.Prelude.{◌≡◌, ◌≢◌, ◌+◌, ◌≤◌, ◌<◌, ◌∷◌, ◌++◌, ◌↔◌, [], length, vec_len, vec_capacity, Some, IsTrue, IfOk, IfErr, OnOk, OnErr};
+    ghost use Rattle.std.specs.Prelude.{◌≡◌, ◌≢◌, ◌+◌, ◌≤◌, ◌<◌, ◌^◌, ◌∷◌, ◌++◌, ◌↔◌, [], ℕ, length, reverse, vec_len, vec_capacity, Some, IsTrue, IfOk, IfErr, OnOk, OnErr};
     ghost use Rattle.arachne_machine.specs.declared.frame.Frame.TheVariants as frames;
     ghost use Rattle.arachne_machine.specs.declared.frame.Control.TheVariants as control;
     ghost use Rattle.arachne_machine.specs.Steps.{Changes, HasLine, HasRoom, IsSame, OnValue, pending_of, suspended, top};
     ghost use Rattle.arachne_machine.specs.Suspended.{awaited};
     ghost use Rattle.arachne_machine.specs.declared.pause.Pending.TheVariants as pause;
-    ghost use Rattle.arachne_machine.specs.Runs.{BeginsHere, Descends, HasParent, JoinsOutcome, KeepsRest, LooksSame, ResumesAs, ResumesParent, StandsBefore, TakesIn};
+    ghost use Rattle.arachne_machine.specs.Runs.{BeginsHere, Descends, FitsInto, HasParent, JoinsOutcome, KeepsRest, LooksSame, ResumesAs, ResumesParent, StandsBefore, TakesIn, TakesLevels};
+    ghost use Rattle.arachne_machine.specs.Strands.{Fits};
     ghost use Rattle.arachne_machine.specs.Advance.{IsForeign, handed_back};
 
     /// Whether the innermost thread awaits the child of this name.
@@ -84,16 +85,16 @@ impl<'p> State<'p> {
         };
     }
 
-    /// The child that is awaited, in whose place no other is, goes on here. Where memory is refused nothing has changed
-    /// but room.
+    /// The child that is awaited goes on here, with those that run in its place. Where memory is refused nothing has
+    /// changed but room.
     pub fn take_in(&mut self, child: &mut State<'p>) -> Result<(), AllocError>
-        requires { length child.old.sums.items ≡ length self.old.sums.items }
+        requires { FitsInto self.old child.old }
         ensures ok { OnOk result (TakesIn self.old child.old self.new) }
         ensures err { OnErr result (IsSame self.old self.new) }
         ensures childs { OnErr result (LooksSame child.old child.new) }
         ensures room { OnErr result (HasRoom self.old → HasRoom self.new) }
     {
-        self.parents.try_reserve(1)?;
+        self.parents.try_reserve(child.parents.len() + 1)?;
         self.frames.try_reserve(child.frames.len())?;
         let place = self.lines.len();
         let ran = child.own.label.ran;
@@ -106,11 +107,30 @@ impl<'p> State<'p> {
             return Err(AllocError);
         }
         add_each(&mut self.sums, &child.sums);
-        self.descend(self.control, place, child.level.forks);
+        self.take_levels(child, place);
         let _ = self.frames.append(&mut child.frames);
         swap(&mut self.environment, &mut child.environment);
         self.control = child.control;
         Ok(())
+    }
+
+    /// The innermost thread waits, and the levels of a child's threads come behind its frames and, from this place on,
+    /// its lines. There is room.
+    #[inline(always)]
+    fn take_levels(&mut self, child: &State<'p>, place: usize)
+        requires room { vec_len self.old.parents + vec_len child.now.parents + 1 ≤ vec_capacity self.old.parents }
+        requires fits { (frames lines : ℕ) × Fits (reverse child.now.parents.items) child.now.level.start child.now.level.place frames lines
+            × (length self.old.frames.items + frames < 2 ^ 64) × (place + 1 + lines < 2 ^ 64) }
+        ensures levels { TakesLevels self.old child.now self.new place }
+        ensures frames { self.new.frames ≡ self.old.frames }
+    {
+        let start = self.frames.len();
+        self.parents.push_reserved(Parent {
+            level: self.level,
+            control: self.control,
+        });
+        move_parents(&mut self.parents, &child.parents, start, place);
+        self.level = child.level.moved(child.parents.is_empty(), start, place);
     }
 
     /// The child that ran here has ended with this value: its parent joins it, and goes on. Where memory is refused the

@@ -1,5 +1,6 @@
 //! Where a thread is in a state that others may share, and who waits for it.
-ghost use Rattle.std.specs.Prelude.{◌≡◌};
+ghost use Rattle.std.specs.Prelude.{◌≡◌, ◌+◌, ◌≤◌, ◌<◌, ◌^◌, ℕ, ◌++◌, false, length, reverse, vec_len, vec_capacity, IsTrue};
+ghost use Rattle.arachne_machine.specs.Strands.{Fits, moved_parents};
 
 use crate::frame::Control;
 
@@ -25,6 +26,27 @@ impl Level {
             place: 0,
         }
     }
+
+    /// The same where this many frames come before its own. The line of the outermost thread, which lay apart, is at
+    /// this place then, and those of the others are behind it.
+    #[inline(always)]
+    pub fn moved(self, outermost: bool, start: usize, place: usize) -> Level
+        requires start { start + self.start < 2 ^ 64 }
+        requires place { outermost ≡ false → place + 1 + self.place < 2 ^ 64 }
+        ensures outermost { IsTrue outermost → result ≡ record { start = start + self.start; forks = self.forks; place = place } }
+        ensures other { outermost ≡ false → result ≡ record { start = start + self.start; forks = self.forks; place = place + 1 + self.place } }
+    {
+        let place = if outermost {
+            place
+        } else {
+            place + 1 + self.place
+        };
+        Level {
+            start: start + self.start,
+            forks: self.forks,
+            place,
+        }
+    }
 }
 
 /// A thread that waits for the one that runs in its place.
@@ -33,4 +55,25 @@ pub struct Parent<'p> {
     pub level: Level,
     /// What it awaits, and what it does then.
     pub control: Control<'p>,
+}
+
+/// Those that wait in another state, the outermost first, wait behind these, where this many frames come before theirs,
+/// and their lines are from this place on. There is room.
+pub fn move_parents<'p>(
+    parents: &mut Vec<Parent<'p>>,
+    others: &[Parent<'p>],
+    start: usize,
+    place: usize,
+)
+    requires room { vec_len parents.old + length others.now ≤ vec_capacity parents.old }
+    requires fits { (from at frames lines : ℕ) × Fits (reverse others.now) from at frames lines × (start + frames < 2 ^ 64) × (place + 1 + lines < 2 ^ 64) }
+    ensures { reverse parents.new.items ≡ moved_parents start place (reverse others.now) ++ reverse parents.old.items }
+{
+    for i in 0..others.len() {
+        let parent = others[i];
+        parents.push_reserved(Parent {
+            level: parent.level.moved(i == 0, start, place),
+            control: parent.control,
+        });
+    }
 }

@@ -8,9 +8,10 @@ use std::alloc::AllocError;
 
 /// How a thread goes on with the children that were handed back to it, the newest of which is the last.
 impl<'p> State<'p> {
-    ghost use Rattle.std.specs.Prelude.{◌≡◌, ◌≤◌, ◌-◌, None, Some, true, All, length, IfOk, OnErr};
+    ghost use Rattle.std.specs.Prelude.{◌≡◌, ◌≤◌, ◌-◌, ◌++◌, None, Some, true, All, IfOk, OnOk, OnErr};
     ghost use Rattle.arachne_machine.specs.declared.pause.Pending.TheVariants as pause;
-    ghost use Rattle.arachne_machine.specs.Steps.{HasLine, HasRoom, pending_of};
+    ghost use Rattle.arachne_machine.specs.Steps.{HasLine, HasRoom, IsSame, pending_of};
+    ghost use Rattle.arachne_machine.specs.Runs.{FitsInto, LooksSame, TakesIn};
     ghost use Rattle.arachne_machine.specs.Kept.{AdvancesWith, IsKept, StandsBack, TakesUp, WentWithin};
 
     /// Goes on for at most as many steps as are left, until it pauses. Where the innermost thread comes to await the
@@ -48,7 +49,7 @@ impl<'p> State<'p> {
     ) -> Result<bool, AllocError>
         requires line { HasLine self.old }
         requires room { pending_of self.old.control ≡ Some pause.Joins → HasRoom self.old }
-        requires sums { All (λ child. length child.value.sums.items ≡ length self.old.sums.items) placed.old.items }
+        requires fit { All (λ child. FitsInto self.old child.value) placed.old.items }
         ensures ok { IfOk result (λ taken. TakesUp taken self.old placed.old.items self.new placed.new.items) }
         ensures err { OnErr result (StandsBack self.old placed.old.items self.new placed.new.items) }
     {
@@ -70,7 +71,7 @@ impl<'p> State<'p> {
         requires joins { pending_of self.old.control ≡ Some pause.Joins }
         requires line { HasLine self.old }
         requires room { HasRoom self.old }
-        requires sums { All (λ child. length child.value.sums.items ≡ length self.old.sums.items) placed.old.items }
+        requires fit { All (λ child. FitsInto self.old child.value) placed.old.items }
         ensures ok { IfOk result (λ taken. TakesUp taken self.old placed.old.items self.new placed.new.items) }
         ensures err { OnErr result (StandsBack self.old placed.old.items self.new placed.new.items) }
     {
@@ -88,5 +89,27 @@ impl<'p> State<'p> {
         }
         spares.keep(child);
         Ok(true)
+    }
+
+    /// The child that is awaited goes on here, and those that were handed back to it are the newest of these. Where
+    /// memory is refused nothing has changed but room.
+    pub fn take_in_with(
+        &mut self,
+        placed: &mut Vec<Box<State<'p>>>,
+        child: &mut State<'p>,
+        others: &mut Vec<Box<State<'p>>>,
+    ) -> Result<(), AllocError>
+        requires { FitsInto self.old child.old }
+        ensures ok { OnOk result (TakesIn self.old child.old self.new) }
+        ensures placed { OnOk result (placed.new.items ≡ placed.old.items ++ others.old.items) }
+        ensures err { OnErr result (IsSame self.old self.new) }
+        ensures childs { OnErr result (LooksSame child.old child.new) }
+        ensures err_placed { OnErr result (placed.new.items ≡ placed.old.items) }
+        ensures err_others { OnErr result (others.new ≡ others.old) }
+    {
+        placed.try_reserve(others.len())?;
+        self.take_in(child)?;
+        let _ = placed.append(others);
+        Ok(())
     }
 }

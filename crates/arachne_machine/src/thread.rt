@@ -225,9 +225,11 @@ impl<'p> Thread<'p> {
         ensures err { OnErr result (self.new ≡ self.old) }
         ensures handed_back { IfErr result (λ back. back ≡ child.entry) }
     {
-        if self.placed.try_reserve(1).is_err() {
+        let mut child = child;
+        if self.placed.try_reserve(child.placed.len() + 1).is_err() {
             return Err(child);
         }
+        let _ = self.placed.append(&mut child.placed);
         let mut state = child.state;
         state.own.label.ran = Ran::InPlace;
         self.placed.push_reserved(state);
@@ -242,6 +244,8 @@ impl<'p> Thread<'p> {
         requires child { MayBePlaced self.old child }
         ensures whole { SameWhole self.old self.new }
         ensures ok { OnOk result (self.new ≡ begun_in self.old child.entry) }
+        ensures pending { OnOk result (pending_in self.new ≡ None) }
+        ensures work { OnOk result (work_in self.new ≡ work_in self.old + work_in child.entry) }
         ensures foreign { IsNotAwaited result ↔ (awaited self.old.running ≢ Some (whole child.entry).name) }
         ensures err { OnErr result (self.new ≡ self.old) }
         ensures handed_back { IfErr result (λ e. child_back e ≡ child.entry) }
@@ -249,8 +253,16 @@ impl<'p> Thread<'p> {
         if !self.state.awaits(&child.state.own.name) {
             return Err(NotPlaced::Foreign(child));
         }
-        let mut child = child;
-        if self.state.take_in(&mut child.state).is_err() {
+        let Thread {
+            mut state,
+            mut placed,
+        } = child;
+        if self
+            .state
+            .take_in_with(&mut self.placed, &mut state, &mut placed)
+            .is_err()
+        {
+            let child = Thread { state, placed };
             return Err(NotPlaced::Memory(child));
         }
         Ok(())

@@ -8,6 +8,8 @@ pub(crate) enum Stop {
     Goes,
     /// It goes on, and has forked a child that was posted.
     Posted(Post),
+    /// It goes on, and has forked a child that waits with a ticket.
+    Spilled,
     /// It awaits a child that has not ended.
     Blocks,
     /// It asks for this lock, and goes on once it is answered.

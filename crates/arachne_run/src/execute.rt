@@ -3,29 +3,27 @@ ghost use Rattle.std.specs.Prelude.{◌≡◌};
 
 use crate::desk::Stop;
 use crate::fault::WorkerFault;
-use crate::gate::Gate;
+use crate::gate::{Cause, Event, Gate, SliceEnd};
 use crate::locks::Locks;
 use crate::policy;
 use crate::queue::Agenda;
 use crate::seat::Seat;
 use crate::shared::Shared;
 use crate::sums::Sums;
-use crate::wake::Cause;
+use crate::wake::{posted, tell};
 use arachne_contexts::Contexts;
 use arachne_core::Rest;
 use arachne_jobs::RunJob;
 use rand_core::Rng;
 use std::sync::Wait;
 
-/// How a slice ends.
+/// What comes of what a thread asks for.
 #[derive(Clone, Copy, Debug, PartialEq, Eq)]
-pub(crate) enum SliceEnd {
-    /// The thread goes on: its quantum is used up, or it is to let another go on.
-    GoesOn,
-    /// It waits.
-    Waits,
-    /// It has ended.
-    Ended,
+enum Served {
+    /// It goes on for so many steps.
+    Left(u32),
+    /// It awaits this lock.
+    Awaits(u64),
 }
 
 /// The worker of one core.
@@ -51,13 +49,16 @@ impl<'a, H: Wait, T: RunJob, C: Contexts<T>, R: Rng + Drop, G: Gate> Worker<'a, 
     pub(crate) fn turn(&mut self, index: u8) -> Result<bool, WorkerFault>
         ensures { (self.new.desk ≡ self.old.desk) × (self.new.locks ≡ self.old.locks) × (self.new.sums ≡ self.old.sums) }
     {
+        if let Some((id, name)) = self.desk.named() {
+            self.gate.told(self.core, Event::Turn(id, name));
+        }
         for _ in 0..policy::MOST_ALONE {
             let end = self.slice()?;
             if end == SliceEnd::Ended {
                 self.end()?;
                 return Ok(false);
             }
-            if end == SliceEnd::Waits || !self.goes_on() {
+            if end != SliceEnd::GoesOn || !self.goes_on() {
                 break;
             }
             self.tend();
@@ -95,18 +96,20 @@ impl<'a, H: Wait, T: RunJob, C: Contexts<T>, R: Rng + Drop, G: Gate> Worker<'a, 
     {
         self.gate.slice(self.core, self.slices);
         self.slices = self.slices.saturating_add(1);
-        let end = self.spend_quantum();
-        self.gate.slice_ended(self.core);
+        let (steps, end) = self.spend_quantum()?;
+        self.gate.told(self.core, Event::Sliced(steps, end));
         self.shared.signals().count_slice(self.core);
-        end
+        Ok(end)
     }
 
-    /// The steps of a slice. Where the quantum is used up, all that the worker posted is told of.
-    fn spend_quantum(&mut self) -> Result<SliceEnd, WorkerFault>
+    /// The steps of a slice, how many they are, and how it ends. Where the quantum is used up, all that the worker posted
+    /// is told of.
+    fn spend_quantum(&mut self) -> Result<(u32, SliceEnd), WorkerFault>
         ensures { (self.new.desk ≡ self.old.desk) × (self.new.locks ≡ self.old.locks) × (self.new.sums ≡ self.old.sums) }
     {
         self.agenda.begin_slice();
         let mut left = self.quantum;
+        let mut made: u32 = 0;
         for _ in 0..self.quantum {
             if left == 0 {
                 break;
@@ -116,57 +119,61 @@ impl<'a, H: Wait, T: RunJob, C: Contexts<T>, R: Rng + Drop, G: Gate> Worker<'a, 
             let stop = self.desk.advance(&mut steps)?;
             let spent = most.saturating_sub(steps);
             left = left.saturating_sub(spent);
+            made = made.saturating_add(spent);
             if self.agenda.spend(spent) {
-                self.tell();
+                tell(&mut self.agenda, self.shared.signals());
             }
             match stop {
                 Stop::Goes => {}
-                Stop::Ends => return Ok(SliceEnd::Ended),
-                Stop::Blocks => return Ok(SliceEnd::Waits),
+                Stop::Spilled => self.gate.told(self.core, Event::Spilled),
+                Stop::Ends => return Ok((made, SliceEnd::Ended)),
+                Stop::Blocks => return Ok((made, SliceEnd::AwaitsChild)),
                 stop => match self.serve(stop, left)? {
-                    Some(most) => left = most,
-                    None => return Ok(SliceEnd::Waits),
+                    Served::Left(most) => left = most,
+                    Served::Awaits(lock) => return Ok((made, SliceEnd::AwaitsLock(lock))),
                 },
             }
         }
-        self.tell();
-        Ok(SliceEnd::GoesOn)
+        tell(&mut self.agenda, self.shared.signals());
+        Ok((made, SliceEnd::GoesOn))
     }
 
-    /// Does what the thread in hand asks for, which had so many steps left. How many it has then; none where it waits.
-    fn serve(&mut self, stop: Stop, left: u32) -> Result<Option<u32>, WorkerFault>
+    /// Does what the thread in hand asks for, which had so many steps left.
+    fn serve(&mut self, stop: Stop, left: u32) -> Result<Served, WorkerFault>
         ensures { (self.new.desk ≡ self.old.desk) × (self.new.locks ≡ self.old.locks) × (self.new.sums ≡ self.old.sums) }
     {
         let who = self.desk.in_hand()?;
         match stop {
             Stop::Posted(post) => {
-                self.posted(post);
-                return Ok(Some(left));
+                posted(&mut self.agenda, self.shared.signals(), self.core, post);
+                return Ok(Served::Left(left));
             }
             Stop::Asks(lock) => {
-                if !self.ask(lock, who)? {
-                    return Ok(None);
+                if !self.locks.ask(self.rt, lock, who)? {
+                    return Ok(Served::Awaits(lock));
                 }
             }
             Stop::Awaits(lock) => {
-                if !self.check(lock, who)? {
-                    return Ok(None);
+                if !self.locks.check(self.rt, lock, who)? {
+                    return Ok(Served::Awaits(lock));
                 }
             }
             Stop::Frees(lock) => {
-                if let Some(next) = self.free(lock, who)? {
+                if let Some(next) = self.locks.free(self.rt, lock, who)? {
                     self.wake(next, Cause::HoldsLock);
                 }
             }
             Stop::Tallies(ledger, amount) => self.sums.add(ledger, amount)?,
-            Stop::Goes | Stop::Blocks | Stop::Ends => return Ok(Some(left)),
+            Stop::Goes | Stop::Spilled | Stop::Blocks | Stop::Ends => {
+                return Ok(Served::Left(left));
+            }
         }
         self.desk.answer()?;
         if self.agenda.has_next() {
             // The next holder of a lock is to go on here.
-            return Ok(Some(left.min(policy::STEPS_PAST_FREE)));
+            return Ok(Served::Left(left.min(policy::STEPS_PAST_FREE)));
         }
-        Ok(Some(left))
+        Ok(Served::Left(left))
     }
 
     /// Ends the thread in hand, and wakes its parent. With the root all workers stop. Then places of the core are kept
@@ -188,11 +195,12 @@ impl<'a, H: Wait, T: RunJob, C: Contexts<T>, R: Rng + Drop, G: Gate> Worker<'a, 
     {
         let tended = self.desk.tend();
         if let Some(applied) = tended.applied {
-            self.gate.applied(applied);
+            self.gate.told(self.core, Event::Applied(applied));
         }
         if tended.receivers != 0 {
             self.shared.signals().hint_cores(tended.receivers);
-            self.gate.moved(tended.receivers);
+            self.gate
+                .told(self.core, Event::MovedAway(tended.receivers));
         }
     }
 }

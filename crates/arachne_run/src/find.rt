@@ -4,8 +4,10 @@ ghost use Rattle.std.specs.Prelude.{◌≡◌};
 use crate::desk::Grip;
 use crate::execute::Worker;
 use crate::fault::WorkerFault;
-use crate::gate::Gate;
+use crate::gate::{Event, Gate};
 use crate::policy;
+use crate::shared::Shared;
+use crate::wake::tell;
 use arachne_contexts::Contexts;
 use arachne_core::SLOTS;
 use arachne_jobs::RunJob;
@@ -31,7 +33,8 @@ impl<'a, H: Wait, T: RunJob, C: Contexts<T>, R: Rng + Drop, G: Gate> Worker<'a, 
                 idle = 0;
             } else {
                 self.tend();
-                self.wait(idle);
+                let is_arbiter = self.desk.has_orders_left();
+                wait(self.rt, self.shared, self.core, idle, is_arbiter);
                 idle = idle.saturating_add(1);
             }
         }
@@ -66,12 +69,14 @@ impl<'a, H: Wait, T: RunJob, C: Contexts<T>, R: Rng + Drop, G: Gate> Worker<'a, 
         if self.run_each()? {
             return Ok(true);
         }
-        self.tell();
-        let parked = self.desk.park();
-        if parked {
-            self.gate.unparked(self.core);
+        tell(&mut self.agenda, self.shared.signals());
+        let drained = self.desk.is_drained();
+        if drained {
+            self.gate.told(self.core, Event::Parks);
+            self.shared.signals().park(self.rt, self.core);
+            self.gate.told(self.core, Event::Unparked);
         }
-        Ok(parked)
+        Ok(drained)
     }
 
     /// Runs each thread that is ready at the indexes of the scan, upwards, unless all workers stop. Whether there was
@@ -137,28 +142,31 @@ impl<'a, H: Wait, T: RunJob, C: Contexts<T>, R: Rng + Drop, G: Gate> Worker<'a, 
             return Ok(false);
         }
         let (found, index) = self.desk.take_ticket()?;
+        if found {
+            self.gate.told(self.core, Event::Ticket(index.is_some()));
+        }
         if let Some(index) = index {
             self.agenda.note(index);
         }
         Ok(found)
     }
+}
 
-    /// Waits, longer the more rounds have found nothing: it spins, then yields the processor, then sleeps. Each of
-    /// these ends once a thread of the core may be ready, and a sleep once all workers stop too.
-    fn wait(&self, round: u32) {
-        if round <= policy::LAST_SPIN {
-            for _ in 0..1u32 << round {
-                if self.shared.signals().is_any(self.core) {
-                    break;
-                }
-                spin_loop();
+/// The worker of a core waits, longer the more rounds have found nothing: it spins, then yields the processor, then
+/// sleeps, for a shorter time where it is to apply orders. Each of these ends once a thread of the core may be ready, and
+/// a sleep once all workers stop too.
+fn wait<H: Wait>(rt: &H, shared: &Shared, core: u8, round: u32, is_arbiter: bool) {
+    if round <= policy::LAST_SPIN {
+        for _ in 0..1u32 << round {
+            if shared.signals().is_any(core) {
+                break;
             }
-        } else if round <= policy::LAST_YIELD {
-            thread::yield_now();
-        } else {
-            let spell = policy::sleep_of(round, self.desk.has_orders_left());
-            self.shared
-                .sleep(self.rt, self.core, Duration::from_micros(spell));
+            spin_loop();
         }
+    } else if round <= policy::LAST_YIELD {
+        thread::yield_now();
+    } else {
+        let spell = policy::sleep_of(round, is_arbiter);
+        shared.sleep(rt, core, Duration::from_micros(spell));
     }
 }

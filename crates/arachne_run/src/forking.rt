@@ -187,6 +187,7 @@ fn put_aside<H: Wait, T: RunJob, C: Contexts<T>>(
         // Where the queue was filled meanwhile, the child waits without a ticket, for its parent.
         if machine.tickets.push(rt, pass, ticket).is_ok() {
             machine.shared.room().child_waits();
+            return Ok(Stop::Spilled);
         }
     }
     Ok(Stop::Goes)

@@ -29,7 +29,7 @@ mod workers;
 pub use arachne_jobs::{Job, RunJob, Ticket};
 pub use arachne_spill::{SpillPass, SpillQueue};
 pub use fault::{RunFault, WorkerFault};
-pub use gate::{Gate, OpenGate};
+pub use gate::{Cause, Event, Gate, OpenGate, SliceEnd};
 pub use report::Report;
 pub use running::run;
 pub use setup::Setup;

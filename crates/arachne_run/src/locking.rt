@@ -2,25 +2,21 @@
 //! lock.
 ghost use Rattle.std.specs.Prelude.{◌≡◌};
 
-use crate::execute::Worker;
 use crate::fault::WorkerFault;
-use crate::gate::Gate;
-use arachne_contexts::Contexts;
+use crate::locks::Locks;
 use arachne_core::ThreadId;
-use arachne_jobs::RunJob;
 use arachne_sleep::{AskFault, Asked, Freed, Tried, Who};
 use crossbeam_utils::Backoff;
-use rand_core::Rng;
 use std::sync::Wait;
 
-impl<'a, H: Wait, T: RunJob, C: Contexts<T>, R: Rng + Drop, G: Gate> Worker<'a, H, T, C, R, G> {
+impl<'a> Locks<'a> {
     /// Asks for a lock. Whether the thread holds it at once; else it waits.
-    pub(crate) fn ask(&mut self, lock: u64, who: Who) -> Result<bool, WorkerFault>
-        ensures { (self.new.desk ≡ self.old.desk) × (self.new.locks ≡ self.old.locks) × (self.new.sums ≡ self.old.sums) }
+    pub(crate) fn ask<H: Wait>(&mut self, rt: &H, lock: u64, who: Who) -> Result<bool, WorkerFault>
+        ensures { self.new ≡ self.old }
     {
         let backoff = Backoff::new();
-        for _ in self.rt.forever() {
-            match self.locks.ask(lock, who)? {
+        for _ in rt.forever() {
+            match self.try_ask(lock, who)? {
                 Tried::Answered(Ok(Asked::Granted(_))) => return Ok(true),
                 Tried::Answered(Ok(Asked::Queued { at: _ })) => return Ok(false),
                 Tried::Answered(Err(AskFault::Memory)) => return Err(WorkerFault::Memory),
@@ -32,12 +28,17 @@ impl<'a, H: Wait, T: RunJob, C: Contexts<T>, R: Rng + Drop, G: Gate> Worker<'a, 
     }
 
     /// Whether the thread that has asked for a lock holds it now.
-    pub(crate) fn check(&mut self, lock: u64, who: Who) -> Result<bool, WorkerFault>
-        ensures { (self.new.desk ≡ self.old.desk) × (self.new.locks ≡ self.old.locks) × (self.new.sums ≡ self.old.sums) }
+    pub(crate) fn check<H: Wait>(
+        &mut self,
+        rt: &H,
+        lock: u64,
+        who: Who,
+    ) -> Result<bool, WorkerFault>
+        ensures { self.new ≡ self.old }
     {
         let backoff = Backoff::new();
-        for _ in self.rt.forever() {
-            match self.locks.check(lock, who)? {
+        for _ in rt.forever() {
+            match self.try_check(lock, who)? {
                 Tried::Answered(pass) => return Ok(pass.is_some()),
                 Tried::Contended => backoff.snooze(),
             }
@@ -46,12 +47,17 @@ impl<'a, H: Wait, T: RunJob, C: Contexts<T>, R: Rng + Drop, G: Gate> Worker<'a, 
     }
 
     /// Frees a lock. The id of the thread that holds it next, if any waits for it.
-    pub(crate) fn free(&mut self, lock: u64, who: Who) -> Result<Option<ThreadId>, WorkerFault>
-        ensures { (self.new.desk ≡ self.old.desk) × (self.new.locks ≡ self.old.locks) × (self.new.sums ≡ self.old.sums) }
+    pub(crate) fn free<H: Wait>(
+        &mut self,
+        rt: &H,
+        lock: u64,
+        who: Who,
+    ) -> Result<Option<ThreadId>, WorkerFault>
+        ensures { self.new ≡ self.old }
     {
         let backoff = Backoff::new();
-        for _ in self.rt.forever() {
-            match self.locks.free(lock, who)? {
+        for _ in rt.forever() {
+            match self.try_free(lock, who)? {
                 Tried::Answered(Ok(Freed { next, .. })) => {
                     return Ok(match next {
                         Some(next) => Some(next.id),

@@ -41,7 +41,7 @@ impl<'a> Locks<'a> {
     }
 
     /// Tries once to ask for a lock. In a checked program a pause names a lock that is there.
-    pub(crate) fn ask(
+    pub(crate) fn try_ask(
         &mut self,
         lock: u64,
         who: Who,
@@ -53,7 +53,11 @@ impl<'a> Locks<'a> {
     }
 
     /// Tries once to look whether a thread that has asked for a lock holds it now.
-    pub(crate) fn check(&mut self, lock: u64, who: Who) -> Result<Tried<Option<Pass>>, WorkerFault>
+    pub(crate) fn try_check(
+        &mut self,
+        lock: u64,
+        who: Who,
+    ) -> Result<Tried<Option<Pass>>, WorkerFault>
         ensures { self.new ≡ self.old }
     {
         let lock = number_of(self.locks, lock)?;
@@ -61,7 +65,7 @@ impl<'a> Locks<'a> {
     }
 
     /// Tries once to free a lock.
-    pub(crate) fn free(
+    pub(crate) fn try_free(
         &mut self,
         lock: u64,
         who: Who,

@@ -1,10 +1,14 @@
 //! What the workers of a run share.
-ghost use Rattle.std.specs.Prelude.{◌≡◌, ◌≤◌, All, IfOk, IfSome, length};
+ghost use Rattle.std.specs.Prelude.{◌≡◌, ◌≤◌, ◌⊎◌, All, Err, IfErr, IfOk, IfSome, IsOk, length};
+ghost use Rattle.arachne_ledger.specs.Views.{IsShareOf, IsWhole as IsWholeShare};
 ghost use Rattle.arachne_policy.specs.Orders.{AreInOrder};
 ghost use Rattle.arachne_sleep.specs.History.{IsSound};
 ghost use Rattle.arachne_sleep.specs.OneHolder.{HasOneHolderAtATime};
 ghost use Rattle.arachne_sleep.specs.SleepLocks.{AreSeatsOf};
-ghost use Rattle.arachne_spill.specs.Views.{IsPassOf};
+ghost use Rattle.arachne_sleep.specs.Views.{IsWhole as IsWholeSeat};
+ghost use Rattle.arachne_spill.specs.Views.{IsPassOf, IsWhole as IsWholePass};
+ghost use Rattle.arachne_weights.specs.Weight.{whole};
+ghost use Rattle.arachne_run.specs.declared.fault.WorkerFault.TheVariants.{Memory, Token};
 ghost use Rattle.arachne_run.specs.Tokens.{AreIdle, IsSetUp};
 
 use crate::fault::WorkerFault;
@@ -16,7 +20,7 @@ use arachne_contexts::{Contexts, Seats, Tagged};
 use arachne_core::{CORES, SLOTS};
 use arachne_jobs::has_exclusive;
 use arachne_lang::Program;
-use arachne_ledger::Ledgers;
+use arachne_ledger::{Ledgers, Share};
 use arachne_policy::CoreOrder;
 use arachne_sleep::{LockEvent, LockSeats, SleepLocks};
 use arachne_spill::{CAPACITY, SpillPass, SpillQueue};
@@ -151,23 +155,14 @@ impl<C: Seats + Drop, K: Tagged + Drop> Machine<C, K> {
             return Err(WorkerFault::Token);
         };
         let applied = arbiter.applied();
-        if !are_tickets_back::<H, K>(rt, &self.tickets, tokens.pass) {
-            return Err(WorkerFault::Token);
-        }
+        close_queue::<H, K>(rt, &self.tickets, tokens.pass)?;
         let is_all = self.table.is_whole(&tokens.seat) && self.table.out(&tokens.seat) == 0;
-        if !is_all || !tokens.share.is_whole() {
+        if !is_all {
             return Err(WorkerFault::Token);
         }
         let histories = closed_locks(alloc, self.locks, tokens.lock_seats)?;
-        let Ok(rest) = self.table.close(rt, alloc, tokens.seat) else {
-            return Err(WorkerFault::Memory);
-        };
-        if !rest.is_empty() {
-            return Err(WorkerFault::Token);
-        }
-        let Ok(words) = self.ledgers.close(alloc, tokens.share) else {
-            return Err(WorkerFault::Memory);
-        };
+        close_table(rt, alloc, self.table, tokens.seat)?;
+        let words = closed_words(alloc, self.ledgers, tokens.share)?;
         Ok(Remains {
             words,
             histories,
@@ -176,13 +171,15 @@ impl<C: Seats + Drop, K: Tagged + Drop> Machine<C, K> {
     }
 }
 
-/// The history of each lock, in their order, if all of their seats are back.
+/// The history of each lock, in their order. Where not all of their seats are back a token is missing.
 fn closed_locks(
     alloc: Global,
     locks: SleepLocks,
     seats: LockSeats,
 ) -> Result<Vec<Vec<LockEvent>>, WorkerFault>
     requires { AreSeatsOf locks seats }
+    ensures missing { (All IsWholeSeat seats → ⊥) → result ≡ Err Token }
+    ensures whole { All IsWholeSeat seats → IfErr result (λ fault. fault ≡ Memory) }
     ensures count { IfOk result (λ histories. length histories.items ≡ length locks) }
     ensures sound { IfOk result (λ histories. All (λ history. IsSound history.items) histories.items) }
     ensures one_holder { IfOk result (λ histories. All (λ history. HasOneHolderAtATime history.items) histories.items) }
@@ -196,19 +193,62 @@ fn closed_locks(
     }
 }
 
-/// Empties the queue of tickets. Whether all of its passes are back.
-fn are_tickets_back<H: Wait, K: Tagged + Drop>(
+/// The words of the ledgers. Where the share is not the whole a token is missing.
+fn closed_words(alloc: Global, ledgers: Ledgers, share: Share) -> Result<Vec<u64>, WorkerFault>
+    requires { IsShareOf ledgers share }
+    ensures missing { (IsWholeShare share → ⊥) → result ≡ Err Token }
+    ensures whole { IsWholeShare share → IfErr result (λ fault. fault ≡ Memory) }
+{
+    if !share.is_whole() {
+        return Err(WorkerFault::Token);
+    }
+    match ledgers.close(alloc, share) {
+        Ok(words) => Ok(words),
+        Err(_) => Err(WorkerFault::Memory),
+    }
+}
+
+/// Closes the table. No thread may be left there; one that is there is told as a missing token.
+fn close_table<H: Wait, T: Tagged + Drop, C: Contexts<T> + Drop>(
+    rt: &H,
+    alloc: Global,
+    table: C,
+    seat: C::Seat,
+) -> Result<(), WorkerFault>
+    requires seat { C.sits table seat }
+    requires all { C.weight seat ≡ whole }
+    requires idle { C.idle table seat }
+    ensures { IfErr result (λ fault. (fault ≡ Memory) ⊎ (fault ≡ Token)) }
+{
+    let Ok(rest) = table.close(rt, alloc, seat) else {
+        return Err(WorkerFault::Memory);
+    };
+    if rest.is_empty() {
+        Ok(())
+    } else {
+        Err(WorkerFault::Token)
+    }
+}
+
+/// Empties the queue of tickets. Where not all of its passes are back a token is missing.
+fn close_queue<H: Wait, K: Tagged + Drop>(
     rt: &H,
     tickets: &SpillQueue<K>,
     pass: SpillPass<K>,
-) -> bool
+) -> Result<(), WorkerFault>
     requires { IsPassOf tickets.now pass }
+    ensures missing { (IsWholePass pass → ⊥) → result ≡ Err Token }
+    ensures whole { IsWholePass pass → IsOk result }
 {
-    let mut pass = pass;
+    let mut rest = pass;
     for _ in 0..CAPACITY {
-        if tickets.pop(rt, &mut pass).is_none() {
+        if tickets.pop(rt, &mut rest).is_none() {
             break;
         }
     }
-    tickets.is_whole(&pass)
+    if tickets.is_whole(&rest) {
+        Ok(())
+    } else {
+        Err(WorkerFault::Token)
+    }
 }

@@ -36,11 +36,14 @@ pub(crate) struct Agenda {
 }
 
 impl Agenda {
-    /// Nothing is remembered. It takes no memory.
-    pub(crate) fn new(alloc: Global) -> Agenda {
+    /// Nothing is remembered but the index of the root, if that begins here. It takes no memory.
+    pub(crate) fn new(alloc: Global, root: Option<u8>) -> Agenda {
         Agenda {
             scan: 0,
-            ready: 0,
+            ready: match root {
+                Some(index) => bit_of(index),
+                None => 0,
+            },
             next: None,
             posts: Vec::new(alloc),
             patience: policy::PATIENCE,

@@ -2,7 +2,7 @@
 //!
 //! With `forking`, for its forks, it alone calls the table while threads run. Its type keeps the bookkeeping: the thread
 //! in hand is out with one seat, the places that are kept with the other, and nothing else is out between two calls.
-ghost use Rattle.std.specs.Prelude.{◌≡◌, ◌<◌, ◌≤◌, []};
+ghost use Rattle.std.specs.Prelude.{◌≡◌, ◌<◌, ◌≤◌, IfOk};
 ghost use Rattle.arachne_run.specs.Tokens.{IsArbiterOf, IsSetUp, ground_of};
 ghost use Rattle.arachne_spill.specs.Views.{IsPassOf};
 
@@ -12,10 +12,12 @@ use crate::fault::WorkerFault;
 use crate::forking::{free_place, go_on, post_waiting};
 use crate::machine::Machine;
 use crate::policy;
+use crate::rooting::post_root;
 use arachne_arbiter::{Arbiter, Cores};
 use arachne_contexts::{Claimed, Contexts, Held, Moved, Placed, Rested, Taken, Woken};
 use arachne_core::{MarkWord, OccWord, Place, Rest, SLOTS, ThreadId};
 use arachne_jobs::{Openings, RunJob, RunSpares, RunThread, RunTicket};
+use arachne_lang::Name;
 use arachne_sleep::Who;
 use arachne_spill::SpillPass;
 use rand_core::Rng;
@@ -66,29 +68,33 @@ impl<'a, H, T: RunJob, C: Contexts<T>, R> Model for Seat<'a, H, T, C, R> {
 }
 
 impl<'a, H: Wait, T: RunJob, C: Contexts<T>, R: Rng + Drop> Seat<'a, H, T, C, R> {
-    /// A worker's two seats, with which nothing is out, and what else it has of the machine.
-    pub(crate) fn new(
+    /// A worker's two seats, with which nothing is out, and what else it has of the machine. The root is posted, if it
+    /// begins here; its index.
+    pub(crate) fn open(
         rt: &'a H,
         alloc: Global,
         machine: &'a Machine<C, T::Ticket>,
         core: u8,
         seat: C::Seat,
-        spare: C::Seat,
         pass: SpillPass<T::Ticket>,
         arbiter: Option<Arbiter>,
-        chooser: R,
-    ) -> Seat<'a, H, T, C, R>
+        chooser: Option<R>,
+        root: Option<T>,
+    ) -> Result<(Seat<'a, H, T, C, R>, Option<u8>), WorkerFault>
         requires set_up { IsSetUp C.core_count C.slot_count machine.now }
         requires core { core < machine.now.cores }
         requires seat { C.sits machine.now.table seat }
-        requires nothing { C.has machine.now.table seat [] }
-        requires spare { C.sits machine.now.table spare }
-        requires nothing_spare { C.has machine.now.table spare [] }
+        requires idle { C.idle machine.now.table seat }
         requires pass { IsPassOf machine.now.tickets pass }
         requires arbiter { IsArbiterOf machine.now arbiter }
-        ensures { result ≡ ground_of machine.now }
+        ensures { IfOk result (λ opened. opened.0 ≡ ground_of machine.now) }
     {
-        Seat {
+        let Some(chooser) = chooser else {
+            return Err(WorkerFault::KernelThread);
+        };
+        let (mut seat, spare) = machine.table.split(rt, seat);
+        let root = post_root::<H, T, C>(rt, machine, &mut seat, root)?;
+        let seat = Seat {
             rt,
             alloc,
             machine,
@@ -103,7 +109,8 @@ impl<'a, H: Wait, T: RunJob, C: Contexts<T>, R: Rng + Drop> Seat<'a, H, T, C, R>
             chooser,
             openings: Openings::new(),
             spares: T::Spares::none(alloc),
-        }
+        };
+        Ok((seat, root))
     }
 
     /// Takes the thread at an index of the core in hand, if it is ready and none is.
@@ -134,6 +141,13 @@ impl<'a, H: Wait, T: RunJob, C: Contexts<T>, R: Rng + Drop> Seat<'a, H, T, C, R>
             }),
             None => Err(WorkerFault::Token),
         }
+    }
+
+    /// The id and the name of the thread in hand. A thread that runs in its place has another name.
+    #[inline(always)]
+    pub(crate) fn named(&self) -> Option<(ThreadId, &Name)> {
+        let held = self.held.as_ref()?;
+        Some((held.id(), held.value.name()))
     }
 
     /// The thread in hand goes on for at most as many steps as are left, and its forks are answered.
@@ -326,8 +340,22 @@ impl<'a, H: Wait, T: RunJob, C: Contexts<T>, R: Rng + Drop> Seat<'a, H, T, C, R>
         MarkWord::from_word(word)
     }
 
+    /// Wakes the thread of an id, if it has not ended. Whether it was blocked.
+    pub(crate) fn wake(&mut self, id: ThreadId) -> bool
+        ensures { self.new ≡ self.old }
+    {
+        for _ in self.rt.forever() {
+            match self.try_wake(id) {
+                Woken::Lost(_) => {}
+                Woken::Woken => return true,
+                Woken::Already(_) | Woken::Gone => return false,
+            }
+        }
+        unreachable!()
+    }
+
     /// Tries once to wake the thread of an id.
-    pub(crate) fn wake(&mut self, id: ThreadId) -> Woken
+    fn try_wake(&mut self, id: ThreadId) -> Woken
         ensures { self.new ≡ self.old }
     {
         let table = &self.machine.table;
@@ -422,16 +450,11 @@ impl<'a, H: Wait, T: RunJob, C: Contexts<T>, R: Rng + Drop> Seat<'a, H, T, C, R>
         }
     }
 
-    /// Parks while the core is closed and nothing is left on it. Whether it was.
-    pub(crate) fn park(&mut self) -> bool
+    /// Whether the core is closed and nothing is left on it.
+    pub(crate) fn is_drained(&mut self) -> bool
         ensures { self.new ≡ self.old }
     {
         let table = &self.machine.table;
-        let drained = table.is_drained(self.rt, &mut self.seat, self.core);
-        if drained {
-            let parking = self.machine.shared.signals().parking();
-            parking.park(self.rt, self.core);
-        }
-        drained
+        table.is_drained(self.rt, &mut self.seat, self.core)
     }
 }

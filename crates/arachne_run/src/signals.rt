@@ -155,6 +155,13 @@ impl Signals {
         }
     }
 
+    /// Parks the kernel thread of a core, until it is unparked. Called by that kernel thread alone.
+    pub(crate) fn park<H: Wait>(&self, rt: &H, core: u8) {
+        if usize::from(core) < self.words.len() {
+            self.parking.park(rt, core);
+        }
+    }
+
     /// Sleeps for so long, or until it is woken, once it was about to.
     pub(crate) fn sleep<H: Wait>(&self, rt: &H, core: u8, spell: Duration) {
         if let Some(word) = self.words.get(usize::from(core)) {

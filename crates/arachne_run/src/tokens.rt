@@ -59,39 +59,6 @@ impl<S, K: Tagged + Drop> Tokens<S, K> {
         Ok((own, others))
     }
 
-    /// Half of the seat, for places that are kept, and the rest.
-    pub(crate) fn split_seat<H: Wait, C: Seats<Seat = S>>(
-        self,
-        rt: &H,
-        machine: &Machine<C, K>,
-    ) -> (Tokens<S, K>, S)
-        requires { AreIdle C.sits C.idle machine.now self }
-        ensures rest { AreIdle C.sits C.idle machine.now result.0 }
-        ensures seat { C.sits machine.now.table result.1 }
-        ensures idle { C.idle machine.now.table result.1 }
-    {
-        let (seat, half) = machine.table.split(rt, self.seat);
-        (Tokens { seat, ..self }, half)
-    }
-
-    /// Both together, once nothing is out with the seat.
-    pub(crate) fn join_seat<H: Wait, C: Seats<Seat = S>>(
-        self,
-        rt: &H,
-        machine: &Machine<C, K>,
-        half: S,
-    ) -> Tokens<S, K>
-        requires rest { AreIdle C.sits C.idle machine.now self }
-        requires seat { C.sits machine.now.table half }
-        requires idle { C.idle machine.now.table half }
-        ensures { AreIdle C.sits C.idle machine.now result }
-    {
-        Tokens {
-            seat: machine.table.join_seats(rt, self.seat, half),
-            ..self
-        }
-    }
-
     /// Both together, with the own arbiter.
     pub(crate) fn join<H: Wait, C: Seats<Seat = S>>(
         self,

@@ -2,105 +2,46 @@
 ghost use Rattle.std.specs.Prelude.{◌≡◌};
 
 use crate::execute::Worker;
-use crate::gate::Gate;
+use crate::gate::{Cause, Event, Gate};
 use crate::policy;
-use crate::queue::Post;
-use arachne_contexts::{Contexts, Woken};
-use arachne_core::{Mark, Place, ThreadId};
+use crate::queue::{Agenda, Post};
+use crate::signals::Signals;
+use arachne_contexts::Contexts;
+use arachne_core::{Mark, MarkWord, Place, ThreadId};
 use arachne_jobs::RunJob;
 use rand_core::Rng;
 use std::sync::Wait;
 
-/// Why a thread is woken.
-#[derive(Clone, Copy, Debug, PartialEq, Eq)]
-pub(crate) enum Cause {
-    /// A child of it has ended.
-    ChildEnded,
-    /// It holds the lock now for which it has waited, and for which others may wait.
-    HoldsLock,
-}
-
 impl<'a, H: Wait, T: RunJob, C: Contexts<T>, R: Rng + Drop, G: Gate> Worker<'a, H, T, C, R, G> {
     /// Wakes the thread of this id, if it has not ended, and has it go on. One that holds a lock goes on here, as
     /// others may wait for it; another one too where its core's worker sleeps: moving it takes less than waking a
-    /// kernel thread.
+    /// kernel thread. If the thread is moved meanwhile, the arbiter says so of its new core.
     pub(crate) fn wake(&mut self, id: ThreadId, cause: Cause)
         ensures { (self.new.desk ≡ self.old.desk) × (self.new.locks ≡ self.old.locks) × (self.new.sums ≡ self.old.sums) }
     {
-        if !self.try_wake(id) {
+        if !self.desk.wake(id) {
             return;
         }
-        let Some(mut place) = self.place_of(id.context) else {
+        self.gate.told(self.core, Event::Woken(id, cause));
+        let Some(mark) = self.desk.mark_of(id.context) else {
             return;
         };
+        let mut place = mark.place();
         if place.core != self.core
             && (cause == Cause::HoldsLock || self.shared.signals().is_asleep(place.core))
             && self.desk.pull(place)
-            && let Some(here) = self.place_of(id.context)
+            && let Some(here) = self.desk.mark_of(id.context)
         {
-            place = here;
+            if here.place().core == self.core {
+                self.gate.told(self.core, Event::Pulled(id, place.core));
+            }
+            place = here.place();
         }
         let goes_next = cause == Cause::HoldsLock
             && place.core == self.core
             && self.agenda.goes_next(place.index);
         if !goes_next {
-            self.hint(place);
-        }
-    }
-
-    /// Wakes the thread of this id, if it has not ended. Whether it was blocked.
-    fn try_wake(&mut self, id: ThreadId) -> bool
-        ensures { (self.new.desk ≡ self.old.desk) × (self.new.locks ≡ self.old.locks) × (self.new.sums ≡ self.old.sums) }
-    {
-        for _ in self.rt.forever() {
-            match self.desk.wake(id) {
-                Woken::Lost(_) => {}
-                Woken::Woken => return true,
-                Woken::Already(_) | Woken::Gone => return false,
-            }
-        }
-        unreachable!()
-    }
-
-    /// Where a context is. If its thread is moved meanwhile, the arbiter says so of its new core.
-    fn place_of(&mut self, context: u32) -> Option<Place>
-        ensures { (self.new.desk ≡ self.old.desk) × (self.new.locks ≡ self.old.locks) × (self.new.sums ≡ self.old.sums) }
-    {
-        let mark = self.desk.mark_of(context)?;
-        Some(mark.place())
-    }
-
-    /// Where a thread is that is ready, if it has not been taken since.
-    fn ready_at(&mut self, id: ThreadId) -> Option<Place>
-        ensures { (self.new.desk ≡ self.old.desk) × (self.new.locks ≡ self.old.locks) × (self.new.sums ≡ self.old.sums) }
-    {
-        let mark = self.desk.mark_of(id.context)?;
-        if mark.mark() != Mark::Ready || mark.generation() != id.generation {
-            return None;
-        }
-        Some(mark.place())
-    }
-
-    /// A thread was posted. The worker of another core is told of it later, unless it is taken back until then.
-    pub(crate) fn posted(&mut self, post: Post)
-        ensures { (self.new.desk ≡ self.old.desk) × (self.new.locks ≡ self.old.locks) × (self.new.sums ≡ self.old.sums) }
-    {
-        if post.place.core == self.core {
-            self.agenda.note(post.place.index);
-        } else if let Some(told) = self.agenda.keep_back(post) {
-            self.shared.signals().hint(told.place);
-        }
-    }
-
-    /// Tells of all that was kept back.
-    pub(crate) fn tell(&mut self)
-        ensures { (self.new.desk ≡ self.old.desk) × (self.new.locks ≡ self.old.locks) × (self.new.sums ≡ self.old.sums) }
-    {
-        for _ in 0..policy::MOST_KEPT_BACK {
-            let Some(post) = self.agenda.take_newest() else {
-                break;
-            };
-            self.shared.signals().hint(post.place);
+            hint(&mut self.agenda, self.shared.signals(), self.core, place);
         }
     }
 
@@ -117,41 +58,59 @@ impl<'a, H: Wait, T: RunJob, C: Contexts<T>, R: Rng + Drop, G: Gate> Worker<'a, 
             return None;
         }
         for _ in 0..policy::MOST_KEPT_BACK {
-            let post = self.agenda.take_newest()?;
-            if let Some(place) = self.ready_at(post.id) {
-                if let Some(index) = self.take_back(post.id.context, place) {
-                    return Some(index);
+            let Post { id, .. } = self.agenda.take_newest()?;
+            let ready = match self.desk.mark_of(id.context) {
+                Some(mark) => ready_place(mark, id),
+                None => None,
+            };
+            if let Some(place) = ready {
+                if self.desk.pull(place)
+                    && let Some(here) = self.desk.mark_of(id.context)
+                    && here.place().core == self.core
+                {
+                    self.gate.told(self.core, Event::Pulled(id, place.core));
+                    return Some(here.place().index);
                 }
                 self.shared.signals().hint(place);
             }
         }
         None
     }
+}
 
-    /// Moves the thread in a context, which is at this place, to this core, if it is at rest and there is room. Its
-    /// index then.
-    fn take_back(&mut self, context: u32, place: Place) -> Option<u8>
-        ensures { (self.new.desk ≡ self.old.desk) × (self.new.locks ≡ self.old.locks) × (self.new.sums ≡ self.old.sums) }
-    {
-        if !self.desk.pull(place) {
-            return None;
-        }
-        let here = self.place_of(context)?;
-        if here.core == self.core {
-            Some(here.index)
-        } else {
-            None
-        }
+/// Where a thread is by its context's mark, if it is ready and has not been taken since.
+fn ready_place(mark: MarkWord, id: ThreadId) -> Option<Place> {
+    if mark.mark() != Mark::Ready || mark.generation() != id.generation {
+        return None;
     }
+    Some(mark.place())
+}
 
-    /// Says that a thread may be ready at a place: to the worker of its core, or to itself.
-    fn hint(&mut self, place: Place)
-        ensures { (self.new.desk ≡ self.old.desk) × (self.new.locks ≡ self.old.locks) × (self.new.sums ≡ self.old.sums) }
-    {
-        if place.core == self.core {
-            self.agenda.note(place.index);
-        } else {
-            self.shared.signals().hint(place);
-        }
+/// A thread was posted by the worker of a core. The worker of another core is told of it later, unless it is taken back
+/// until then.
+pub(crate) fn posted(agenda: &mut Agenda, signals: &Signals, core: u8, post: Post) {
+    if post.place.core == core {
+        agenda.note(post.place.index);
+    } else if let Some(told) = agenda.keep_back(post) {
+        signals.hint(told.place);
+    }
+}
+
+/// Tells of all that was kept back.
+pub(crate) fn tell(agenda: &mut Agenda, signals: &Signals) {
+    for _ in 0..policy::MOST_KEPT_BACK {
+        let Some(post) = agenda.take_newest() else {
+            break;
+        };
+        signals.hint(post.place);
+    }
+}
+
+/// Says that a thread may be ready at a place: to the worker of its core, or to this one, which is that of `core`.
+fn hint(agenda: &mut Agenda, signals: &Signals, core: u8, place: Place) {
+    if place.core == core {
+        agenda.note(place.index);
+    } else {
+        signals.hint(place);
     }
 }

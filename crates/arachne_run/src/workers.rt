@@ -1,5 +1,5 @@
 //! The kernel threads of a run, one for each core.
-ghost use Rattle.std.specs.Prelude.{◌≡◌, ◌<◌, ◌≤◌, IfSome, vec_capacity, vec_len};
+ghost use Rattle.std.specs.Prelude.{◌≡◌, ◌<◌, ◌≤◌, All, IfSome, vec_capacity, vec_len};
 ghost use Rattle.std.specs.Thread.{IsSync};
 ghost use Rattle.arachne_run.specs.Tokens.{AreIdle, IsSetUp, ground_of};
 
@@ -9,7 +9,6 @@ use crate::gate::Gate;
 use crate::locks::Locks;
 use crate::machine::Machine;
 use crate::queue::Agenda;
-use crate::rooting::post_root;
 use crate::seat::Seat;
 use crate::sums::Sums;
 use crate::tokens::Tokens;
@@ -21,7 +20,7 @@ use std::marker::PhantomData;
 use std::snapshot::Snapshot;
 use std::sync::Wait;
 use std::thread;
-use std::thread::{Promise, Threads};
+use std::thread::{Promise, PromisedHandle, Threads};
 
 /// The tokens that a worker gives back are of this machine.
 #[derive(Drop)]
@@ -71,16 +70,15 @@ pub(crate) fn work_all<
             requires { IsSync H.row × AreIdle C.sits C.idle machine.now tokens × IsSetUp C.core_count C.slot_count machine.now }
             ensures { IfSome result (AreIdle C.sits C.idle machine.entry.now) }
         {
-            let mut tokens = tokens;
-            let mut choosers = choosers;
+            let (mut tokens, mut choosers) = (tokens, choosers);
             let mut others = Vec::new(alloc);
             let of: PhantomData<(T, R)> = PhantomData;
             let own = choosers.pop();
             for core in 1..machine.cores {
                 let chooser = choosers.pop();
-                let (rest, part) = part_off(rt, alloc, machine, tokens, chooser, &mut others);
+                let (rest, theirs) = part_off(rt, alloc, machine, tokens, &mut others);
                 tokens = rest;
-                let Some((theirs, chooser)) = part else {
+                let Some(theirs) = theirs else {
                     break;
                 };
                 let started = scope.spawn_with(
@@ -100,62 +98,59 @@ pub(crate) fn work_all<
                 };
                 others.push_reserved(other);
             }
-            let mut all = match own {
-                Some(chooser) => work_on::<H, T, K, C, R, G>(
-                    rt,
-                    alloc,
-                    machine,
-                    gate,
-                    0,
-                    chooser,
-                    tokens,
-                    Some(root),
-                    of,
-                ),
-                None => {
-                    machine.shared.fail(rt, WorkerFault::KernelThread);
-                    None
-                }
-            };
-            for other in others {
-                all = joined::<H, C, K>(rt, machine, all, other.join(rt));
-            }
-            all
+            let root = Some(root);
+            let own = work_on::<H, T, K, C, R, G>(
+                rt, alloc, machine, gate, 0, own, tokens, root, of,
+            );
+            join_all(rt, machine, own, others)
         },
     )
 }
 
-/// The tokens and the chooser of one worker more, for which there is room among the others then. Where they can't be
-/// had that is recorded.
-fn part_off<H: Wait, C: Seats, K: Tagged + Drop, R: Drop, W>(
+/// The tokens of one worker more, for which there is room among the others then. Where they can't be had that is
+/// recorded.
+fn part_off<H: Wait, C: Seats, K: Tagged + Drop, W>(
     rt: &H,
     alloc: Global,
     machine: &Machine<C, K>,
     tokens: Tokens<C::Seat, K>,
-    chooser: Option<R>,
     others: &mut Vec<W>,
-) -> (Tokens<C::Seat, K>, Option<(Tokens<C::Seat, K>, R)>)
+) -> (Tokens<C::Seat, K>, Option<Tokens<C::Seat, K>>)
     requires { AreIdle C.sits C.idle machine.now tokens }
     ensures own { AreIdle C.sits C.idle machine.now result.0 }
-    ensures theirs { IfSome result.1 (λ part. AreIdle C.sits C.idle machine.now part.0) }
+    ensures theirs { IfSome result.1 (AreIdle C.sits C.idle machine.now) }
     ensures same { others.new.items ≡ others.old.items }
-    ensures room { IfSome result.1 (λ part. vec_len others.new < vec_capacity others.new) }
+    ensures room { IfSome result.1 (λ _. vec_len others.new < vec_capacity others.new) }
 {
-    let Some(chooser) = chooser else {
-        machine.shared.fail(rt, WorkerFault::KernelThread);
-        return (tokens, None);
-    };
     if others.try_reserve(1).is_err() {
         machine.shared.fail(rt, WorkerFault::Memory);
         return (tokens, None);
     }
     match tokens.split::<H, C>(rt, alloc, machine) {
-        Ok((own, theirs)) => (own, Some((theirs, chooser))),
+        Ok((own, theirs)) => (own, Some(theirs)),
         Err(own) => {
             machine.shared.fail(rt, WorkerFault::Memory);
             (own, None)
         }
     }
+}
+
+/// The tokens of all workers together, once the others have ended, if each gave theirs back.
+fn join_all<H: Threads + Wait, C: Seats, K: Tagged + Drop>(
+    rt: &H,
+    machine: &Machine<C, K>,
+    own: Option<Tokens<C::Seat, K>>,
+    others: Vec<PromisedHandle<Option<Tokens<C::Seat, K>>, Returns<C, K>>>,
+) -> Option<Tokens<C::Seat, K>>
+    requires own { IfSome own (AreIdle C.sits C.idle machine.now) }
+    requires others { All (λ other. other.promise.machine.value ≡ machine.now) others.items }
+    ensures { IfSome result (AreIdle C.sits C.idle machine.now) }
+{
+    let mut all = own;
+    for other in others {
+        all = joined::<H, C, K>(rt, machine, all, other.join(rt));
+    }
+    all
 }
 
 /// The tokens of two workers together, if both gave theirs back.
@@ -175,7 +170,7 @@ fn joined<H: Wait, C: Seats, K: Tagged + Drop>(
 }
 
 /// Works on one core until all stop, where there is a root from it on. The tokens, unless something is out with them
-/// after a fault.
+/// after a fault. A core without a chooser has no worker, and that is a fault.
 fn work_on<
     H: Wait,
     T: RunJob<Ticket = K>,
@@ -189,7 +184,7 @@ fn work_on<
     machine: &Machine<C, K>,
     gate: &G,
     core: u8,
-    chooser: R,
+    chooser: Option<R>,
     tokens: Tokens<C::Seat, K>,
     root: Option<T>,
     _of: PhantomData<(T, R)>,
@@ -206,20 +201,14 @@ fn work_on<
         pass,
         arbiter,
     } = tokens;
-    let (mut seat, spare) = machine.table.split(rt, seat);
-    let mut agenda = Agenda::new(alloc);
-    if let Some(root) = root {
-        match post_root::<H, T, C>(rt, machine, &mut seat, root) {
-            Ok(index) => agenda.note(index),
-            Err(fault) => {
-                machine.shared.fail(rt, fault);
-                return None;
-            }
+    let opened = Seat::open(rt, alloc, machine, core, seat, pass, arbiter, chooser, root);
+    let (desk, root) = match opened {
+        Ok(opened) => opened,
+        Err(fault) => {
+            machine.shared.fail(rt, fault);
+            return None;
         }
-    }
-    let desk = Seat::new(
-        rt, alloc, machine, core, seat, spare, pass, arbiter, chooser,
-    );
+    };
     let mut worker: Worker<'_, H, T, C, R, G> = Worker {
         rt,
         gate,
@@ -230,7 +219,7 @@ fn work_on<
         desk,
         locks: Locks::new(&machine.locks, lock_seats),
         sums: Sums::new(&machine.ledgers, share),
-        agenda,
+        agenda: Agenda::new(alloc, root),
         slices: 0,
     };
     if let Err(fault) = worker.work() {

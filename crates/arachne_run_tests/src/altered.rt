@@ -15,6 +15,9 @@ use std::thread::yield_now;
 /// The word of an open core that is full.
 const FULL: u64 = 0x38FF_FFFF_FFFF_FFFF;
 
+/// The first three places of a core, as they stand in its word.
+const THREE: u64 = 0b111;
+
 /// What a table answers by itself.
 #[derive(Clone, Copy)]
 enum Alteration {
@@ -36,19 +39,23 @@ enum Alteration {
     HandsBackFirst,
     /// Of three claims that follow one another the first two are lost.
     Loses,
+    /// Whoever sees core 1 full goes on once a place was given back.
+    AwaitsGift,
 }
 
 /// How often the second of two calls looks whether the first one was made before it gives up.
 const POLLS: u32 = 100_000_000;
 
-/// How often it lets others go on then, so that what the first call came to is known.
+/// How often it lets others go on then, so that what the first call came to is known, and how often whoever sees core 1
+/// full does.
 const YIELDS: u32 = 100_000;
 
 /// A table behind a lock that hands on all calls, or all but one. A run makes its table itself, so the numbers of cores
 /// and of places say which: of 5 cores it hands back each thread that is to be finished, of 6 it refuses memory to a
 /// claim on a core that is in use, of 7 all cores but 0 are full, of 8 each seat has something out, of 9 and 10 it
 /// refuses memory and hands threads back, the one or the other first, of any other number of 5 places two of three
-/// claims are lost, and else it answers nothing by itself.
+/// claims are lost, of 2 cores of 3 places whoever sees core 1 full waits until a place was given back, and else it
+/// answers nothing by itself.
 #[derive(Drop)]
 pub struct Altered<T: Tagged> {
     inner: LockedContexts<T>,
@@ -57,14 +64,19 @@ pub struct Altered<T: Tagged> {
     answered: AtomicU64,
 }
 
-/// Waits until the first of two calls was answered.
-fn wait(answered: &AtomicU64) {
-    for _ in 0..POLLS {
+/// Waits until a call was counted, or gives up after so many looks.
+fn wait_for(answered: &AtomicU64, looks: u32) {
+    for _ in 0..looks {
         if answered.load(Ordering::SeqCst) > 0 {
             break;
         }
         yield_now();
     }
+}
+
+/// Waits until the first of two calls was answered.
+fn wait(answered: &AtomicU64) {
+    wait_for(answered, POLLS);
     for _ in 0..YIELDS {
         yield_now();
     }
@@ -98,6 +110,7 @@ impl<T: Tagged + Drop> Seats for Altered<T> {
             (9, _) => Alteration::RefusesMemoryFirst,
             (10, _) => Alteration::HandsBackFirst,
             (_, 5) => Alteration::Loses,
+            (2, 3) => Alteration::AwaitsGift,
             _ => Alteration::None,
         };
         let altered = Altered {
@@ -136,7 +149,14 @@ impl<T: Tagged + Drop> Contexts<T> for Altered<T> {
     ghost has = { λ table seat outs. CountsOut seat outs };
 
     fn glance<R: Wait>(&self, rt: &R, core: u8) -> u64 {
-        self.inner.glance(rt, core)
+        let seen = self.inner.glance(rt, core);
+        match self.alteration {
+            Alteration::AwaitsGift if core == 1 && seen & THREE == THREE => {
+                wait_for(&self.answered, YIELDS);
+                self.inner.glance(rt, core)
+            }
+            _ => seen,
+        }
     }
 
     fn look<R: Wait>(&self, rt: &R, seat: &mut LockedSeat, core: u8) -> u64 {
@@ -189,7 +209,11 @@ impl<T: Tagged + Drop> Contexts<T> for Altered<T> {
         seat: &mut LockedSeat,
         claim: LockedClaim,
     ) -> Result<(), LockedClaim> {
-        self.inner.give_back(rt, seat, claim)
+        let back = self.inner.give_back(rt, seat, claim);
+        if let Alteration::AwaitsGift = self.alteration {
+            self.answered.store(1, Ordering::SeqCst);
+        }
+        back
     }
 
     fn post<R: Wait>(

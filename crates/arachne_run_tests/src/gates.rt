@@ -1,6 +1,7 @@
 //! A gate that notes which cores run, or holds them up.
 use arachne_core::CORES;
-use arachne_run::Gate;
+use arachne_run::{Event, Gate};
+use std::hint::spin_loop;
 use std::sync::atomic::{AtomicU64, Ordering};
 use std::thread::yield_now;
 
@@ -9,6 +10,9 @@ const POLLS: u32 = 5_000_000;
 
 /// How often a gate looks before it lets a core go on that it gave time for what can't be seen.
 const PAUSE: u32 = 5_000;
+
+/// How often it looks, without a pause, for a slice that may not begin.
+const SPINS: u32 = 50_000;
 
 /// How often it looks whether the run has stopped.
 const STOPS: u32 = 2_000_000;
@@ -28,6 +32,10 @@ pub enum Watching {
     Holding(u64),
     /// It holds core 1's slice 0 until core 0 has entered so many slices.
     Lead(u64),
+    /// It gives core 1 time to enter a slice before core 0's slice 0 begins. None may be entered meanwhile.
+    First,
+    /// It holds core 1's slice of this number until orders were applied.
+    Applying(u64),
     /// It gives core 1 time to park before core 0's slice of the first number, and holds that of the second until core 1 has entered
     /// slice 0.
     Granting(u64, u64),
@@ -70,6 +78,8 @@ impl Watch {
         let (zero, one) = match self.watching {
             Watching::Nothing | Watching::Cores => (0, 0),
             Watching::Lead(wanted) => (wanted, 0),
+            Watching::First => (0, 1),
+            Watching::Applying(_) => (1, 0),
             Watching::Stopping(_) => (0, 1),
             _ => (1, 1),
         };
@@ -111,6 +121,14 @@ impl Watch {
             Watching::Lead(_) => {
                 self.zero.fetch_add(1, Ordering::SeqCst);
             }
+            Watching::First if nth == 0 => {
+                for _ in 0..SPINS {
+                    if self.one.load(Ordering::SeqCst) > 0 {
+                        self.failed.store(1, Ordering::SeqCst);
+                    }
+                    spin_loop();
+                }
+            }
             Watching::Granting(pause, _) if nth == pause => self.pause(),
             Watching::Stopping(_) if nth == 0 => self.pause(),
             Watching::Granting(_, wanted) if nth == wanted => {
@@ -130,9 +148,10 @@ impl Watch {
                 }
                 self.wait(&self.zero, 1);
             }
-            Watching::Holding(_) | Watching::Granting(_, _) if nth == 0 => {
+            Watching::First | Watching::Holding(_) | Watching::Granting(_, _) if nth == 0 => {
                 self.one.store(1, Ordering::SeqCst);
             }
+            Watching::Applying(held) if nth == held => self.wait(&self.zero, 1),
             Watching::Lead(wanted) if nth == 0 => self.wait(&self.zero, wanted),
             Watching::Stopping(wanted) if nth < wanted => self.wait(&self.ended, 1),
             Watching::Stopping(wanted) if nth == wanted => {
@@ -168,6 +187,17 @@ impl Gate for Watch {
         }
     }
 
+    fn told(&self, core: u8, event: Event<'_>) {
+        match event {
+            Event::Sliced(_, _) => self.slice_ended(core),
+            Event::Unparked => self.unparked(core),
+            Event::Applied(orders) => self.applied(orders),
+            _ => {}
+        }
+    }
+}
+
+impl Watch {
     fn slice_ended(&self, core: u8) {
         match (self.watching, core) {
             (Watching::Holding(_), 1) => self.wait(&self.zero, 1),
@@ -183,10 +213,12 @@ impl Gate for Watch {
     }
 
     fn applied(&self, _orders: usize) {
-        if let Watching::Holding(_) = self.watching
-            && self.zero.load(Ordering::SeqCst) == 0
-        {
-            self.failed.store(1, Ordering::SeqCst);
+        match self.watching {
+            Watching::Holding(_) if self.zero.load(Ordering::SeqCst) == 0 => {
+                self.failed.store(1, Ordering::SeqCst);
+            }
+            Watching::Applying(_) => self.zero.store(1, Ordering::SeqCst),
+            _ => {}
         }
     }
 }

@@ -1,14 +1,15 @@
 //! A job whose thread ends before it awaits what it has forked, so that the table has a thread left in the end.
 ghost use Rattle.std.specs.Prelude.{◌≡◌, false, if◌then◌else◌, true, Some};
 ghost use Rattle.arachne_machine.specs.declared.pause.Pending.TheVariants as pause;
-ghost use Rattle.arachne_jobs.specs.Threads.{IsForking, pause_of, running_tag_of, tag_of};
+ghost use Rattle.arachne_jobs.specs.Threads.{IsForking, name_of, pause_of, running_tag_of, tag_of};
 
 use arachne_contexts::Tagged;
 use arachne_core::{Rest, ThreadId};
 use arachne_jobs::{
-    Job, JobFault, JobOf, Openings, OutcomeReceiver, Room, RunJob, RunThread, Slice, Spares, Ticket,
+    Job, JobFault, JobOf, Openings, OutcomeReceiver, Room, RunJob, RunSpares, RunThread, RunTicket,
+    Slice, Spares,
 };
-use arachne_lang::Program;
+use arachne_lang::{Name, Program};
 use arachne_machine::Thread;
 use std::alloc::{AllocError, Global};
 
@@ -21,6 +22,36 @@ pub struct Hasty<'p> {
     has_ended: bool,
 }
 
+/// No child of such a thread waits for a place, so there is no ticket.
+#[derive(Drop)]
+pub struct NoTicket;
+
+impl Tagged for NoTicket {
+    ghost tag_of = { λ t. 0 };
+
+    fn tag(&self) -> u64 {
+        0
+    }
+}
+
+impl RunTicket for NoTicket {
+    fn still_waits(&self) -> bool {
+        false
+    }
+}
+
+/// Nothing is kept of such threads.
+#[derive(Drop)]
+pub struct NoSpares {
+    alloc: Global,
+}
+
+impl RunSpares for NoSpares {
+    fn none(alloc: Global) -> NoSpares {
+        NoSpares { alloc }
+    }
+}
+
 impl<'p> Tagged for Hasty<'p> {
     ghost tag_of = { λ h. tag_of h.job.thread };
 
@@ -30,11 +61,17 @@ impl<'p> Tagged for Hasty<'p> {
 }
 
 impl<'p> RunThread for Hasty<'p> {
+    ghost name_of = { λ h. name_of h.job.thread };
+
     ghost running_tag_of = { λ h. running_tag_of h.job.thread };
 
     ghost parent_of = { λ h. h.parent };
 
     ghost pause_of = { λ h. if h.has_ended then Some pause.Ended else pause_of h.job.thread };
+
+    fn name(&self) -> &Name {
+        self.job.name()
+    }
 
     fn running_tag(&self) -> u64 {
         self.job.running_tag()
@@ -58,16 +95,16 @@ impl<'p> RunThread for Hasty<'p> {
 impl<'p> RunJob for Hasty<'p> {
     type Child = Thread<'p>;
 
-    type Ticket = Ticket<'p>;
+    type Ticket = NoTicket;
 
-    type Spares = Spares<'p>;
+    type Spares = NoSpares;
 
     ghost forks = { λ h child. (h.has_ended ≡ false) × IsForking h.job.thread child };
 
     fn slice(
         &mut self,
         left: &mut u32,
-        spares: &mut Spares<'p>,
+        spares: &mut NoSpares,
         room: &Room,
         openings: &mut Openings,
     ) -> Result<Slice<Thread<'p>>, JobFault> {
@@ -76,7 +113,8 @@ impl<'p> RunJob for Hasty<'p> {
             self.has_ended = true;
             return Ok(Slice::Ends);
         }
-        self.job.slice(left, spares, room, openings)
+        self.job
+            .slice(left, &mut Spares::none(spares.alloc), room, openings)
     }
 
     fn fork_off(
@@ -85,9 +123,11 @@ impl<'p> RunJob for Hasty<'p> {
         me: ThreadId,
         child: Thread<'p>,
         tag: u64,
-        spares: &mut Spares<'p>,
+        _spares: &mut NoSpares,
     ) -> Result<Hasty<'p>, JobFault> {
-        let job = self.job.fork_off(alloc, me, child, tag, spares)?;
+        let job = self
+            .job
+            .fork_off(alloc, me, child, tag, &mut Spares::none(alloc))?;
         self.has_forked = true;
         Ok(Hasty {
             job,
@@ -103,20 +143,17 @@ impl<'p> RunJob for Hasty<'p> {
         me: ThreadId,
         child: Thread<'p>,
         tag: u64,
-        waits: bool,
-    ) -> Result<Option<Ticket<'p>>, JobFault> {
-        self.job.put_aside(alloc, me, child, tag, waits)
+        _waits: bool,
+    ) -> Result<Option<NoTicket>, JobFault> {
+        let _ = self.job.put_aside(alloc, me, child, tag, false)?;
+        Ok(None)
     }
 
-    fn of_ticket(
-        _alloc: Global,
-        _ticket: Ticket<'p>,
-        _spares: &mut Spares<'p>,
-    ) -> Option<Hasty<'p>> {
+    fn of_ticket(_alloc: Global, _ticket: NoTicket, _spares: &mut NoSpares) -> Option<Hasty<'p>> {
         None
     }
 
-    fn leave(self, spares: &mut Spares<'p>) -> Result<Option<ThreadId>, JobFault> {
+    fn leave(self, spares: &mut NoSpares) -> Result<Option<ThreadId>, JobFault> {
         let Hasty {
             job,
             parent,
@@ -124,7 +161,7 @@ impl<'p> RunJob for Hasty<'p> {
             has_ended,
         } = self;
         if !has_ended {
-            let _ = job.leave(spares)?;
+            let _ = job.leave(&mut Spares::none(spares.alloc))?;
         }
         Ok(parent)
     }
@@ -134,9 +171,9 @@ impl<'p> JobOf<'p> for Hasty<'p> {
     fn begin(
         alloc: Global,
         program: &'p Program,
-        spares: &mut Spares<'p>,
+        _spares: &mut NoSpares,
     ) -> Result<(Hasty<'p>, OutcomeReceiver), AllocError> {
-        let (job, receiver) = Job::begin(alloc, program, spares)?;
+        let (job, receiver) = Job::begin(alloc, program, &mut Spares::none(alloc))?;
         let hasty = Hasty {
             job,
             parent: None,

@@ -4,6 +4,7 @@ ghost use Rattle.arachne_lang.specs.Program.{source_of};
 ghost use Rattle.arachne_machine.specs.declared.pause.Pending.TheVariants as pause;
 ghost use Rattle.arachne_machine.specs.Nested.{Nested, IsAlone, IsChildOf, SameWhole, pending_in, whole};
 
+mod handed;
 mod shortage;
 mod ways;
 

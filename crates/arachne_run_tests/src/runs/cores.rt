@@ -41,6 +41,36 @@ pub(super) const EXCLUSIVE: Source = Source {
     expr: "(fork x (num 1) (num 2) (add (var 0) (var 1)))",
 };
 
+/// Three threads and the root have all places while 301 more are forked, for 45 of which there is no room to wait either. By then
+/// 304 words are drawn, of which each chooses the other core than the one before. The next thread is forked to core 0, and core
+/// 1 is empty for one that is to be alone.
+const WORD_EACH: Row = Row {
+    shows: "each fork draws a word, that of a thread that runs in place at once too",
+    source: Source {
+        ledgers: 0,
+        locks: 0,
+        forks: 0,
+        expr: "(let (fork n (fold (num 0) (num 20000) (num 0) (var 1)) (fork n (fold (num 0) (num 20000) (num 0) (var 1)) (fork n (fold (num 0) (num 20000) (num 0) (var 1)) (fold (num 0) (num 301) (num 0) (fork n (num 1) (num 1) (var 2))) (var 1)) (var 1)) (var 1)) (fork n (fold (num 0) (num 20000) (num 0) (var 2)) (fork x (num 1) (num 1) (add (var 1) (var 2))) (add (var 1) (var 2))))",
+    },
+    forms: FORMS,
+    slots: 2,
+    machines: &[(2, 1, 2), (2, 7, 2), (2, 100, 2), (2, 10_000, 2)],
+    draws: Draws {
+        word: 0,
+        step: STEP,
+        apart: 0,
+    },
+    orders: &[],
+    watching: Watching::Nothing,
+    facts: &[
+        (Fact::Value, 2),
+        (Fact::Threads, 307),
+        (Fact::LastTwoInSlots, 1),
+    ],
+    telling: Telling::Nothing,
+    told: "",
+};
+
 /// A thread that begins at least 1,004 nodes.
 const LONG: Source = Source {
     ledgers: 0,
@@ -50,6 +80,7 @@ const LONG: Source = Source {
 };
 
 const ROWS: &[Row] = &[
+    WORD_EACH,
     // With these words both choices of a fork are core 3.
     Row {
         shows: "a fork goes where its choices say",

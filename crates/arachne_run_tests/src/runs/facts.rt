@@ -16,6 +16,8 @@ pub(super) enum Fact {
     Threads,
     /// How many of them ran in a place that they got as they were forked.
     Slot,
+    /// Whether the last two did.
+    LastTwoInSlots,
     /// How many waited for the place in which they ran.
     Spill,
     /// How many of them ran in the place of their parents.
@@ -50,6 +52,10 @@ pub(super) fn number(report: &Report, watch: &Watch, fact: Fact) -> u64 {
         Fact::Value => report.value,
         Fact::Threads => report.threads.as_slice().len() as u64,
         Fact::Slot => count_of(report, Ran::Slot),
+        Fact::LastTwoInSlots => match report.threads.as_slice() {
+            [.., first, second] => u64::from(first.ran == Ran::Slot && second.ran == Ran::Slot),
+            _ => 0,
+        },
         Fact::Spill => count_of(report, Ran::Spill),
         Fact::InPlace => count_of(report, Ran::InPlace),
         Fact::InPlaceUpTo(most) => u64::from(count_of(report, Ran::InPlace) <= most),

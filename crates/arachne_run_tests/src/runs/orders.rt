@@ -206,9 +206,71 @@ const GRANTS: &[Row] = &[
     },
 ];
 
+/// The root awaits its child on core 1 while core 0's kernel thread sleeps, so that it goes on there, and core 0 is empty. A slice
+/// of core 1 is held up until the order is applied, which is due by then.
+const IDLE: Row = Row {
+    shows: "orders are applied while core 0 has nothing to run",
+    source: Source {
+        expr: "(let (fork n (fold (num 0) (num 20000) (num 0) (var 1)) (num 2) (add (var 0) (var 1))) (fold (num 0) (num 20000) (var 0) (var 2)))",
+        ..FORK
+    },
+    forms: FORMS,
+    slots: SLOTS,
+    machines: &[(2, 1, 2)],
+    draws: CORE_ONE,
+    orders: &[CoreOrder {
+        after: 25_000,
+        kind: OrderKind::Grant,
+        core: 1,
+    }],
+    watching: Watching::Applying(30_000),
+    facts: &[(Fact::Value, 2), (Fact::Applied, 1), (Fact::IsOver, 1)],
+    telling: Telling::Nothing,
+    told: "",
+};
+
+const IDLES: &[Row] = &[
+    IDLE,
+    Row {
+        machines: &[(2, 7, 2)],
+        orders: &[CoreOrder {
+            after: 3_500,
+            kind: OrderKind::Grant,
+            core: 1,
+        }],
+        watching: Watching::Applying(4_000),
+        ..IDLE
+    },
+    Row {
+        machines: &[(2, 100, 2)],
+        orders: &[CoreOrder {
+            after: 250,
+            kind: OrderKind::Grant,
+            core: 1,
+        }],
+        watching: Watching::Applying(300),
+        ..IDLE
+    },
+    Row {
+        source: Source {
+            expr: "(let (fork n (fold (num 0) (num 100000) (num 0) (var 1)) (num 2) (add (var 0) (var 1))) (fold (num 0) (num 100000) (var 0) (var 2)))",
+            ..FORK
+        },
+        machines: &[(2, 10_000, 2)],
+        orders: &[CoreOrder {
+            after: 13,
+            kind: OrderKind::Grant,
+            core: 1,
+        }],
+        watching: Watching::Applying(15),
+        ..IDLE
+    },
+];
+
 #[test]
 fn grants_have_cores_go_on(rt: HostRuntime) -> Result<(), Fail> {
-    rows_hold(&rt, rt.alloc(), GRANTS)
+    rows_hold(&rt, rt.alloc(), GRANTS)?;
+    rows_hold(&rt, rt.alloc(), IDLES)
 }
 
 const ROWS: &[Row] = &[

@@ -3,8 +3,8 @@ use super::cores::{ALONE, EXCLUSIVE};
 use super::facts::{Fact, Telling};
 use super::reports::{CHAIN, MANY};
 use super::rows::{Row, rows_hold};
-use super::{FORMS, Machine, Source};
-use crate::choosers::{CORE_ONE, SPREAD, ZEROS};
+use super::{FORMS, LOCKED, Machine, Source};
+use crate::choosers::{CORE_ONE, Draws, SPREAD, ZEROS};
 use crate::gates::Watching;
 use arachne_core::SLOTS;
 use arachne_policy::{CoreOrder, OrderKind};
@@ -307,9 +307,55 @@ const AT_ONCE: &[Row] = &[
     },
 ];
 
+/// Core 0 draws core 1, and that core 0.
+const CROSSWISE: Draws = Draws {
+    word: CORE_ONE.word,
+    step: 0,
+    apart: 0xFFFF_FFFE_FFFF_FFFF,
+};
+
+/// Four threads that each await the next one, of which the innermost counts. Beside them the root counts, forks another, counts
+/// again, and forks one more.
+const SLEEPING: Source = Source {
+    ledgers: 0,
+    locks: 0,
+    forks: 0,
+    expr: "(fork n (fork n (fork n (fork n (fold (num 0) (num 10000) (num 0) (var 1)) (num 1) (var 0)) (num 1) (var 0)) (num 1) (var 0)) (let (fold (num 0) (num 3000) (num 0) (var 1)) (fork n (num 1) (let (fold (num 0) (num 3000) (num 0) (var 2)) (fork n (num 1) (num 1) (num 0))) (num 0))) (var 0))",
+};
+
+/// Core 0 is full of the root and two of the four, and the two others wait on core 1. The thread that is forked beside them ends
+/// there, so that its place is kept, and core 1's kernel thread has nothing to run. The table lets the last fork go on once a
+/// place was given back.
+const GIVEN_BACK: Row = Row {
+    shows: "a kernel thread that sleeps keeps no place",
+    source: SLEEPING,
+    forms: LOCKED,
+    slots: 3,
+    machines: &[(2, 1, 2)],
+    draws: CROSSWISE,
+    orders: &[],
+    watching: Watching::Nothing,
+    facts: &[(Fact::Value, 0), (Fact::Slot, 7)],
+    telling: Telling::Nothing,
+    told: "",
+};
+
+const GIVES: &[Row] = &[
+    GIVEN_BACK,
+    Row {
+        source: Source {
+            expr: "(fork n (fork n (fork n (fork n (fold (num 0) (num 400000) (num 0) (var 1)) (num 1) (var 0)) (num 1) (var 0)) (num 1) (var 0)) (let (fold (num 0) (num 60000) (num 0) (var 1)) (fork n (num 1) (let (fold (num 0) (num 60000) (num 0) (var 2)) (fork n (num 1) (num 1) (num 0))) (num 0))) (var 0))",
+            ..SLEEPING
+        },
+        machines: &[(2, 7, 2), (2, 100, 2), (2, 10_000, 2)],
+        ..GIVEN_BACK
+    },
+];
+
 #[test]
 fn threads_run_side_by_side(rt: HostRuntime) -> Result<(), Fail> {
-    rows_hold(&rt, rt.alloc(), AT_ONCE)
+    rows_hold(&rt, rt.alloc(), AT_ONCE)?;
+    rows_hold(&rt, rt.alloc(), GIVES)
 }
 
 /// A normal thread ends, and one that is to be alone begins.

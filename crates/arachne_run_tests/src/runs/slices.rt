@@ -1,4 +1,5 @@
 //! What a slice is: which steps are charged to it, when it counts, and that none begins once the run is stopped.
+use super::cores::FORK;
 use super::facts::{Fact, Telling};
 use super::places::{BESIDE, BESIDE_LONG};
 use super::rows::{Row, rows_hold};
@@ -122,7 +123,23 @@ const HELD_BACK: Row = Row {
     told: "",
 };
 
+/// The root's first step forks a child to core 1, which would enter a slice before the root's.
+const TOLD_FIRST: Row = Row {
+    shows: "the gate is told of a slice before its steps",
+    source: FORK,
+    forms: FORMS,
+    slots: SLOTS,
+    machines: &[(2, 1, 2), (2, 7, 2), (2, 100, 2), (2, 10_000, 2)],
+    draws: CORE_ONE,
+    orders: &[],
+    watching: Watching::First,
+    facts: &[(Fact::Value, 5), (Fact::IsOver, 1)],
+    telling: Telling::Nothing,
+    told: "",
+};
+
 const COUNTS: &[Row] = &[
+    TOLD_FIRST,
     HELD_BACK,
     Row {
         source: BESIDE_LONG,

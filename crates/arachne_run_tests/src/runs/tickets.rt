@@ -48,6 +48,30 @@ const LOST: Row = Row {
     told: "slot spill slot slot slot slot ",
 };
 
+/// The root awaits a thread that forks two others, the second once the first has ended.
+const TWO: Source = Source {
+    ledgers: 0,
+    locks: 0,
+    forks: 0,
+    expr: "(fork n (let (fork n (num 1) (num 1) (var 0)) (fork n (num 2) (fold (num 0) (num 40) (num 0) (var 2)) (add (var 1) (var 2)))) (num 3) (var 0))",
+};
+
+/// The first one ends while all places are taken, so that its place is kept. The second one waits, and gets that place, though
+/// its parent is alone on the core and could go on.
+const KEPT: Row = Row {
+    shows: "a place that is kept is free for a thread that waits",
+    source: TWO,
+    forms: FORMS,
+    slots: 3,
+    machines: &[(1, 1, 1), (1, 7, 1)],
+    draws: ZEROS,
+    orders: &[],
+    watching: Watching::Nothing,
+    facts: &[(Fact::Value, 2)],
+    telling: Telling::Ran,
+    told: "slot slot slot spill ",
+};
+
 const ROWS: &[Row] = &[
     WAITS,
     Row {
@@ -67,6 +91,23 @@ const ROWS: &[Row] = &[
         telling: Telling::Nothing,
         told: "",
         ..LOST
+    },
+    KEPT,
+    Row {
+        source: Source {
+            expr: "(fork n (let (fork n (num 1) (num 1) (var 0)) (fork n (num 2) (fold (num 0) (num 1500) (num 0) (var 2)) (add (var 1) (var 2)))) (num 3) (var 0))",
+            ..TWO
+        },
+        machines: &[(1, 100, 1)],
+        ..KEPT
+    },
+    Row {
+        source: Source {
+            expr: "(fork n (let (fork n (num 1) (num 1) (var 0)) (fork n (num 2) (fold (num 0) (num 150000) (num 0) (var 2)) (add (var 1) (var 2)))) (num 3) (var 0))",
+            ..TWO
+        },
+        machines: &[(1, 10_000, 1)],
+        ..KEPT
     },
 ];
 

@@ -3,7 +3,7 @@ use Rattle.arachne_machine.specs.Steps.{pending_of}
 use Rattle.arachne_machine.specs.Runs.{Advances}
 use Rattle.arachne_machine.specs.Kept.{AdvancesWith, TakesUp}
 use Rattle.arachne_machine.proofs.Lasting.{on_err}
-use Rattle.arachne_machine.proofs.Handed.{advanced_kept, as_many_here, went_back, went_forked, went_nothing, went_paused, went_refused, went_up}
+use Rattle.arachne_machine.proofs.Handed.{advanced_kept, all_fit, went_back, went_forked, went_nothing, went_paused, went_refused, went_up}
 use Rattle.arachne_machine.proofs.state.State.advance_with.Goals as goal
 
 pub loop-left-init : goal.loop-left-init
@@ -22,12 +22,12 @@ returns-in-Some-clause-ok g c =
     let r = subst (λ f. Advances (g.P.Placing.gives_all ≡ true) loop.left c.advance.new.left loop.self f (pending_of new.control) new) c.in-Some.is c.in_ok-forked.ensures.ok in
     went_forked c.args.left.now loop.left c.advance.new.left c.args.self.now loop.self new c.args.placed.now.items loop.placed.items c.in-Some.forked.0 c.in-Some.forked.1.value loop.invariant r.0 r.1 r.2
 
-pub take_up-requires-clause-sums : goal.take_up-requires-clause-sums
-take_up-requires-clause-sums g c =
+pub take_up-requires-clause-fit : goal.take_up-requires-clause-fit
+take_up-requires-clause-fit g c =
     let loop = c.loop-left in
     let new = c.advance.new.self in
     let r = subst (λ f. Advances (g.P.Placing.gives_all ≡ true) loop.left c.advance.new.left loop.self f (pending_of new.control) new) c.in_default.is c.in_ok-forked.ensures.ok in
-    as_many_here new loop.placed.items
+    all_fit new loop.placed.items
     (advanced_kept c.args.left.now loop.left c.advance.new.left c.args.self.now loop.self new c.args.placed.now.items loop.placed.items (pending_of new.control) loop.invariant r)
 
 pub returns-in_err-take_up-clause-err : goal.returns-in_err-take_up-clause-err

@@ -7,10 +7,12 @@ use Rattle.arachne_words.proofs.seat.WordSeat.TheSendSync as seat
 use Rattle.arachne_words.proofs.seat.WordClaim.TheSendSync as claim
 use Rattle.arachne_words.proofs.seat.WordHold.TheSendSync as hold
 use Rattle.arachne_machine.proofs.Crossing.{thread_send}
-use Rattle.arachne_jobs.proofs.Crossing.{job_send, spares_send, ticket_send}
+use Rattle.arachne_jobs.proofs.Crossing.{job_send}
 use Rattle.arachne_core.proofs.thread_id.ThreadId.TheSendSync as id
 use Rattle.arachne_jobs.specs.contracts.job.Job as job
 use Rattle.arachne_run_tests.specs.contracts.hasty.Hasty as hasty
+use Rattle.arachne_run_tests.proofs.hasty.NoSpares.TheSendSync as spares
+use Rattle.arachne_run_tests.proofs.hasty.NoTicket.TheSendSync as ticket
 use Rattle.arachne_run_tests.proofs.choosers.Progression.TheSendSync as chooser
 use Rattle.arachne_run_tests.proofs.gates.Watch.TheSendSync as watch
 use Rattle.arachne_run_tests.proofs.runs.left.run_hastily.Goals as goal
@@ -30,9 +32,9 @@ run-requires g c κs = (
     (
       search (sendable, thread_send) depth 20,
       (
-        search (sendable, ticket_send) depth 20,
+        search (sendable, ticket.the_send) depth 20,
         (
-          search (sendable, spares_send) depth 20,
+          search (sendable, std.crosses, spares.the_send) depth 20,
           (
             search (sendable, claim.the_send) depth 20,
             (
