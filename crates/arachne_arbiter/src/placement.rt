@@ -125,8 +125,8 @@ impl<'a, H: Wait, T: Tagged, C: Contexts<T>> Cores<'a, H, T, C> {
         Ok(None)
     }
 
-    /// A place on a core, if it has one. Tries again where another took the place meanwhile.
-    fn claim_on(&self, seat: &mut C::Seat, core: u8) -> Result<Option<C::Claim>, AllocError>
+    /// A place on a core, if it has one. Tries again where another took the place meanwhile. It draws no word.
+    pub fn claim_on(&self, seat: &mut C::Seat, core: u8) -> Result<Option<C::Claim>, AllocError>
         requires seat { C.sits self.now.table.now seat.old }
         requires core { core < self.now.count }
         ensures seat { C.sits self.now.table.now seat.new }

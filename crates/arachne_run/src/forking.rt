@@ -12,7 +12,7 @@ use crate::desk::Stop;
 use crate::fault::WorkerFault;
 use crate::machine::Machine;
 use crate::queue::Post;
-use arachne_contexts::{Claimed, Contexts, Held, Identified, Placed};
+use arachne_contexts::{Contexts, Held, Identified, Placed};
 use arachne_jobs::{Openings, RunJob, Slice};
 use arachne_lang::Class;
 use arachne_spill::SpillPass;
@@ -193,8 +193,7 @@ fn put_aside<H: Wait, T: RunJob, C: Contexts<T>>(
     Ok(Stop::Goes)
 }
 
-/// A place of the core: the newest that is kept, else one that is free. Tries again where another took the place
-/// meanwhile.
+/// A place of the core: the newest that is kept, else one that is free.
 pub(crate) fn free_place<H: Wait, T: RunJob, C: Contexts<T>>(
     rt: &H,
     machine: &Machine<C, T::Ticket>,
@@ -212,18 +211,11 @@ pub(crate) fn free_place<H: Wait, T: RunJob, C: Contexts<T>>(
     if let Some(claim) = kept.take() {
         return Ok(Some(claim));
     }
-    for _ in rt.forever() {
-        match machine.table.claim(rt, spare, core) {
-            Ok(Claimed::Place(claim)) => {
-                machine.shared.room().place_was_claimed();
-                return Ok(Some(claim));
-            }
-            Ok(Claimed::Full(_) | Claimed::Closed(_)) => return Ok(None),
-            Ok(Claimed::Lost(_)) => {}
-            Err(_) => return Err(WorkerFault::Memory),
-        }
+    let place = machine.cores::<H, T>(rt).claim_on(spare, core)?;
+    if place.is_some() {
+        machine.shared.room().place_was_claimed();
     }
-    unreachable!()
+    Ok(place)
 }
 
 /// Posts a child that has waited at a place, or gives that back where the child is gone meanwhile. Whether it was

@@ -4,7 +4,7 @@ ghost use Rattle.arachne_run.specs.Tokens.{IsSetUp};
 
 use crate::fault::WorkerFault;
 use crate::machine::Machine;
-use arachne_contexts::{Claimed, Contexts, Placed};
+use arachne_contexts::{Contexts, Placed};
 use arachne_jobs::RunJob;
 use std::sync::Wait;
 
@@ -24,20 +24,13 @@ pub(crate) fn post_root<H: Wait, T: RunJob, C: Contexts<T>>(
     let Some(root) = root else {
         return Ok(None);
     };
-    for _ in rt.forever() {
-        match machine.table.claim(rt, seat, 0) {
-            Ok(Claimed::Place(claim)) => {
-                machine.shared.room().place_was_claimed();
-                let place = claim.place();
-                return match machine.table.post(rt, seat, claim, root) {
-                    Ok(_) => Ok(Some(place.index)),
-                    Err(_) => Err(WorkerFault::Token),
-                };
-            }
-            Ok(Claimed::Full(_) | Claimed::Closed(_)) => return Err(WorkerFault::Token),
-            Ok(Claimed::Lost(_)) => {}
-            Err(_) => return Err(WorkerFault::Memory),
-        }
+    let Some(claim) = machine.cores::<H, T>(rt).claim_on(seat, 0)? else {
+        return Err(WorkerFault::Token);
+    };
+    machine.shared.room().place_was_claimed();
+    let index = claim.place().index;
+    match machine.table.post(rt, seat, claim, root) {
+        Ok(_) => Ok(Some(index)),
+        Err(_) => Err(WorkerFault::Token),
     }
-    unreachable!()
 }

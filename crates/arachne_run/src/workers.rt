@@ -148,25 +148,12 @@ fn join_all<H: Threads + Wait, C: Seats, K: Tagged + Drop>(
 {
     let mut all = own;
     for other in others {
-        all = joined::<H, C, K>(rt, machine, all, other.join(rt));
+        all = match (all, other.join(rt)) {
+            (Some(own), Some(theirs)) => Some(own.join::<H, C>(rt, machine, theirs)),
+            (_own, _theirs) => None,
+        };
     }
     all
-}
-
-/// The tokens of two workers together, if both gave theirs back.
-fn joined<H: Wait, C: Seats, K: Tagged + Drop>(
-    rt: &H,
-    machine: &Machine<C, K>,
-    own: Option<Tokens<C::Seat, K>>,
-    others: Option<Tokens<C::Seat, K>>,
-) -> Option<Tokens<C::Seat, K>>
-    requires own { IfSome own (AreIdle C.sits C.idle machine.now) }
-    requires others { IfSome others (AreIdle C.sits C.idle machine.now) }
-    ensures { IfSome result (AreIdle C.sits C.idle machine.now) }
-{
-    let own = own?;
-    let others = others?;
-    Some(own.join::<H, C>(rt, machine, others))
 }
 
 /// Works on one core until all stop, where there is a root from it on. The tokens, unless something is out with them

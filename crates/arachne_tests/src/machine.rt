@@ -1,8 +1,8 @@
-//! What no clause says of threads that are cut anywhere: worked values, refused memory, and outcomes of other threads.
-ghost use Rattle.std.specs.Prelude.{◌≡◌, ◌≤◌, [], false, None, Some, IfOk, IfSome, OnOk, IsTrue};
+//! What no clause says of threads that are cut anywhere: worked values, and refused memory.
+ghost use Rattle.std.specs.Prelude.{◌≡◌, ◌≤◌, [], false, None, Some, IfOk, OnOk, IsTrue};
 ghost use Rattle.arachne_lang.specs.Program.{source_of};
 ghost use Rattle.arachne_machine.specs.declared.pause.Pending.TheVariants as pause;
-ghost use Rattle.arachne_machine.specs.Nested.{Nested, IsAlone, IsChildOf, SameWhole, pending_in, whole};
+ghost use Rattle.arachne_machine.specs.Nested.{IsAlone, IsChildOf, pending_in};
 
 mod handed;
 mod shortage;
@@ -453,25 +453,6 @@ fn ended<'p>(mut thread: Thread<'p>) -> Result<Brought<'p>, Fail> {
     Ok(bring(thread))
 }
 
-/// Says that the child of the thread's fork was given away, and goes on until it is awaited.
-fn await_child(thread: &mut Thread) -> Result<(), Fail> {
-    let Some(Pending::Forks) = thread.pending() else {
-        return Err("no fork")?;
-    };
-    thread.forked();
-    go_on(thread)?;
-    Ok(())
-}
-
-/// The outcome of the child that a thread forks first, which the thread then awaits.
-fn awaited<'p>(thread: &mut Thread<'p>) -> Result<Brought<'p>, Fail> {
-    let Pause::Forks(Class::Exclusive, child) = go_on(thread)? else {
-        return Err("no exclusive fork")?;
-    };
-    await_child(thread)?;
-    ended(child)
-}
-
 /// Whether the two are the same program.
 fn are_same(some: &Program, other: &Program) -> bool
     ensures { IsTrue result → source_of some.now ≡ source_of other.now }
@@ -500,133 +481,6 @@ fn join_child<'p>(thread: &mut Thread<'p>, outcome: Brought<'p>) {
     if let Err(Refused::Memory(outcome)) = join(thread, outcome) {
         let _ = join(thread, outcome);
     }
-}
-
-/// The outcome of the root of a program with one fork.
-fn root_outcome<'p>(alloc: Global, program: &'p Program, tag: u64) -> Result<Brought<'p>, Fail> {
-    let mut thread = start(alloc, program, tag, &mut Memory::ample())?;
-    let outcome = awaited(&mut thread)?;
-    join_child(&mut thread, outcome);
-    ended(thread)
-}
-
-/// Whether a thread that awaits its child gives the root's outcome back as foreign, and awaits its child still.
-fn refuses<'p>(thread: &mut Thread<'p>, outcome: Brought<'p>) -> bool {
-    match join(thread, outcome) {
-        Err(Refused::Foreign(back)) => {
-            back.outcome.value() == 5
-                && back.program.locks == 1
-                && back.outcome.name().len() == 0
-                && thread.pending() == Some(Pending::Joins)
-        }
-        _ => false,
-    }
-}
-
-/// Whether a thread refuses another root's outcome while it awaits its child, whose outcome it then joins.
-fn refuses_and_joins<'p>(thread: &mut Thread<'p>, foreign: Brought<'p>) -> Result<bool, Fail> {
-    let child = awaited(thread)?;
-    let is_refused = refuses(thread, foreign);
-    join_child(thread, child);
-    Ok(is_refused)
-}
-
-/// Whether a root with the tag 2 refuses the outcome of the root with the tag 1, and what is told of its own.
-fn second_root(alloc: Global, program: &Program) -> Result<(bool, String), Fail> {
-    let foreign = root_outcome(alloc, program, 1)?;
-    let mut thread = start(alloc, program, 2, &mut Memory::ample())?;
-    let is_refused = refuses_and_joins(&mut thread, foreign)?;
-    let parts = parts(ended(thread)?.outcome, &mut Memory::ample())?;
-    Ok((is_refused, told(alloc, &parts)?))
-}
-
-/// Run with each allocation refused in turn (`rt try --test --fail-alloc N`) this gives the same outcome.
-#[test]
-fn foreign_outcome_comes_back(rt: HostRuntime) -> Result<(), Fail> {
-    let program = program(rt.alloc(), 1, ONE_FORK)?;
-    let (is_refused, told) = second_root(rt.alloc(), &program)?;
-    assert!(rt; is_refused);
-    assert!(rt; told.as_str() == "5 [0] []2-[0] [0]0-[0]");
-    Ok(())
-}
-
-/// The child that a thread forks next, which is given away.
-fn given_away<'p>(thread: &mut Thread<'p>) -> Result<Thread<'p>, Fail>
-    ensures { IfOk result IsAlone }
-{
-    if thread.pending().is_some() {
-        return Err("a pause is not answered")?;
-    }
-    let pause = match thread.advance(100) {
-        Ok(pause) => pause,
-        Err(_) => thread.advance(100)?,
-    };
-    let Pause::Forks(_, child) = pause else {
-        return Err("no fork")?;
-    };
-    thread.forked();
-    Ok(child)
-}
-
-/// Hands a child to a thread that awaits one, to go on in its place. It comes back where it is another.
-fn begin<'p>(thread: &mut Thread<'p>, child: Thread<'p>) -> Result<Option<Thread<'p>>, Fail>
-    requires { IsAlone child }
-    ensures { IfOk result (λ back. IfSome back IsAlone) }
-{
-    let Some(Pending::Joins) = thread.pending() else {
-        return Err("awaits no child")?;
-    };
-    if child.pending().is_some() || !are_same(child.program(), thread.program()) {
-        return Err("no child of its program")?;
-    }
-    let child = match thread.in_place(child) {
-        Ok(()) => return Ok(None),
-        Err(NotPlaced::Foreign(child)) => return Ok(Some(child)),
-        Err(NotPlaced::Memory(child)) => child,
-    };
-    match thread.in_place(child) {
-        Ok(()) => Ok(None),
-        Err(_) => Err("memory was refused twice")?,
-    }
-}
-
-const TWO_FORKS: &str =
-    "(fork n (num 2) (fork n (num 3) (num 4) (add (var 0) (var 1))) (add (var 0) (var 1)))";
-
-/// A thread refuses the first of two children while it awaits the second, which it then takes in its place. The first ends by itself, as one for which
-/// a place was found while it waited.
-fn second_in_place<'p>(thread: &mut Thread<'p>) -> Result<(), Fail> {
-    let first = given_away(thread)?;
-    let second = given_away(thread)?;
-    go_on(thread)?;
-    let Some(mut first) = begin(thread, first)? else {
-        return Err("another child was placed")?;
-    };
-    if begin(thread, second)?.is_some() {
-        return Err("the awaited child was refused")?;
-    }
-    go_on(thread)?;
-    first.set_spilled();
-    let outcome = ended(first)?;
-    join_child(thread, outcome);
-    Ok(())
-}
-
-/// What is told of the threads of `TWO_FORKS`.
-fn told_of_two(alloc: Global, program: &Program) -> Result<String, Fail> {
-    let mut thread = start(alloc, program, 9, &mut Memory::ample())?;
-    second_in_place(&mut thread)?;
-    let parts = parts(ended(thread)?.outcome, &mut Memory::ample())?;
-    told(alloc, &parts)
-}
-
-/// Run with each allocation refused in turn (`rt try --test --fail-alloc N`) this gives the same.
-#[test]
-fn an_awaited_child_begins_in_place(rt: HostRuntime) -> Result<(), Fail> {
-    let program = program(rt.alloc(), 0, TWO_FORKS)?;
-    let told = told_of_two(rt.alloc(), &program)?;
-    assert!(rt; told.as_str() == "9 [] []9-[] [1]0+[] [0]0~[]", "{told}");
-    Ok(())
 }
 
 /// Says that there is a place for exclusive children alone.
@@ -688,18 +542,5 @@ fn a_child_without_a_place_waits_for_one_that_has(rt: HostRuntime) -> Result<(),
     let program = program(rt.alloc(), 0, TWO_CLASSES)?;
     let told = told_of_one_with_place(rt.alloc(), &program)?;
     assert!(rt; told.as_str() == "9 [] []9-[] [1]20-[] [0]0+[]", "{told}");
-    Ok(())
-}
-
-/// Whether a thread tells its tag and its program.
-fn tells_what_it_is(alloc: Global, program: &Program) -> Result<bool, Fail> {
-    let thread = start(alloc, program, 9, &mut Memory::ample())?;
-    Ok(thread.tag() == 9 && thread.program().root == program.root)
-}
-
-#[test]
-fn a_thread_tells_what_it_is(rt: HostRuntime) -> Result<(), Fail> {
-    let program = program(rt.alloc(), 0, ONE_FORK)?;
-    assert!(rt; tells_what_it_is(rt.alloc(), &program)?);
     Ok(())
 }

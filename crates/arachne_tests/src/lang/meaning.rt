@@ -1,7 +1,5 @@
 //! What programs mean, and which of them may not run.
-use arachne_lang::{
-    CheckFault, Expr, Meaning, Name, Operation, Program, Sequence, check, eval, parse,
-};
+use arachne_lang::{CheckFault, Expr, Meaning, Name, Operation, Program, check, eval, parse};
 use std::alloc::{AllocError, Global};
 use std::string::ToString;
 use std::test::Fail;
@@ -195,124 +193,12 @@ fn nesting_is_judged_before_all_else(rt: HostRuntime) -> Result<(), Fail> {
     Ok(())
 }
 
-/// None of these is the same as those that the test compares them with.
-const PROGRAMS: &str = "\
-1 0 (fork n (num 2) (num 4) (add (var 0) (var 1)))
-1 0 (fork n (num 2) (num 3) (add (var 1) (var 1)))
-1 0 (fork n (num 1) (num 3) (add (var 0) (var 1)))
-1 0 (fork x (num 2) (num 3) (add (var 0) (var 1)))
-2 0 (fork n (num 2) (num 3) (add (var 0) (var 1)))
-0 1 (num 1)
-1 0 (num 1)
-0 0 (num 2)
-0 0 (var 1)
-0 0 (len 1)";
-
-/// Whether two programs are the same, of which the first may lose its array.
-fn are_same(alloc: Global, some: &str, other: &str, has_array: bool) -> Result<bool, Fail> {
-    let (mut some, other) = (row_of(alloc, some)?, row_of(alloc, other)?);
-    if !has_array {
-        some.arrays.pop();
-    }
-    Ok(some == other)
-}
-
-/// The program that each of the rows is compared with too.
-const FORKED: &str = "1 0 (fork n (num 2) (num 3) (add (var 0) (var 1)))";
-
-#[test]
-fn equality_is_that_of_the_trees(rt: HostRuntime) -> Result<(), Fail> {
-    for row in PROGRAMS.lines() {
-        for (other, expected) in [(row, true), ("0 0 (num 1)", false), (FORKED, false)] {
-            let are_same = are_same(rt.alloc(), row, other, true)?;
-            assert!(rt; are_same == expected, "{row} {other}");
-        }
-    }
-    Ok(())
-}
-
-/// A program is not the same as one with no array.
-#[test]
-fn equality_is_that_of_the_arrays(rt: HostRuntime) -> Result<(), Fail> {
-    assert!(rt; !are_same(rt.alloc(), "0 0 (num 1)", "0 0 (num 1)", false)?);
-    Ok(())
-}
-
 fn name_of(alloc: Global, forks: &[u64]) -> Result<Name, AllocError> {
     let mut name = Name::root(alloc);
     for number in forks {
         name = name.child(alloc, *number)?;
     }
     Ok(name)
-}
-
-/// No two of these are the same.
-const NUMBERS: &[&[u64]] = &[
-    &[],
-    &[3],
-    &[4],
-    &[3, 0],
-    &[1, 2],
-    &[2, 1],
-    &[255],
-    &[256],
-    &[3; 29],
-    &[3; 30],
-    &[3; 31],
-];
-
-/// Whether the names of these numbers are the same, and whether their sequences are.
-fn compared(alloc: Global, some: &[u64], others: &[u64]) -> Result<(bool, bool), AllocError> {
-    let are_same = name_of(alloc, some)? == name_of(alloc, others)?;
-    let sequence = Sequence::from(some.to_vec(alloc)?);
-    Ok((are_same, sequence == Sequence::from(others.to_vec(alloc)?)))
-}
-
-/// Whether these are the numbers of a name.
-fn has_numbers(name: &Name, numbers: &[u64]) -> bool {
-    for k in 0..name.len() {
-        if Some(&name.number(k)) != numbers.get(k) {
-            return false;
-        }
-    }
-    name.len() == numbers.len()
-}
-
-#[test]
-fn names_and_sequences_are_compared(rt: HostRuntime) -> Result<(), AllocError> {
-    for &some in NUMBERS {
-        for &others in NUMBERS {
-            let is_same = some == others;
-            assert!(rt; compared(rt.alloc(), some, others)? == (is_same, is_same));
-        }
-        let name = name_of(rt.alloc(), some)?;
-        assert!(rt; has_numbers(&name, some));
-    }
-    Ok(())
-}
-
-/// Whether a parent's child by this number is known by its name, and no other name is.
-fn is_known(alloc: Global, parent: &Name, number: u64) -> Result<bool, AllocError> {
-    let child = parent.child(alloc, number)?;
-    Ok(
-        child.is_child_of(parent, number)
-            && !parent.is_child_of(&child, number)
-            && !child.is_child_of(parent, number.wrapping_add(256))
-            && !child.is_child_of(&child, number)
-            && child != *parent,
-    )
-}
-
-/// A parent of 30 numbers has a child that is longer than what stands inline, and 256 is no byte.
-#[test]
-fn children_are_known_by_their_names(rt: HostRuntime) -> Result<(), AllocError> {
-    for &numbers in NUMBERS {
-        let parent = name_of(rt.alloc(), numbers)?;
-        for number in [0, 255, 256] {
-            assert!(rt; is_known(rt.alloc(), &parent, number)?, "{number}");
-        }
-    }
-    Ok(())
 }
 
 const SWEEP: &str = "0 0 (sweep add 2 (num 0) (num 8) (var 0))";
