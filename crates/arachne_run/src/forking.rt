@@ -2,7 +2,6 @@
 //!
 //! It may touch the table through the seat that it is given, and the queue of those that wait.
 ghost use Rattle.std.specs.Prelude.{◌≡◌, ◌<◌, ◌≤◌, [], ◌∷◌, IfOk, MatchOption, OnOk, map};
-ghost use Rattle.arachne_arbiter.specs.Placed.{GetsPlace};
 ghost use Rattle.arachne_contexts.specs.Out.{Claim as a_claim, HasOut};
 ghost use Rattle.arachne_spill.specs.Views.{IsPassOf};
 ghost use Rattle.arachne_run.specs.Tokens.{IsSameThread, IsSetUp, IsSpent, thread_in};
@@ -78,8 +77,9 @@ struct Fork<Child> {
     tag: u64,
 }
 
-/// Answers a fork of the thread in hand: the child gets a place on a core that has one for a thread of its class. Else
-/// a normal one waits, if there is room in the queue, and another one runs in place.
+/// Answers a fork of the thread in hand: a normal child gets a place on the core with fewer threads of two that are
+/// drawn, else on another core that has one; an exclusive one on an empty core. Else a normal one waits, if there is
+/// room in the queue, and another one runs in place.
 #[inline(always)]
 fn answer_fork<H: Wait, T: RunJob, C: Contexts<T>, R: Rng>(
     rt: &H,
@@ -102,38 +102,18 @@ fn answer_fork<H: Wait, T: RunJob, C: Contexts<T>, R: Rng>(
     ensures pass { IsPassOf machine.now.tickets pass.new }
 {
     let Fork { class, child, tag } = fork;
-    match claim::<H, T, C, R>(rt, machine, seat, chooser, class)? {
-        Some(claim) => {
-            post_child::<H, T, C>(rt, alloc, machine, seat, held, claim, child, tag, spares)
-        }
-        None => put_aside::<H, T, C>(rt, alloc, machine, pass, held, class, child, tag),
-    }
-}
-
-/// A place for a thread that is forked. A normal one gets it on the core with fewer threads of two that are drawn, else
-/// on another core that has one; an exclusive one on an empty core.
-#[inline(always)]
-fn claim<H: Wait, T: RunJob, C: Contexts<T>, R: Rng>(
-    rt: &H,
-    machine: &Machine<C, T::Ticket>,
-    seat: &mut C::Seat,
-    chooser: &mut R,
-    class: Class,
-) -> Result<Option<C::Claim>, WorkerFault>
-    requires seat { C.sits machine.now.table seat.old }
-    requires set_up { IsSetUp C.core_count C.slot_count machine.now }
-    ensures seat { C.sits machine.now.table seat.new }
-    ensures out { GetsPlace (C.has machine.now.table) seat.old seat.new result }
-{
     let cores = machine.cores::<H, T>(rt);
     let place = match class {
         Class::Normal => cores.claim_normal(seat, chooser)?,
         Class::Exclusive => cores.claim_exclusive(seat)?,
     };
-    if place.is_some() {
-        machine.shared.room().place_was_claimed();
+    match place {
+        Some(claim) => {
+            machine.shared.room().place_was_claimed();
+            post_child::<H, T, C>(rt, alloc, machine, seat, held, claim, child, tag, spares)
+        }
+        None => put_aside::<H, T, C>(rt, alloc, machine, pass, held, class, child, tag),
     }
-    Ok(place)
 }
 
 /// The child that the thread in hand forks becomes a thread at the claimed place.

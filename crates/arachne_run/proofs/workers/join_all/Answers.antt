@@ -6,4 +6,10 @@ pub loop-other-preserved : goal.loop-other-preserved
 loop-other-preserved g c =
     let was = c.loop-other.invariant in
     let step = c.in-Some.ensures.steps in
-    (c.joined-all.ensures, All-tail (λ h. h.promise.machine.value ≡ c.args.machine.now) _ _ (subst (All (λ h. h.promise.machine.value ≡ c.args.machine.now)) step.0 was.1))
+    (tt, All-tail (λ h. h.promise.machine.value ≡ c.args.machine.now) _ _ (subst (All (λ h. h.promise.machine.value ≡ c.args.machine.now)) step.0 was.1))
+
+pub loop-other-preserved-in-Some-Some : goal.loop-other-preserved-in-Some-Some
+loop-other-preserved-in-Some-Some g c =
+    let was = c.loop-other.invariant in
+    let step = c.in-Some.ensures.steps in
+    (c.join-in-Some-Some.ensures, All-tail (λ h. h.promise.machine.value ≡ c.args.machine.now) _ _ (subst (All (λ h. h.promise.machine.value ≡ c.args.machine.now)) step.0 was.1))
