@@ -1,7 +1,6 @@
 //! Each public call once, refused memory, and values that pass between threads.
 ghost use Rattle.std.specs.Prelude.{◌≡◌, ◌<◌, IfOk};
 
-mod fork;
 mod parcels;
 
 use arachne_join::{CellState, Fits, JoinCell, SendingEnd};
@@ -40,34 +39,31 @@ fn missed_at(cell: &JoinCell<u64, Wanted>) -> Option<CellState> {
     }
 }
 
+/// How a cell misses a value each time: before one is put back, while it waits, once it is taken back, and once another was
+/// left and fetched.
 #[test]
-fn a_value_that_was_left_is_fetched_once(rt: HostRuntime) -> Result<(), Fail> {
+fn a_value_is_put_back_and_another_is_fetched_once(rt: HostRuntime) -> Result<(), Fail> {
     let (cell, end) = make_cell(rt.alloc(), 7)?;
-    assert!(rt; missed_at(&cell) == Some(CellState::Empty));
+    let before = missed_at(&cell);
+    end.put_back(&cell, 3);
+    let waiting = missed_at(&cell);
+    let Ok((back, end)) = cell.take_back() else {
+        panic!(rt; "a value waits")
+    };
+    assert!(rt; back == 3 && missed_at(&cell) == before && cell.take_back().is_err());
     let left = end.leave(&cell, 7);
     let Ok((value, fetched)) = cell.fetch() else {
         panic!(rt; "a value was left")
     };
-    assert!(rt; value == 7 && missed_at(&cell) == Some(CellState::Taken));
     cell.fetched_once(fetched, left);
-    Ok(())
-}
-
-#[test]
-fn a_value_that_was_put_back_is_taken_back_with_the_sending_end(
-    rt: HostRuntime,
-) -> Result<(), Fail> {
-    let (cell, end) = make_cell(rt.alloc(), 7)?;
-    end.put_back(&cell, 3);
-    assert!(rt; missed_at(&cell) == Some(CellState::Waiting));
-    let Ok((value, end)) = cell.take_back() else {
-        panic!(rt; "a value waits")
-    };
-    assert!(rt; value == 3 && missed_at(&cell) == Some(CellState::Empty));
-    end.leave(&cell, 7);
-    let Err(missed) = cell.take_back() else {
-        panic!(rt; "no value waits")
-    };
-    assert!(rt; missed.state == CellState::Full);
+    assert!(rt;
+        (value, before, waiting, missed_at(&cell))
+            == (
+                7,
+                Some(CellState::Empty),
+                Some(CellState::Waiting),
+                Some(CellState::Taken)
+            )
+    );
     Ok(())
 }

@@ -80,10 +80,11 @@ fn many_threads_have_a_line_each(rt: HostRuntime) -> Result<(), Fail> {
 /// Puts 63 arrays of 15,625 items, and one more of so many, in place of the first array.
 fn fill(alloc: Global, arrays: &mut Vec<Vec<u64>>, items: usize) -> Result<(), AllocError> {
     arrays.pop();
-    for _ in 0..63 {
-        arrays.push(vec![in alloc; 1; 15_625]?)?;
+    for nth in 0..64 {
+        let items = if nth == 63 { items } else { 15_625 };
+        arrays.push(vec![in alloc; 1; items]?)?;
     }
-    Ok(arrays.push(vec![in alloc; 1; items]?)?)
+    Ok(())
 }
 
 /// What is judged of a program with 63 arrays of 15,625 items, and one more of so many.
