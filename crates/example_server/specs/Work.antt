@@ -1,0 +1,11 @@
+-- What the work of a request gives.
+use Rattle.std.specs.Prelude.{ℕ, ◌+◌, ◌*◌, ◌%◌, ◌^◌}
+
+-- one round
+abbrev pub round_of : ℕ → ℕ
+round_of value = (value * 6364136223846793005 + 1442695040888963407) % 2 ^ 64
+
+-- what so many rounds make of a number
+pub mixed : ℕ → ℕ → ℕ
+mixed zero number = number
+mixed (suc rounds) number = round_of (mixed rounds number)

@@ -1,0 +1,94 @@
+//! A request as a job of the pool.
+ghost use Rattle.std.specs.Prelude.{◌≡◌};
+ghost use Rattle.example_server.specs.Work.{mixed};
+
+use crate::requests::{Class, Due};
+use arachne_pool::{PoolJob, Step};
+use arachne_table::Tagged;
+use std::rt::Clock;
+
+/// A request that was sent.
+#[derive(Drop)]
+pub struct Request<'r, R> {
+    clock: &'r R,
+    /// Its place in the list.
+    pub number: u64,
+    pub work: u32,
+    pub class: Class,
+}
+
+/// What a request is answered.
+#[derive(Drop)]
+pub struct Answer {
+    pub value: u64,
+    /// When its work was done, in nanoseconds of the clock.
+    pub ended: u64,
+}
+
+impl<'r, R> Request<'r, R> {
+    pub fn new(clock: &'r R, number: u64, due: Due) -> Request<'r, R>
+        ensures number { result.number ≡ number }
+        ensures work { result.work ≡ due.work }
+    {
+        Request {
+            clock,
+            number,
+            work: due.work,
+            class: due.class,
+        }
+    }
+}
+
+/// The nanoseconds of the clock, 0 where it can't be read.
+pub fn now<R: Clock>(clock: &R) -> u64 {
+    match clock.monotonic() {
+        Ok(time) => time
+            .as_secs()
+            .saturating_mul(1_000_000_000)
+            .saturating_add(u64::from(time.subsec_nanos())),
+        Err(_) => 0,
+    }
+}
+
+/// What so many rounds make of a number.
+fn mix(rounds: u32, number: u64) -> u64
+    ensures { result ≡ mixed rounds number }
+{
+    let mut value = number;
+    for _ in 0..rounds {
+        value = value
+            .wrapping_mul(6364136223846793005)
+            .wrapping_add(1442695040888963407);
+    }
+    value
+}
+
+impl<'r, R> Tagged for Request<'r, R> {
+    ghost tag_of = { λ request. request.number };
+
+    fn tag(&self) -> u64 {
+        self.number
+    }
+}
+
+impl<'r, R: Clock> PoolJob for Request<'r, R> {
+    type Output = Answer;
+
+    ghost is_result = { λ request answer. answer.value ≡ mixed request.work request.number };
+
+    ghost awaits = { λ _ _. Unit {0} };
+
+    fn step(&mut self) -> Step<Request<'r, R>, Answer> {
+        let value = mix(self.work, self.number);
+        Step::Done(Answer {
+            value,
+            ended: now(self.clock),
+        })
+    }
+
+    fn joined(&mut self, _output: Answer) {}
+
+    fn is_exclusive(&self) -> bool {
+        self.class == Class::Exclusive
+    }
+}

@@ -1,0 +1,41 @@
+//! A server over the pool: it answers a list of requests, and holds as many cores as their load asks for.
+//!
+//! `example_server < LIST` says how many it has answered; `example_server CORES INTERVAL < LIST` also how long that took.
+#![tactic(auto)]
+
+mod job;
+mod keeper;
+mod print;
+mod report;
+mod requests;
+mod serve;
+mod start;
+mod station;
+
+use anyhow::{Result, bail};
+use requests::requests;
+use start::run;
+use std::env;
+use std::io::Read;
+
+fn main(rt: HostRuntime) -> Result<()> {
+    let alloc = rt.alloc();
+    let words: Vec<String> = env::args(&rt)?.collect(alloc)?;
+    let mut numbers = words.iter().skip(1).map(|word| word.as_str().parse::<u64>().ok());
+    let cores = numbers.next().flatten();
+    let interval = numbers.next().flatten();
+    let mut text = String::new(alloc);
+    rt.reader().read_to_string(&mut text)?;
+    let Some(list) = requests(alloc, text.as_str())? else {
+        bail!("a line of the input is no request");
+    };
+    let most = cores.unwrap_or(2).clamp(1, 63) as u8;
+    let interval = interval.unwrap_or(1000).saturating_mul(1000);
+    let (mut report, keeper) = run(&rt, alloc, list.as_slice(), most, interval)?;
+    print::served(&rt, &report, list.len())?;
+    if cores.is_some() {
+        print::times(&rt, &mut report)?;
+        print::cores(&rt, &keeper)?;
+    }
+    Ok(())
+}
