@@ -3,7 +3,7 @@ use Rattle.std.specs.Prelude.{ℕ, ◌+◌, ◌*◌, ◌%◌, ◌^◌}
 
 -- one round
 abbrev pub round_of : ℕ → ℕ
-round_of value = (value * 6364136223846793005 + 1442695040888963407) % 2 ^ 64
+round_of value = (value * value + 1442695040888963407) % 2 ^ 64
 
 -- what so many rounds make of a number
 pub mixed : ℕ → ℕ → ℕ

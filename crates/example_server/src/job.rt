@@ -56,9 +56,7 @@ fn mix(rounds: u32, number: u64) -> u64
 {
     let mut value = number;
     for _ in 0..rounds {
-        value = value
-            .wrapping_mul(6364136223846793005)
-            .wrapping_add(1442695040888963407);
+        value = value.wrapping_mul(value).wrapping_add(1442695040888963407);
     }
     value
 }

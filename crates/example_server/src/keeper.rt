@@ -36,6 +36,9 @@ pub struct Keeper {
 }
 
 impl Keeper {
+    /// How many requests a core has places for.
+    pub const PLACES: u8 = 56;
+
     /// A keeper that has so many cores at most, all of which it has now. Where the interval is 0 it keeps them all.
     pub fn new(alloc: Global, most: u8, interval: u64) -> Keeper
         requires { most ≤ 64 }
@@ -51,6 +54,11 @@ impl Keeper {
             scans: 0,
             judged: Vec::new(alloc),
         }
+    }
+
+    /// Whether the places of the cores that it has are not all taken, where so many requests have places.
+    pub fn has_room(&self, requests: u64) -> bool {
+        requests < u64::from(self.held) * u64::from(Keeper::PLACES)
     }
 
     /// All cores that it has were looked at, and so many requests were there.

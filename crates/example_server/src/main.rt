@@ -8,11 +8,13 @@ mod keeper;
 mod print;
 mod report;
 mod requests;
+mod send;
 mod serve;
 mod start;
 mod station;
 
 use anyhow::{Result, bail};
+use keeper::Keeper;
 use requests::requests;
 use start::run;
 use std::env;
@@ -31,10 +33,11 @@ fn main(rt: HostRuntime) -> Result<()> {
     };
     let most = cores.unwrap_or(2).clamp(1, 63) as u8;
     let interval = interval.unwrap_or(1000).saturating_mul(1000);
-    let (mut report, keeper) = run(&rt, alloc, list.as_slice(), most, interval)?;
+    let keeper = Keeper::new(alloc, most, interval);
+    let (report, keeper) = run(&rt, alloc, list.as_slice(), keeper)?;
     print::served(&rt, &report, list.len())?;
     if cores.is_some() {
-        print::times(&rt, &mut report)?;
+        print::times(&rt, alloc, &report)?;
         print::cores(&rt, &keeper)?;
     }
     Ok(())

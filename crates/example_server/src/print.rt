@@ -1,36 +1,36 @@
 //! What the server prints.
 use crate::keeper::Keeper;
 use crate::report::{Report, quantile};
+use crate::requests::Class;
+use std::alloc::Global;
 use std::io;
 
 /// What does not depend on time.
 pub fn served(rt: &impl Print, report: &Report, requests: usize) -> io::Result<()> {
     println!(rt;
-        "{} of {requests} requests served, {} normal and {} exclusive; the sum of their answers is {}",
+        "{} of {requests} requests served; the sum of their answers is {}",
         report.served(),
-        report.normal.len(),
-        report.exclusive.len(),
-        report.sum
+        report.sum()
     )
 }
 
 /// How long the requests took.
-pub fn times(rt: &impl Print, report: &mut Report) -> io::Result<()> {
+pub fn times(rt: &impl Print, alloc: Global, report: &Report) -> io::Result<()> {
     println!(rt; "{:<12}{:>9}{:>10}{:>10}{:>10}{:>10}", "microseconds", "requests", "50 %", "99 %", "99.9 %", "most")?;
-    row(rt, "normal", report.normal.as_mut_slice())?;
-    row(rt, "exclusive", report.exclusive.as_mut_slice())?;
-    row(rt, "sent late", report.late.as_mut_slice())?;
-    let served = report.served() as u64;
-    println!(rt; "{served} requests in {} ms", report.nanos / 1_000_000)
+    row(rt, "normal", report.times(alloc, Class::Normal)?)?;
+    row(rt, "exclusive", report.times(alloc, Class::Exclusive)?)?;
+    row(rt, "sent late", report.late.as_slice().to_vec(alloc)?)?;
+    println!(rt; "{} requests in {} ms", report.served(), report.nanos / 1_000_000)
 }
 
-fn row(rt: &impl Print, name: &str, nanos: &mut [u64]) -> io::Result<()> {
-    nanos.sort_unstable();
-    let at = |thousandths: usize| quantile(nanos, thousandths) / 1000;
-    println!(rt;
-        "{name:<12}{:>9}{:>10}{:>10}{:>10}{:>10}",
-        nanos.len(), at(500), at(990), at(999), at(1000)
-    )
+fn row(rt: &impl Print, name: &str, mut nanos: Vec<u64>) -> io::Result<()> {
+    nanos.as_mut_slice().sort_unstable();
+    print!(rt; "{name:<12}{:>9}", nanos.len())?;
+    for thousandths in [500, 990, 999, 1000] {
+        let tenths = quantile(nanos.as_slice(), thousandths) / 100;
+        print!(rt; "{:>8}.{}", tenths / 10, tenths % 10)?;
+    }
+    println!(rt;)
 }
 
 /// What was judged of the load, and how many cores there were.

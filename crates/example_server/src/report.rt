@@ -1,56 +1,70 @@
-//! What the server has done: how many requests of each class, how long they took, and when it held how many cores.
+//! What the server has done: the answer to each request, and how long it took.
+ghost use Rattle.std.specs.Prelude.{◌≡◌, ◌+◌, [], IfOk, OnOk, OnErr, vec_len};
+ghost use Rattle.example_server.specs.Work.{mixed};
+
 use crate::requests::{Class, Due};
 use std::alloc::{AllocError, Global};
 
-/// The answers that came.
+/// A request that was answered. The answer is that of its own work.
+#[derive(Clone, Copy)]
+pub struct Answered {
+    pub number: u64,
+    pub work: u32,
+    pub class: Class,
+    pub value: u64,
+    /// From when it was due until its work was done.
+    pub nanos: u64,
+    ghost right: { value ≡ mixed work number },
+}
+
+/// What the server has done.
 #[derive(Drop)]
 pub struct Report {
-    /// The time from when it was due to the end of each request of the class, in nanoseconds.
-    pub normal: Vec<u64>,
-    pub exclusive: Vec<u64>,
-    /// How late each request was sent.
+    /// The requests that were answered, each by its handle.
+    pub answers: Vec<Answered>,
+    /// How many nanoseconds after it was due each request was sent.
     pub late: Vec<u64>,
-    /// The sum of all answers.
-    pub sum: u64,
     /// From the begin to the last answer.
     pub nanos: u64,
 }
 
 impl Report {
     /// No answer has come, and there is room for so many.
-    pub fn new(alloc: Global, requests: usize) -> Result<Report, AllocError> {
+    pub fn new(alloc: Global, requests: usize) -> Result<Report, AllocError>
+        ensures { IfOk result (λ report. vec_len report.answers ≡ 0) }
+    {
         Ok(Report {
-            normal: Vec::with_capacity(alloc, requests)?,
-            exclusive: Vec::with_capacity(alloc, requests)?,
+            answers: Vec::with_capacity(alloc, requests)?,
             late: Vec::with_capacity(alloc, requests)?,
-            sum: 0,
             nanos: 0,
         })
     }
 
-    /// A request was sent, so many nanoseconds after it was due.
-    pub fn sent_late(&mut self, nanos: u64) {
-        let _ = self.late.push(nanos);
-    }
-
-    /// A request was answered, by work that ended at this time.
-    pub fn answered(&mut self, due: Due, ended: u64, value: u64) {
-        let nanos = ended.saturating_sub(due.at);
-        let _ = match due.class {
-            Class::Normal => self.normal.push(nanos),
-            Class::Exclusive => self.exclusive.push(nanos),
-        };
-        self.sum = self.sum.wrapping_add(value);
-    }
-
-    /// All requests were answered, so many nanoseconds after the begin.
-    pub fn took(&mut self, nanos: u64) {
-        self.nanos = nanos;
-    }
-
     /// How many requests were answered.
-    pub fn served(&self) -> usize {
-        self.normal.len().saturating_add(self.exclusive.len())
+    pub fn served(&self) -> usize
+        ensures { result ≡ vec_len self.now.answers }
+    {
+        self.answers.len()
+    }
+
+    /// The sum of all answers, modulo 2^64.
+    pub fn sum(&self) -> u64 {
+        let mut sum: u64 = 0;
+        for answer in self.answers.iter() {
+            sum = sum.wrapping_add(answer.value);
+        }
+        sum
+    }
+
+    /// How long the requests of a class took.
+    pub fn times(&self, alloc: Global, class: Class) -> Result<Vec<u64>, AllocError> {
+        let mut times = Vec::new(alloc);
+        for answer in self.answers.iter() {
+            if answer.class == class {
+                times.push(answer.nanos)?;
+            }
+        }
+        Ok(times)
     }
 }
 

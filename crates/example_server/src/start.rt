@@ -1,12 +1,13 @@
 //! Starts the kernel threads of the server, and ends them.
-ghost use Rattle.std.specs.Prelude.{◌≡◌, ◌+◌, ◌-◌, ◌<◌, ◌≤◌, IfSome};
+ghost use Rattle.std.specs.Prelude.{◌≡◌, ◌+◌, ◌<◌, ◌≤◌, IfOk, IfSome, length, vec_len};
 ghost use Rattle.arachne_pool.specs.Workers.{IsWorkerOf};
 
 use crate::job::Request;
 use crate::keeper::Keeper;
 use crate::report::Report;
 use crate::requests::Due;
-use crate::serve::{Server, send, serve};
+use crate::send::{Done, send};
+use crate::serve::{Server, serve};
 use crate::station::stations;
 use anyhow::{Result, bail};
 use arachne_pool::{Pool, Spawned, Worker};
@@ -17,37 +18,37 @@ use std::sync::Wait;
 use std::thread;
 use std::thread::Threads;
 
-/// How many requests a core has places for.
-const PLACES: u8 = 56;
-
 type Table<'r, R> = WordContexts<Spawned<Request<'r, R>>>;
 type Hand<'r, R> = Worker<<Table<'r, R> as Seats>::Seat, Request<'r, R>>;
 
-/// Answers all requests of a list, with at most so many cores, judging its load once in so many nanoseconds.
+/// Answers all requests of a list, with the cores of a keeper and one more core, on which nothing runs: the sender's.
 pub fn run<'r, R: Threads + Wait + Clock + Sync>(
     rt: &'r R,
     alloc: Global,
     requests: &[Due],
-    most: u8,
-    interval: u64,
+    keeper: Keeper,
 ) -> Result<(Report, Keeper)>
-    requires some { 1 ≤ most }
-    requires few { most ≤ 63 }
+    ensures { IfOk result (λ made. vec_len made.0.answers ≡ length requests.now) }
 {
-    let mut report = Report::new(alloc, requests.len())?;
-    let mut keeper = Keeper::new(alloc, most, interval);
+    let report = Report::new(alloc, requests.len())?;
+    let (most, cores) = (keeper.most, keeper.most + 1);
     let orders = keeper.orders(alloc, false)?;
-    let (pool, worker) = Pool::<Table<'r, R>>::new::<Request<'r, R>>(alloc, most + 1, PLACES, orders)?;
-    let server = Server::new(pool, stations(alloc, most + 1)?);
+    let (pool, worker) = Pool::<Table<'r, R>>::new::<Request<'r, R>>(alloc, cores, Keeper::PLACES, orders)?;
+    let server = Server::new(pool, stations(alloc, most)?);
     let (sender, worker) = server.pool.split(rt, worker);
-    let (sender, worker) = thread::join(
+    let (done, worker) = thread::join(
         rt,
-        || send::<R, Table<'_, R>>(rt, alloc, &server, sender, requests, &mut keeper, &mut report),
+        || send::<R, Table<'_, R>>(rt, alloc, &server, sender, keeper, requests, report),
         || serve_from(rt, &server, worker, 0),
     );
-    let (Some(sender), Some(worker)) = (sender, worker) else {
+    let (Some(done), Some(worker)) = (done, worker) else {
         bail!("memory was refused");
     };
+    let Done {
+        worker: sender,
+        keeper,
+        report,
+    } = done;
     let Ok(worker) = server.pool.join_workers(rt, sender, worker) else {
         bail!("memory was refused");
     };
@@ -61,7 +62,7 @@ pub fn run<'r, R: Threads + Wait + Clock + Sync>(
     Ok((report, keeper))
 }
 
-/// Serves on this core and on those behind it, but the last, until the server is over.
+/// Serves on this core and on those behind it, but the sender's, until the server is over.
 fn serve_from<'r, R: Threads + Wait + Clock + Sync>(
     rt: &'r R,
     server: &Server<Table<'r, R>>,
