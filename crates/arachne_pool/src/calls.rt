@@ -90,13 +90,15 @@ impl<C: Seats> Pool<C> {
         Ok(found)
     }
 
-    /// Waits a little on a core, longer the more rounds have found nothing.
+    /// Waits a little on a core, longer the more rounds have found nothing. A worker that others may wait for isn't parked:
+    /// one with orders, or with jobs that have no place.
     fn rest<H: Wait, J: PoolJob>(
         &self,
         rt: &H,
         worker: &mut Worker<C::Seat, J>,
         core: u8,
         idle: u32,
+        may_park: bool,
     )
     where
         C: Contexts<Spawned<J>>,
@@ -107,11 +109,42 @@ impl<C: Seats> Pool<C> {
         let Some(mut seat) = worker.seat.take() else {
             return;
         };
-        wait::<H, J, C>(rt, self, core, &mut seat, idle);
+        let may_park = may_park && worker.desk.near.is_empty() && worker.arbiter.is_none();
+        wait::<H, J, C>(rt, self, core, &mut seat, idle, may_park);
         worker.seat = Some(seat);
     }
 
-    /// Works on a core until all jobs of the pool have ended, or its workers are to stop.
+    /// A round on a core, and a wait where it found nothing, which is the more often in turn counted. With a fault the
+    /// other workers stop too.
+    fn go_on<H: Wait, J: PoolJob>(
+        &self,
+        rt: &H,
+        worker: &mut Worker<C::Seat, J>,
+        core: u8,
+        idle: u32,
+        may_park: bool,
+    ) -> Result<u32, PoolFault>
+    where
+        C: Contexts<Spawned<J>>,
+        requires worker { IsWorkerOf C.sits C.idle self.now.table self.now.cores worker.old }
+        requires core { core < self.now.cores }
+        ensures worker { IsWorkerOf C.sits C.idle self.now.table self.now.cores worker.new }
+    {
+        match self.turn(rt, worker, core) {
+            Ok(true) => Ok(0),
+            Ok(false) => {
+                self.rest(rt, worker, core, idle, may_park);
+                Ok(idle.saturating_add(1))
+            }
+            Err(fault) => {
+                self.stop();
+                Err(fault)
+            }
+        }
+    }
+
+    /// Works on a core until all jobs of the pool have ended, or its workers are to stop. With a fault the other workers
+    /// stop too.
     pub fn work<H: Wait, J: PoolJob>(
         &self,
         rt: &H,
@@ -129,17 +162,13 @@ impl<C: Seats> Pool<C> {
             if self.live() == 0 || self.is_stopped() {
                 return Ok(());
             }
-            if self.turn(rt, worker, core)? {
-                idle = 0;
-            } else {
-                self.rest(rt, worker, core, idle);
-                idle = idle.saturating_add(1);
-            }
+            idle = self.go_on(rt, worker, core, idle, true)?;
         }
         unreachable!()
     }
 
-    /// Works on a core until the job of this handle has ended. Its result.
+    /// Works on a core until the job of this handle has ended. Its result. Where the workers are to stop before, the handle
+    /// comes back; with another fault the other workers stop too.
     pub fn join<H: Wait, J: PoolJob>(
         &self,
         rt: &H,
@@ -162,14 +191,13 @@ impl<C: Seats> Pool<C> {
                 Ok(output) => return Ok(output),
                 Err(handle) => handle,
             };
-            match self.turn(rt, worker, core) {
-                Ok(true) => idle = 0,
-                Ok(false) => {
-                    self.rest(rt, worker, core, idle);
-                    idle = idle.saturating_add(1);
-                }
-                Err(fault) => return Err((fault, handle)),
+            if self.is_stopped() {
+                return Err((PoolFault::Stopped, handle));
             }
+            idle = match self.go_on(rt, worker, core, idle, false) {
+                Ok(idle) => idle,
+                Err(fault) => return Err((fault, handle)),
+            };
         }
         unreachable!()
     }

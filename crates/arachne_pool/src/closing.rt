@@ -2,6 +2,7 @@
 ghost use Rattle.std.specs.Prelude.{◌≡◌, ◌+◌, ◌≤◌, true, IfOk, IfSome, length};
 ghost use Rattle.arachne_core.specs.declared.layout.TheConstants.{CORES, SLOTS};
 ghost use Rattle.arachne_policy.specs.Orders.{AreInOrder};
+ghost use Rattle.arachne_policy.specs.declared.orders.OrderKind.TheVariants.{Release};
 ghost use Rattle.arachne_weights.specs.Weight.{whole};
 
 use crate::desk::Desk;
@@ -12,8 +13,8 @@ use crate::tally::Tally;
 use crate::worker::Worker;
 use arachne_arbiter::Arbiter;
 use arachne_contexts::{Contexts, Seats};
-use arachne_core::{CORES, SLOTS, ThreadId};
-use arachne_policy::CoreOrder;
+use arachne_core::{CORES, OccWord, SLOTS, ThreadId};
+use arachne_policy::{CoreOrder, OrderKind};
 use std::alloc::{AllocError, Global};
 use std::sync::Wait;
 
@@ -74,22 +75,42 @@ impl<C: Seats> Pool<C> {
     ghost use Rattle.arachne_pool.specs.Leftover.{count_of};
 
     /// From now on these orders, as by a policy of the caller's between two rounds; what is left of those before is
-    /// forgotten. They begin with all cores open: a core that is closed is to be released again, to stay closed, or to be
-    /// granted then. One and the same worker is given all orders of a pool.
-    pub fn order<J: PoolJob>(
+    /// forgotten. A core that those have closed stays closed until one of these grants it. One and the same worker is given
+    /// all orders of a pool.
+    pub fn order<H: Wait, J: PoolJob>(
         &self,
-        alloc: Global,
+        rt: &H,
         worker: &mut Worker<C::Seat, J>,
         orders: Vec<CoreOrder>,
     ) -> Result<(), AllocError>
+    where
+        C: Contexts<Spawned<J>>,
         requires worker { IsWorkerOf C.sits C.idle self.now.table self.now.cores worker.old }
         requires orders { AreInOrder self.now.cores orders.items }
         ensures worker { IsWorkerOf C.sits C.idle self.now.table self.now.cores worker.new }
         ensures same { (worker.new.tally ≡ worker.old.tally) × (worker.new.near ≡ worker.old.near) }
     {
-        let arbiter = Arbiter::new(alloc, orders, self.cores)?;
+        let mut orders = orders;
+        for core in 1..self.cores {
+            if self.is_closed::<H, J>(rt, core) {
+                orders.insert(0, closes_at_once(core))?;
+            }
+        }
+        let arbiter = Arbiter::new(worker.desk.alloc, orders, self.cores)?;
         worker.arbiter = Some(arbiter);
         Ok(())
+    }
+
+    /// Whether a core seems to be closed, as only orders close one.
+    fn is_closed<H: Wait, J: PoolJob>(&self, rt: &H, core: u8) -> bool
+    where
+        C: Contexts<Spawned<J>>,
+        requires { core < self.now.cores }
+    {
+        match OccWord::from_word(self.table.glance(rt, core)) {
+            Some(occupancy) => occupancy.is_closed(),
+            None => false,
+        }
     }
 
     /// The jobs that were spawned and have not ended: with those that ended, as many as were spawned. Those that ended
@@ -139,6 +160,17 @@ impl<C: Seats> Pool<C> {
         } else {
             Err(NotClosed::Lost(left))
         }
+    }
+}
+
+/// The order that closes a core, due at once.
+fn closes_at_once(core: u8) -> CoreOrder
+    ensures { result ≡ record { after = 0; kind = Release; core = core } }
+{
+    CoreOrder {
+        after: 0,
+        kind: OrderKind::Release,
+        core: u64::from(core),
     }
 }
 

@@ -25,7 +25,7 @@ pub(crate) struct Disowned;
 #[derive(Drop)]
 pub(crate) struct Desk<J: PoolJob> {
     pub(crate) alloc: Global,
-    /// Jobs that have no place, the newest last.
+    /// Jobs that have no place, that which was looked at last at the end.
     pub(crate) near: Vec<Spawned<J>>,
     pub(crate) cells: Cells<J>,
     pub(crate) chooser: Xoshiro256PlusPlus,

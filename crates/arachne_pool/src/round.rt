@@ -120,13 +120,14 @@ pub(crate) fn tend<H: Wait, J: PoolJob, C: Contexts<Spawned<J>>>(
 }
 
 /// Waits, longer the more rounds have found nothing: it yields the processor, then sleeps. Where the core is closed and
-/// nothing is on it, it parks until the core is granted again or all jobs have ended.
+/// nothing is on it, one that may parks until the core is granted again, all jobs have ended, or the workers are to stop.
 pub(crate) fn wait<H: Wait, J: PoolJob, C: Contexts<Spawned<J>>>(
     rt: &H,
     pool: &Pool<C>,
     core: u8,
     seat: &mut C::Seat,
     idle: u32,
+    may_park: bool,
 )
     requires core { core < pool.now.cores }
     requires seat { C.sits pool.now.table seat.old }
@@ -138,7 +139,7 @@ pub(crate) fn wait<H: Wait, J: PoolJob, C: Contexts<Spawned<J>>>(
         return;
     }
     let cores = pool.cores::<H, Spawned<J>>(rt);
-    if !cores.park_if_drained(seat, &pool.parking, core) {
+    if !may_park || !cores.park_if_drained(seat, &pool.parking, core) {
         pool.sleep(rt, SPELL);
     }
 }

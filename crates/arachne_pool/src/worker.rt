@@ -24,6 +24,9 @@ pub enum PoolFault {
     /// The table didn't know a place or a job that the worker had of it. The worker is at its end, and has no seat.
     #[error("the table knows no such token")]
     Token,
+    /// The workers are to stop.
+    #[error("the pool was stopped")]
+    Stopped,
 }
 
 /// A worker: what a kernel thread has of a pool. One thread at a time has it, for one core.
@@ -98,8 +101,8 @@ impl<C: Seats> Pool<C> {
         (own, others)
     }
 
-    /// One worker of two, with the orders of the first. Where memory is refused to put their jobs together both come
-    /// back.
+    /// One worker of two, with the orders of the first, or of the other where that has none. Where memory is refused to put
+    /// their jobs together both come back.
     pub fn join_workers<H: Wait, J: PoolJob>(
         &self,
         rt: &H,
@@ -120,6 +123,9 @@ impl<C: Seats> Pool<C> {
             return Err((worker, other));
         }
         worker.desk.tally = worker.desk.tally.with(other.desk.tally);
+        if worker.arbiter.is_none() {
+            worker.arbiter = other.arbiter.take();
+        }
         worker.seat = self.join_seats(rt, worker.seat.take(), other.seat.take());
         Ok(worker)
     }

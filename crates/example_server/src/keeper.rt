@@ -93,38 +93,36 @@ impl Keeper {
         advice
     }
 
-    /// Takes the advice: the stations are told.
-    pub fn follow(&mut self, advice: Advice, stations: &[Station]) {
+    /// Takes the advice: the station is told, and the pool is to be, by this order.
+    pub fn follow(&mut self, advice: Advice, stations: &[Station]) -> Option<CoreOrder>
+        ensures { self.new.most ≡ self.old.most }
+    {
         match advice {
             Advice::Add if self.held < self.most => {
-                if let Some(station) = stations.get(usize::from(self.held)) {
-                    station.hold();
-                }
+                let core = self.held;
+                stations.get(usize::from(core))?.hold();
                 self.held += 1;
+                Some(order(OrderKind::Grant, core))
             }
             Advice::Remove if self.held > 1 => {
                 self.held -= 1;
-                if let Some(station) = stations.get(usize::from(self.held)) {
-                    station.give_back();
-                }
+                stations.get(usize::from(self.held))?.give_back();
+                Some(order(OrderKind::Release, self.held))
             }
-            _ => {}
+            _ => None,
         }
     }
 
-    /// The orders by which the pool has just these cores, of so many with the one on which nothing runs. A core that comes
-    /// back is released again first, since orders begin with all cores open.
-    pub fn orders(&self, alloc: Global, grown: bool) -> Result<Vec<CoreOrder>, AllocError>
+    /// The order that nothing is to run on the sender's core, the last one.
+    pub fn sender(&self) -> CoreOrder {
+        order(OrderKind::Release, self.most)
+    }
+
+    /// A list of this order, or of none where it can't be one of a pool with these cores and the sender's.
+    pub fn listed(&self, alloc: Global, order: CoreOrder) -> Result<Vec<CoreOrder>, AllocError>
         ensures { IfOk result (λ orders. AreInOrder (self.now.most + 1) orders.items) }
     {
-        let mut orders = Vec::new(alloc);
-        let from = if grown { self.held.saturating_sub(1) } else { self.held };
-        for core in from..=self.most {
-            orders.push(order(OrderKind::Release, core))?;
-        }
-        if grown {
-            orders.push(order(OrderKind::Grant, from))?;
-        }
+        let orders = vec![in alloc; order]?;
         match check_orders(orders.as_slice(), u64::from(self.most) + 1) {
             Ok(()) => Ok(orders),
             Err(_) => Ok(Vec::new(alloc)),

@@ -8,7 +8,6 @@ use crate::report::{Answered, Report};
 use crate::requests::Due;
 use crate::serve::Server;
 use arachne_pool::{Handle, Spawned, Worker};
-use arachne_policy::Advice;
 use arachne_table::Contexts;
 use std::alloc::Global;
 use std::collections::VecDeque;
@@ -71,7 +70,7 @@ pub fn send<'r, R: Clock + Wait, C: Contexts<Spawned<Request<'r, R>>>>(
             continue;
         }
         server.pool.turn(rt, &mut worker, keeper.most).ok()?;
-        keep_cores(alloc, server, &mut worker, &mut keeper, at)?;
+        keep_cores(rt, alloc, server, &mut worker, &mut keeper, at)?;
         if !take_answer(&mut sent, begin, &mut report)? && next == requests.len() && sent.is_empty() {
             report.nanos = at;
             server.end();
@@ -86,21 +85,25 @@ pub fn send<'r, R: Clock + Wait, C: Contexts<Spawned<Request<'r, R>>>>(
 }
 
 /// Looks at the load, and orders a core or gives one back where that is due.
-fn keep_cores<'r, R: Wait, C: Contexts<Spawned<Request<'r, R>>>>(
+fn keep_cores<'r, R: Clock + Wait, C: Contexts<Spawned<Request<'r, R>>>>(
+    rt: &R,
     alloc: Global,
     server: &Server<C>,
     worker: &mut Worker<C::Seat, Request<'r, R>>,
     keeper: &mut Keeper,
     at: u64,
 ) -> Option<()>
+    requires worker { IsWorkerOf C.sits C.idle server.now.pool.table server.now.pool.cores worker.old }
+    requires cores { keeper.old.most + 1 ≡ server.now.pool.cores }
+    ensures worker { IsWorkerOf C.sits C.idle server.now.pool.table server.now.pool.cores worker.new }
+    ensures cores { keeper.new.most ≡ keeper.old.most }
 {
     keeper.scan(server.pool.live());
     let stations = server.stations.as_slice();
     let advice = keeper.judge(at, stations);
-    if advice != Advice::Stay {
-        keeper.follow(advice, stations);
-        let orders = keeper.orders(alloc, advice == Advice::Add).ok()?;
-        server.pool.order(alloc, worker, orders).ok()?;
+    if let Some(order) = keeper.follow(advice, stations) {
+        let orders = keeper.listed(alloc, order).ok()?;
+        server.pool.order(rt, worker, orders).ok()?;
     }
     Some(())
 }

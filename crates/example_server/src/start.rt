@@ -32,7 +32,7 @@ pub fn run<'r, R: Threads + Wait + Clock + Sync>(
 {
     let report = Report::new(alloc, requests.len())?;
     let (most, cores) = (keeper.most, keeper.most + 1);
-    let orders = keeper.orders(alloc, false)?;
+    let orders = keeper.listed(alloc, keeper.sender())?;
     let (pool, worker) = Pool::<Table<'r, R>>::new::<Request<'r, R>>(alloc, cores, Keeper::PLACES, orders)?;
     let server = Server::new(pool, stations(alloc, most)?);
     let (sender, worker) = server.pool.split(rt, worker);
