@@ -81,7 +81,9 @@ impl Keeper {
             cores,
             runnable: self.runnable,
             scans: self.scans,
-            busy: all.wrapping_sub(self.busy).min(cores.saturating_mul(elapsed)),
+            busy: all
+                .wrapping_sub(self.busy)
+                .min(cores.saturating_mul(elapsed)),
             elapsed,
         };
         self.busy = all;

@@ -23,7 +23,10 @@ use std::io::Read;
 fn main(rt: HostRuntime) -> Result<()> {
     let alloc = rt.alloc();
     let words: Vec<String> = env::args(&rt)?.collect(alloc)?;
-    let mut numbers = words.iter().skip(1).map(|word| word.as_str().parse::<u64>().ok());
+    let mut numbers = words
+        .iter()
+        .skip(1)
+        .map(|word| word.as_str().parse::<u64>().ok());
     let cores = numbers.next().flatten();
     let interval = numbers.next().flatten();
     let mut text = String::new(alloc);

@@ -16,11 +16,18 @@ pub fn served(rt: &impl Print, report: &Report, requests: usize) -> io::Result<(
 
 /// How long the requests took.
 pub fn times(rt: &impl Print, alloc: Global, report: &Report) -> io::Result<()> {
-    println!(rt; "{:<12}{:>9}{:>10}{:>10}{:>10}{:>10}", "microseconds", "requests", "50 %", "99 %", "99.9 %", "most")?;
+    println!(rt;
+        "{:<12}{:>9}{:>10}{:>10}{:>10}{:>10}",
+        "microseconds", "requests", "50 %", "99 %", "99.9 %", "most"
+    )?;
     row(rt, "normal", report.times(alloc, Class::Normal)?)?;
     row(rt, "exclusive", report.times(alloc, Class::Exclusive)?)?;
     row(rt, "sent late", report.late.as_slice().to_vec(alloc)?)?;
-    println!(rt; "{} requests in {} ms", report.served(), report.nanos / 1_000_000)
+    println!(rt;
+        "{} requests in {} ms",
+        report.served(),
+        report.nanos / 1_000_000
+    )
 }
 
 fn row(rt: &impl Print, name: &str, mut nanos: Vec<u64>) -> io::Result<()> {
@@ -39,7 +46,13 @@ pub fn cores(rt: &impl Print, keeper: &Keeper) -> io::Result<()> {
         let sample = &judged.sample;
         println!(rt;
             "at {} us: {} cores, {} runnable in {} scans, {} of {} us busy, {}",
-            judged.at / 1000, sample.cores, sample.runnable, sample.scans, sample.busy / 1000, sample.elapsed / 1000, judged.advice
+            judged.at / 1000,
+            sample.cores,
+            sample.runnable,
+            sample.scans,
+            sample.busy / 1000,
+            sample.elapsed / 1000,
+            judged.advice
         )?;
     }
     Ok(())

@@ -65,13 +65,17 @@ pub fn send<'r, R: Clock + Wait, C: Contexts<Spawned<Request<'r, R>>>>(
                 number,
                 due: *due,
                 handle,
-            }).ok()?;
+            })
+            .ok()?;
             next += 1;
             continue;
         }
         server.pool.turn(rt, &mut worker, keeper.most).ok()?;
         keep_cores(rt, alloc, server, &mut worker, &mut keeper, at)?;
-        if !take_answer(&mut sent, begin, &mut report)? && next == requests.len() && sent.is_empty() {
+        if !take_answer(&mut sent, begin, &mut report)?
+            && next == requests.len()
+            && sent.is_empty()
+        {
             report.nanos = at;
             server.end();
             return Some(Done {
@@ -113,8 +117,7 @@ fn take_answer<'r, R: Clock>(
     sent: &mut VecDeque<Sent<'r, R>>,
     begin: u64,
     report: &mut Report,
-) -> Option<bool>
-{
+) -> Option<bool> {
     let Some(first) = sent.pop_front() else {
         return Some(false);
     };
@@ -126,13 +129,16 @@ fn take_answer<'r, R: Clock>(
     match handle.poll() {
         Ok(answer) => {
             let nanos = answer.ended.saturating_sub(begin).saturating_sub(due.at);
-            report.answers.push(Answered {
-                number,
-                work: due.work,
-                class: due.class,
-                value: answer.value,
-                nanos,
-            }).ok()?;
+            report
+                .answers
+                .push(Answered {
+                    number,
+                    work: due.work,
+                    class: due.class,
+                    value: answer.value,
+                    nanos,
+                })
+                .ok()?;
             Some(true)
         }
         Err(handle) => {
@@ -140,7 +146,8 @@ fn take_answer<'r, R: Clock>(
                 number,
                 due,
                 handle,
-            }).ok()?;
+            })
+            .ok()?;
             Some(false)
         }
     }

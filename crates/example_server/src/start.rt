@@ -19,6 +19,7 @@ use std::thread;
 use std::thread::Threads;
 
 type Table<'r, R> = WordContexts<Spawned<Request<'r, R>>>;
+
 type Hand<'r, R> = Worker<<Table<'r, R> as Seats>::Seat, Request<'r, R>>;
 
 /// Answers all requests of a list, with the cores of a keeper and one more core, on which nothing runs: the sender's.
@@ -33,7 +34,12 @@ pub fn run<'r, R: Threads + Wait + Clock + Sync>(
     let report = Report::new(alloc, requests.len())?;
     let (most, cores) = (keeper.most, keeper.most + 1);
     let orders = keeper.listed(alloc, keeper.sender())?;
-    let (pool, worker) = Pool::<Table<'r, R>>::new::<Request<'r, R>>(alloc, cores, Keeper::PLACES, orders)?;
+    let (pool, worker) = Pool::<Table<'r, R>>::new::<Request<'r, R>>(
+        alloc,
+        cores,
+        Keeper::PLACES,
+        orders,
+    )?;
     let server = Server::new(pool, stations(alloc, most)?);
     let (sender, worker) = server.pool.split(rt, worker);
     let (done, worker) = thread::join(
@@ -68,8 +74,7 @@ fn serve_from<'r, R: Threads + Wait + Clock + Sync>(
     server: &Server<Table<'r, R>>,
     worker: Hand<'r, R>,
     core: u8,
-) -> Option<Hand<'r, R>>
-{
+) -> Option<Hand<'r, R>> {
     if core + 2 >= server.pool.cores {
         return serve::<R, Table<'r, R>>(rt, server, worker, core);
     }
