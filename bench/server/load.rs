@@ -27,7 +27,8 @@ fn nanos() -> u64 {
 
 /// What so many rounds make of a number.
 pub fn mix(rounds: u32, number: u64) -> u64 {
-    (0..rounds).fold(number, |value, _| value.wrapping_mul(value).wrapping_add(1442695040888963407))
+    let round = |value: u64| value.wrapping_mul(value.wrapping_add(value).wrapping_add(1)).wrapping_add(1442695040888963407);
+    (0..rounds).fold(number, |value, _| round(value))
 }
 
 /// The work of a request, and what it leaves.
@@ -81,13 +82,11 @@ fn report(list: &[Due], ends: &[u64], late: Vec<u64>) {
     };
     let (normal, exclusive) = (times(false), times(true));
     println!(
-        "{0} of {0} requests served, {1} normal and {2} exclusive; the sum of their answers is {3}",
+        "{0} of {0} requests served; the sum of their answers is {1}",
         list.len(),
-        normal.len(),
-        exclusive.len(),
         SUM.load(SeqCst)
     );
-    println!("{:<12}{:>9}{:>10}{:>10}{:>10}{:>10}", "microseconds", "requests", "50 %", "99 %", "99.9 %", "most");
+    println!("{:<12}{:>9}{:>11}{:>11}{:>11}{:>11}", "microseconds", "requests", "50 %", "99 %", "99.9 %", "most");
     row("normal", normal);
     row("exclusive", exclusive);
     row("sent late", late);
@@ -101,5 +100,5 @@ fn row(name: &str, mut nanos: Vec<u64>) {
         let index = (nanos.len() * thousandths / 1000).min(nanos.len().saturating_sub(1));
         nanos.get(index).map_or(0.0, |nanos| *nanos as f64 / 1000.0)
     };
-    println!("{name:<12}{:>9}{:>10.1}{:>10.1}{:>10.1}{:>10.1}", nanos.len(), at(500), at(990), at(999), at(1000));
+    println!("{name:<12}{:>9}{:>11.1}{:>11.1}{:>11.1}{:>11.1}", nanos.len(), at(500), at(990), at(999), at(1000));
 }

@@ -56,7 +56,8 @@ fn mix(rounds: u32, number: u64) -> u64
 {
     let mut value = number;
     for _ in 0..rounds {
-        value = value.wrapping_mul(value).wrapping_add(1442695040888963407);
+        let odd = value.wrapping_add(value).wrapping_add(1);
+        value = value.wrapping_mul(odd).wrapping_add(1442695040888963407);
     }
     value
 }

@@ -17,7 +17,7 @@ pub fn served(rt: &impl Print, report: &Report, requests: usize) -> io::Result<(
 /// How long the requests took.
 pub fn times(rt: &impl Print, alloc: Global, report: &Report) -> io::Result<()> {
     println!(rt;
-        "{:<12}{:>9}{:>10}{:>10}{:>10}{:>10}",
+        "{:<12}{:>9}{:>11}{:>11}{:>11}{:>11}",
         "microseconds", "requests", "50 %", "99 %", "99.9 %", "most"
     )?;
     row(rt, "normal", report.times(alloc, Class::Normal)?)?;
@@ -35,7 +35,7 @@ fn row(rt: &impl Print, name: &str, mut nanos: Vec<u64>) -> io::Result<()> {
     print!(rt; "{name:<12}{:>9}", nanos.len())?;
     for thousandths in [500, 990, 999, 1000] {
         let tenths = quantile(nanos.as_slice(), thousandths) / 100;
-        print!(rt; "{:>8}.{}", tenths / 10, tenths % 10)?;
+        print!(rt; "{:>9}.{}", tenths / 10, tenths % 10)?;
     }
     println!(rt;)
 }
