@@ -33,6 +33,8 @@ pub struct Keeper {
     runnable: u64,
     scans: u64,
     pub judged: Vec<Judged>,
+    ghost some: { 1 ≤ most },
+    ghost few: { most ≤ 63 },
 }
 
 impl Keeper {
@@ -41,7 +43,8 @@ impl Keeper {
 
     /// A keeper that has so many cores at most, all of which it has now. Where the interval is 0 it keeps them all.
     pub fn new(alloc: Global, most: u8, interval: u64) -> Keeper
-        requires { most ≤ 64 }
+        requires some { 1 ≤ most }
+        requires few { most ≤ 63 }
     {
         Keeper {
             estimator: Estimator::new(UP, HYSTERESIS, most),
