@@ -2,9 +2,9 @@
 ghost use Rattle.std.specs.Prelude.{◌≡◌, ◌<◌, IfSome};
 ghost use Rattle.arachne_pool.specs.Workers.{IsWorkerOf};
 
-use crate::job::{Request, now};
+use crate::job::now;
 use crate::station::Station;
-use arachne_pool::{Pool, Spawned, Worker};
+use arachne_pool::{Pool, PoolJob, Spawned, Worker};
 use arachne_table::{Contexts, Seats};
 use std::rt::Clock;
 use std::sync::Wait;
@@ -45,12 +45,12 @@ impl<C: Seats> Server<C> {
 }
 
 /// Serves on a core until the server is over. It spins while the server has the core, and sleeps while it has not.
-pub fn serve<'r, R: Clock + Wait, C: Contexts<Spawned<Request<'r, R>>>>(
+pub fn serve<R: Clock + Wait, J: PoolJob, C: Contexts<Spawned<J>>>(
     rt: &R,
     server: &Server<C>,
-    mut worker: Worker<C::Seat, Request<'r, R>>,
+    mut worker: Worker<C::Seat, J>,
     core: u8,
-) -> Option<Worker<C::Seat, Request<'r, R>>>
+) -> Option<Worker<C::Seat, J>>
     requires worker { IsWorkerOf C.sits C.idle server.now.pool.table server.now.pool.cores worker }
     requires core { core < server.now.pool.cores }
     ensures { IfSome result (IsWorkerOf C.sits C.idle server.now.pool.table server.now.pool.cores) }

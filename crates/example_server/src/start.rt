@@ -76,12 +76,12 @@ fn serve_from<'r, R: Threads + Wait + Clock + Sync>(
     core: u8,
 ) -> Option<Hand<'r, R>> {
     if core + 2 >= server.pool.cores {
-        return serve::<R, Table<'r, R>>(rt, server, worker, core);
+        return serve::<R, Request<'r, R>, Table<'r, R>>(rt, server, worker, core);
     }
     let (own, others) = server.pool.split(rt, worker);
     let (own, others) = thread::join(
         rt,
-        || serve::<R, Table<'_, R>>(rt, server, own, core),
+        || serve::<R, Request<'_, R>, Table<'_, R>>(rt, server, own, core),
         || serve_from(rt, server, others, core + 1),
     );
     server.pool.join_workers(rt, own?, others?).ok()
