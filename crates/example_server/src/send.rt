@@ -1,5 +1,6 @@
 //! The kernel thread that sends the requests, takes the answers, and has the cores kept.
-ghost use Rattle.std.specs.Prelude.{◌≡◌, ◌×◌, ◌+◌, ◌<◌, ◌≤◌, IfSome, length, vec_len};
+ghost use Rattle.std.specs.Prelude.{◌≡◌, ◌+◌, IfSome, OnSome, length, vec_len};
+ghost use Rattle.std.specs.VecDeque.{deque_len};
 ghost use Rattle.arachne_pool.specs.Workers.{IsWorkerOf};
 
 use crate::job::{Request, now};
@@ -117,7 +118,9 @@ fn take_answer<'r, R: Clock>(
     sent: &mut VecDeque<Sent<'r, R>>,
     begin: u64,
     report: &mut Report,
-) -> Option<bool> {
+) -> Option<bool>
+    ensures { OnSome result (vec_len report.new.answers + deque_len sent.new ≡ vec_len report.old.answers + deque_len sent.old) }
+{
     let Some(first) = sent.pop_front() else {
         return Some(false);
     };

@@ -10,8 +10,8 @@ use crate::send::{Done, send};
 use crate::serve::{Server, serve};
 use crate::station::stations;
 use anyhow::{Result, bail};
-use arachne_pool::{Pool, Spawned, Worker};
-use arachne_table::{Seats, WordContexts};
+use arachne_pool::{Pool, PoolJob, Spawned, Worker};
+use arachne_table::{Contexts, WordContexts};
 use std::alloc::Global;
 use std::rt::Clock;
 use std::sync::Wait;
@@ -19,8 +19,6 @@ use std::thread;
 use std::thread::Threads;
 
 type Table<'r, R> = WordContexts<Spawned<Request<'r, R>>>;
-
-type Hand<'r, R> = Worker<<Table<'r, R> as Seats>::Seat, Request<'r, R>>;
 
 /// Answers all requests of a list, with the cores of a keeper and one more core, on which nothing runs: the sender's.
 pub fn run<'r, R: Threads + Wait + Clock + Sync>(
@@ -45,7 +43,7 @@ pub fn run<'r, R: Threads + Wait + Clock + Sync>(
     let (done, worker) = thread::join(
         rt,
         || send::<R, Table<'_, R>>(rt, alloc, &server, sender, keeper, requests, report),
-        || serve_from(rt, &server, worker, 0),
+        || serve_from::<R, Request<'_, R>, Table<'_, R>>(rt, &server, worker, 0),
     );
     let (Some(done), Some(worker)) = (done, worker) else {
         bail!("memory was refused");
@@ -69,20 +67,24 @@ pub fn run<'r, R: Threads + Wait + Clock + Sync>(
 }
 
 /// Serves on this core and on those behind it, but the sender's, until the server is over.
-fn serve_from<'r, R: Threads + Wait + Clock + Sync>(
-    rt: &'r R,
-    server: &Server<Table<'r, R>>,
-    worker: Hand<'r, R>,
+fn serve_from<R: Threads + Wait + Clock + Sync, J: PoolJob + Send, C: Contexts<Spawned<J>> + Sync>(
+    rt: &R,
+    server: &Server<C>,
+    worker: Worker<C::Seat, J>,
     core: u8,
-) -> Option<Hand<'r, R>> {
-    if core + 2 >= server.pool.cores {
-        return serve::<R, Request<'r, R>, Table<'r, R>>(rt, server, worker, core);
+) -> Option<Worker<C::Seat, J>>
+    requires worker { IsWorkerOf C.sits C.idle server.now.pool.table server.now.pool.cores worker }
+    requires core { core + 2 ≤ server.now.pool.cores }
+    ensures { IfSome result (IsWorkerOf C.sits C.idle server.now.pool.table server.now.pool.cores) }
+{
+    if core + 2 == server.pool.cores {
+        return serve::<R, J, C>(rt, server, worker, core);
     }
     let (own, others) = server.pool.split(rt, worker);
     let (own, others) = thread::join(
         rt,
-        || serve::<R, Request<'_, R>, Table<'_, R>>(rt, server, own, core),
-        || serve_from(rt, server, others, core + 1),
+        || serve::<R, J, C>(rt, server, own, core),
+        || serve_from::<R, J, C>(rt, server, others, core + 1),
     );
     server.pool.join_workers(rt, own?, others?).ok()
 }
