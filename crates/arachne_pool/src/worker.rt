@@ -49,6 +49,15 @@ impl<S, J: PoolJob> Model for Worker<S, J> {
     ghost view = { λ w. record { seat = w.seat; near = vec_len w.desk.near; tally = w.desk.tally; arbiter = w.arbiter } };
 }
 
+impl<S, J: PoolJob> Worker<S, J> {
+    /// How many jobs it has spawned, and how many have ended with it.
+    pub fn tally(&self) -> Tally
+        ensures { result ≡ self.now.tally }
+    {
+        self.desk.tally
+    }
+}
+
 impl<J: PoolJob> Desk<J> {
     /// A desk with no job, whose choices go by this seed.
     pub(crate) fn new(alloc: Global, seed: u64) -> Desk<J>
