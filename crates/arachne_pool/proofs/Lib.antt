@@ -1,1 +1,1 @@
-mod Closing
+mod ClosedFirst

@@ -1,5 +1,6 @@
 //! Workers of a pool: what each has of it, how one is split in two, and how two are put together.
-ghost use Rattle.std.specs.Prelude.{◌≡◌, ◌+◌, ◌≤◌, IfErr, IfOk, vec_len};
+ghost use Rattle.std.specs.Prelude.{◌≡◌, ◌+◌, ◌≤◌, ℕ, IfErr, IfOk, vec_len};
+ghost use Rattle.arachne_pool.specs.Workers.{IsArbiterFor};
 
 use crate::desk::Desk;
 use crate::job::PoolJob;
@@ -75,6 +76,16 @@ impl<J: PoolJob> Desk<J> {
     }
 }
 
+/// The orders of the first, or else of the second.
+fn first_of(first: Option<Arbiter>, second: Option<Arbiter>) -> Option<Arbiter>
+    ensures { (cores : ℕ) → IsArbiterFor cores first → IsArbiterFor cores second → IsArbiterFor cores result }
+{
+    match first {
+        Some(arbiter) => Some(arbiter),
+        None => second,
+    }
+}
+
 impl<C: Seats> Pool<C> {
     ghost use Rattle.std.specs.Prelude.{IfSome};
     ghost use Rattle.arachne_pool.specs.Workers.{IsIdleAt, IsWorkerOf};
@@ -132,9 +143,7 @@ impl<C: Seats> Pool<C> {
             return Err((worker, other));
         }
         worker.desk.tally = worker.desk.tally.with(other.desk.tally);
-        if worker.arbiter.is_none() {
-            worker.arbiter = other.arbiter.take();
-        }
+        worker.arbiter = first_of(worker.arbiter.take(), other.arbiter.take());
         worker.seat = self.join_seats(rt, worker.seat.take(), other.seat.take());
         Ok(worker)
     }

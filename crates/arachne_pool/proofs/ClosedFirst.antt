@@ -4,7 +4,7 @@ use Rattle.arachne_policy.specs.declared.orders.CoreOrder.{CoreOrder}
 use Rattle.arachne_policy.specs.declared.orders.OrderKind.TheVariants.{Release}
 use Rattle.arachne_policy.specs.Orders.{order_at, AreInOrder}
 
-closing : ℕ → CoreOrder
+abbrev pub closing : ℕ → CoreOrder
 closing core = record { after = 0; kind = Release; core = core }
 
 -- what each order and the first one are, each of both is
@@ -12,16 +12,20 @@ each_with_first : (P : CoreOrder → Type 0) (first : CoreOrder) (orders : List 
 each_with_first P first orders h all zero d within = h
 each_with_first P first orders h all (suc place) d within = all place d (omega arith)
 
+from_zero : (number : ℕ) → 0 ≤ number
+from_zero number = omega arith
+
 never_falls : (core : ℕ) (orders : List CoreOrder)
     → ((place : ℕ) → place + 1 < length orders → (order_at orders place).after ≤ (order_at orders (place + 1)).after)
     → (place : ℕ) → place + 1 < length (closing core ∷ orders)
     → (order_at (closing core ∷ orders) place).after ≤ (order_at (closing core ∷ orders) (place + 1)).after
-never_falls core orders rising zero within = omega arith
-never_falls core orders rising (suc place) within = rising place (omega arith)
+never_falls core orders rising zero within = from_zero (order_at (closing core ∷ orders) (zero + 1)).after
+never_falls core orders rising (suc place) within =
+    let risen : (order_at orders place).after ≤ (order_at orders (suc place)).after = rw (← add-one) (rising place (omega arith)) in rw add-one risen
 
-pub AreInOrder-closing : (cores core : ℕ) (orders : List CoreOrder) → core < cores → core ≢ 0 → AreInOrder cores orders
+pub AreInOrder-closed_first : (cores core : ℕ) (orders : List CoreOrder) → core < cores → core ≢ 0 → AreInOrder cores orders
     → AreInOrder cores (closing core ∷ orders)
-AreInOrder-closing cores core orders below other in_order = record {
+AreInOrder-closed_first cores core orders below other in_order = record {
   name_cores = each_with_first (λ order. order.core < cores) (closing core) orders below in_order.name_cores;
   keep_core_zero = each_with_first (λ order. order.kind ≡ Release → order.core ≢ 0) (closing core) orders (λ _. other) in_order.keep_core_zero;
   never_fall = never_falls core orders in_order.never_fall;
