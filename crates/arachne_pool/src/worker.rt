@@ -1,5 +1,6 @@
 //! Workers of a pool: what each has of it, how one is split in two, and how two are put together.
-ghost use Rattle.std.specs.Prelude.{◌≡◌, ◌+◌, ◌≤◌, IfErr, IfOk, vec_len};
+ghost use Rattle.std.specs.Prelude.{◌≡◌, ◌+◌, ◌≤◌, ℕ, IfErr, IfOk, vec_len};
+ghost use Rattle.arachne_pool.specs.Workers.{IsArbiterFor};
 
 use crate::desk::Desk;
 use crate::job::PoolJob;
@@ -49,6 +50,15 @@ impl<S, J: PoolJob> Model for Worker<S, J> {
     ghost view = { λ w. record { seat = w.seat; near = vec_len w.desk.near; tally = w.desk.tally; arbiter = w.arbiter } };
 }
 
+impl<S, J: PoolJob> Worker<S, J> {
+    /// How many jobs it has spawned, and how many have ended with it.
+    pub fn tally(&self) -> Tally
+        ensures { result ≡ self.now.tally }
+    {
+        self.desk.tally
+    }
+}
+
 impl<J: PoolJob> Desk<J> {
     /// A desk with no job, whose choices go by this seed.
     pub(crate) fn new(alloc: Global, seed: u64) -> Desk<J>
@@ -63,6 +73,16 @@ impl<J: PoolJob> Desk<J> {
             tally: Tally::new(),
             is_short: false,
         }
+    }
+}
+
+/// The orders of the first, or else of the second.
+fn first_of(first: Option<Arbiter>, second: Option<Arbiter>) -> Option<Arbiter>
+    ensures { (cores : ℕ) → IsArbiterFor cores first → IsArbiterFor cores second → IsArbiterFor cores result }
+{
+    match first {
+        Some(arbiter) => Some(arbiter),
+        None => second,
     }
 }
 
@@ -123,9 +143,7 @@ impl<C: Seats> Pool<C> {
             return Err((worker, other));
         }
         worker.desk.tally = worker.desk.tally.with(other.desk.tally);
-        if worker.arbiter.is_none() {
-            worker.arbiter = other.arbiter.take();
-        }
+        worker.arbiter = first_of(worker.arbiter.take(), other.arbiter.take());
         worker.seat = self.join_seats(rt, worker.seat.take(), other.seat.take());
         Ok(worker)
     }

@@ -1,35 +1,22 @@
-//! Two kernel threads count the grains of a heap by halves: a heap of more than one grain forks two smaller ones.
+//! Two kernel threads count the grains of a heap: each heap counts one, and forks heaps of halves of the rest.
 #![tactic(auto)]
 
 ghost use Rattle.std.specs.Prelude.{◌≡◌, ◌+◌, ◌<◌, IfSome, map, sum};
 ghost use Rattle.arachne_pool.specs.Workers.{IsWorkerOf};
 
 use anyhow::{Result, bail};
-use arachne_pool::{Handle, Pool, PoolJob, Spawned, Step, Worker};
+use arachne_pool::{Pool, PoolJob, Spawned, Step, Worker};
 use arachne_table::{Contexts, Tagged, WordContexts};
+use std::alloc::Global;
 use std::sync::Wait;
 use std::thread;
 
-const GRAINS: u64 = 10_000;
-
-/// A heap that is counted: so many of its grains are with no child yet, and so many were counted by children.
+/// A heap: how many grains it has, how many are with no child yet, and how many are counted.
 #[derive(Drop)]
 struct Heap {
     size: u64,
     rest: u64,
     counted: u64,
-}
-
-impl Heap {
-    fn new(size: u64) -> Heap
-        ensures { result ≡ record { size = size; rest = size; counted = 0 } }
-    {
-        Heap {
-            size,
-            rest: size,
-            counted: 0,
-        }
-    }
 }
 
 impl Tagged for Heap {
@@ -44,17 +31,17 @@ impl PoolJob for Heap {
     type Output = u64;
 
     ghost is_result = { λ heap count. count ≡ heap.size };
-
     ghost awaits = { λ heap children. sum (map (λ child. child.size) children) + heap.rest + heap.counted ≡ heap.size };
 
     fn step(&mut self) -> Step<Heap, u64> {
-        if self.size <= 1 {
-            return Step::Done(self.size);
-        }
         if self.rest > 0 {
-            let part = self.rest.min(self.size - self.size / 2);
-            self.rest -= part;
-            return Step::Forks(Heap::new(part));
+            let size = self.rest - self.rest / 2;
+            self.rest -= size;
+            return Step::Forks(Heap {
+                size,
+                rest: size - 1,
+                counted: 1,
+            });
         }
         if self.counted < self.size {
             return Step::Waits;
@@ -67,58 +54,47 @@ impl PoolJob for Heap {
     }
 }
 
-/// Works on one core until all heaps are counted.
+/// Works on one core until all heaps are counted, or there is no memory for another one.
 fn work<C: Contexts<Spawned<Heap>>, R: Wait>(
     rt: &R,
     pool: &Pool<C>,
     mut worker: Worker<C::Seat, Heap>,
     core: u8,
-) -> Option<Worker<C::Seat, Heap>>
-    requires worker { IsWorkerOf C.sits C.idle pool.now.table pool.now.cores worker }
-    requires core { core < pool.now.cores }
-    ensures { IfSome result (IsWorkerOf C.sits C.idle pool.now.table pool.now.cores) }
+) -> Worker<C::Seat, Heap>
+    requires { IsWorkerOf C.sits C.idle pool.now.table pool.now.cores worker × (core < pool.now.cores) }
+    ensures { IsWorkerOf C.sits C.idle pool.now.table pool.now.cores result }
 {
-    pool.work(rt, &mut worker, core).ok()?;
-    Some(worker)
+    let _ = pool.work(rt, &mut worker, core);
+    worker
 }
 
-/// The count of a heap, which is its size.
-fn count_of(handle: Handle<Heap>) -> Option<u64>
-    ensures { IfSome result (λ count. count ≡ handle.size) }
+/// Counts a heap on two cores of 8 places. Its grains, and how many heaps were not counted.
+fn count(rt: &HostRuntime, alloc: Global) -> Option<(u64, usize)>
+    ensures { IfSome result (λ counted. counted.0 ≡ 10000) }
 {
-    handle.poll().ok()
+    let (pool, mut worker) =
+        Pool::<WordContexts<Spawned<Heap>>>::new::<Heap>(alloc, 2, 8, Vec::new(alloc)).ok()?;
+    let heap = Heap {
+        size: 10_000,
+        rest: 9_999,
+        counted: 1,
+    };
+    let handle = pool.spawn(rt, &mut worker, heap).ok()?;
+    let (first, second) = pool.split(rt, worker);
+    let (first, second) = thread::join(
+        rt,
+        || work::<WordContexts<Spawned<Heap>>, HostRuntime>(rt, &pool, first, 0),
+        || work::<WordContexts<Spawned<Heap>>, HostRuntime>(rt, &pool, second, 1),
+    );
+    let worker = pool.join_workers(rt, first, second).ok()?;
+    let left = pool.close(rt, alloc, worker).ok()?;
+    Some((handle.poll().ok()?, left.placed.len() + left.near.len()))
 }
-
-type Table = WordContexts<Spawned<Heap>>;
 
 fn main(rt: HostRuntime) -> Result<()> {
-    let alloc = rt.alloc();
-    let (pool, mut worker) = Pool::<Table>::new::<Heap>(alloc, 2, 8, Vec::new(alloc))?;
-    let Ok(handle) = pool.spawn(&rt, &mut worker, Heap::new(GRAINS)) else {
+    let Some((count, left)) = count(&rt, rt.alloc()) else {
         bail!("memory was refused");
     };
-    let (first, second) = pool.split(&rt, worker);
-    let (first, second) = thread::join(
-        &rt,
-        || work::<Table, HostRuntime>(&rt, &pool, first, 0),
-        || work::<Table, HostRuntime>(&rt, &pool, second, 1),
-    );
-    let (Some(first), Some(second)) = (first, second) else {
-        bail!("memory was refused");
-    };
-    let Ok(worker) = pool.join_workers(&rt, first, second) else {
-        bail!("memory was refused");
-    };
-    let Ok(left) = pool.close(&rt, alloc, worker) else {
-        bail!("the pool was not closed");
-    };
-    let Some(count) = count_of(handle) else {
-        bail!("the heap was not counted");
-    };
-    println!(rt;
-        "{count} grains; {} and {} heaps are left",
-        left.placed.len(),
-        left.near.len()
-    )?;
+    println!(rt; "{count} grains; {left} heaps are left")?;
     Ok(())
 }
