@@ -1,5 +1,5 @@
 //! The keeper of the cores: it judges samples of the load, and orders cores and gives them back.
-ghost use Rattle.std.specs.Prelude.{◌≡◌, ◌≤◌, IfOk};
+ghost use Rattle.std.specs.Prelude.{◌≡◌, ◌+◌, ◌≤◌, IfOk};
 ghost use Rattle.arachne_policy.specs.Orders.{AreInOrder};
 
 use crate::station::Station;
