@@ -7,10 +7,10 @@ use arachne_pool::{PoolJob, Step};
 use arachne_table::Tagged;
 use std::rt::Clock;
 
-/// A request that was sent.
+/// A request that was sent. It has a clock, to tell when it ends.
 #[derive(Drop)]
-pub struct Request<'r, R> {
-    clock: &'r R,
+pub struct Request<R: Clock + Copy> {
+    clock: R,
     /// Its place in the list.
     pub number: u64,
     pub work: u32,
@@ -25,8 +25,8 @@ pub struct Answer {
     pub ended: u64,
 }
 
-impl<'r, R> Request<'r, R> {
-    pub fn new(clock: &'r R, number: u64, due: Due) -> Request<'r, R>
+impl<R: Clock + Copy> Request<R> {
+    pub fn new(clock: R, number: u64, due: Due) -> Request<R>
         ensures number { result.number ≡ number }
         ensures work { result.work ≡ due.work }
     {
@@ -62,7 +62,7 @@ fn mix(rounds: u32, number: u64) -> u64
     value
 }
 
-impl<'r, R> Tagged for Request<'r, R> {
+impl<R: Clock + Copy> Tagged for Request<R> {
     ghost tag_of = { λ request. request.number };
 
     fn tag(&self) -> u64 {
@@ -70,18 +70,18 @@ impl<'r, R> Tagged for Request<'r, R> {
     }
 }
 
-impl<'r, R: Clock> PoolJob for Request<'r, R> {
+impl<R: Clock + Copy> PoolJob for Request<R> {
     type Output = Answer;
 
     ghost is_result = { λ request answer. answer.value ≡ mixed request.work request.number };
 
     ghost awaits = { λ _ _. Unit {0} };
 
-    fn step(&mut self) -> Step<Request<'r, R>, Answer> {
+    fn step(&mut self) -> Step<Request<R>, Answer> {
         let value = mix(self.work, self.number);
         Step::Done(Answer {
             value,
-            ended: now(self.clock),
+            ended: now(&self.clock),
         })
     }
 

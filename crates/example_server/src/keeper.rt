@@ -34,17 +34,20 @@ pub struct Keeper {
     scans: u64,
     pub judged: Vec<Judged>,
     ghost some: { 1 ≤ most },
-    ghost few: { most ≤ 63 },
+    ghost few: { most ≤ 4 },
 }
 
 impl Keeper {
+    /// How many cores it may have at most.
+    pub const MOST: u8 = 4;
+
     /// How many requests a core has places for.
     pub const PLACES: u8 = 56;
 
     /// A keeper that has so many cores at most, all of which it has now. Where the interval is 0 it keeps them all.
     pub fn new(alloc: Global, most: u8, interval: u64) -> Keeper
         requires some { 1 ≤ most }
-        requires few { most ≤ 63 }
+        requires few { most ≤ 4 }
     {
         Keeper {
             estimator: Estimator::new(UP, HYSTERESIS, most),
@@ -65,13 +68,17 @@ impl Keeper {
     }
 
     /// All cores that it has were looked at, and so many requests were there.
-    pub fn scan(&mut self, requests: u64) {
+    pub fn scan(&mut self, requests: u64)
+        ensures { self.new.most ≡ self.old.most }
+    {
         self.runnable = self.runnable.saturating_add(requests);
         self.scans = self.scans.saturating_add(u64::from(self.held));
     }
 
     /// At the end of an interval, whether a core is to come or to go.
-    pub fn judge(&mut self, at: u64, stations: &[Station]) -> Advice {
+    pub fn judge(&mut self, at: u64, stations: &[Station]) -> Advice
+        ensures { self.new.most ≡ self.old.most }
+    {
         let elapsed = at.saturating_sub(self.begun);
         if self.interval == 0 || elapsed < self.interval {
             return Advice::Stay;

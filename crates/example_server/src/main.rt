@@ -14,11 +14,16 @@ mod start;
 mod station;
 
 use anyhow::{Result, bail};
+use arachne_pool::Spawned;
+use arachne_table::WordContexts;
+use job::Request;
 use keeper::Keeper;
 use requests::requests;
 use start::run;
 use std::env;
 use std::io::Read;
+
+type Table = WordContexts<Spawned<Request<HostRuntime>>>;
 
 fn main(rt: HostRuntime) -> Result<()> {
     let alloc = rt.alloc();
@@ -34,10 +39,10 @@ fn main(rt: HostRuntime) -> Result<()> {
     let Some(list) = requests(alloc, text.as_str())? else {
         bail!("a line of the input is no request");
     };
-    let most = cores.unwrap_or(2).clamp(1, 63) as u8;
+    let most = cores.unwrap_or(2).clamp(1, u64::from(Keeper::MOST)) as u8;
     let interval = interval.unwrap_or(1000).saturating_mul(1000);
     let keeper = Keeper::new(alloc, most, interval);
-    let (report, keeper) = run(&rt, alloc, list.as_slice(), keeper)?;
+    let (report, keeper) = run::<HostRuntime, Table>(&rt, alloc, list.as_slice(), keeper)?;
     print::served(&rt, &report, list.len())?;
     if cores.is_some() {
         print::times(&rt, alloc, &report)?;

@@ -17,10 +17,10 @@ use std::sync::Wait;
 
 /// A request that was sent and not answered.
 #[derive(Drop)]
-struct Sent<'r, R: Clock> {
+struct Sent<R: Clock + Copy> {
     number: u64,
     due: Due,
-    handle: Handle<Request<'r, R>>,
+    handle: Handle<Request<R>>,
     ghost number_right: { handle.number ≡ number },
     ghost work_right: { handle.work ≡ due.work },
 }
@@ -34,22 +34,22 @@ pub struct Done<W> {
 }
 
 /// Sends each request once its time has come and a place may be free, and takes the answers, until all are answered.
-pub fn send<'r, R: Clock + Wait, C: Contexts<Spawned<Request<'r, R>>>>(
-    rt: &'r R,
+pub fn send<R: Clock + Copy + Wait, C: Contexts<Spawned<Request<R>>>>(
+    rt: &R,
     alloc: Global,
     server: &Server<C>,
-    mut worker: Worker<C::Seat, Request<'r, R>>,
+    mut worker: Worker<C::Seat, Request<R>>,
     mut keeper: Keeper,
     requests: &[Due],
     mut report: Report,
-) -> Option<Done<Worker<C::Seat, Request<'r, R>>>>
+) -> Option<Done<Worker<C::Seat, Request<R>>>>
     requires worker { IsWorkerOf C.sits C.idle server.now.pool.table server.now.pool.cores worker }
     requires cores { keeper.most + 1 ≡ server.now.pool.cores }
     requires none { vec_len report.answers ≡ 0 }
     ensures worker { IfSome result (λ done. IsWorkerOf C.sits C.idle server.now.pool.table server.now.pool.cores done.worker) }
     ensures all { IfSome result (λ done. vec_len done.report.answers ≡ length requests.now) }
 {
-    let mut sent: VecDeque<Sent<'r, R>> = VecDeque::new(alloc);
+    let mut sent: VecDeque<Sent<R>> = VecDeque::new(alloc);
     let begin = now(rt);
     let mut next: usize = 0;
     for _ in rt.forever() {
@@ -60,7 +60,7 @@ pub fn send<'r, R: Clock + Wait, C: Contexts<Spawned<Request<'r, R>>>>(
         {
             report.late.push(at - due.at).ok()?;
             let number = next as u64;
-            let request = Request::new(rt, number, *due);
+            let request = Request::new(*rt, number, *due);
             let handle = server.pool.spawn(rt, &mut worker, request).ok()?;
             sent.push_back(Sent {
                 number,
@@ -90,11 +90,11 @@ pub fn send<'r, R: Clock + Wait, C: Contexts<Spawned<Request<'r, R>>>>(
 }
 
 /// Looks at the load, and orders a core or gives one back where that is due.
-fn keep_cores<'r, R: Clock + Wait, C: Contexts<Spawned<Request<'r, R>>>>(
+fn keep_cores<R: Clock + Copy + Wait, C: Contexts<Spawned<Request<R>>>>(
     rt: &R,
     alloc: Global,
     server: &Server<C>,
-    worker: &mut Worker<C::Seat, Request<'r, R>>,
+    worker: &mut Worker<C::Seat, Request<R>>,
     keeper: &mut Keeper,
     at: u64,
 ) -> Option<()>
@@ -114,8 +114,8 @@ fn keep_cores<'r, R: Clock + Wait, C: Contexts<Spawned<Request<'r, R>>>>(
 }
 
 /// Takes the answer to the request that was sent first, if it has come. Whether it had.
-fn take_answer<'r, R: Clock>(
-    sent: &mut VecDeque<Sent<'r, R>>,
+fn take_answer<R: Clock + Copy>(
+    sent: &mut VecDeque<Sent<R>>,
     begin: u64,
     report: &mut Report,
 ) -> Option<bool>

@@ -11,39 +11,36 @@ use crate::serve::{Server, serve};
 use crate::station::stations;
 use anyhow::{Result, bail};
 use arachne_pool::{Pool, PoolJob, Spawned, Worker};
-use arachne_table::{Contexts, WordContexts};
+use arachne_table::Contexts;
 use std::alloc::Global;
 use std::rt::Clock;
 use std::sync::Wait;
 use std::thread;
 use std::thread::Threads;
 
-type Table<'r, R> = WordContexts<Spawned<Request<'r, R>>>;
-
 /// Answers all requests of a list, with the cores of a keeper and one more core, on which nothing runs: the sender's.
-pub fn run<'r, R: Threads + Wait + Clock + Sync>(
-    rt: &'r R,
-    alloc: Global,
-    requests: &[Due],
-    keeper: Keeper,
-) -> Result<(Report, Keeper)>
+pub fn run<
+    R: Threads + Wait + Clock + Copy + Send + Sync,
+    C: Contexts<Spawned<Request<R>>> + Drop + Sync,
+>(rt: &R, alloc: Global, requests: &[Due], keeper: Keeper) -> Result<(Report, Keeper)>
     ensures { IfOk result (λ made. vec_len made.0.answers ≡ length requests.now) }
 {
     let report = Report::new(alloc, requests.len())?;
-    let (most, cores) = (keeper.most, keeper.most + 1);
+    let most = keeper.most;
     let orders = keeper.listed(alloc, keeper.sender())?;
-    let (pool, worker) = Pool::<Table<'r, R>>::new::<Request<'r, R>>(
-        alloc,
-        cores,
-        Keeper::PLACES,
-        orders,
-    )?;
+    let (pool, worker) = Pool::<C>::new::<Request<R>>(alloc, most + 1, Keeper::PLACES, orders)?;
     let server = Server::new(pool, stations(alloc, most)?);
     let (sender, worker) = server.pool.split(rt, worker);
     let (done, worker) = thread::join(
         rt,
-        || send::<R, Table<'_, R>>(rt, alloc, &server, sender, keeper, requests, report),
-        || serve_from::<R, Request<'_, R>, Table<'_, R>>(rt, &server, worker, 0),
+        || -> Option<Done<Worker<C::Seat, Request<R>>>>
+            requires { IsWorkerOf C.sits C.idle server.now.pool.table server.now.pool.cores sender × (keeper.most + 1 ≡ server.now.pool.cores) × (vec_len report.answers ≡ 0) }
+            ensures { IfSome result (λ done. IsWorkerOf C.sits C.idle server.entry.now.pool.table server.entry.now.pool.cores done.worker × (vec_len done.report.answers ≡ length requests.entry.now)) }
+        { send::<R, C>(rt, alloc, &server, sender, keeper, requests, report) },
+        || -> Option<Worker<C::Seat, Request<R>>>
+            requires { IsWorkerOf C.sits C.idle server.now.pool.table server.now.pool.cores worker × (2 ≤ server.now.pool.cores) }
+            ensures { IfSome result (IsWorkerOf C.sits C.idle server.entry.now.pool.table server.entry.now.pool.cores) }
+        { serve_all::<R, Request<R>, C>(rt, &server, worker) },
     );
     let (Some(done), Some(worker)) = (done, worker) else {
         bail!("memory was refused");
@@ -66,8 +63,36 @@ pub fn run<'r, R: Threads + Wait + Clock + Sync>(
     Ok((report, keeper))
 }
 
-/// Serves on this core and on those behind it, but the sender's, until the server is over.
-fn serve_from<R: Threads + Wait + Clock + Sync, J: PoolJob + Send, C: Contexts<Spawned<J>> + Sync>(
+/// Serves on all cores but the sender's, until the server is over.
+fn serve_all<R: Threads + Wait + Clock + Sync, J: PoolJob + Send, C: Contexts<Spawned<J>> + Sync>(
+    rt: &R,
+    server: &Server<C>,
+    worker: Worker<C::Seat, J>,
+) -> Option<Worker<C::Seat, J>>
+    requires worker { IsWorkerOf C.sits C.idle server.now.pool.table server.now.pool.cores worker }
+    requires cores { 2 ≤ server.now.pool.cores }
+    ensures { IfSome result (IsWorkerOf C.sits C.idle server.now.pool.table server.now.pool.cores) }
+{
+    if server.pool.cores <= 3 {
+        return serve_two::<R, J, C>(rt, server, worker, 0);
+    }
+    let (own, others) = server.pool.split(rt, worker);
+    let (own, others) = thread::join(
+        rt,
+        || -> Option<Worker<C::Seat, J>>
+            requires { IsWorkerOf C.sits C.idle server.now.pool.table server.now.pool.cores own × (2 ≤ server.now.pool.cores) }
+            ensures { IfSome result (IsWorkerOf C.sits C.idle server.entry.now.pool.table server.entry.now.pool.cores) }
+        { serve_two::<R, J, C>(rt, server, own, 0) },
+        || -> Option<Worker<C::Seat, J>>
+            requires { IsWorkerOf C.sits C.idle server.now.pool.table server.now.pool.cores others × (4 ≤ server.now.pool.cores) }
+            ensures { IfSome result (IsWorkerOf C.sits C.idle server.entry.now.pool.table server.entry.now.pool.cores) }
+        { serve_two::<R, J, C>(rt, server, others, 2) },
+    );
+    server.pool.join_workers(rt, own?, others?).ok()
+}
+
+/// Serves on a core and on the next one, unless that is the sender's.
+fn serve_two<R: Threads + Wait + Clock + Sync, J: PoolJob + Send, C: Contexts<Spawned<J>> + Sync>(
     rt: &R,
     server: &Server<C>,
     worker: Worker<C::Seat, J>,
@@ -83,8 +108,14 @@ fn serve_from<R: Threads + Wait + Clock + Sync, J: PoolJob + Send, C: Contexts<S
     let (own, others) = server.pool.split(rt, worker);
     let (own, others) = thread::join(
         rt,
-        || serve::<R, J, C>(rt, server, own, core),
-        || serve_from::<R, J, C>(rt, server, others, core + 1),
+        || -> Option<Worker<C::Seat, J>>
+            requires { IsWorkerOf C.sits C.idle server.now.pool.table server.now.pool.cores own × (core < server.now.pool.cores) }
+            ensures { IfSome result (IsWorkerOf C.sits C.idle server.entry.now.pool.table server.entry.now.pool.cores) }
+        { serve::<R, J, C>(rt, server, own, core) },
+        || -> Option<Worker<C::Seat, J>>
+            requires { IsWorkerOf C.sits C.idle server.now.pool.table server.now.pool.cores others × (core + 1 < server.now.pool.cores) × (core < 255) }
+            ensures { IfSome result (IsWorkerOf C.sits C.idle server.entry.now.pool.table server.entry.now.pool.cores) }
+        { serve::<R, J, C>(rt, server, others, core + 1) },
     );
     server.pool.join_workers(rt, own?, others?).ok()
 }
