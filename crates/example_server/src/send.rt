@@ -61,7 +61,9 @@ pub fn send<R: Clock + Copy + Wait, C: Contexts<Spawned<Request<R>>>>(
             report.late.push(at - due.at).ok()?;
             let number = next as u64;
             let request = Request::new(*rt, number, *due);
-            let handle = server.pool.spawn(rt, &mut worker, request).ok()?;
+            let Ok(handle) = server.pool.spawn(rt, &mut worker, request) else {
+                return None;
+            };
             sent.push_back(Sent {
                 number,
                 due: *due,

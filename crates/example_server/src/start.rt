@@ -10,7 +10,7 @@ use crate::send::{Done, send};
 use crate::serve::{Server, serve};
 use crate::station::stations;
 use anyhow::{Result, bail};
-use arachne_pool::{Pool, PoolJob, Spawned, Worker};
+use arachne_pool::{Pool, Spawned, Worker};
 use arachne_table::Contexts;
 use std::alloc::Global;
 use std::rt::Clock;
@@ -30,29 +30,14 @@ pub fn run<
     let orders = keeper.listed(alloc, keeper.sender())?;
     let (pool, worker) = Pool::<C>::new::<Request<R>>(alloc, most + 1, Keeper::PLACES, orders)?;
     let server = Server::new(pool, stations(alloc, most)?);
-    let (sender, worker) = server.pool.split(rt, worker);
-    let (done, worker) = thread::join(
-        rt,
-        || -> Option<Done<Worker<C::Seat, Request<R>>>>
-            requires { IsWorkerOf C.sits C.idle server.now.pool.table server.now.pool.cores sender × (keeper.most + 1 ≡ server.now.pool.cores) × (vec_len report.answers ≡ 0) }
-            ensures { IfSome result (λ done. IsWorkerOf C.sits C.idle server.entry.now.pool.table server.entry.now.pool.cores done.worker × (vec_len done.report.answers ≡ length requests.entry.now)) }
-        { send::<R, C>(rt, alloc, &server, sender, keeper, requests, report) },
-        || -> Option<Worker<C::Seat, Request<R>>>
-            requires { IsWorkerOf C.sits C.idle server.now.pool.table server.now.pool.cores worker × (2 ≤ server.now.pool.cores) }
-            ensures { IfSome result (IsWorkerOf C.sits C.idle server.entry.now.pool.table server.entry.now.pool.cores) }
-        { serve_all::<R, Request<R>, C>(rt, &server, worker) },
-    );
-    let (Some(done), Some(worker)) = (done, worker) else {
+    let Some(done) = work::<R, C>(rt, alloc, &server, worker, keeper, requests, report) else {
         bail!("memory was refused");
     };
     let Done {
-        worker: sender,
+        worker,
         keeper,
         report,
     } = done;
-    let Ok(worker) = server.pool.join_workers(rt, sender, worker) else {
-        bail!("memory was refused");
-    };
     let Server { pool, .. } = server;
     let Ok(left) = pool.close(rt, alloc, worker) else {
         bail!("the pool was not closed");
@@ -63,59 +48,87 @@ pub fn run<
     Ok((report, keeper))
 }
 
+/// Sends the requests and serves on all cores, by a kernel thread each, until all are answered.
+fn work<R: Threads + Wait + Clock + Copy + Send + Sync, C: Contexts<Spawned<Request<R>>> + Sync>(
+    rt: &R,
+    alloc: Global,
+    server: &Server<C>,
+    worker: Worker<C::Seat, Request<R>>,
+    keeper: Keeper,
+    requests: &[Due],
+    report: Report,
+) -> Option<Done<Worker<C::Seat, Request<R>>>>
+    requires worker { IsWorkerOf C.sits C.idle server.now.pool.table server.now.pool.cores worker }
+    requires cores { keeper.most + 1 ≡ server.now.pool.cores }
+    requires none { vec_len report.answers ≡ 0 }
+    ensures worker { IfSome result (λ done. IsWorkerOf C.sits C.idle server.now.pool.table server.now.pool.cores done.worker) }
+    ensures all { IfSome result (λ done. vec_len done.report.answers ≡ length requests.now) }
+{
+    let (sender, worker) = server.pool.split(rt, worker);
+    let (done, worker) = thread::join(
+        rt,
+        || send::<R, C>(rt, alloc, server, sender, keeper, requests, report),
+        || serve_all::<R, C>(rt, server, worker),
+    );
+    let Done {
+        worker: sender,
+        keeper,
+        report,
+    } = done?;
+    Some(Done {
+        worker: server.pool.join_workers(rt, sender, worker?).ok()?,
+        keeper,
+        report,
+    })
+}
+
 /// Serves on all cores but the sender's, until the server is over.
-fn serve_all<R: Threads + Wait + Clock + Sync, J: PoolJob + Send, C: Contexts<Spawned<J>> + Sync>(
+fn serve_all<
+    R: Threads + Wait + Clock + Copy + Send + Sync,
+    C: Contexts<Spawned<Request<R>>> + Sync,
+>(
     rt: &R,
     server: &Server<C>,
-    worker: Worker<C::Seat, J>,
-) -> Option<Worker<C::Seat, J>>
+    worker: Worker<C::Seat, Request<R>>,
+) -> Option<Worker<C::Seat, Request<R>>>
     requires worker { IsWorkerOf C.sits C.idle server.now.pool.table server.now.pool.cores worker }
     requires cores { 2 ≤ server.now.pool.cores }
     ensures { IfSome result (IsWorkerOf C.sits C.idle server.now.pool.table server.now.pool.cores) }
 {
     if server.pool.cores <= 3 {
-        return serve_two::<R, J, C>(rt, server, worker, 0);
+        return serve_two::<R, C>(rt, server, worker, 0);
     }
     let (own, others) = server.pool.split(rt, worker);
     let (own, others) = thread::join(
         rt,
-        || -> Option<Worker<C::Seat, J>>
-            requires { IsWorkerOf C.sits C.idle server.now.pool.table server.now.pool.cores own × (2 ≤ server.now.pool.cores) }
-            ensures { IfSome result (IsWorkerOf C.sits C.idle server.entry.now.pool.table server.entry.now.pool.cores) }
-        { serve_two::<R, J, C>(rt, server, own, 0) },
-        || -> Option<Worker<C::Seat, J>>
-            requires { IsWorkerOf C.sits C.idle server.now.pool.table server.now.pool.cores others × (4 ≤ server.now.pool.cores) }
-            ensures { IfSome result (IsWorkerOf C.sits C.idle server.entry.now.pool.table server.entry.now.pool.cores) }
-        { serve_two::<R, J, C>(rt, server, others, 2) },
+        || serve_two::<R, C>(rt, server, own, 0),
+        || serve_two::<R, C>(rt, server, others, 2),
     );
     server.pool.join_workers(rt, own?, others?).ok()
 }
 
 /// Serves on a core and on the next one, unless that is the sender's.
-fn serve_two<R: Threads + Wait + Clock + Sync, J: PoolJob + Send, C: Contexts<Spawned<J>> + Sync>(
+fn serve_two<
+    R: Threads + Wait + Clock + Copy + Send + Sync,
+    C: Contexts<Spawned<Request<R>>> + Sync,
+>(
     rt: &R,
     server: &Server<C>,
-    worker: Worker<C::Seat, J>,
+    worker: Worker<C::Seat, Request<R>>,
     core: u8,
-) -> Option<Worker<C::Seat, J>>
+) -> Option<Worker<C::Seat, Request<R>>>
     requires worker { IsWorkerOf C.sits C.idle server.now.pool.table server.now.pool.cores worker }
     requires core { core + 2 ≤ server.now.pool.cores }
     ensures { IfSome result (IsWorkerOf C.sits C.idle server.now.pool.table server.now.pool.cores) }
 {
     if core + 2 == server.pool.cores {
-        return serve::<R, J, C>(rt, server, worker, core);
+        return serve::<R, Request<R>, C>(rt, server, worker, core);
     }
     let (own, others) = server.pool.split(rt, worker);
     let (own, others) = thread::join(
         rt,
-        || -> Option<Worker<C::Seat, J>>
-            requires { IsWorkerOf C.sits C.idle server.now.pool.table server.now.pool.cores own × (core < server.now.pool.cores) }
-            ensures { IfSome result (IsWorkerOf C.sits C.idle server.entry.now.pool.table server.entry.now.pool.cores) }
-        { serve::<R, J, C>(rt, server, own, core) },
-        || -> Option<Worker<C::Seat, J>>
-            requires { IsWorkerOf C.sits C.idle server.now.pool.table server.now.pool.cores others × (core + 1 < server.now.pool.cores) × (core < 255) }
-            ensures { IfSome result (IsWorkerOf C.sits C.idle server.entry.now.pool.table server.entry.now.pool.cores) }
-        { serve::<R, J, C>(rt, server, others, core + 1) },
+        || serve::<R, Request<R>, C>(rt, server, own, core),
+        || serve::<R, Request<R>, C>(rt, server, others, core + 1),
     );
     server.pool.join_workers(rt, own?, others?).ok()
 }
