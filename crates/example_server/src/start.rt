@@ -124,11 +124,18 @@ fn serve_two<
     if core + 2 == server.pool.cores {
         return serve::<R, Request<R>, C>(rt, server, worker, core);
     }
+    let next = core + 1;
     let (own, others) = server.pool.split(rt, worker);
     let (own, others) = thread::join(
         rt,
-        || serve::<R, Request<R>, C>(rt, server, own, core),
-        || serve::<R, Request<R>, C>(rt, server, others, core + 1),
+        move || -> Option<Worker<C::Seat, Request<R>>>
+            requires { IsWorkerOf C.sits C.idle server.now.pool.table server.now.pool.cores own × (core < server.now.pool.cores) }
+            ensures { IfSome result (IsWorkerOf C.sits C.idle server.entry.now.pool.table server.entry.now.pool.cores) }
+        { serve::<R, Request<R>, C>(rt, server, own, core) },
+        move || -> Option<Worker<C::Seat, Request<R>>>
+            requires { IsWorkerOf C.sits C.idle server.now.pool.table server.now.pool.cores others × (next < server.now.pool.cores) }
+            ensures { IfSome result (IsWorkerOf C.sits C.idle server.entry.now.pool.table server.entry.now.pool.cores) }
+        { serve::<R, Request<R>, C>(rt, server, others, next) },
     );
     server.pool.join_workers(rt, own?, others?).ok()
 }
