@@ -1,1 +1,2 @@
 mod ClosedFirst
+pub mod Crossing

@@ -31,6 +31,7 @@ impl PoolJob for Heap {
     type Output = u64;
 
     ghost is_result = { λ heap count. count ≡ heap.size };
+
     ghost awaits = { λ heap children. sum (map (λ child. child.size) children) + heap.rest + heap.counted ≡ heap.size };
 
     fn step(&mut self) -> Step<Heap, u64> {
@@ -69,11 +70,15 @@ fn work<C: Contexts<Spawned<Heap>>, R: Wait>(
 }
 
 /// Counts a heap on two cores of 8 places. Its grains, and how many heaps were not counted.
-fn count(rt: &HostRuntime, alloc: Global) -> Option<(u64, usize)>
+fn count<R: thread::Threads + Wait + Sync>(rt: &R, alloc: Global) -> Option<(u64, usize)>
     ensures { IfSome result (λ counted. counted.0 ≡ 10000) }
 {
-    let (pool, mut worker) =
-        Pool::<WordContexts<Spawned<Heap>>>::new::<Heap>(alloc, 2, 8, Vec::new(alloc)).ok()?;
+    let (pool, mut worker) = Pool::<WordContexts<Spawned<Heap>>>::new::<Heap>(
+        alloc,
+        2,
+        8,
+        Vec::new(alloc),
+    ).ok()?;
     let heap = Heap {
         size: 10_000,
         rest: 9_999,
@@ -83,8 +88,8 @@ fn count(rt: &HostRuntime, alloc: Global) -> Option<(u64, usize)>
     let (first, second) = pool.split(rt, worker);
     let (first, second) = thread::join(
         rt,
-        || work::<WordContexts<Spawned<Heap>>, HostRuntime>(rt, &pool, first, 0),
-        || work::<WordContexts<Spawned<Heap>>, HostRuntime>(rt, &pool, second, 1),
+        || work::<WordContexts<Spawned<Heap>>, R>(rt, &pool, first, 0),
+        || work::<WordContexts<Spawned<Heap>>, R>(rt, &pool, second, 1),
     );
     let worker = pool.join_workers(rt, first, second).ok()?;
     let left = pool.close(rt, alloc, worker).ok()?;
