@@ -8,9 +8,9 @@ use arachne_table::Tagged;
 use std::rt::Clock;
 
 /// A request that was sent. It has a clock, to tell when it ends.
-#[derive(Drop)]
-pub struct Request<R: Clock + Copy> {
-    clock: R,
+#[derive(Clone, Copy)]
+pub struct Request {
+    pub clock: HostRuntime,
     /// Its place in the list.
     pub number: u64,
     pub work: u32,
@@ -25,13 +25,14 @@ pub struct Answer {
     pub ended: u64,
 }
 
-impl<R: Clock + Copy> Request<R> {
-    pub fn new(clock: R, number: u64, due: Due) -> Request<R>
+impl Request {
+    /// The request of this number that a line asks for, with the same clock.
+    pub fn next(self, number: u64, due: Due) -> Request
         ensures number { result.number ≡ number }
         ensures work { result.work ≡ due.work }
     {
         Request {
-            clock,
+            clock: self.clock,
             number,
             work: due.work,
             class: due.class,
@@ -62,7 +63,7 @@ fn mix(rounds: u32, number: u64) -> u64
     value
 }
 
-impl<R: Clock + Copy> Tagged for Request<R> {
+impl Tagged for Request {
     ghost tag_of = { λ request. request.number };
 
     fn tag(&self) -> u64 {
@@ -70,14 +71,14 @@ impl<R: Clock + Copy> Tagged for Request<R> {
     }
 }
 
-impl<R: Clock + Copy> PoolJob for Request<R> {
+impl PoolJob for Request {
     type Output = Answer;
 
     ghost is_result = { λ request answer. answer.value ≡ mixed request.work request.number };
 
     ghost awaits = { λ _ _. Unit {0} };
 
-    fn step(&mut self) -> Step<Request<R>, Answer> {
+    fn step(&mut self) -> Step<Request, Answer> {
         let value = mix(self.work, self.number);
         Step::Done(Answer {
             value,

@@ -18,12 +18,12 @@ use arachne_pool::Spawned;
 use arachne_table::WordContexts;
 use job::Request;
 use keeper::Keeper;
-use requests::requests;
+use requests::{Class, requests};
 use start::run;
 use std::env;
 use std::io::Read;
 
-type Table = WordContexts<Spawned<Request<HostRuntime>>>;
+type Table = WordContexts<Spawned<Request>>;
 
 fn main(rt: HostRuntime) -> Result<()> {
     let alloc = rt.alloc();
@@ -42,7 +42,19 @@ fn main(rt: HostRuntime) -> Result<()> {
     let most = cores.unwrap_or(2).clamp(1, u64::from(Keeper::MOST)) as u8;
     let interval = interval.unwrap_or(1000).saturating_mul(1000);
     let keeper = Keeper::new(alloc, most, interval);
-    let (report, keeper) = run::<HostRuntime, Table>(&rt, alloc, list.as_slice(), keeper)?;
+    let template = Request {
+        clock: rt,
+        number: 0,
+        work: 0,
+        class: Class::Normal,
+    };
+    let (report, keeper) = run::<HostRuntime, Table>(
+        &rt,
+        alloc,
+        list.as_slice(),
+        keeper,
+        template,
+    )?;
     print::served(&rt, &report, list.len())?;
     if cores.is_some() {
         print::times(&rt, alloc, &report)?;

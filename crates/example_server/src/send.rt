@@ -17,10 +17,10 @@ use std::sync::Wait;
 
 /// A request that was sent and not answered.
 #[derive(Drop)]
-struct Sent<R: Clock + Copy> {
+struct Sent {
     number: u64,
     due: Due,
-    handle: Handle<Request<R>>,
+    handle: Handle<Request>,
     ghost number_right: { handle.number ≡ number },
     ghost work_right: { handle.work ≡ due.work },
 }
@@ -34,22 +34,23 @@ pub struct Done<W> {
 }
 
 /// Sends each request once its time has come and a place may be free, and takes the answers, until all are answered.
-pub fn send<R: Clock + Copy + Wait, C: Contexts<Spawned<Request<R>>>>(
+pub fn send<R: Clock + Wait, C: Contexts<Spawned<Request>>>(
     rt: &R,
     alloc: Global,
     server: &Server<C>,
-    mut worker: Worker<C::Seat, Request<R>>,
+    mut worker: Worker<C::Seat, Request>,
     mut keeper: Keeper,
     requests: &[Due],
     mut report: Report,
-) -> Option<Done<Worker<C::Seat, Request<R>>>>
+    template: Request,
+) -> Option<Done<Worker<C::Seat, Request>>>
     requires worker { IsWorkerOf C.sits C.idle server.now.pool.table server.now.pool.cores worker }
     requires cores { keeper.most + 1 ≡ server.now.pool.cores }
     requires none { vec_len report.answers ≡ 0 }
     ensures worker { IfSome result (λ done. IsWorkerOf C.sits C.idle server.now.pool.table server.now.pool.cores done.worker) }
     ensures all { IfSome result (λ done. vec_len done.report.answers ≡ length requests.now) }
 {
-    let mut sent: VecDeque<Sent<R>> = VecDeque::new(alloc);
+    let mut sent: VecDeque<Sent> = VecDeque::new(alloc);
     let begin = now(rt);
     let mut next: usize = 0;
     for _ in rt.forever() {
@@ -60,7 +61,7 @@ pub fn send<R: Clock + Copy + Wait, C: Contexts<Spawned<Request<R>>>>(
         {
             report.late.push(at - due.at).ok()?;
             let number = next as u64;
-            let request = Request::new(*rt, number, *due);
+            let request = template.next(number, *due);
             let Ok(handle) = server.pool.spawn(rt, &mut worker, request) else {
                 return None;
             };
@@ -92,11 +93,11 @@ pub fn send<R: Clock + Copy + Wait, C: Contexts<Spawned<Request<R>>>>(
 }
 
 /// Looks at the load, and orders a core or gives one back where that is due.
-fn keep_cores<R: Clock + Copy + Wait, C: Contexts<Spawned<Request<R>>>>(
+fn keep_cores<R: Clock + Wait, C: Contexts<Spawned<Request>>>(
     rt: &R,
     alloc: Global,
     server: &Server<C>,
-    worker: &mut Worker<C::Seat, Request<R>>,
+    worker: &mut Worker<C::Seat, Request>,
     keeper: &mut Keeper,
     at: u64,
 ) -> Option<()>
@@ -116,11 +117,7 @@ fn keep_cores<R: Clock + Copy + Wait, C: Contexts<Spawned<Request<R>>>>(
 }
 
 /// Takes the answer to the request that was sent first, if it has come. Whether it had.
-fn take_answer<R: Clock + Copy>(
-    sent: &mut VecDeque<Sent<R>>,
-    begin: u64,
-    report: &mut Report,
-) -> Option<bool>
+fn take_answer(sent: &mut VecDeque<Sent>, begin: u64, report: &mut Report) -> Option<bool>
     ensures { OnSome result (vec_len report.new.answers + deque_len sent.new ≡ vec_len report.old.answers + deque_len sent.old) }
 {
     let Some(first) = sent.pop_front() else {

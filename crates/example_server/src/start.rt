@@ -19,18 +19,24 @@ use std::thread;
 use std::thread::Threads;
 
 /// Answers all requests of a list, with the cores of a keeper and one more core, on which nothing runs: the sender's.
-pub fn run<
-    R: Threads + Wait + Clock + Copy + Send + Sync,
-    C: Contexts<Spawned<Request<R>>> + Drop + Sync,
->(rt: &R, alloc: Global, requests: &[Due], keeper: Keeper) -> Result<(Report, Keeper)>
+pub fn run<R: Threads + Wait + Clock + Sync, C: Contexts<Spawned<Request>> + Drop + Sync>(
+    rt: &R,
+    alloc: Global,
+    requests: &[Due],
+    keeper: Keeper,
+    template: Request,
+) -> Result<(Report, Keeper)>
     ensures { IfOk result (λ made. vec_len made.0.answers ≡ length requests.now) }
 {
     let report = Report::new(alloc, requests.len())?;
     let most = keeper.most;
     let orders = keeper.listed(alloc, keeper.sender())?;
-    let (pool, worker) = Pool::<C>::new::<Request<R>>(alloc, most + 1, Keeper::PLACES, orders)?;
+    let (pool, worker) = Pool::<C>::new::<Request>(alloc, most + 1, Keeper::PLACES, orders)?;
     let server = Server::new(pool, stations(alloc, most)?);
-    let Some(done) = work::<R, C>(rt, alloc, &server, worker, keeper, requests, report) else {
+    let done = work::<R, C>(
+        rt, alloc, &server, worker, keeper, requests, report, template,
+    );
+    let Some(done) = done else {
         bail!("memory was refused");
     };
     let Done {
@@ -49,15 +55,16 @@ pub fn run<
 }
 
 /// Sends the requests and serves on all cores, by a kernel thread each, until all are answered.
-fn work<R: Threads + Wait + Clock + Copy + Send + Sync, C: Contexts<Spawned<Request<R>>> + Sync>(
+fn work<R: Threads + Wait + Clock + Sync, C: Contexts<Spawned<Request>> + Sync>(
     rt: &R,
     alloc: Global,
     server: &Server<C>,
-    worker: Worker<C::Seat, Request<R>>,
+    worker: Worker<C::Seat, Request>,
     keeper: Keeper,
     requests: &[Due],
     report: Report,
-) -> Option<Done<Worker<C::Seat, Request<R>>>>
+    template: Request,
+) -> Option<Done<Worker<C::Seat, Request>>>
     requires worker { IsWorkerOf C.sits C.idle server.now.pool.table server.now.pool.cores worker }
     requires cores { keeper.most + 1 ≡ server.now.pool.cores }
     requires none { vec_len report.answers ≡ 0 }
@@ -65,10 +72,14 @@ fn work<R: Threads + Wait + Clock + Copy + Send + Sync, C: Contexts<Spawned<Requ
     ensures all { IfSome result (λ done. vec_len done.report.answers ≡ length requests.now) }
 {
     let (sender, worker) = server.pool.split(rt, worker);
-    let (done, worker) = thread::join(
+    let (worker, done) = thread::join(
         rt,
-        || send::<R, C>(rt, alloc, server, sender, keeper, requests, report),
         || serve_all::<R, C>(rt, server, worker),
+        || {
+            send::<R, C>(
+                rt, alloc, server, sender, keeper, requests, report, template,
+            )
+        },
     );
     let Done {
         worker: sender,
@@ -83,14 +94,11 @@ fn work<R: Threads + Wait + Clock + Copy + Send + Sync, C: Contexts<Spawned<Requ
 }
 
 /// Serves on all cores but the sender's, until the server is over.
-fn serve_all<
-    R: Threads + Wait + Clock + Copy + Send + Sync,
-    C: Contexts<Spawned<Request<R>>> + Sync,
->(
+fn serve_all<R: Threads + Wait + Clock + Sync, C: Contexts<Spawned<Request>> + Sync>(
     rt: &R,
     server: &Server<C>,
-    worker: Worker<C::Seat, Request<R>>,
-) -> Option<Worker<C::Seat, Request<R>>>
+    worker: Worker<C::Seat, Request>,
+) -> Option<Worker<C::Seat, Request>>
     requires worker { IsWorkerOf C.sits C.idle server.now.pool.table server.now.pool.cores worker }
     requires cores { 2 ≤ server.now.pool.cores }
     ensures { IfSome result (IsWorkerOf C.sits C.idle server.now.pool.table server.now.pool.cores) }
@@ -108,34 +116,25 @@ fn serve_all<
 }
 
 /// Serves on a core and on the next one, unless that is the sender's.
-fn serve_two<
-    R: Threads + Wait + Clock + Copy + Send + Sync,
-    C: Contexts<Spawned<Request<R>>> + Sync,
->(
+fn serve_two<R: Threads + Wait + Clock + Sync, C: Contexts<Spawned<Request>> + Sync>(
     rt: &R,
     server: &Server<C>,
-    worker: Worker<C::Seat, Request<R>>,
+    worker: Worker<C::Seat, Request>,
     core: u8,
-) -> Option<Worker<C::Seat, Request<R>>>
+) -> Option<Worker<C::Seat, Request>>
     requires worker { IsWorkerOf C.sits C.idle server.now.pool.table server.now.pool.cores worker }
     requires core { core + 2 ≤ server.now.pool.cores }
     ensures { IfSome result (IsWorkerOf C.sits C.idle server.now.pool.table server.now.pool.cores) }
 {
     if core + 2 == server.pool.cores {
-        return serve::<R, Request<R>, C>(rt, server, worker, core);
+        return serve::<R, Request, C>(rt, server, worker, core);
     }
     let next = core + 1;
     let (own, others) = server.pool.split(rt, worker);
     let (own, others) = thread::join(
         rt,
-        move || -> Option<Worker<C::Seat, Request<R>>>
-            requires { IsWorkerOf C.sits C.idle server.now.pool.table server.now.pool.cores own × (core < server.now.pool.cores) }
-            ensures { IfSome result (IsWorkerOf C.sits C.idle server.entry.now.pool.table server.entry.now.pool.cores) }
-        { serve::<R, Request<R>, C>(rt, server, own, core) },
-        move || -> Option<Worker<C::Seat, Request<R>>>
-            requires { IsWorkerOf C.sits C.idle server.now.pool.table server.now.pool.cores others × (next < server.now.pool.cores) }
-            ensures { IfSome result (IsWorkerOf C.sits C.idle server.entry.now.pool.table server.entry.now.pool.cores) }
-        { serve::<R, Request<R>, C>(rt, server, others, next) },
+        || serve::<R, Request, C>(rt, server, own, core),
+        || serve::<R, Request, C>(rt, server, others, next),
     );
     server.pool.join_workers(rt, own?, others?).ok()
 }
