@@ -81,7 +81,6 @@ pub fn send<R: Clock + Wait, C: Contexts<Spawned<Request>>>(
             && sent.is_empty()
         {
             report.nanos = at;
-            server.end();
             return Some(Done {
                 worker,
                 keeper,

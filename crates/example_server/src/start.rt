@@ -1,5 +1,6 @@
 //! Starts the kernel threads of the server, and ends them.
-ghost use Rattle.std.specs.Prelude.{◌≡◌, ◌+◌, ◌<◌, ◌≤◌, IfOk, IfSome, length, vec_len};
+ghost use Rattle.std.specs.Prelude.{◌≡◌, ◌+◌, ◌<◌, ◌≤◌, All, IfOk, IfSome, length, vec_capacity, vec_len};
+ghost use Rattle.std.specs.Thread.{IsSync};
 ghost use Rattle.arachne_pool.specs.Workers.{IsWorkerOf};
 
 use crate::job::Request;
@@ -11,12 +12,13 @@ use crate::serve::{Server, serve};
 use crate::station::stations;
 use anyhow::{Result, bail};
 use arachne_pool::{Pool, Spawned, Worker};
-use arachne_table::Contexts;
+use arachne_table::{Contexts, Seats};
 use std::alloc::Global;
 use std::rt::Clock;
+use std::snapshot::Snapshot;
 use std::sync::Wait;
 use std::thread;
-use std::thread::Threads;
+use std::thread::{Promise, PromisedHandle, Threads};
 
 /// Answers all requests of a list, with the cores of a keeper and one more core, on which nothing runs: the sender's.
 pub fn run<R: Threads + Wait + Clock + Sync, C: Contexts<Spawned<Request>> + Drop + Sync>(
@@ -54,7 +56,27 @@ pub fn run<R: Threads + Wait + Clock + Sync, C: Contexts<Spawned<Request>> + Dro
     Ok((report, keeper))
 }
 
-/// Sends the requests and serves on all cores, by a kernel thread each, until all are answered.
+/// The worker that a kernel thread gives back is of this server's pool.
+#[derive(Drop)]
+struct Returns<C: Seats> {
+    server: Snapshot<Server<C>>,
+}
+
+impl<C: Seats> Returns<C> {
+    fn to(server: &Server<C>) -> Returns<C>
+        ensures { result.server.value ≡ server.now }
+    {
+        Returns {
+            server: Snapshot::of(server),
+        }
+    }
+}
+
+impl<C: Seats> Promise<Option<Worker<C::Seat, Request>>> for Returns<C> {
+    ghost kept_by = { λ promise worker. IfSome worker (IsWorkerOf C.sits C.idle promise.server.value.pool.table promise.server.value.pool.cores) };
+}
+
+/// Serves on all cores and sends the requests, by a kernel thread each, until all are answered.
 fn work<R: Threads + Wait + Clock + Sync, C: Contexts<Spawned<Request>> + Sync>(
     rt: &R,
     alloc: Global,
@@ -68,73 +90,103 @@ fn work<R: Threads + Wait + Clock + Sync, C: Contexts<Spawned<Request>> + Sync>(
     requires worker { IsWorkerOf C.sits C.idle server.now.pool.table server.now.pool.cores worker }
     requires cores { keeper.most + 1 ≡ server.now.pool.cores }
     requires none { vec_len report.answers ≡ 0 }
-    ensures worker { IfSome result (λ done. IsWorkerOf C.sits C.idle server.now.pool.table server.now.pool.cores done.worker) }
-    ensures all { IfSome result (λ done. vec_len done.report.answers ≡ length requests.now) }
+    ensures { IfSome result (λ done. IsWorkerOf C.sits C.idle server.now.pool.table server.now.pool.cores done.worker × (vec_len done.report.answers ≡ length requests.now)) }
 {
-    let (sender, worker) = server.pool.split(rt, worker);
-    let (worker, done) = thread::join(
+    thread::scope(
+        thread::scope_env(),
         rt,
-        || serve_all::<R, C>(rt, server, worker),
-        || {
-            send::<R, C>(
-                rt, alloc, server, sender, keeper, requests, report, template,
-            )
+        |scope| -> Option<Done<Worker<C::Seat, Request>>>
+            requires { IsSync R.row × IsWorkerOf C.sits C.idle server.now.pool.table server.now.pool.cores worker × (keeper.most + 1 ≡ server.now.pool.cores) × (vec_len report.answers ≡ 0) }
+            ensures { IfSome result (λ done. IsWorkerOf C.sits C.idle server.entry.now.pool.table server.entry.now.pool.cores done.worker × (vec_len done.report.answers ≡ length requests.entry.now)) }
+        {
+            let mut worker = worker;
+            let mut others = Vec::new(alloc);
+            for core in 0..keeper.most {
+                let (rest, theirs) = part_off(rt, server, worker, &mut others);
+                worker = rest;
+                let Some(theirs) = theirs else {
+                    server.end();
+                    return None;
+                };
+                let started = scope.spawn_with(
+                    Returns::to(server),
+                    move || -> Option<Worker<C::Seat, Request>>
+                        requires { IsWorkerOf C.sits C.idle server.now.pool.table server.now.pool.cores theirs × (core < server.now.pool.cores) }
+                        ensures { IfSome result (IsWorkerOf C.sits C.idle server.entry.now.pool.table server.entry.now.pool.cores) }
+                    { serve::<R, Request, C>(rt, server, theirs, core) },
+                );
+                let Ok(other) = started else {
+                    server.end();
+                    return None;
+                };
+                others.push_reserved(other);
+            }
+            let done = send::<R, C>(
+                rt, alloc, server, worker, keeper, requests, report, template,
+            );
+            server.end();
+            let Done {
+                worker,
+                keeper,
+                report,
+            } = done?;
+            Some(Done {
+                worker: join_all(rt, server, worker, others)?,
+                keeper,
+                report,
+            })
         },
-    );
-    let Done {
-        worker: sender,
-        keeper,
-        report,
-    } = done?;
-    Some(Done {
-        worker: server.pool.join_workers(rt, sender, worker?).ok()?,
-        keeper,
-        report,
-    })
+    )
 }
 
-/// Serves on all cores but the sender's, until the server is over.
-fn serve_all<R: Threads + Wait + Clock + Sync, C: Contexts<Spawned<Request>> + Sync>(
+/// One worker more, for whose kernel thread there is room among the others then, if there is memory.
+fn part_off<R: Wait, C: Seats, W>(
     rt: &R,
     server: &Server<C>,
     worker: Worker<C::Seat, Request>,
-) -> Option<Worker<C::Seat, Request>>
-    requires worker { IsWorkerOf C.sits C.idle server.now.pool.table server.now.pool.cores worker }
-    requires cores { 2 ≤ server.now.pool.cores }
-    ensures { IfSome result (IsWorkerOf C.sits C.idle server.now.pool.table server.now.pool.cores) }
+    others: &mut Vec<W>,
+) -> (Worker<C::Seat, Request>, Option<Worker<C::Seat, Request>>)
+    requires { IsWorkerOf C.sits C.idle server.now.pool.table server.now.pool.cores worker }
+    ensures own { IsWorkerOf C.sits C.idle server.now.pool.table server.now.pool.cores result.0 }
+    ensures theirs { IfSome result.1 (IsWorkerOf C.sits C.idle server.now.pool.table server.now.pool.cores) }
+    ensures same { others.new.items ≡ others.old.items }
+    ensures room { IfSome result.1 (λ _. vec_len others.new < vec_capacity others.new) }
 {
-    if server.pool.cores <= 3 {
-        return serve_two::<R, C>(rt, server, worker, 0);
+    if others.try_reserve(1).is_err() {
+        return (worker, None);
     }
-    let (own, others) = server.pool.split(rt, worker);
-    let (own, others) = thread::join(
-        rt,
-        || serve_two::<R, C>(rt, server, own, 0),
-        || serve_two::<R, C>(rt, server, others, 2),
-    );
-    server.pool.join_workers(rt, own?, others?).ok()
+    let (own, theirs) = server.pool.split(rt, worker);
+    (own, Some(theirs))
 }
 
-/// Serves on a core and on the next one, unless that is the sender's.
-fn serve_two<R: Threads + Wait + Clock + Sync, C: Contexts<Spawned<Request>> + Sync>(
+/// All workers together, once the others have ended, if each gave its own back.
+fn join_all<R: Threads + Wait, C: Seats>(
     rt: &R,
     server: &Server<C>,
     worker: Worker<C::Seat, Request>,
-    core: u8,
+    others: Vec<PromisedHandle<Option<Worker<C::Seat, Request>>, Returns<C>>>,
 ) -> Option<Worker<C::Seat, Request>>
     requires worker { IsWorkerOf C.sits C.idle server.now.pool.table server.now.pool.cores worker }
-    requires core { core + 2 ≤ server.now.pool.cores }
+    requires others { All (λ other. other.promise.server.value ≡ server.now) others.items }
     ensures { IfSome result (IsWorkerOf C.sits C.idle server.now.pool.table server.now.pool.cores) }
 {
-    if core + 2 == server.pool.cores {
-        return serve::<R, Request, C>(rt, server, worker, core);
+    let mut all = Some(worker);
+    for other in others {
+        all = joined(rt, server, all, other.join(rt));
     }
-    let next = core + 1;
-    let (own, others) = server.pool.split(rt, worker);
-    let (own, others) = thread::join(
-        rt,
-        || serve::<R, Request, C>(rt, server, own, core),
-        || serve::<R, Request, C>(rt, server, others, next),
-    );
-    server.pool.join_workers(rt, own?, others?).ok()
+    all
+}
+
+/// Two workers together, if both are there, and there is memory.
+fn joined<R: Wait, C: Seats>(
+    rt: &R,
+    server: &Server<C>,
+    worker: Option<Worker<C::Seat, Request>>,
+    other: Option<Worker<C::Seat, Request>>,
+) -> Option<Worker<C::Seat, Request>>
+    requires worker { IfSome worker (IsWorkerOf C.sits C.idle server.now.pool.table server.now.pool.cores) }
+    requires other { IfSome other (IsWorkerOf C.sits C.idle server.now.pool.table server.now.pool.cores) }
+    ensures { IfSome result (IsWorkerOf C.sits C.idle server.now.pool.table server.now.pool.cores) }
+{
+    server.pool.join_workers(rt, worker?, other?).ok()
 }
