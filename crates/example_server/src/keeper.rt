@@ -34,12 +34,12 @@ pub struct Keeper {
     scans: u64,
     pub judged: Vec<Judged>,
     ghost some: { 1 ≤ most },
-    ghost few: { most ≤ 63 },
+    ghost few: { most ≤ 4 },
 }
 
 impl Keeper {
     /// How many cores it may have at most.
-    pub const MOST: u8 = 63;
+    pub const MOST: u8 = 4;
 
     /// How many requests a core has places for.
     pub const PLACES: u8 = 56;
@@ -47,7 +47,7 @@ impl Keeper {
     /// A keeper that has so many cores at most, all of which it has now. Where the interval is 0 it keeps them all.
     pub fn new(alloc: Global, most: u8, interval: u64) -> Keeper
         requires some { 1 ≤ most }
-        requires few { most ≤ 63 }
+        requires few { most ≤ 4 }
     {
         Keeper {
             estimator: Estimator::new(UP, HYSTERESIS, most),

@@ -12,6 +12,7 @@ mod send;
 mod serve;
 mod start;
 mod station;
+mod task;
 
 use anyhow::{Result, bail};
 use arachne_pool::Spawned;

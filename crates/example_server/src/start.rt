@@ -1,6 +1,5 @@
 //! Starts the kernel threads of the server, and ends them.
-ghost use Rattle.std.specs.Prelude.{◌≡◌, ◌+◌, ◌<◌, ◌≤◌, All, IfOk, IfSome, length, vec_capacity, vec_len};
-ghost use Rattle.std.specs.Thread.{IsSync};
+ghost use Rattle.std.specs.Prelude.{◌≡◌, ◌+◌, ◌≤◌, IfOk, IfSome, length, vec_len};
 ghost use Rattle.arachne_pool.specs.Workers.{IsWorkerOf};
 
 use crate::job::Request;
@@ -10,15 +9,14 @@ use crate::requests::Due;
 use crate::send::{Done, send};
 use crate::serve::{Server, serve};
 use crate::station::stations;
+use crate::task::{Task, five};
 use anyhow::{Result, bail};
 use arachne_pool::{Pool, Spawned, Worker};
 use arachne_table::{Contexts, Seats};
 use std::alloc::Global;
 use std::rt::Clock;
-use std::snapshot::Snapshot;
 use std::sync::Wait;
-use std::thread;
-use std::thread::{Promise, PromisedHandle, Threads};
+use std::thread::Threads;
 
 /// Answers all requests of a list, with the cores of a keeper and one more core, on which nothing runs: the sender's.
 pub fn run<R: Threads + Wait + Clock + Sync, C: Contexts<Spawned<Request>> + Drop + Sync>(
@@ -56,24 +54,72 @@ pub fn run<R: Threads + Wait + Clock + Sync, C: Contexts<Spawned<Request>> + Dro
     Ok((report, keeper))
 }
 
-/// The worker that a kernel thread gives back is of this server's pool.
+/// The kernel thread of a core, which may be none of the server's.
 #[derive(Drop)]
-struct Returns<C: Seats> {
-    server: Snapshot<Server<C>>,
+struct Post<'s, C: Seats> {
+    server: &'s Server<C>,
+    worker: Worker<C::Seat, Request>,
+    core: u8,
 }
 
-impl<C: Seats> Returns<C> {
-    fn to(server: &Server<C>) -> Returns<C>
-        ensures { result.server.value ≡ server.now }
-    {
-        Returns {
-            server: Snapshot::of(server),
+impl<'s, C: Contexts<Spawned<Request>>> Task for Post<'s, C> {
+    type Back = Option<Worker<C::Seat, Request>>;
+
+    ghost is_ready = { λ post. IsWorkerOf C.sits C.idle post.server.now.pool.table post.server.now.pool.cores post.worker };
+
+    ghost gives = { λ post back. IfSome back (IsWorkerOf C.sits C.idle post.server.now.pool.table post.server.now.pool.cores) };
+
+    fn run<R: Wait + Clock>(self, rt: &R) -> Option<Worker<C::Seat, Request>> {
+        let Post {
+            server,
+            worker,
+            core,
+        } = self;
+        if u32::from(core) + 1 < u32::from(server.pool.cores) {
+            serve::<R, Request, C>(rt, server, worker, core)
+        } else {
+            Some(worker)
         }
     }
 }
 
-impl<C: Seats> Promise<Option<Worker<C::Seat, Request>>> for Returns<C> {
-    ghost kept_by = { λ promise worker. IfSome worker (IsWorkerOf C.sits C.idle promise.server.value.pool.table promise.server.value.pool.cores) };
+/// The kernel thread that sends the requests.
+#[derive(Drop)]
+struct Sender<'s, C: Seats> {
+    alloc: Global,
+    server: &'s Server<C>,
+    worker: Worker<C::Seat, Request>,
+    keeper: Keeper,
+    requests: &'s [Due],
+    report: Report,
+    template: Request,
+}
+
+impl<'s, C: Contexts<Spawned<Request>>> Task for Sender<'s, C> {
+    type Back = Option<Done<Worker<C::Seat, Request>>>;
+
+    ghost is_ready = { λ s. IsWorkerOf C.sits C.idle s.server.now.pool.table s.server.now.pool.cores s.worker
+        × (s.keeper.most + 1 ≡ s.server.now.pool.cores) × (vec_len s.report.answers ≡ 0) };
+
+    ghost gives = { λ s back. IfSome back (λ done. IsWorkerOf C.sits C.idle s.server.now.pool.table s.server.now.pool.cores done.worker
+        × (vec_len done.report.answers ≡ length s.requests.now)) };
+
+    fn run<R: Wait + Clock>(self, rt: &R) -> Option<Done<Worker<C::Seat, Request>>> {
+        let Sender {
+            alloc,
+            server,
+            worker,
+            keeper,
+            requests,
+            report,
+            template,
+        } = self;
+        let done = send::<R, C>(
+            rt, alloc, server, worker, keeper, requests, report, template,
+        );
+        server.end();
+        done
+    }
 }
 
 /// Serves on all cores and sends the requests, by a kernel thread each, until all are answered.
@@ -92,89 +138,51 @@ fn work<R: Threads + Wait + Clock + Sync, C: Contexts<Spawned<Request>> + Sync>(
     requires none { vec_len report.answers ≡ 0 }
     ensures { IfSome result (λ done. IsWorkerOf C.sits C.idle server.now.pool.table server.now.pool.cores done.worker × (vec_len done.report.answers ≡ length requests.now)) }
 {
-    thread::scope(
-        thread::scope_env(),
+    let (worker, first) = server.pool.split(rt, worker);
+    let (worker, second) = server.pool.split(rt, worker);
+    let (worker, third) = server.pool.split(rt, worker);
+    let (worker, fourth) = server.pool.split(rt, worker);
+    let sender = Sender {
+        alloc,
+        server,
+        worker,
+        keeper,
+        requests,
+        report,
+        template,
+    };
+    let ((first, second), ((third, fourth), done)) = five(
         rt,
-        |scope| -> Option<Done<Worker<C::Seat, Request>>>
-            requires { IsSync R.row × IsWorkerOf C.sits C.idle server.now.pool.table server.now.pool.cores worker × (keeper.most + 1 ≡ server.now.pool.cores) × (vec_len report.answers ≡ 0) }
-            ensures { IfSome result (λ done. IsWorkerOf C.sits C.idle server.entry.now.pool.table server.entry.now.pool.cores done.worker × (vec_len done.report.answers ≡ length requests.entry.now)) }
-        {
-            let mut worker = worker;
-            let mut others = Vec::new(alloc);
-            for core in 0..keeper.most {
-                let (rest, theirs) = part_off(rt, server, worker, &mut others);
-                worker = rest;
-                let Some(theirs) = theirs else {
-                    server.end();
-                    return None;
-                };
-                let started = scope.spawn_with(
-                    Returns::to(server),
-                    move || -> Option<Worker<C::Seat, Request>>
-                        requires { IsWorkerOf C.sits C.idle server.now.pool.table server.now.pool.cores theirs × (core < server.now.pool.cores) }
-                        ensures { IfSome result (IsWorkerOf C.sits C.idle server.entry.now.pool.table server.entry.now.pool.cores) }
-                    { serve::<R, Request, C>(rt, server, theirs, core) },
-                );
-                let Ok(other) = started else {
-                    server.end();
-                    return None;
-                };
-                others.push_reserved(other);
-            }
-            let done = send::<R, C>(
-                rt, alloc, server, worker, keeper, requests, report, template,
-            );
-            server.end();
-            let Done {
-                worker,
-                keeper,
-                report,
-            } = done?;
-            Some(Done {
-                worker: join_all(rt, server, worker, others)?,
-                keeper,
-                report,
-            })
-        },
-    )
+        at_core(server, first, 0),
+        at_core(server, second, 1),
+        at_core(server, third, 2),
+        at_core(server, fourth, 3),
+        sender,
+    );
+    let Done {
+        worker,
+        keeper,
+        report,
+    } = done?;
+    let pair = joined(rt, server, first, second);
+    let others = joined(rt, server, third, fourth);
+    let served = joined(rt, server, pair, others);
+    Some(Done {
+        worker: joined(rt, server, Some(worker), served)?,
+        keeper,
+        report,
+    })
 }
 
-/// One worker more, for whose kernel thread there is room among the others then, if there is memory.
-fn part_off<R: Wait, C: Seats, W>(
-    rt: &R,
-    server: &Server<C>,
-    worker: Worker<C::Seat, Request>,
-    others: &mut Vec<W>,
-) -> (Worker<C::Seat, Request>, Option<Worker<C::Seat, Request>>)
-    requires { IsWorkerOf C.sits C.idle server.now.pool.table server.now.pool.cores worker }
-    ensures own { IsWorkerOf C.sits C.idle server.now.pool.table server.now.pool.cores result.0 }
-    ensures theirs { IfSome result.1 (IsWorkerOf C.sits C.idle server.now.pool.table server.now.pool.cores) }
-    ensures same { others.new.items ≡ others.old.items }
-    ensures room { IfSome result.1 (λ _. vec_len others.new < vec_capacity others.new) }
+fn at_core<C: Seats>(server: &Server<C>, worker: Worker<C::Seat, Request>, core: u8) -> Post<'_, C>
+    ensures server { result.server.now ≡ server.now }
+    ensures worker { result.worker ≡ worker }
 {
-    if others.try_reserve(1).is_err() {
-        return (worker, None);
+    Post {
+        server,
+        worker,
+        core,
     }
-    let (own, theirs) = server.pool.split(rt, worker);
-    (own, Some(theirs))
-}
-
-/// All workers together, once the others have ended, if each gave its own back.
-fn join_all<R: Threads + Wait, C: Seats>(
-    rt: &R,
-    server: &Server<C>,
-    worker: Worker<C::Seat, Request>,
-    others: Vec<PromisedHandle<Option<Worker<C::Seat, Request>>, Returns<C>>>,
-) -> Option<Worker<C::Seat, Request>>
-    requires worker { IsWorkerOf C.sits C.idle server.now.pool.table server.now.pool.cores worker }
-    requires others { All (λ other. other.promise.server.value ≡ server.now) others.items }
-    ensures { IfSome result (IsWorkerOf C.sits C.idle server.now.pool.table server.now.pool.cores) }
-{
-    let mut all = Some(worker);
-    for other in others {
-        all = joined(rt, server, all, other.join(rt));
-    }
-    all
 }
 
 /// Two workers together, if both are there, and there is memory.
