@@ -15,16 +15,12 @@ mod station;
 mod task;
 
 use anyhow::{Result, bail};
-use arachne_pool::Spawned;
-use arachne_table::WordContexts;
 use job::Request;
 use keeper::Keeper;
 use requests::{Class, requests};
 use start::run;
 use std::env;
 use std::io::Read;
-
-type Table = WordContexts<Spawned<Request>>;
 
 fn main(rt: HostRuntime) -> Result<()> {
     let alloc = rt.alloc();
@@ -49,13 +45,7 @@ fn main(rt: HostRuntime) -> Result<()> {
         work: 0,
         class: Class::Normal,
     };
-    let (report, keeper) = run::<HostRuntime, Table>(
-        &rt,
-        alloc,
-        list.as_slice(),
-        keeper,
-        template,
-    )?;
+    let (report, keeper) = run(&rt, alloc, list.as_slice(), keeper, template)?;
     print::served(&rt, &report, list.len())?;
     if cores.is_some() {
         print::times(&rt, alloc, &report)?;

@@ -1,6 +1,6 @@
 //! Starts the kernel threads of the server, and ends them.
 ghost use Rattle.std.specs.Prelude.{◌≡◌, ◌+◌, ◌≤◌, IfOk, IfSome, length, vec_len};
-ghost use Rattle.arachne_pool.specs.Workers.{IsWorkerOf};
+ghost use Rattle.example_server.specs.Hands.{IsHandOf};
 
 use crate::job::Request;
 use crate::keeper::Keeper;
@@ -12,14 +12,20 @@ use crate::station::stations;
 use crate::task::{Task, five};
 use anyhow::{Result, bail};
 use arachne_pool::{Pool, Spawned, Worker};
-use arachne_table::{Contexts, Seats};
+use arachne_table::{WordContexts, WordSeat};
 use std::alloc::Global;
 use std::rt::Clock;
 use std::sync::Wait;
 use std::thread::Threads;
 
+/// The pool's table.
+type Table = WordContexts<Spawned<Request>>;
+
+/// What a kernel thread has of the pool.
+type Hand = Worker<WordSeat<Spawned<Request>>, Request>;
+
 /// Answers all requests of a list, with the cores of a keeper and one more core, on which nothing runs: the sender's.
-pub fn run<R: Threads + Wait + Clock + Sync, C: Contexts<Spawned<Request>> + Drop + Sync>(
+pub fn run<R: Threads + Wait + Clock + Sync>(
     rt: &R,
     alloc: Global,
     requests: &[Due],
@@ -31,9 +37,9 @@ pub fn run<R: Threads + Wait + Clock + Sync, C: Contexts<Spawned<Request>> + Dro
     let report = Report::new(alloc, requests.len())?;
     let most = keeper.most;
     let orders = keeper.listed(alloc, keeper.sender())?;
-    let (pool, worker) = Pool::<C>::new::<Request>(alloc, most + 1, Keeper::PLACES, orders)?;
+    let (pool, worker) = Pool::<Table>::new::<Request>(alloc, most + 1, Keeper::PLACES, orders)?;
     let server = Server::new(pool, stations(alloc, most)?);
-    let done = work::<R, C>(
+    let done = work(
         rt, alloc, &server, worker, keeper, requests, report, template,
     );
     let Some(done) = done else {
@@ -56,27 +62,27 @@ pub fn run<R: Threads + Wait + Clock + Sync, C: Contexts<Spawned<Request>> + Dro
 
 /// The kernel thread of a core, which may be none of the server's.
 #[derive(Drop)]
-struct Post<'s, C: Seats> {
-    server: &'s Server<C>,
-    worker: Worker<C::Seat, Request>,
+struct Post<'s> {
+    server: &'s Server<Table>,
+    worker: Hand,
     core: u8,
 }
 
-impl<'s, C: Contexts<Spawned<Request>>> Task for Post<'s, C> {
-    type Back = Option<Worker<C::Seat, Request>>;
+impl<'s> Task for Post<'s> {
+    type Back = Option<Hand>;
 
-    ghost is_ready = { λ post. IsWorkerOf C.sits C.idle post.server.now.pool.table post.server.now.pool.cores post.worker };
+    ghost is_ready = { λ post. IsHandOf post.server.now.pool.table post.server.now.pool.cores post.worker };
 
-    ghost gives = { λ post back. IfSome back (IsWorkerOf C.sits C.idle post.server.now.pool.table post.server.now.pool.cores) };
+    ghost gives = { λ post back. IfSome back (IsHandOf post.server.now.pool.table post.server.now.pool.cores) };
 
-    fn run<R: Wait + Clock>(self, rt: &R) -> Option<Worker<C::Seat, Request>> {
+    fn run<R: Wait + Clock>(self, rt: &R) -> Option<Hand> {
         let Post {
             server,
             worker,
             core,
         } = self;
         if u32::from(core) + 1 < u32::from(server.pool.cores) {
-            serve::<R, Request, C>(rt, server, worker, core)
+            serve::<R, Request, Table>(rt, server, worker, core)
         } else {
             Some(worker)
         }
@@ -85,26 +91,26 @@ impl<'s, C: Contexts<Spawned<Request>>> Task for Post<'s, C> {
 
 /// The kernel thread that sends the requests.
 #[derive(Drop)]
-struct Sender<'s, C: Seats> {
+struct Sender<'s> {
     alloc: Global,
-    server: &'s Server<C>,
-    worker: Worker<C::Seat, Request>,
+    server: &'s Server<Table>,
+    worker: Hand,
     keeper: Keeper,
     requests: &'s [Due],
     report: Report,
     template: Request,
 }
 
-impl<'s, C: Contexts<Spawned<Request>>> Task for Sender<'s, C> {
-    type Back = Option<Done<Worker<C::Seat, Request>>>;
+impl<'s> Task for Sender<'s> {
+    type Back = Option<Done<Hand>>;
 
-    ghost is_ready = { λ s. IsWorkerOf C.sits C.idle s.server.now.pool.table s.server.now.pool.cores s.worker
+    ghost is_ready = { λ s. IsHandOf s.server.now.pool.table s.server.now.pool.cores s.worker
         × (s.keeper.most + 1 ≡ s.server.now.pool.cores) × (vec_len s.report.answers ≡ 0) };
 
-    ghost gives = { λ s back. IfSome back (λ done. IsWorkerOf C.sits C.idle s.server.now.pool.table s.server.now.pool.cores done.worker
+    ghost gives = { λ s back. IfSome back (λ done. IsHandOf s.server.now.pool.table s.server.now.pool.cores done.worker
         × (vec_len done.report.answers ≡ length s.requests.now)) };
 
-    fn run<R: Wait + Clock>(self, rt: &R) -> Option<Done<Worker<C::Seat, Request>>> {
+    fn run<R: Wait + Clock>(self, rt: &R) -> Option<Done<Hand>> {
         let Sender {
             alloc,
             server,
@@ -114,7 +120,7 @@ impl<'s, C: Contexts<Spawned<Request>>> Task for Sender<'s, C> {
             report,
             template,
         } = self;
-        let done = send::<R, C>(
+        let done = send::<R, Table>(
             rt, alloc, server, worker, keeper, requests, report, template,
         );
         server.end();
@@ -123,20 +129,20 @@ impl<'s, C: Contexts<Spawned<Request>>> Task for Sender<'s, C> {
 }
 
 /// Serves on all cores and sends the requests, by a kernel thread each, until all are answered.
-fn work<R: Threads + Wait + Clock + Sync, C: Contexts<Spawned<Request>> + Sync>(
+fn work<R: Threads + Wait + Clock + Sync>(
     rt: &R,
     alloc: Global,
-    server: &Server<C>,
-    worker: Worker<C::Seat, Request>,
+    server: &Server<Table>,
+    worker: Hand,
     keeper: Keeper,
     requests: &[Due],
     report: Report,
     template: Request,
-) -> Option<Done<Worker<C::Seat, Request>>>
-    requires worker { IsWorkerOf C.sits C.idle server.now.pool.table server.now.pool.cores worker }
+) -> Option<Done<Hand>>
+    requires worker { IsHandOf server.now.pool.table server.now.pool.cores worker }
     requires cores { keeper.most + 1 ≡ server.now.pool.cores }
     requires none { vec_len report.answers ≡ 0 }
-    ensures { IfSome result (λ done. IsWorkerOf C.sits C.idle server.now.pool.table server.now.pool.cores done.worker × (vec_len done.report.answers ≡ length requests.now)) }
+    ensures { IfSome result (λ done. IsHandOf server.now.pool.table server.now.pool.cores done.worker × (vec_len done.report.answers ≡ length requests.now)) }
 {
     let (worker, first) = server.pool.split(rt, worker);
     let (worker, second) = server.pool.split(rt, worker);
@@ -174,7 +180,7 @@ fn work<R: Threads + Wait + Clock + Sync, C: Contexts<Spawned<Request>> + Sync>(
     })
 }
 
-fn at_core<C: Seats>(server: &Server<C>, worker: Worker<C::Seat, Request>, core: u8) -> Post<'_, C>
+fn at_core(server: &Server<Table>, worker: Hand, core: u8) -> Post<'_>
     ensures server { result.server.now ≡ server.now }
     ensures worker { result.worker ≡ worker }
 {
@@ -186,15 +192,15 @@ fn at_core<C: Seats>(server: &Server<C>, worker: Worker<C::Seat, Request>, core:
 }
 
 /// Two workers together, if both are there, and there is memory.
-fn joined<R: Wait, C: Seats>(
+fn joined<R: Wait>(
     rt: &R,
-    server: &Server<C>,
-    worker: Option<Worker<C::Seat, Request>>,
-    other: Option<Worker<C::Seat, Request>>,
-) -> Option<Worker<C::Seat, Request>>
-    requires worker { IfSome worker (IsWorkerOf C.sits C.idle server.now.pool.table server.now.pool.cores) }
-    requires other { IfSome other (IsWorkerOf C.sits C.idle server.now.pool.table server.now.pool.cores) }
-    ensures { IfSome result (IsWorkerOf C.sits C.idle server.now.pool.table server.now.pool.cores) }
+    server: &Server<Table>,
+    worker: Option<Hand>,
+    other: Option<Hand>,
+) -> Option<Hand>
+    requires worker { IfSome worker (IsHandOf server.now.pool.table server.now.pool.cores) }
+    requires other { IfSome other (IsHandOf server.now.pool.table server.now.pool.cores) }
+    ensures { IfSome result (IsHandOf server.now.pool.table server.now.pool.cores) }
 {
     server.pool.join_workers(rt, worker?, other?).ok()
 }
