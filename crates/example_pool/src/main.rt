@@ -1,17 +1,13 @@
-//! Two kernel threads count the grains of a heap: each heap counts one, and forks heaps of halves of the rest.
+//! A pool counts the grains of a heap: each heap counts one, and forks heaps of halves of the rest.
 #![tactic(auto)]
 
 ghost use Rattle.std.specs.Prelude.{◌≡◌, ◌+◌, ◌<◌, IfSome, map, sum};
-ghost use Rattle.arachne_pool.specs.Workers.{IsWorkerOf};
-ghost use Rattle.arachne_words.specs.Seats.{HasNothingOut};
 
 use anyhow::{Result, bail};
-use arachne_pool::{Handle, Pool, PoolJob, Spawned, Step, Worker};
-use arachne_table::{Tagged, WordContexts, WordSeat};
+use arachne_pool::{Pool, PoolJob, Spawned, Step};
+use arachne_table::{Contexts, Tagged, WordContexts};
 use std::alloc::Global;
 use std::sync::Wait;
-use std::thread;
-use std::thread::Threads;
 
 /// A heap: how many grains it has, how many are with no child yet, and how many are counted.
 #[derive(Drop)]
@@ -57,70 +53,25 @@ impl PoolJob for Heap {
     }
 }
 
-type Table = WordContexts<Spawned<Heap>>;
-
-type TableWorker = Worker<WordSeat<Spawned<Heap>>, Heap>;
-
-/// Works on one core until all heaps are counted, or there is no memory for another one.
-fn work<R: Wait>(rt: &R, pool: &Pool<Table>, mut worker: TableWorker, core: u8) -> TableWorker
-    requires worker { IsWorkerOf (λ table seat. seat.table ≡ table.table) (λ table seat. HasNothingOut seat.known) pool.now.table pool.now.cores worker }
-    requires core { core < pool.now.cores }
-    ensures { IsWorkerOf (λ table seat. seat.table ≡ table.table) (λ table seat. HasNothingOut seat.known) pool.now.table pool.now.cores result }
-{
-    let _ = pool.work(rt, &mut worker, core);
-    worker
-}
-
-/// Two kernel threads work, for cores 0 and 1.
-fn share<R: Threads + Wait + Sync>(
-    rt: &R,
-    pool: &Pool<Table>,
-    worker: TableWorker,
-) -> Option<TableWorker>
-    requires worker { IsWorkerOf (λ table seat. seat.table ≡ table.table) (λ table seat. HasNothingOut seat.known) pool.now.table pool.now.cores worker }
-    requires cores { 1 < pool.now.cores }
-    ensures { IfSome result (IsWorkerOf (λ table seat. seat.table ≡ table.table) (λ table seat. HasNothingOut seat.known) pool.now.table pool.now.cores) }
-{
-    let (first, second) = pool.split(rt, worker);
-    let (first, second) = thread::join(
-        rt,
-        move || -> TableWorker
-            requires { IsWorkerOf (λ table seat. seat.table ≡ table.table) (λ table seat. HasNothingOut seat.known) pool.now.table pool.now.cores first × (1 < pool.now.cores) }
-            ensures { IsWorkerOf (λ table seat. seat.table ≡ table.table) (λ table seat. HasNothingOut seat.known) pool.entry.now.table pool.entry.now.cores result }
-        { work(rt, pool, first, 0) },
-        move || -> TableWorker
-            requires { IsWorkerOf (λ table seat. seat.table ≡ table.table) (λ table seat. HasNothingOut seat.known) pool.now.table pool.now.cores second × (1 < pool.now.cores) }
-            ensures { IsWorkerOf (λ table seat. seat.table ≡ table.table) (λ table seat. HasNothingOut seat.known) pool.entry.now.table pool.entry.now.cores result }
-        { work(rt, pool, second, 1) },
-    );
-    pool.join_workers(rt, first, second).ok()
-}
-
-/// The count of a heap, which is its size.
-fn count_of(handle: Handle<Heap>) -> Option<u64>
-    ensures { IfSome result (λ count. count ≡ handle.size) }
-{
-    handle.poll().ok()
-}
-
-/// Counts a heap on two cores of 8 places. Its grains, and how many heaps were not counted.
-fn count<R: Threads + Wait + Sync>(rt: &R, alloc: Global) -> Option<(u64, usize)>
+/// Counts a heap on a core of 8 places, over any form of table. Its grains, and how many heaps were not counted.
+fn count<C: Contexts<Spawned<Heap>> + Drop, R: Wait>(rt: &R, alloc: Global) -> Option<(u64, usize)>
     ensures { IfSome result (λ counted. counted.0 ≡ 10000) }
 {
-    let (pool, mut worker) = Pool::<Table>::new::<Heap>(alloc, 2, 8, Vec::new(alloc)).ok()?;
+    let (pool, mut worker) = Pool::<C>::new::<Heap>(alloc, 1, 8, Vec::new(alloc)).ok()?;
     let heap = Heap {
         size: 10_000,
         rest: 9_999,
         counted: 1,
     };
     let handle = pool.spawn(rt, &mut worker, heap).ok()?;
-    let worker = share(rt, &pool, worker)?;
+    let count = pool.join(rt, &mut worker, 0, handle).ok()?;
     let left = pool.close(rt, alloc, worker).ok()?;
-    Some((count_of(handle)?, left.placed.len() + left.near.len()))
+    Some((count, left.placed.len() + left.near.len()))
 }
 
 fn main(rt: HostRuntime) -> Result<()> {
-    let Some((count, left)) = count(&rt, rt.alloc()) else {
+    let counted = count::<WordContexts<Spawned<Heap>>, HostRuntime>(&rt, rt.alloc());
+    let Some((count, left)) = counted else {
         bail!("memory was refused");
     };
     println!(rt; "{count} grains; {left} heaps are left")?;
