@@ -3,8 +3,6 @@
 #![tactic(auto)]
 
 #[cfg(test)]
-mod loads;
-#[cfg(test)]
 mod orders;
 #[cfg(test)]
 mod rounds;

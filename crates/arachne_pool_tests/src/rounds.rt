@@ -13,7 +13,7 @@ use std::sync::Wait;
 use std::test::Fail;
 
 /// One act.
-#[derive(Clone, Copy, Debug)]
+#[derive(Clone, Copy)]
 pub(crate) enum Act {
     /// A job is spawned.
     Spawns(Sort),
@@ -72,9 +72,13 @@ pub(crate) fn failed_act<C: Contexts<Spawned<Task>> + Drop, R: Wait>(
             return Ok(Some(nth));
         }
     }
-    match pool.close(rt, alloc, worker) {
-        Ok(left) if (left.placed.len(), left.near.len()) == row.left => Ok(None),
-        _ => Ok(Some(row.acts.len())),
+    let Ok(left) = pool.close(rt, alloc, worker) else {
+        return Ok(Some(row.acts.len()));
+    };
+    if left.placed.len() == row.left.0 && left.near.len() == row.left.1 {
+        Ok(None)
+    } else {
+        Ok(Some(row.acts.len()))
     }
 }
 

@@ -97,14 +97,20 @@ fn tree_in_need<C: Contexts<Spawned<Task>> + Drop, R: Wait>(
     hoard.take_again()?;
     let rounds = work_at_last::<C, R>(rt, &pool, &mut worker, &mut hoard)?;
     drop(hoard);
-    match (pool.close(rt, alloc, worker), handle.poll()) {
-        (Ok(left), Ok(counted)) if left.placed.is_empty() && left.near.is_empty() => Ok(Refusals {
-            spawns,
-            rounds,
-            counted,
-        }),
-        _ => Err("a job is left")?,
+    let Ok(left) = pool.close(rt, alloc, worker) else {
+        return Err("not closed")?;
+    };
+    if !left.placed.is_empty() || !left.near.is_empty() {
+        return Err("a job is left")?;
     }
+    let Ok(counted) = handle.poll() else {
+        return Err("no result")?;
+    };
+    Ok(Refusals {
+        spawns,
+        rounds,
+        counted,
+    })
 }
 
 #[test]

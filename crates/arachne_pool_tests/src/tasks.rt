@@ -3,7 +3,7 @@ use arachne_pool::{PoolJob, Step};
 use arachne_contexts::Tagged;
 
 /// What a job does: it forks children, joins them, goes on for some steps and ends.
-#[derive(Clone, Copy, Debug)]
+#[derive(Clone, Copy)]
 pub(crate) struct Sort {
     /// How many generations there are below it.
     pub(crate) depth: u32,
@@ -18,7 +18,7 @@ pub(crate) struct Sort {
 }
 
 /// Which children a job joins, and when.
-#[derive(Clone, Copy, Debug, PartialEq, Eq)]
+#[derive(Clone, Copy)]
 pub(crate) enum Joins {
     /// Each before it forks the next one.
     InTurn,
@@ -47,7 +47,7 @@ pub(crate) const PARENT: Sort = Sort {
 
 /// A job in a pool: how many children it has forked and not joined, how many steps it has gone on, and how many jobs it
 /// has counted.
-#[derive(Debug, Drop)]
+#[derive(Drop)]
 pub(crate) struct Task {
     sort: Sort,
     forked: u32,

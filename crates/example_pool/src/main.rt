@@ -1,15 +1,13 @@
-//! Two kernel threads count the grains of a heap: each heap counts one, and forks heaps of halves of the rest.
+//! A pool counts the grains of a heap: each heap counts one, and forks heaps of halves of the rest.
 #![tactic(auto)]
 
 ghost use Rattle.std.specs.Prelude.{◌≡◌, ◌+◌, ◌<◌, IfSome, map, sum};
-ghost use Rattle.arachne_pool.specs.Workers.{IsWorkerOf};
 
 use anyhow::{Result, bail};
-use arachne_pool::{Pool, PoolJob, Spawned, Step, Worker};
+use arachne_pool::{Pool, PoolJob, Spawned, Step};
 use arachne_table::{Contexts, Tagged, WordContexts};
 use std::alloc::Global;
 use std::sync::Wait;
-use std::thread;
 
 /// A heap: how many grains it has, how many are with no child yet, and how many are counted.
 #[derive(Drop)]
@@ -55,49 +53,25 @@ impl PoolJob for Heap {
     }
 }
 
-/// Works on one core until all heaps are counted, or there is no memory for another one.
-fn work<C: Contexts<Spawned<Heap>>, R: Wait>(
-    rt: &R,
-    pool: &Pool<C>,
-    mut worker: Worker<C::Seat, Heap>,
-    core: u8,
-) -> Worker<C::Seat, Heap>
-    requires { IsWorkerOf C.sits C.idle pool.now.table pool.now.cores worker × (core < pool.now.cores) }
-    ensures { IsWorkerOf C.sits C.idle pool.now.table pool.now.cores result }
-{
-    let _ = pool.work(rt, &mut worker, core);
-    worker
-}
-
-/// Counts a heap on two cores of 8 places. Its grains, and how many heaps were not counted.
-fn count<R: thread::Threads + Wait + Sync>(rt: &R, alloc: Global) -> Option<(u64, usize)>
+/// Counts a heap on a core of 8 places, over any form of table. Its grains, and how many heaps were not counted.
+fn count<C: Contexts<Spawned<Heap>> + Drop, R: Wait>(rt: &R, alloc: Global) -> Option<(u64, usize)>
     ensures { IfSome result (λ counted. counted.0 ≡ 10000) }
 {
-    let (pool, mut worker) = Pool::<WordContexts<Spawned<Heap>>>::new::<Heap>(
-        alloc,
-        2,
-        8,
-        Vec::new(alloc),
-    ).ok()?;
+    let (pool, mut worker) = Pool::<C>::new::<Heap>(alloc, 1, 8, Vec::new(alloc)).ok()?;
     let heap = Heap {
         size: 10_000,
         rest: 9_999,
         counted: 1,
     };
     let handle = pool.spawn(rt, &mut worker, heap).ok()?;
-    let (first, second) = pool.split(rt, worker);
-    let (first, second) = thread::join(
-        rt,
-        || work::<WordContexts<Spawned<Heap>>, R>(rt, &pool, first, 0),
-        || work::<WordContexts<Spawned<Heap>>, R>(rt, &pool, second, 1),
-    );
-    let worker = pool.join_workers(rt, first, second).ok()?;
+    let count = pool.join(rt, &mut worker, 0, handle).ok()?;
     let left = pool.close(rt, alloc, worker).ok()?;
-    Some((handle.poll().ok()?, left.placed.len() + left.near.len()))
+    Some((count, left.placed.len() + left.near.len()))
 }
 
 fn main(rt: HostRuntime) -> Result<()> {
-    let Some((count, left)) = count(&rt, rt.alloc()) else {
+    let counted = count::<WordContexts<Spawned<Heap>>, HostRuntime>(&rt, rt.alloc());
+    let Some((count, left)) = counted else {
         bail!("memory was refused");
     };
     println!(rt; "{count} grains; {left} heaps are left")?;
