@@ -1,0 +1,2 @@
+mod ClosedFirst
+pub mod Crossing

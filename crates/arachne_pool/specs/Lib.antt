@@ -1,0 +1,5 @@
+pub mod Jobs
+pub mod Stops
+pub mod Grounds
+pub mod Workers
+pub mod Leftover

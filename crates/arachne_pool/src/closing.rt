@@ -1,0 +1,192 @@
+//! The begin of a pool, and its end.
+ghost use Rattle.std.specs.Prelude.{◌≡◌, ◌+◌, ◌<◌, ◌≤◌, true, IfOk, IfSome, length};
+ghost use Rattle.arachne_core.specs.declared.layout.TheConstants.{CORES, SLOTS};
+ghost use Rattle.arachne_policy.specs.Orders.{AreInOrder};
+ghost use Rattle.arachne_policy.specs.declared.orders.OrderKind.TheVariants.{Release};
+ghost use Rattle.arachne_weights.specs.Weight.{whole};
+
+use crate::desk::Desk;
+use crate::job::PoolJob;
+use crate::pool::Pool;
+use crate::spawned::Spawned;
+use crate::tally::Tally;
+use crate::worker::Worker;
+use arachne_arbiter::Arbiter;
+use arachne_contexts::{Contexts, Seats};
+use arachne_core::{CORES, OccWord, SLOTS, ThreadId};
+use arachne_policy::{CoreOrder, OrderKind};
+use std::alloc::{AllocError, Global};
+use std::sync::Wait;
+
+/// The jobs of a pool that have not ended.
+#[derive(Drop)]
+pub struct Left<J: PoolJob> {
+    /// Those that had a place, by context, with the id under which each ran.
+    pub placed: Vec<(ThreadId, Spawned<J>)>,
+    /// Those that had none.
+    pub near: Vec<Spawned<J>>,
+}
+
+/// Why a pool was not closed.
+#[derive(Drop)]
+pub enum NotClosed<C: Seats, J: PoolJob> {
+    /// Another worker has a part of it still, or this one has no seat. All comes back.
+    NotWhole(Pool<C>, Worker<C::Seat, J>),
+    /// Memory was refused. The table, its seat and the jobs that had no place come back.
+    Memory(C, C::Seat, Vec<Spawned<J>>),
+    /// The jobs that were spawned are not those that ended and those that are left.
+    Lost(Left<J>),
+}
+
+impl<C: Seats + Drop> Pool<C> {
+    ghost use Rattle.arachne_pool.specs.Workers.{IsWorkerOf};
+
+    /// A pool with no job, and its one worker. The orders take cores back and grant them again while it works.
+    pub fn new<J: PoolJob>(
+        alloc: Global,
+        cores: u8,
+        slots: u8,
+        orders: Vec<CoreOrder>,
+    ) -> Result<(Pool<C>, Worker<C::Seat, J>), AllocError>
+        requires some { 1 ≤ cores }
+        requires most { cores ≤ CORES }
+        requires some_slots { 1 ≤ slots }
+        requires most_slots { slots ≤ SLOTS }
+        requires orders { AreInOrder cores orders.items }
+        ensures cores { IfOk result (λ made. made.0.cores ≡ cores) }
+        ensures slots { IfOk result (λ made. made.0.slots ≡ slots) }
+        ensures worker { IfOk result (λ made. IsWorkerOf C.sits C.idle made.0.table made.0.cores made.1) }
+        ensures weight { IfOk result (λ made. IfSome made.1.seat (λ seat. C.weight seat ≡ whole)) }
+        ensures tally { IfOk result (λ made. (made.1.tally.spawned ≡ 0) × (made.1.tally.ended ≡ 0)) }
+    {
+        let arbiter = Arbiter::new(alloc, orders, cores)?;
+        let (pool, seat) = Pool::<C>::with_seat(alloc, cores, slots)?;
+        let worker = Worker {
+            seat: Some(seat),
+            desk: Desk::new(alloc, 0),
+            arbiter: Some(arbiter),
+        };
+        Ok((pool, worker))
+    }
+}
+
+impl<C: Seats> Pool<C> {
+    ghost use Rattle.arachne_pool.specs.Workers.{IsWorkerOf};
+    ghost use Rattle.arachne_pool.specs.Leftover.{count_of};
+
+    /// From now on these orders, as by a policy of the caller's between two rounds; what is left of those before is
+    /// forgotten. A core that those have closed stays closed until one of these grants it. One and the same worker is given
+    /// all orders of a pool.
+    pub fn order<H: Wait, J: PoolJob>(
+        &self,
+        rt: &H,
+        worker: &mut Worker<C::Seat, J>,
+        orders: Vec<CoreOrder>,
+    ) -> Result<(), AllocError>
+    where
+        C: Contexts<Spawned<J>>,
+        requires worker { IsWorkerOf C.sits C.idle self.now.table self.now.cores worker.old }
+        requires orders { AreInOrder self.now.cores orders.items }
+        ensures worker { IsWorkerOf C.sits C.idle self.now.table self.now.cores worker.new }
+        ensures same { (worker.new.tally ≡ worker.old.tally) × (worker.new.near ≡ worker.old.near) }
+    {
+        let mut orders = orders;
+        for core in 1..self.cores {
+            if self.is_closed::<H, J>(rt, core) {
+                orders.insert(0, closes_at_once(core))?;
+            }
+        }
+        let arbiter = Arbiter::new(worker.desk.alloc, orders, self.cores)?;
+        worker.arbiter = Some(arbiter);
+        Ok(())
+    }
+
+    /// Whether a core seems to be closed, as only orders close one.
+    fn is_closed<H: Wait, J: PoolJob>(&self, rt: &H, core: u8) -> bool
+    where
+        C: Contexts<Spawned<J>>,
+        requires { core < self.now.cores }
+    {
+        match OccWord::from_word(self.table.glance(rt, core)) {
+            Some(occupancy) => occupancy.is_closed(),
+            None => false,
+        }
+    }
+
+    /// The jobs that were spawned and have not ended: with those that ended, as many as were spawned. Those that ended
+    /// have left their results. The worker is the only one that is left.
+    pub fn close<H: Wait, J: PoolJob>(
+        self,
+        rt: &H,
+        alloc: Global,
+        worker: Worker<C::Seat, J>,
+    ) -> Result<Left<J>, NotClosed<C, J>>
+    where
+        C: Contexts<Spawned<J>>,
+        requires { IsWorkerOf C.sits C.idle self.table self.cores worker }
+        ensures each_once { IfOk result (λ left. worker.tally.spawned ≡ worker.tally.ended + count_of left) }
+        ensures near { IfOk result (λ left. length left.near.items ≡ worker.near) }
+    {
+        let Worker {
+            seat,
+            desk,
+            arbiter,
+        } = worker;
+        let Some(seat) = seat else {
+            let worker = Worker {
+                seat: None,
+                desk,
+                arbiter,
+            };
+            return Err(NotClosed::NotWhole(self, worker));
+        };
+        if !self.table.is_whole(&seat) {
+            let worker = Worker {
+                seat: Some(seat),
+                desk,
+                arbiter,
+            };
+            return Err(NotClosed::NotWhole(self, worker));
+        }
+        let Pool { table, .. } = self;
+        let Desk { near, tally, .. } = desk;
+        let placed = match table.close(rt, alloc, seat) {
+            Ok(placed) => placed,
+            Err((table, seat)) => return Err(NotClosed::Memory(table, seat, near)),
+        };
+        let left = Left { placed, near };
+        if tally.is_over(&left) {
+            Ok(left)
+        } else {
+            Err(NotClosed::Lost(left))
+        }
+    }
+}
+
+/// The order that closes a core, due at once.
+fn closes_at_once(core: u8) -> CoreOrder
+    ensures { result ≡ record { after = 0; kind = Release; core = core } }
+{
+    CoreOrder {
+        after: 0,
+        kind: OrderKind::Release,
+        core: u64::from(core),
+    }
+}
+
+impl Tally {
+    ghost use Rattle.arachne_pool.specs.Leftover.{count_of};
+
+    /// Whether those that ended and those that are left are as many as were spawned.
+    fn is_over<J: PoolJob>(self, left: &Left<J>) -> bool
+        ensures { result ≡ true → self.spawned ≡ self.ended + count_of left.now }
+    {
+        let Some(rest) = self.spawned.checked_sub(self.ended) else {
+            return false;
+        };
+        let Some(near) = rest.checked_sub(left.placed.len() as u64) else {
+            return false;
+        };
+        near == left.near.len() as u64
+    }
+}

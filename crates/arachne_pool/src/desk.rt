@@ -1,0 +1,384 @@
+//! What a worker has beside its seat, and what it does with a job in hand.
+ghost use Rattle.std.specs.Prelude.{◌≡◌, ◌<◌, ◌≤◌, [], ◌∷◌, IfOk, IfSome, OnOk, vec_len, vec_capacity};
+ghost use Rattle.arachne_arbiter.specs.Placed.{GetsPlace};
+ghost use Rattle.arachne_contexts.specs.Out.{Claim as a_claim, HasOut, KeepsOut};
+ghost use Rattle.arachne_pool.specs.Grounds.{IsKnown, IsSpent, thread_in};
+ghost use Rattle.arachne_pool.specs.Stops.{EndsAs};
+
+use crate::job::PoolJob;
+use crate::outcome::Cells;
+use crate::pool::Pool;
+use crate::spawned::Spawned;
+use crate::stop::Stop;
+use crate::tally::Tally;
+use arachne_contexts::{Contexts, Held, Woken};
+use arachne_core::{Rest, ThreadId};
+use rand_xoshiro::Xoshiro256PlusPlus;
+use std::alloc::{AllocError, Global};
+use std::sync::Wait;
+
+/// The table didn't know a place or a thread that a worker had of it.
+#[derive(Clone, Copy, Debug, PartialEq, Eq)]
+pub(crate) struct Disowned;
+
+/// What a worker has beside its seat.
+#[derive(Drop)]
+pub(crate) struct Desk<J: PoolJob> {
+    pub(crate) alloc: Global,
+    /// Jobs that have no place, that which was looked at last at the end.
+    pub(crate) near: Vec<Spawned<J>>,
+    pub(crate) cells: Cells<J>,
+    pub(crate) chooser: Xoshiro256PlusPlus,
+    pub(crate) tally: Tally,
+    /// Memory was refused, and nobody was told yet.
+    pub(crate) is_short: bool,
+}
+
+/// A slice of the job in hand, which then rests or has ended.
+pub(crate) fn have_slice<H: Wait, J: PoolJob, C: Contexts<Spawned<J>>>(
+    rt: &H,
+    pool: &Pool<C>,
+    seat: &mut C::Seat,
+    desk: &mut Desk<J>,
+    held: Held<Spawned<J>, C::Hold>,
+) -> Result<(), Disowned>
+    requires seat { C.sits pool.now.table seat.old }
+    requires out { C.has pool.now.table seat.old (thread_in (λ s. J.tag_of s.job) held ∷ []) }
+    ensures seat { C.sits pool.now.table seat.new }
+    ensures out { OnOk result (C.has pool.now.table seat.new []) }
+{
+    let mut held = held;
+    match advance::<H, J, C>(rt, pool, seat, desk, &mut held)? {
+        Stop::Goes | Stop::Forks => rest::<H, J, C>(rt, pool, seat, held, Rest::Ready),
+        Stop::Waits => rest::<H, J, C>(rt, pool, seat, held, Rest::Blocked),
+        Stop::Ends(output) => end::<H, J, C>(rt, pool, seat, desk, held, output),
+    }
+}
+
+/// The job in hand goes on for a slice, and the child that it has forked is parted off.
+fn advance<H: Wait, J: PoolJob, C: Contexts<Spawned<J>>>(
+    rt: &H,
+    pool: &Pool<C>,
+    seat: &mut C::Seat,
+    desk: &mut Desk<J>,
+    held: &mut Held<Spawned<J>, C::Hold>,
+) -> Result<Stop<J::Output>, Disowned>
+    requires seat { C.sits pool.now.table seat.old }
+    requires out { C.has pool.now.table seat.old (thread_in (λ s. J.tag_of s.job) held.old ∷ []) }
+    ensures seat { C.sits pool.now.table seat.new }
+    ensures out { OnOk result (C.has pool.now.table seat.new (thread_in (λ s. J.tag_of s.job) held.new ∷ [])) }
+    ensures output { IfOk result (EndsAs (J.is_result held.new.value.asked)) }
+{
+    let stop = held.value.slice(&mut desk.cells);
+    if let Stop::Forks = stop {
+        let me = held.id();
+        fork_off::<H, J, C>(rt, pool, seat, desk, &mut held.value, Some(me))?;
+    }
+    Ok(stop)
+}
+
+/// Puts the job in hand back.
+fn rest<H: Wait, J: PoolJob, C: Contexts<Spawned<J>>>(
+    rt: &H,
+    pool: &Pool<C>,
+    seat: &mut C::Seat,
+    held: Held<Spawned<J>, C::Hold>,
+    rest: Rest,
+) -> Result<(), Disowned>
+    requires seat { C.sits pool.now.table seat.old }
+    requires out { C.has pool.now.table seat.old (thread_in (λ s. J.tag_of s.job) held ∷ []) }
+    ensures seat { C.sits pool.now.table seat.new }
+    ensures out { OnOk result (C.has pool.now.table seat.new []) }
+{
+    match pool.table.put_back(rt, seat, held, rest) {
+        Ok(_) => Ok(()),
+        Err(_) => Err(Disowned),
+    }
+}
+
+/// Ends the job in hand with this result.
+fn end<H: Wait, J: PoolJob, C: Contexts<Spawned<J>>>(
+    rt: &H,
+    pool: &Pool<C>,
+    seat: &mut C::Seat,
+    desk: &mut Desk<J>,
+    held: Held<Spawned<J>, C::Hold>,
+    output: J::Output,
+) -> Result<(), Disowned>
+    requires seat { C.sits pool.now.table seat.old }
+    requires out { C.has pool.now.table seat.old (thread_in (λ s. J.tag_of s.job) held ∷ []) }
+    requires output { J.is_result held.value.asked output }
+    ensures seat { C.sits pool.now.table seat.new }
+    ensures out { OnOk result (C.has pool.now.table seat.new []) }
+{
+    match pool.table.finish(rt, seat, held) {
+        Ok(job) => {
+            leave::<H, J, C>(rt, pool, seat, desk, job, output);
+            Ok(())
+        }
+        Err(held) => {
+            leave::<H, J, C>(rt, pool, seat, desk, held.value, output);
+            Err(Disowned)
+        }
+    }
+}
+
+/// A job leaves its result, and its parent is woken, if that is to be.
+fn leave<H: Wait, J: PoolJob, C: Contexts<Spawned<J>>>(
+    rt: &H,
+    pool: &Pool<C>,
+    seat: &mut C::Seat,
+    desk: &mut Desk<J>,
+    job: Spawned<J>,
+    output: J::Output,
+)
+    requires seat { C.sits pool.now.table seat.old }
+    requires output { J.is_result job.asked output }
+    ensures seat { C.sits pool.now.table seat.new }
+    ensures out { KeepsOut (C.has pool.now.table) seat.old seat.new }
+{
+    if let Some(parent) = job.leave(output, &mut desk.tally) {
+        wake::<H, J, C>(rt, pool, seat, parent);
+    }
+    pool.job_ended();
+}
+
+/// Wakes the job of this id, if it has not ended. Tries again where its place or its mark changed meanwhile.
+fn wake<H: Wait, J: PoolJob, C: Contexts<Spawned<J>>>(
+    rt: &H,
+    pool: &Pool<C>,
+    seat: &mut C::Seat,
+    id: ThreadId,
+)
+    requires seat { C.sits pool.now.table seat.old }
+    ensures seat { C.sits pool.now.table seat.new }
+    ensures out { KeepsOut (C.has pool.now.table) seat.old seat.new }
+{
+    for _ in rt.forever() {
+        match pool.table.wake(rt, seat, id) {
+            Woken::Lost(_) => {}
+            Woken::Woken | Woken::Already(_) | Woken::Gone => return,
+        }
+    }
+    unreachable!()
+}
+
+/// The child that a job has forked is parted off, and gets a place, or none. Where memory is refused that is noted,
+/// and it is as before.
+fn fork_off<H: Wait, J: PoolJob, C: Contexts<Spawned<J>>>(
+    rt: &H,
+    pool: &Pool<C>,
+    seat: &mut C::Seat,
+    desk: &mut Desk<J>,
+    parent: &mut Spawned<J>,
+    me: Option<ThreadId>,
+) -> Result<(), Disowned>
+    requires seat { C.sits pool.now.table seat.old }
+    requires known { IsKnown (C.has pool.now.table) seat.old }
+    ensures seat { C.sits pool.now.table seat.new }
+    ensures out { OnOk result (KeepsOut (C.has pool.now.table) seat.old seat.new) }
+    ensures parent { parent.new ≡ parent.old }
+{
+    if desk.near.try_reserve(1).is_err() {
+        desk.is_short = true;
+        return Ok(());
+    }
+    match parent.part_child(desk.alloc, &mut desk.cells, &mut desk.tally, me) {
+        Ok(Some(child)) => {
+            pool.job_begins();
+            place::<H, J, C>(rt, pool, seat, desk, child)
+        }
+        Ok(None) => Ok(()),
+        Err(_) => {
+            desk.is_short = true;
+            Ok(())
+        }
+    }
+}
+
+/// A job gets a place, or is kept with those that have none.
+fn place<H: Wait, J: PoolJob, C: Contexts<Spawned<J>>>(
+    rt: &H,
+    pool: &Pool<C>,
+    seat: &mut C::Seat,
+    desk: &mut Desk<J>,
+    job: Spawned<J>,
+) -> Result<(), Disowned>
+    requires seat { C.sits pool.now.table seat.old }
+    requires known { IsKnown (C.has pool.now.table) seat.old }
+    requires room { vec_len desk.old.near < vec_capacity desk.old.near }
+    ensures seat { C.sits pool.now.table seat.new }
+    ensures out { OnOk result (KeepsOut (C.has pool.now.table) seat.old seat.new) }
+    ensures tally { desk.new.tally ≡ desk.old.tally }
+{
+    if let Some(job) = offer::<H, J, C>(rt, pool, seat, &mut desk.chooser, job)? {
+        desk.near.push_reserved(job);
+    }
+    Ok(())
+}
+
+/// The same for a job that is spawned, by a seat with which nothing is out.
+pub(crate) fn place_first<H: Wait, J: PoolJob, C: Contexts<Spawned<J>>>(
+    rt: &H,
+    pool: &Pool<C>,
+    seat: &mut C::Seat,
+    desk: &mut Desk<J>,
+    job: Spawned<J>,
+) -> Result<(), Disowned>
+    requires seat { C.sits pool.now.table seat.old }
+    requires out { C.has pool.now.table seat.old [] }
+    requires room { vec_len desk.old.near < vec_capacity desk.old.near }
+    ensures seat { C.sits pool.now.table seat.new }
+    ensures out { OnOk result (C.has pool.now.table seat.new []) }
+    ensures tally { desk.new.tally ≡ desk.old.tally }
+{
+    place::<H, J, C>(rt, pool, seat, desk, job)
+}
+
+/// A job gets a place. Where no core has one it comes back.
+fn offer<H: Wait, J: PoolJob, C: Contexts<Spawned<J>>>(
+    rt: &H,
+    pool: &Pool<C>,
+    seat: &mut C::Seat,
+    chooser: &mut Xoshiro256PlusPlus,
+    job: Spawned<J>,
+) -> Result<Option<Spawned<J>>, Disowned>
+    requires seat { C.sits pool.now.table seat.old }
+    requires known { IsKnown (C.has pool.now.table) seat.old }
+    ensures seat { C.sits pool.now.table seat.new }
+    ensures out { OnOk result (KeepsOut (C.has pool.now.table) seat.old seat.new) }
+    ensures same { IfOk result (λ back. IfSome back (λ same. same ≡ job)) }
+{
+    let Ok(Some(claim)) = claim::<H, J, C>(rt, pool, seat, chooser, job.is_exclusive()) else {
+        return Ok(Some(job));
+    };
+    post::<H, J, C>(rt, pool, seat, claim, job)?;
+    Ok(None)
+}
+
+/// Posts a job at a claimed place.
+fn post<H: Wait, J: PoolJob, C: Contexts<Spawned<J>>>(
+    rt: &H,
+    pool: &Pool<C>,
+    seat: &mut C::Seat,
+    claim: C::Claim,
+    job: Spawned<J>,
+) -> Result<(), Disowned>
+    requires seat { C.sits pool.now.table seat.old }
+    requires out { HasOut (C.has pool.now.table) (a_claim claim) seat.old }
+    ensures seat { C.sits pool.now.table seat.new }
+    ensures out { OnOk result (IsSpent (C.has pool.now.table) (a_claim claim) seat.old seat.new) }
+{
+    match pool.table.post(rt, seat, claim, job) {
+        Ok(_) => Ok(()),
+        Err(_) => Err(Disowned),
+    }
+}
+
+/// A place for a job: on the core with fewer jobs of two that are drawn, else on another one that has a place; for an
+/// exclusive one an empty core.
+fn claim<H: Wait, J: PoolJob, C: Contexts<Spawned<J>>>(
+    rt: &H,
+    pool: &Pool<C>,
+    seat: &mut C::Seat,
+    chooser: &mut Xoshiro256PlusPlus,
+    is_exclusive: bool,
+) -> Result<Option<C::Claim>, AllocError>
+    requires seat { C.sits pool.now.table seat.old }
+    ensures seat { C.sits pool.now.table seat.new }
+    ensures out { GetsPlace (C.has pool.now.table) seat.old seat.new result }
+{
+    let cores = pool.cores::<H, Spawned<J>>(rt);
+    if is_exclusive {
+        cores.claim_exclusive(seat)
+    } else {
+        cores.claim_normal(seat, chooser)
+    }
+}
+
+/// A slice of the job at this index of those that have no place: first it gets one, if it awaits nobody and a core has
+/// one. Whether anything was done.
+pub(crate) fn have_near_slice<H: Wait, J: PoolJob, C: Contexts<Spawned<J>>>(
+    rt: &H,
+    pool: &Pool<C>,
+    seat: &mut C::Seat,
+    desk: &mut Desk<J>,
+    index: usize,
+) -> Result<bool, Disowned>
+    requires seat { C.sits pool.now.table seat.old }
+    requires known { IsKnown (C.has pool.now.table) seat.old }
+    ensures seat { C.sits pool.now.table seat.new }
+    ensures out { OnOk result (KeepsOut (C.has pool.now.table) seat.old seat.new) }
+{
+    if index >= desk.near.len() {
+        return Ok(false);
+    }
+    let job = desk.near.remove(index);
+    let Some(mut job) = offer_if_alone::<H, J, C>(rt, pool, seat, desk, job)? else {
+        return Ok(true);
+    };
+    match job.slice(&mut desk.cells) {
+        Stop::Goes => desk.near.push_reserved(job),
+        Stop::Waits => {
+            desk.near.push_reserved(job);
+            return Ok(false);
+        }
+        Stop::Forks => return fork_near::<H, J, C>(rt, pool, seat, desk, job),
+        Stop::Ends(output) => leave::<H, J, C>(rt, pool, seat, desk, job, output),
+    }
+    Ok(true)
+}
+
+/// A job that awaits nobody gets a place. It comes back where it awaits some child, or no core has a place.
+fn offer_if_alone<H: Wait, J: PoolJob, C: Contexts<Spawned<J>>>(
+    rt: &H,
+    pool: &Pool<C>,
+    seat: &mut C::Seat,
+    desk: &mut Desk<J>,
+    job: Spawned<J>,
+) -> Result<Option<Spawned<J>>, Disowned>
+    requires seat { C.sits pool.now.table seat.old }
+    requires known { IsKnown (C.has pool.now.table) seat.old }
+    ensures seat { C.sits pool.now.table seat.new }
+    ensures out { OnOk result (KeepsOut (C.has pool.now.table) seat.old seat.new) }
+    ensures near { (vec_len desk.new.near ≡ vec_len desk.old.near) × (vec_capacity desk.new.near ≡ vec_capacity desk.old.near) }
+{
+    if !job.is_alone() {
+        return Ok(Some(job));
+    }
+    offer::<H, J, C>(rt, pool, seat, &mut desk.chooser, job)
+}
+
+/// The child that a job with no place has forked is parted off, and gets a place, or none; the job is kept. Where memory
+/// is refused that is noted. Whether there was memory.
+fn fork_near<H: Wait, J: PoolJob, C: Contexts<Spawned<J>>>(
+    rt: &H,
+    pool: &Pool<C>,
+    seat: &mut C::Seat,
+    desk: &mut Desk<J>,
+    job: Spawned<J>,
+) -> Result<bool, Disowned>
+    requires seat { C.sits pool.now.table seat.old }
+    requires known { IsKnown (C.has pool.now.table) seat.old }
+    requires room { vec_len desk.old.near < vec_capacity desk.old.near }
+    ensures seat { C.sits pool.now.table seat.new }
+    ensures out { OnOk result (KeepsOut (C.has pool.now.table) seat.old seat.new) }
+{
+    let mut job = job;
+    let has_room = desk.near.try_reserve(2).is_ok();
+    let parted = if has_room {
+        job.part_child(desk.alloc, &mut desk.cells, &mut desk.tally, None)
+    } else {
+        Err(AllocError)
+    };
+    desk.near.push_reserved(job);
+    match parted {
+        Ok(Some(child)) => {
+            pool.job_begins();
+            place::<H, J, C>(rt, pool, seat, desk, child)?;
+        }
+        Ok(None) => {}
+        Err(_) => desk.is_short = true,
+    }
+    Ok(!desk.is_short)
+}

@@ -1,0 +1,40 @@
+//! What stands for the result of a job.
+ghost use Rattle.std.specs.Prelude.{◌≡◌, IfErr, IfOk};
+
+use crate::job::PoolJob;
+use crate::outcome::ResultReceiver;
+use std::marker::Model;
+
+/// What stands for the result of a job. It gives the result once, and is used up by that; it can't be copied.
+///
+/// Contracts see the job, as it was spawned.
+#[derive(Drop)]
+pub struct Handle<J: PoolJob> {
+    receiver: ResultReceiver<J>,
+}
+
+impl<J: PoolJob> Model for Handle<J> {
+    ghost Value = { J };
+
+    ghost view = { λ h. h.receiver.opening.key.job.value };
+}
+
+impl<J: PoolJob> Handle<J> {
+    /// The handle of the job whose result comes to this end.
+    pub(crate) fn of(receiver: ResultReceiver<J>) -> Handle<J>
+        ensures { result ≡ receiver.opening.key.job.value }
+    {
+        Handle { receiver }
+    }
+
+    /// The job's result, if it has ended. It takes no memory and waits for nobody.
+    pub fn poll(self) -> Result<J::Output, Handle<J>>
+        ensures output { IfOk result (J.is_result self) }
+        ensures same { IfErr result (λ back. back ≡ self) }
+    {
+        match self.receiver.fetch() {
+            Ok((outcome, _)) => Ok(outcome.output),
+            Err(receiver) => Err(Handle { receiver }),
+        }
+    }
+}

@@ -1,0 +1,56 @@
+//! What a pool runs.
+ghost use Rattle.std.specs.Prelude.{◌≡◌, List, [], ◌∷◌};
+ghost use Rattle.arachne_pool.specs.Jobs.{EndsWith, ForksFresh, HasJoined, IsAwaited, KeepsChildren, KeepsResults};
+
+use arachne_contexts::Tagged;
+
+/// What a job wants after a step.
+#[derive(Drop)]
+pub enum Step<J, O> {
+    /// To go on.
+    Again,
+    /// To get the result of the newest child that it has forked and not joined. It goes on at once where it has none.
+    Waits,
+    /// This job is to run beside it, as its newest child.
+    Forks(J),
+    /// It has ended, with this result.
+    Done(O),
+}
+
+/// A job: it goes on by steps, which any worker makes, one after the other.
+pub trait PoolJob: Tagged + Drop {
+    /// What it ends with.
+    type Output: Drop + Send;
+
+    /// This is a result of the job. A handle gives no other.
+    ghost is_result: { Self → Self.Output → Type 0 };
+
+    /// These are the children that the job has forked and not joined, the newest first: each as it was forked. Where a
+    /// job says nothing of them, all that it knows of what it joins is that it is a result of some job.
+    ghost awaits: { Self → List Self → Type 0 };
+
+    /// One step.
+    fn step(&mut self) -> Step<Self, Self::Output>
+        ensures tag { Self.tag_of self.new ≡ Self.tag_of self.old }
+        ensures results { KeepsResults is_result self.old self.new }
+        ensures children { KeepsChildren awaits result self.old self.new }
+        ensures fresh { ForksFresh awaits result }
+        ensures output { (children : List Self) → awaits self.old children → EndsWith (is_result self.old) result };
+
+    /// The result of its newest child has come.
+    fn joined(&mut self, output: Self::Output)
+        requires { IsAwaited is_result awaits self.old output }
+        ensures tag { Self.tag_of self.new ≡ Self.tag_of self.old }
+        ensures results { KeepsResults is_result self.old self.new }
+        ensures children { HasJoined is_result awaits output self.old self.new };
+
+    /// How many steps a slice has at most. Where it is 0, one.
+    fn bound(&self) -> u32 {
+        1
+    }
+
+    /// Whether it is to have a core for itself, if one is empty.
+    fn is_exclusive(&self) -> bool {
+        false
+    }
+}

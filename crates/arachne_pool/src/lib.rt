@@ -1,0 +1,28 @@
+//! A pool: jobs of the caller's own, by kernel threads of the caller's own, over any context table.
+//!
+//! A job is a value with a step. A worker, one for each core, gives each job on its core a slice in turn; a job forks
+//! children, waits for their results, and ends with a result, which its handle gives to whoever spawned it.
+#![tactic(auto)]
+
+mod calls;
+mod closing;
+mod desk;
+mod handle;
+mod job;
+mod links;
+mod outcome;
+mod pool;
+mod round;
+mod spawned;
+mod stop;
+mod tally;
+mod worker;
+
+pub use closing::{Left, NotClosed};
+pub use handle::Handle;
+pub use job::{PoolJob, Step};
+pub use outcome::{Outcome, Wanted};
+pub use pool::Pool;
+pub use spawned::Spawned;
+pub use tally::Tally;
+pub use worker::{PoolFault, Worker};

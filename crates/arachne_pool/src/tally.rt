@@ -1,0 +1,48 @@
+//! How many jobs were spawned, and how many have ended.
+ghost use Rattle.std.specs.Prelude.{◌≡◌, ◌+◌, ◌<◌, ◌≤◌};
+
+/// How many jobs a worker has spawned, and how many have ended with it. Each count stays at 2^64 - 1.
+#[derive(Clone, Copy, Debug, PartialEq, Eq)]
+pub struct Tally {
+    pub spawned: u64,
+    pub ended: u64,
+}
+
+impl Tally {
+    /// None was spawned.
+    pub fn new() -> Tally
+        ensures { (result.spawned ≡ 0) × (result.ended ≡ 0) }
+    {
+        Tally {
+            spawned: 0,
+            ended: 0,
+        }
+    }
+
+    /// One more is spawned.
+    pub(crate) fn count_spawned(&mut self)
+        ensures spawned { self.old.spawned < u64.MAX → self.new.spawned ≡ self.old.spawned + 1 }
+        ensures ended { self.new.ended ≡ self.old.ended }
+    {
+        self.spawned = self.spawned.saturating_add(1);
+    }
+
+    /// One more has ended.
+    pub(crate) fn count_ended(&mut self)
+        ensures ended { self.old.ended < u64.MAX → self.new.ended ≡ self.old.ended + 1 }
+        ensures spawned { self.new.spawned ≡ self.old.spawned }
+    {
+        self.ended = self.ended.saturating_add(1);
+    }
+
+    /// What two workers have counted together.
+    pub(crate) fn with(self, other: Tally) -> Tally
+        ensures spawned { self.spawned + other.spawned ≤ u64.MAX → result.spawned ≡ self.spawned + other.spawned }
+        ensures ended { self.ended + other.ended ≤ u64.MAX → result.ended ≡ self.ended + other.ended }
+    {
+        Tally {
+            spawned: self.spawned.saturating_add(other.spawned),
+            ended: self.ended.saturating_add(other.ended),
+        }
+    }
+}

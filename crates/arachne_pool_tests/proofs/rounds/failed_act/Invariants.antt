@@ -1,0 +1,6 @@
+use Rattle.arachne_pool.specs.Workers.{IsWorkerOf}
+use Rattle.arachne_pool_tests.proofs.rounds.failed_act.Given as goal
+
+-- between two acts the worker is the pool's
+abbrev pub invariant-loop-nth-act : goal.invariant-loop-nth-act
+invariant-loop-nth-act g l = IsWorkerOf g.C.Seats.sits g.C.Seats.idle l.pool.table l.pool.cores l.worker

@@ -1,0 +1,125 @@
+//! The jobs of all tests: each counts itself and the jobs that it has joined.
+use arachne_pool::{PoolJob, Step};
+use arachne_contexts::Tagged;
+
+/// What a job does: it forks children, joins them, goes on for some steps and ends.
+#[derive(Clone, Copy)]
+pub(crate) struct Sort {
+    /// How many generations there are below it.
+    pub(crate) depth: u32,
+    /// How many children it forks.
+    pub(crate) forks: u32,
+    /// How many steps it goes on once it has joined them.
+    pub(crate) steps: u32,
+    /// The most steps of a slice.
+    pub(crate) bound: u32,
+    pub(crate) joins: Joins,
+    pub(crate) is_exclusive: bool,
+}
+
+/// Which children a job joins, and when.
+#[derive(Clone, Copy)]
+pub(crate) enum Joins {
+    /// Each before it forks the next one.
+    InTurn,
+    /// All, once it has forked the last one.
+    AtLast,
+    /// None.
+    Never,
+}
+
+/// A job that forks none and ends at its first step.
+pub(crate) const LEAF: Sort = Sort {
+    depth: 0,
+    forks: 0,
+    steps: 0,
+    bound: 1,
+    joins: Joins::AtLast,
+    is_exclusive: false,
+};
+
+/// One that forks a leaf and joins it.
+pub(crate) const PARENT: Sort = Sort {
+    depth: 1,
+    forks: 1,
+    ..LEAF
+};
+
+/// A job in a pool: how many children it has forked and not joined, how many steps it has gone on, and how many jobs it
+/// has counted.
+#[derive(Drop)]
+pub(crate) struct Task {
+    sort: Sort,
+    forked: u32,
+    awaited: u32,
+    steps: u32,
+    counted: u64,
+}
+
+impl Task {
+    pub(crate) fn new(sort: Sort) -> Task {
+        Task {
+            sort,
+            forked: 0,
+            awaited: 0,
+            steps: 0,
+            counted: 1,
+        }
+    }
+
+    /// Whether it is to join a child before it goes on.
+    fn is_to_join(&self) -> bool {
+        match self.sort.joins {
+            Joins::InTurn => self.awaited > 0,
+            Joins::AtLast => self.awaited > 0 && self.forked == self.sort.forks,
+            Joins::Never => false,
+        }
+    }
+}
+
+impl Tagged for Task {
+    ghost tag_of = { λ task. 7 };
+
+    fn tag(&self) -> u64 {
+        7
+    }
+}
+
+impl PoolJob for Task {
+    type Output = u64;
+
+    ghost is_result = { λ task counted. Unit {0} };
+    ghost awaits = { λ task children. Unit {0} };
+
+    fn step(&mut self) -> Step<Task, u64> {
+        if self.is_to_join() {
+            return Step::Waits;
+        }
+        if self.sort.depth > 0 && self.forked < self.sort.forks {
+            self.forked += 1;
+            self.awaited = self.awaited.wrapping_add(1);
+            return Step::Forks(Task::new(Sort {
+                depth: self.sort.depth - 1,
+                ..self.sort
+            }));
+        }
+        if self.steps < self.sort.steps {
+            self.steps += 1;
+            return Step::Again;
+        }
+        Step::Done(self.counted)
+    }
+
+    fn joined(&mut self, output: u64) {
+        self.awaited = self.awaited.wrapping_sub(1);
+        self.counted = self.counted.wrapping_add(output);
+    }
+
+    fn bound(&self) -> u32 {
+        self.sort.bound
+    }
+
+    fn is_exclusive(&self) -> bool {
+        self.sort.is_exclusive
+    }
+}

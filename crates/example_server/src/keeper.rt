@@ -1,0 +1,151 @@
+//! The keeper of the cores: it judges samples of the load, and orders cores and gives them back.
+ghost use Rattle.std.specs.Prelude.{◌≡◌, ◌+◌, ◌≤◌, IfOk};
+ghost use Rattle.arachne_policy.specs.Orders.{AreInOrder};
+
+use crate::station::Station;
+use arachne_policy::{Advice, CoreOrder, Estimator, OrderKind, Sample, check_orders};
+use std::alloc::{AllocError, Global};
+
+/// The load over which a core is asked for, in thousandths of a request a scan.
+const UP: u64 = 1500;
+
+/// In thousandths of a core.
+const HYSTERESIS: u64 = 90;
+
+/// What was measured over an interval, and what came of it.
+#[derive(Clone, Copy)]
+pub struct Judged {
+    /// The end of the interval, in nanoseconds from the begin.
+    pub at: u64,
+    pub sample: Sample,
+    pub advice: Advice,
+}
+
+/// Judges a sample for each interval. The server has the first so many of its cores.
+#[derive(Drop)]
+pub struct Keeper {
+    estimator: Estimator,
+    interval: u64,
+    pub most: u8,
+    pub held: u8,
+    begun: u64,
+    busy: u64,
+    runnable: u64,
+    scans: u64,
+    pub judged: Vec<Judged>,
+    ghost some: { 1 ≤ most },
+    ghost few: { most ≤ 4 },
+}
+
+impl Keeper {
+    /// How many cores it may have at most.
+    pub const MOST: u8 = 4;
+
+    /// How many requests a core has places for.
+    pub const PLACES: u8 = 56;
+
+    /// A keeper that has so many cores at most, all of which it has now. Where the interval is 0 it keeps them all.
+    pub fn new(alloc: Global, most: u8, interval: u64) -> Keeper
+        requires some { 1 ≤ most }
+        requires few { most ≤ 4 }
+    {
+        Keeper {
+            estimator: Estimator::new(UP, HYSTERESIS, most),
+            interval,
+            most,
+            held: most,
+            begun: 0,
+            busy: 0,
+            runnable: 0,
+            scans: 0,
+            judged: Vec::new(alloc),
+        }
+    }
+
+    /// Whether the places of the cores that it has are not all taken, where so many requests have places.
+    pub fn has_room(&self, requests: u64) -> bool {
+        requests < u64::from(self.held) * u64::from(Keeper::PLACES)
+    }
+
+    /// All cores that it has were looked at, and so many requests were there.
+    pub fn scan(&mut self, requests: u64)
+        ensures { self.new.most ≡ self.old.most }
+    {
+        self.runnable = self.runnable.saturating_add(requests);
+        self.scans = self.scans.saturating_add(u64::from(self.held));
+    }
+
+    /// At the end of an interval, whether a core is to come or to go.
+    pub fn judge(&mut self, at: u64, stations: &[Station]) -> Advice
+        ensures { self.new.most ≡ self.old.most }
+    {
+        let elapsed = at.saturating_sub(self.begun);
+        if self.interval == 0 || elapsed < self.interval {
+            return Advice::Stay;
+        }
+        let all = stations
+            .iter()
+            .fold(0u64, |sum, station| sum.wrapping_add(station.busy()));
+        let cores = u64::from(self.held);
+        let sample = Sample {
+            cores,
+            runnable: self.runnable,
+            scans: self.scans,
+            busy: all
+                .wrapping_sub(self.busy)
+                .min(cores.saturating_mul(elapsed)),
+            elapsed,
+        };
+        self.busy = all;
+        self.begun = at;
+        self.runnable = 0;
+        self.scans = 0;
+        let advice = self.estimator.estimate(sample).unwrap_or(Advice::Stay);
+        let _ = self.judged.push(Judged { at, sample, advice });
+        advice
+    }
+
+    /// Takes the advice: the station is told, and the pool is to be, by this order.
+    pub fn follow(&mut self, advice: Advice, stations: &[Station]) -> Option<CoreOrder>
+        ensures { self.new.most ≡ self.old.most }
+    {
+        match advice {
+            Advice::Add if self.held < self.most => {
+                let core = self.held;
+                stations.get(usize::from(core))?.hold();
+                self.held += 1;
+                Some(order(OrderKind::Grant, core))
+            }
+            Advice::Remove if self.held > 1 => {
+                self.held -= 1;
+                stations.get(usize::from(self.held))?.give_back();
+                Some(order(OrderKind::Release, self.held))
+            }
+            _ => None,
+        }
+    }
+
+    /// The order that nothing is to run on the sender's core, the last one.
+    pub fn sender(&self) -> CoreOrder {
+        order(OrderKind::Release, self.most)
+    }
+
+    /// A list of this order, or of none where it can't be one of a pool with these cores and the sender's.
+    pub fn listed(&self, alloc: Global, order: CoreOrder) -> Result<Vec<CoreOrder>, AllocError>
+        ensures { IfOk result (λ orders. AreInOrder (self.now.most + 1) orders.items) }
+    {
+        let orders = vec![in alloc; order]?;
+        match check_orders(orders.as_slice(), u64::from(self.most) + 1) {
+            Ok(()) => Ok(orders),
+            Err(_) => Ok(Vec::new(alloc)),
+        }
+    }
+}
+
+fn order(kind: OrderKind, core: u8) -> CoreOrder {
+    CoreOrder {
+        after: 0,
+        kind,
+        core: u64::from(core),
+    }
+}

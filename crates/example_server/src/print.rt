@@ -1,0 +1,59 @@
+//! What the server prints.
+use crate::keeper::Keeper;
+use crate::report::{Report, quantile};
+use crate::requests::Class;
+use std::alloc::Global;
+use std::io;
+
+/// What does not depend on time.
+pub fn served(rt: &impl Print, report: &Report, requests: usize) -> io::Result<()> {
+    println!(rt;
+        "{} of {requests} requests served; the sum of their answers is {}",
+        report.served(),
+        report.sum()
+    )
+}
+
+/// How long the requests took.
+pub fn times(rt: &impl Print, alloc: Global, report: &Report) -> io::Result<()> {
+    println!(rt;
+        "{:<12}{:>9}{:>11}{:>11}{:>11}{:>11}",
+        "microseconds", "requests", "50 %", "99 %", "99.9 %", "most"
+    )?;
+    row(rt, "normal", report.times(alloc, Class::Normal)?)?;
+    row(rt, "exclusive", report.times(alloc, Class::Exclusive)?)?;
+    row(rt, "sent late", report.late.as_slice().to_vec(alloc)?)?;
+    println!(rt;
+        "{} requests in {} ms",
+        report.served(),
+        report.nanos / 1_000_000
+    )
+}
+
+fn row(rt: &impl Print, name: &str, mut nanos: Vec<u64>) -> io::Result<()> {
+    nanos.as_mut_slice().sort_unstable();
+    print!(rt; "{name:<12}{:>9}", nanos.len())?;
+    for thousandths in [500, 990, 999, 1000] {
+        let tenths = quantile(nanos.as_slice(), thousandths) / 100;
+        print!(rt; "{:>9}.{}", tenths / 10, tenths % 10)?;
+    }
+    println!(rt;)
+}
+
+/// What was judged of the load, and how many cores there were.
+pub fn cores(rt: &impl Print, keeper: &Keeper) -> io::Result<()> {
+    for judged in keeper.judged.iter() {
+        let sample = &judged.sample;
+        println!(rt;
+            "at {} us: {} cores, {} runnable in {} scans, {} of {} us busy, {}",
+            judged.at / 1000,
+            sample.cores,
+            sample.runnable,
+            sample.scans,
+            sample.busy / 1000,
+            sample.elapsed / 1000,
+            judged.advice
+        )?;
+    }
+    Ok(())
+}

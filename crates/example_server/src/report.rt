@@ -1,0 +1,78 @@
+//! What the server has done: the answer to each request, and how long it took.
+ghost use Rattle.std.specs.Prelude.{◌≡◌, ◌+◌, [], IfOk, OnOk, OnErr, vec_len};
+ghost use Rattle.example_server.specs.Work.{mixed};
+
+use crate::requests::{Class, Due};
+use std::alloc::{AllocError, Global};
+
+/// A request that was answered. The answer is that of its own work.
+#[derive(Clone, Copy)]
+pub struct Answered {
+    pub number: u64,
+    pub work: u32,
+    pub class: Class,
+    pub value: u64,
+    /// From when it was due until its work was done.
+    pub nanos: u64,
+    ghost right: { value ≡ mixed work number },
+}
+
+/// What the server has done.
+#[derive(Drop)]
+pub struct Report {
+    /// The requests that were answered, each by its handle.
+    pub answers: Vec<Answered>,
+    /// How many nanoseconds after it was due each request was sent.
+    pub late: Vec<u64>,
+    /// From the begin to the last answer.
+    pub nanos: u64,
+}
+
+impl Report {
+    /// No answer has come, and there is room for so many.
+    pub fn new(alloc: Global, requests: usize) -> Result<Report, AllocError>
+        ensures { IfOk result (λ report. vec_len report.answers ≡ 0) }
+    {
+        Ok(Report {
+            answers: Vec::with_capacity(alloc, requests)?,
+            late: Vec::with_capacity(alloc, requests)?,
+            nanos: 0,
+        })
+    }
+
+    /// How many requests were answered.
+    pub fn served(&self) -> usize
+        ensures { result ≡ vec_len self.now.answers }
+    {
+        self.answers.len()
+    }
+
+    /// The sum of all answers, modulo 2^64.
+    pub fn sum(&self) -> u64 {
+        let mut sum: u64 = 0;
+        for answer in self.answers.iter() {
+            sum = sum.wrapping_add(answer.value);
+        }
+        sum
+    }
+
+    /// How long the requests of a class took.
+    pub fn times(&self, alloc: Global, class: Class) -> Result<Vec<u64>, AllocError> {
+        let mut times = Vec::new(alloc);
+        for answer in self.answers.iter() {
+            if answer.class == class {
+                times.push(answer.nanos)?;
+            }
+        }
+        Ok(times)
+    }
+}
+
+/// The least of the times that so many of a thousand do not exceed, of times that are sorted.
+pub fn quantile(sorted: &[u64], thousandths: usize) -> u64 {
+    let at = sorted.len().saturating_mul(thousandths) / 1000;
+    match sorted.get(at.min(sorted.len().saturating_sub(1))) {
+        Some(nanos) => *nanos,
+        None => 0,
+    }
+}

@@ -1,0 +1,155 @@
+//! The kernel thread that sends the requests, takes the answers, and has the cores kept.
+ghost use Rattle.std.specs.Prelude.{◌≡◌, ◌+◌, IfSome, OnSome, length, vec_len};
+ghost use Rattle.std.specs.VecDeque.{deque_len};
+ghost use Rattle.arachne_pool.specs.Workers.{IsWorkerOf};
+
+use crate::job::{Request, now};
+use crate::keeper::Keeper;
+use crate::report::{Answered, Report};
+use crate::requests::Due;
+use crate::serve::Server;
+use arachne_pool::{Handle, Spawned, Worker};
+use arachne_table::Contexts;
+use std::alloc::Global;
+use std::collections::VecDeque;
+use std::rt::Clock;
+use std::sync::Wait;
+
+/// A request that was sent and not answered.
+#[derive(Drop)]
+struct Sent {
+    number: u64,
+    due: Due,
+    handle: Handle<Request>,
+    ghost number_right: { handle.number ≡ number },
+    ghost work_right: { handle.work ≡ due.work },
+}
+
+/// What there is once all requests are answered.
+#[derive(Drop)]
+pub struct Done<W> {
+    pub worker: W,
+    pub keeper: Keeper,
+    pub report: Report,
+}
+
+/// Sends each request once its time has come and a place may be free, and takes the answers, until all are answered.
+pub fn send<R: Clock + Wait, C: Contexts<Spawned<Request>>>(
+    rt: &R,
+    alloc: Global,
+    server: &Server<C>,
+    mut worker: Worker<C::Seat, Request>,
+    mut keeper: Keeper,
+    requests: &[Due],
+    mut report: Report,
+    template: Request,
+) -> Option<Done<Worker<C::Seat, Request>>>
+    requires worker { IsWorkerOf C.sits C.idle server.now.pool.table server.now.pool.cores worker }
+    requires cores { keeper.most + 1 ≡ server.now.pool.cores }
+    requires none { vec_len report.answers ≡ 0 }
+    ensures worker { IfSome result (λ done. IsWorkerOf C.sits C.idle server.now.pool.table server.now.pool.cores done.worker) }
+    ensures all { IfSome result (λ done. vec_len done.report.answers ≡ length requests.now) }
+{
+    let mut sent: VecDeque<Sent> = VecDeque::new(alloc);
+    let begin = now(rt);
+    let mut next: usize = 0;
+    for _ in rt.forever() {
+        let at = now(rt).saturating_sub(begin);
+        if let Some(due) = requests.get(next)
+            && due.at <= at
+            && keeper.has_room(server.pool.live())
+        {
+            report.late.push(at - due.at).ok()?;
+            let number = next as u64;
+            let request = template.next(number, *due);
+            let Ok(handle) = server.pool.spawn(rt, &mut worker, request) else {
+                return None;
+            };
+            sent.push_back(Sent {
+                number,
+                due: *due,
+                handle,
+            })
+            .ok()?;
+            next += 1;
+            continue;
+        }
+        server.pool.turn(rt, &mut worker, keeper.most).ok()?;
+        keep_cores(rt, alloc, server, &mut worker, &mut keeper, at)?;
+        if !take_answer(&mut sent, begin, &mut report)?
+            && next == requests.len()
+            && sent.is_empty()
+        {
+            report.nanos = at;
+            return Some(Done {
+                worker,
+                keeper,
+                report,
+            });
+        }
+    }
+    unreachable!()
+}
+
+/// Looks at the load, and orders a core or gives one back where that is due.
+fn keep_cores<R: Clock + Wait, C: Contexts<Spawned<Request>>>(
+    rt: &R,
+    alloc: Global,
+    server: &Server<C>,
+    worker: &mut Worker<C::Seat, Request>,
+    keeper: &mut Keeper,
+    at: u64,
+) -> Option<()>
+    requires worker { IsWorkerOf C.sits C.idle server.now.pool.table server.now.pool.cores worker.old }
+    requires cores { keeper.old.most + 1 ≡ server.now.pool.cores }
+    ensures worker { IsWorkerOf C.sits C.idle server.now.pool.table server.now.pool.cores worker.new }
+    ensures cores { keeper.new.most ≡ keeper.old.most }
+{
+    keeper.scan(server.pool.live());
+    let stations = server.stations.as_slice();
+    let advice = keeper.judge(at, stations);
+    if let Some(order) = keeper.follow(advice, stations) {
+        let orders = keeper.listed(alloc, order).ok()?;
+        server.pool.order(rt, worker, orders).ok()?;
+    }
+    Some(())
+}
+
+/// Takes the answer to the request that was sent first, if it has come. Whether it had.
+fn take_answer(sent: &mut VecDeque<Sent>, begin: u64, report: &mut Report) -> Option<bool>
+    ensures { OnSome result (vec_len report.new.answers + deque_len sent.new ≡ vec_len report.old.answers + deque_len sent.old) }
+{
+    let Some(first) = sent.pop_front() else {
+        return Some(false);
+    };
+    let Sent {
+        number,
+        due,
+        handle,
+    } = first;
+    match handle.poll() {
+        Ok(answer) => {
+            let nanos = answer.ended.saturating_sub(begin).saturating_sub(due.at);
+            report
+                .answers
+                .push(Answered {
+                    number,
+                    work: due.work,
+                    class: due.class,
+                    value: answer.value,
+                    nanos,
+                })
+                .ok()?;
+            Some(true)
+        }
+        Err(handle) => {
+            sent.push_front(Sent {
+                number,
+                due,
+                handle,
+            })
+            .ok()?;
+            Some(false)
+        }
+    }
+}

@@ -1,0 +1,76 @@
+//! What the kernel threads of the server share, and what that of a core does.
+ghost use Rattle.std.specs.Prelude.{◌≡◌, ◌<◌, IfSome};
+ghost use Rattle.arachne_pool.specs.Workers.{IsWorkerOf};
+
+use crate::job::now;
+use crate::station::Station;
+use arachne_pool::{Pool, PoolJob, Spawned, Worker};
+use arachne_table::{Contexts, Seats};
+use std::rt::Clock;
+use std::sync::Wait;
+use std::sync::atomic::{AtomicU64, Ordering};
+use std::thread;
+
+/// What all kernel threads of the server share.
+#[derive(Drop)]
+pub struct Server<C: Seats> {
+    pub pool: Pool<C>,
+    pub stations: Vec<Station>,
+    /// 1 once all requests are answered.
+    over: AtomicU64,
+}
+
+impl<C: Seats> Server<C> {
+    pub fn new(pool: Pool<C>, stations: Vec<Station>) -> Server<C>
+        ensures { result.pool ≡ pool }
+    {
+        Server {
+            pool,
+            stations,
+            over: AtomicU64::new(0),
+        }
+    }
+
+    fn is_over(&self) -> bool {
+        self.over.load(Ordering::SeqCst) == 1
+    }
+
+    /// No more requests come: all kernel threads are to end.
+    pub fn end(&self) {
+        self.over.store(1, Ordering::SeqCst);
+        for station in self.stations.iter() {
+            station.hold();
+        }
+    }
+}
+
+/// Serves on a core until the server is over. It spins while the server has the core, and sleeps while it has not.
+pub fn serve<R: Clock + Wait, J: PoolJob, C: Contexts<Spawned<J>>>(
+    rt: &R,
+    server: &Server<C>,
+    mut worker: Worker<C::Seat, J>,
+    core: u8,
+) -> Option<Worker<C::Seat, J>>
+    requires worker { IsWorkerOf C.sits C.idle server.now.pool.table server.now.pool.cores worker }
+    requires core { core < server.now.pool.cores }
+    ensures { IfSome result (IsWorkerOf C.sits C.idle server.now.pool.table server.now.pool.cores) }
+{
+    let station = server.stations.get(usize::from(core))?;
+    let mut before = now(rt);
+    for _ in rt.forever() {
+        if server.is_over() {
+            return Some(worker);
+        }
+        let found = server.pool.turn(rt, &mut worker, core).ok()?;
+        let after = now(rt);
+        if found {
+            station.add_busy(after.saturating_sub(before));
+        } else if station.is_held() {
+            thread::yield_now();
+        } else {
+            station.sleep(rt);
+        }
+        before = after;
+    }
+    unreachable!()
+}
