@@ -3,6 +3,10 @@
 #![tactic(auto)]
 
 #[cfg(test)]
+mod crew;
+#[cfg(test)]
+mod loads;
+#[cfg(test)]
 mod orders;
 #[cfg(test)]
 mod rounds;

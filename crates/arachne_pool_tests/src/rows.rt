@@ -200,10 +200,7 @@ const ROWS: &[Row] = &[
         shows: "a core that is taken back is closed, and its jobs are moved; one that is granted takes jobs again",
         cores: 2,
         slots: 4,
-        orders: &[
-            (2, RELEASE, 1),
-            (8, GRANT, 1),
-        ],
+        orders: &[(2, RELEASE, 1), (8, GRANT, 1)],
         acts: &[
             Act::Spawns(ALONE),
             Act::Spawns(ELEVEN),

@@ -116,13 +116,19 @@ fn tree_in_need<C: Contexts<Spawned<Task>> + Drop, R: Wait>(
 #[test]
 fn what_is_refused_is_done_at_last_over_words(rt: HostRuntime) -> Result<(), Fail> {
     let seen = tree_in_need::<WordContexts<Spawned<Task>>, HostRuntime>(&rt, rt.alloc())?;
-    assert!(rt; seen.spawns > 0 && seen.rounds > 20 && seen.counted == 85, "{seen:?}");
+    assert!(rt;
+        seen.spawns > 0 && seen.rounds > 20 && seen.counted == 85,
+        "{seen:?}"
+    );
     Ok(())
 }
 
 #[test]
 fn what_is_refused_is_done_at_last_behind_a_lock(rt: HostRuntime) -> Result<(), Fail> {
     let seen = tree_in_need::<LockedContexts<Spawned<Task>>, HostRuntime>(&rt, rt.alloc())?;
-    assert!(rt; seen.spawns > 0 && seen.rounds > 20 && seen.counted == 85, "{seen:?}");
+    assert!(rt;
+        seen.spawns > 0 && seen.rounds > 20 && seen.counted == 85,
+        "{seen:?}"
+    );
     Ok(())
 }

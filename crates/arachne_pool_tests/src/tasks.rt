@@ -1,6 +1,6 @@
 //! The jobs of all tests: each counts itself and the jobs that it has joined.
-use arachne_pool::{PoolJob, Step};
 use arachne_contexts::Tagged;
+use arachne_pool::{PoolJob, Step};
 
 /// What a job does: it forks children, joins them, goes on for some steps and ends.
 #[derive(Clone, Copy)]
@@ -89,6 +89,7 @@ impl PoolJob for Task {
     type Output = u64;
 
     ghost is_result = { λ task counted. Unit {0} };
+
     ghost awaits = { λ task children. Unit {0} };
 
     fn step(&mut self) -> Step<Task, u64> {
