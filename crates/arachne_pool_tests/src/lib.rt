@@ -3,6 +3,8 @@
 #![tactic(auto)]
 
 #[cfg(test)]
+mod ends;
+#[cfg(test)]
 mod orders;
 #[cfg(test)]
 mod rounds;
@@ -12,3 +14,5 @@ mod rows;
 mod shortage;
 #[cfg(test)]
 mod tasks;
+#[cfg(test)]
+mod threads;
