@@ -26,6 +26,7 @@ impl PoolJob for Once {
     type Output = u64;
 
     ghost is_result = { λ once steps. Unit {0} };
+
     ghost awaits = { λ once children. Unit {0} };
 
     fn step(&mut self) -> Step<Once, u64> {

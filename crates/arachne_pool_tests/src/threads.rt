@@ -28,12 +28,7 @@ const LONG: Sort = Sort {
 };
 
 /// Works for core 0: after some rounds the pool is stopped, or it works until no job is left.
-fn lead<R: Wait>(
-    rt: &R,
-    pool: &Pool<Table>,
-    mut worker: TableWorker,
-    stops: bool,
-) -> TableWorker
+fn lead<R: Wait>(rt: &R, pool: &Pool<Table>, mut worker: TableWorker, stops: bool) -> TableWorker
     requires worker { IsWorkerOf (λ table seat. seat.table ≡ table.table) (λ table seat. HasNothingOut seat.known) pool.now.table pool.now.cores worker }
     requires core { 0 < pool.now.cores }
     ensures { IsWorkerOf (λ table seat. seat.table ≡ table.table) (λ table seat. HasNothingOut seat.known) pool.now.table pool.now.cores result }
