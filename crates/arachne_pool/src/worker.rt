@@ -1,4 +1,5 @@
 //! Workers of a pool: what each has of it, how one is split in two, and how two are put together.
+ghost use Rattle.std.specs.Option.{option_or};
 ghost use Rattle.std.specs.Prelude.{◌≡◌, ◌+◌, ◌≤◌, ℕ, IfErr, IfOk, vec_len};
 ghost use Rattle.arachne_pool.specs.Workers.{IsArbiterFor};
 
@@ -78,7 +79,8 @@ impl<J: PoolJob> Desk<J> {
 
 /// The orders of the first, or else of the second.
 fn first_of(first: Option<Arbiter>, second: Option<Arbiter>) -> Option<Arbiter>
-    ensures { (cores : ℕ) → IsArbiterFor cores first → IsArbiterFor cores second → IsArbiterFor cores result }
+    ensures kept { result ≡ option_or first second }
+    ensures cores { (cores : ℕ) → IsArbiterFor cores first → IsArbiterFor cores second → IsArbiterFor cores result }
 {
     match first {
         Some(arbiter) => Some(arbiter),
@@ -99,7 +101,7 @@ impl<C: Seats> Pool<C> {
         requires { IsWorkerOf C.sits C.idle self.now.table self.now.cores worker }
         ensures own { IsWorkerOf C.sits C.idle self.now.table self.now.cores result.0 }
         ensures others { IsWorkerOf C.sits C.idle self.now.table self.now.cores result.1 }
-        ensures kept { (result.0.tally ≡ worker.tally) × (result.0.near ≡ worker.near) }
+        ensures kept { (result.0.tally ≡ worker.tally) × (result.0.near ≡ worker.near) × (result.0.arbiter ≡ worker.arbiter) }
         ensures nothing { (result.1.tally.spawned ≡ 0) × (result.1.tally.ended ≡ 0) × (result.1.near ≡ 0) }
     {
         let Worker {
@@ -133,6 +135,7 @@ impl<C: Seats> Pool<C> {
         requires other { IsWorkerOf C.sits C.idle self.now.table self.now.cores other }
         ensures both { IfOk result (IsWorkerOf C.sits C.idle self.now.table self.now.cores) }
         ensures near { IfOk result (λ both. both.near ≡ worker.near + other.near) }
+        ensures orders { IfOk result (λ both. both.arbiter ≡ option_or worker.arbiter other.arbiter) }
         ensures spawned { worker.tally.spawned + other.tally.spawned ≤ u64.MAX → IfOk result (λ both. both.tally.spawned ≡ worker.tally.spawned + other.tally.spawned) }
         ensures ended { worker.tally.ended + other.tally.ended ≤ u64.MAX → IfOk result (λ both. both.tally.ended ≡ worker.tally.ended + other.tally.ended) }
         ensures first_back { IfErr result (λ back. back.0 ≡ worker) }

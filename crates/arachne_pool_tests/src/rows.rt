@@ -160,6 +160,30 @@ const ROWS: &[Row] = &[
         left: (0, 0),
     },
     Row {
+        shows: "a job without a place that awaits a child is kept, though a place is free, and asks each round",
+        cores: 1,
+        slots: 2,
+        orders: &[],
+        acts: &[
+            Act::Spawns(Sort { steps: 1, ..LEAF }),
+            Act::Spawns(Sort { steps: 1, ..LEAF }),
+            Act::Spawns(Sort {
+                steps: 10,
+                ..PARENT
+            }),
+            Act::Turns(0, true),
+            Act::Turns(0, true),
+            Act::Has(0, 1),
+            Act::Lives(2),
+            Act::Turns(0, true),
+            Act::Turns(0, true),
+            Act::Has(0, 1),
+            Act::Works(0),
+            Act::Gives(2),
+        ],
+        left: (0, 0),
+    },
+    Row {
         shows: "an exclusive job gets an empty core, and no other job comes there",
         cores: 2,
         slots: 4,
