@@ -1,5 +1,5 @@
-// An evaluator of the task language over a boxed tree whose threads are goroutines, and which keeps sums, holds and lines.
-// `peer FILE CORES` prints the first line of what `arachne run --cores CORES` prints.
+// An evaluator of the task language over a boxed tree whose threads are goroutines, and which keeps sums, holds and
+// lines. `peer FILE CORES` prints the first line of what `arachne run --cores CORES` prints.
 package main
 
 import (

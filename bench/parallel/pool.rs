@@ -1,5 +1,6 @@
-//! A pool of kernel threads with a deque each, by which a fork's two sides may run at once: a plain version of what rayon's `join` does.
-//! The owner pushes and pops at one end of its deque, others steal at the other (Chase and Lev, 2005).
+//! A pool of kernel threads with a deque each, by which a fork's two sides may run at once: a plain version of what
+//! rayon's `join` does. The owner pushes and pops at one end of its deque, others steal at the other (Chase and Lev,
+//! 2005).
 use std::cell::UnsafeCell;
 use std::sync::atomic::{AtomicBool, AtomicIsize, AtomicPtr, AtomicUsize, Ordering::*};
 use std::thread;

@@ -1,5 +1,5 @@
-//! What the peers of the server share: the list of requests, their work, the generator that sends each once it is due, and
-//! the table of how long they took.
+//! What the peers of the server share: the list of requests, their work, the generator that sends each once it is due,
+//! and the table of how long they took.
 
 use std::io::Read;
 use std::sync::atomic::{AtomicU64, Ordering::SeqCst};

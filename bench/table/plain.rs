@@ -1,4 +1,5 @@
-//! What `table_bench` does, by the same steps on Rust's atomics: mark words, occupancy words on cache lines of their own, place words, and slots.
+//! What `table_bench` does, by the same steps on Rust's atomics: mark words, occupancy words on cache lines of their
+//! own, place words, and slots.
 use std::cell::UnsafeCell;
 use std::sync::atomic::{AtomicU64, Ordering::SeqCst};
 use std::time::Instant;

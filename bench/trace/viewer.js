@@ -1,7 +1,8 @@
 #!/usr/bin/env node
-// Reads a trace by Chrome's own trace viewer, and prints what that has found on each core: bench/trace/viewer.js TRACE.JSON [PAGE]
-// PAGE is the viewer in one file, as Go ships it for `go tool trace` (Debian: golang-1.19-src). The viewer is made to run without a page too; what
-// draws is not used. Ends with status 1 where the viewer warns.
+// Reads a trace with Chrome's own trace viewer, and prints what that found on each core:
+// bench/trace/viewer.js TRACE.JSON [PAGE]
+// PAGE is the viewer in one file, as Go ships it for `go tool trace` (Debian: golang-1.19-src). The viewer is made to run
+// without a page; its drawing code is not used. Ends with status 1 if the viewer warns.
 const fs = require("fs");
 const vm = require("vm");
 

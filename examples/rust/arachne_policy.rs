@@ -32,7 +32,8 @@ impl Estimator {
     /// None where `max` is over 64.
     pub fn new(up: u64, hysteresis: u64, max: u64) -> Option<Estimator> {
         let mut bytes = [0; 67];
-        // SAFETY: the declaration fits that of the library, and the pointer is of an estimator that is lent for the call.
+        // SAFETY: the declaration fits that of the library, and the pointer is of an estimator that is lent for the
+        // call.
         unsafe { arachne_estimator_new(up, hysteresis, max, &mut bytes) }.then_some(Estimator(bytes))
     }
 
