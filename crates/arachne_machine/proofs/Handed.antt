@@ -13,7 +13,7 @@ use Rattle.arachne_machine.specs.declared.frame.Control.TheVariants.{Begin, Give
 use Rattle.arachne_machine.specs.declared.line.ThreadLine.{ThreadLine}
 use Rattle.arachne_machine.specs.declared.state.Own.{Own}
 use Rattle.std.specs.Global.{Box}
-use Rattle.std.proofs.lemmas.List.{get_or_append_left, get_or-map, get_or-reverse, length-map, length-reverse, reverse-append, reverse-reverse}
+use Rattle.std.proofs.lemmas.List.{append_assoc, get_or_append_left, get_or-map, get_or-reverse, length-map, length-reverse, reverse-append, reverse-reverse}
 use Rattle.arachne_lang.specs.declared.program.Class.{Class}
 use Rattle.arachne_lang.specs.Program.{source_of}
 use Rattle.arachne_lang.specs.Effects.{tabulated}
@@ -26,10 +26,10 @@ use Rattle.arachne_machine.specs.Strands.{Strand, Fits, own_line, strand_at}
 use Rattle.arachne_machine.specs.declared.level.Level.{Level}
 use Rattle.arachne_machine.specs.Steps.{AfterSteps, GoesWithin, LeavesOthers, pending_of, suspended, top, waiting, waiting_in}
 use Rattle.arachne_machine.specs.Sound.{AreSound, IsSoundState, RunFor}
-use Rattle.arachne_machine.specs.Runs.{Advances, FitsInto, LooksSame, RunsOn, RunsWithin, RunsToPause, RunsToFork, TakesIn, work_in_state}
+use Rattle.arachne_machine.specs.Runs.{Advances, FitsInto, LooksSame, RunsOn, RunsToPause, RunsToFork, TakesIn, work_in_state}
 use Rattle.arachne_machine.specs.Suspended.{Suspended, awaited}
 use Rattle.arachne_machine.specs.Nested.{ArePlaced, Await, AwaitsElsewhere, IsPlaced, Placed, work_in, works, works_placed}
-use Rattle.arachne_machine.specs.Kept.{AdvancesWith, IsKept, StandsBack, Went, WentToFork, WentWithin, nested, seen_child, seen_children}
+use Rattle.arachne_machine.specs.Kept.{AdvancesWith, IsKept, StandsBack, Went, WentToFork, nested, seen_child, seen_children}
 use Rattle.arachne_machine.proofs.Levels.{leaves_waiting, runs_on, sound_top}
 use Rattle.arachne_machine.proofs.Advancing.{sound_after}
 use Rattle.arachne_machine.proofs.Tabulated.{length-tabulated}
@@ -234,19 +234,21 @@ newest_of t ps qs child kept is =
     }
 
 -- It is taken up.
-pub record Up (old : State) (ps : List (Box State)) (new : State) (qs : List (Box State)) : Type 0 where
+pub record Up (old : State) (ps : List (Box State)) (child : Box State) (new : State) (qs : List (Box State)) : Type 0 where
   pub kept : IsKept new qs
   pub work : work_in (nested new qs) ≡ work_in (nested old ps)
+  pub seen : seen_children ps ≡ seen_child child ∷ seen_children qs
   pub pending : pending_of new.control ≡ None
 
 pub taken_up : (old new : State) (ps qs : List (Box State)) (child : Box State) → IsKept old ps → ps ≡ qs ++ child ∷ [] → pending_of old.control ≡ Some pause.Joins →
-    awaited (suspended (top old)) ≡ Some child.value.own.name → TakesIn old child.value new → Up old ps new qs
+    awaited (suspended (top old)) ≡ Some child.value.own.name → TakesIn old child.value new → Up old ps child new qs
 taken_up old new ps qs child kept is joins of_child takes =
     let n = newest_of old ps qs child kept is in
     let t = taken old child.value new kept.sound n.sound n.source joins of_child takes in
     record {
       kept = kept_sound new qs t.sound n.others (subst (λ p. ArePlaced (source_of p.now) (seen_children qs)) (sym takes.program) n.rest) (going new (ap pending_of takes.control_is ∙ n.placed.not_paused));
       work = omega (arith, t.work, work_seen new qs, work_seen old ps, works_seen (waiting_in child.value), ap works_placed n.seen);
+      seen = n.seen;
       pending = ap pending_of takes.control_is ∙ n.placed.not_paused;
     }
 
@@ -256,6 +258,7 @@ pub record Back (old : State) (ps : List (Box State)) (new : State) (qs : List (
   pub program : new.program ≡ old.program
   pub own : new.own ≡ old.own
   pub work : work_in (nested new qs) ≡ work_in (nested old ps) + 1
+  pub seen : seen_children qs ≡ seen_children ps
   pub pending : pending_of new.control ≡ None
 
 pub stood_back : (old new : State) (ps qs : List (Box State)) → IsKept old ps → StandsBack old ps new qs → Back old ps new qs
@@ -275,6 +278,7 @@ stood_back old new ps qs kept b =
       program = program;
       own = u.leaves.own ∙ b.same.own;
       work = omega (arith, whole, u.work, ap works (ap (map suspended) u.waits), ap works_placed seen, ap works_placed n.seen);
+      seen = seen ∙ sym n.seen;
       pending = u.pending;
     }
 
@@ -363,6 +367,7 @@ went_nothing had t ps kept running = record {
   own = refl;
   work = omega arith;
   running = running;
+  rest = ([], refl);
   by_itself = λ none. (none, runs_nothing had t t kept.sound (as_is t) running);
 }
 
@@ -378,6 +383,7 @@ went_on had some most left a b c ps qs w r less =
       own = r.runs.own ∙ w.own;
       work = omega (arith, w.work, work, work_seen c qs, work_seen b qs);
       running = r.running;
+      rest = w.rest;
       by_itself = λ none.
           let before = w.by_itself none in
           let m = before.1 in (
@@ -393,30 +399,11 @@ went_on had some most left a b c ps qs w r less =
           );
     }
 
-pub went_refused : {Q : Type 0} → (had some : ℕ) (a b c : State) (ps qs : List (Box State)) → Went Q had some a ps b qs → 0 < some → RunsWithin Q (some - 1) b c → WentWithin Q (had - 1) a ps c qs
-went_refused had some a b c ps qs w more r =
-    let work = r.runs.work in
-    record {
-      made = w.made + r.made;
-      at_most = omega (arith, w.counted, r.at_most, more);
-      kept = kept_sound c qs r.runs.sound w.kept.children (subst (λ p. ArePlaced (source_of p.now) (seen_children qs)) (sym r.runs.program) w.kept.nested_is.waiting) (going c r.running);
-      program = r.runs.program ∙ w.program;
-      own = r.runs.own ∙ w.own;
-      work = omega (arith, w.work, work, work_seen c qs, work_seen b qs);
-      running = r.running;
-      by_itself = λ none.
-          let before = w.by_itself none in
-          let m = before.1 in (
-            before.0,
-            record {
-              made = m.made + r.made;
-              at_most = omega (arith, m.counted, r.at_most, more);
-              runs = runs_on m.made r.made a b c m.runs r.runs;
-              running = r.running;
-              places_none = λ x alone. r.places_none x (m.runs.by_itself alone (m.places_none x alone)).alone ∙ m.places_none x alone;
-            },
-          );
-    }
+-- The same, where as many are left as there were.
+pub went_all : {Q : Type 0} → (had some left : ℕ) (a b c : State) (ps qs : List (Box State)) → Went Q had some a ps b qs → RunsOn Q some left 0 b c → Went Q had left a ps c qs
+went_all {Q} had some left a b c ps qs w r =
+    let all : some + w.made ≡ had = w.counted in
+    subst (λ n. Went Q n left a ps c qs) all (went_on had some some left a b c ps qs w r (omega arith))
 
 some_child : (qs : List (Box State)) (child : Box State) → qs ++ child ∷ [] ≡ [] → ⊥
 some_child [] child e = cc
@@ -439,28 +426,31 @@ went_up had some left a b c d ps qs rs child w beside one r is of_child takes jo
       own = takes.own ∙ r.leaves.own ∙ last.own;
       work = omega (arith, last.work, at.work, up.work);
       running = up.pending;
+      rest = (w.rest.0 ++ seen_child child ∷ [], w.rest.1 ∙ ap (λ l. w.rest.0 ++ l) up.seen ∙ sym (append_assoc w.rest.0 (seen_child child ∷ []) (seen_children rs)));
       by_itself = λ none. absurd (some_child rs child (sym is ∙ (w.by_itself none).0));
     }
 
 pub went_back : {Q : Type 0} → (had some left : ℕ) (a b c d : State) (ps qs rs : List (Box State)) → Went Q had some a ps b qs → (beside : ℕ) → some ≡ beside + 1 →
-    RunsToPause Q beside left b pause.Joins c → StandsBack c qs d rs → WentWithin Q (had - 1) a ps d rs
+    RunsToPause Q beside left b pause.Joins c → StandsBack c qs d rs → Went Q had (left + 1) a ps d rs
 went_back had some left a b c d ps qs rs w beside one r back =
     let last = went_on had some beside left a b r.last ps qs w r.runs (omega (arith, one)) in
     let at = paused r.last c qs pause.Joins last.kept r.leaves r.ended r.stops in
     let b' = stood_back c d qs rs at.kept back in
     record {
       made = last.made;
-      at_most = omega (arith, last.counted, w.counted, one);
+      fewer = omega (arith, last.counted, w.counted, one);
+      counted = omega (arith, last.counted, w.counted, one);
       kept = b'.kept;
       program = b'.program ∙ r.leaves.program ∙ last.program;
       own = b'.own ∙ r.leaves.own ∙ last.own;
       work = omega (arith, last.work, at.work, b'.work);
       running = b'.pending;
+      rest = (w.rest.0, w.rest.1 ∙ ap (λ l. w.rest.0 ++ l) (sym b'.seen));
       by_itself = λ none. absurd (some_child back.rest back.child (sym back.were ∙ (w.by_itself none).0));
     }
 
 pub advanced_kept : {Q : Type 0} → (had some left : ℕ) (a b c : State) (ps qs : List (Box State)) (next : Option Pending) → Went Q had some a ps b qs → Advances Q some left b None next c → IsKept c qs
-advanced_kept had some left a b c ps qs None w r = (went_on had some some left a b c ps qs w r.0 (omega arith)).kept
+advanced_kept had some left a b c ps qs None w r = (went_all had some left a b c ps qs w r.0).kept
 advanced_kept had some left a b c ps qs (Some next) w r =
     (paused r.2.last c qs next (went_on had some r.0 left a b r.2.last ps qs w r.2.runs (omega (arith, r.1))).kept r.2.leaves r.2.ended r.2.stops).kept
 
@@ -469,9 +459,7 @@ pub went_paused : (Q : Type 0) → (had some left : ℕ) (a b c : State) (ps qs 
     (pending_of c.control ≡ Some pause.Joins → (rest : List (Box State)) (child : Box State) → qs ≡ rest ++ child ∷ [] → awaited (suspended (top c)) ≢ Some child.value.own.name) →
     AdvancesWith Q had left a ps None next c qs
 went_paused Q had some left a b c ps qs None w r is other =
-    let on = went_on had some some left a b c ps qs w r.0 (omega arith) in
-    let all : some + w.made ≡ had = w.counted in
-    (subst (λ n. Went Q n left a ps c qs) all on, r.1)
+    (went_all had some left a b c ps qs w r.0, r.1)
 went_paused Q had some left a b c ps qs (Some next) w r is other =
     let last = went_on had some r.0 left a b r.2.last ps qs w r.2.runs (omega (arith, r.1)) in (
       r.0 + w.made,

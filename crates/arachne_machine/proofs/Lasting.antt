@@ -1,5 +1,5 @@
 -- What stays as it is: after refused memory, at a pause, and where nothing has changed but room.
-use Rattle.std.proofs.Common.{◌≡◌, ◌<◌, ℕ, ◌+◌, ◌-◌, List, [], ◌∷◌, Option, None, Some, inl, inr, refl, ap, sym, subst, ◌∙◌, arith}
+use Rattle.std.proofs.Common.{◌≡◌, ℕ, ◌+◌, List, [], ◌∷◌, Option, None, Some, inl, inr, refl, ap, sym, subst, ◌∙◌, arith}
 use Rattle.std.specs.Prelude.{◌==◌, true, false, map, reverse, Result, Ok, Err, OnErr, OnOk}
 use Rattle.std.specs.Borrow.{Bor}
 use Rattle.std.specs.Global.{Box}
@@ -19,28 +19,13 @@ use Rattle.arachne_machine.specs.Ending.{ending}
 use Rattle.arachne_machine.specs.Strands.{Strand}
 use Rattle.arachne_machine.specs.Sound.{IsSoundState, RunFor}
 use Rattle.arachne_machine.specs.Steps.{AfterSteps, suspended, OnStops, OnValue, waiting, IsLeftOver, IsSame, LeavesOthers, pending_of, top}
-use Rattle.arachne_machine.specs.Runs.{IsOneStep, RunsOn, RunsToFork, RunsToPause, RunsWithin, HasParent, beginning_in, current_in, giving_in}
+use Rattle.arachne_machine.specs.Runs.{IsOneStep, RunsOn, RunsToFork, RunsToPause, HasParent, beginning_in, current_in, giving_in}
 use Rattle.arachne_machine.proofs.Levels.{leaves_waiting, runs_on, runs_top}
 use Rattle.arachne_machine.specs.Nested.{IsNested}
 use Rattle.arachne_machine.specs.Kept.{IsKept, nested}
 use Rattle.arachne_machine.proofs.Handings.{is_not_zero, is_zero}
 use Rattle.arachne_machine.proofs.Soundness.{goes_nowhere, locks_unchanged, unchanged_seen}
-use Rattle.arachne_machine.proofs.Going.{leaves_same, runs_nothing, start_in, top_same}
-
--- Memory was refused, after these steps.
-pub refused_same : {Q : Type 0} → (most : ℕ) (a b : State) → IsSoundState a → IsSame a b → pending_of a.control ≡ None → RunsWithin Q most a b
-refused_same most a b s same running =
-    let r = runs_nothing 0 a b s same running in
-    record { made = r.made; at_most = omega (arith, r.counted); runs = r.runs; running = r.running; places_none = r.places_none }
-
-pub refused_after : {Q : Type 0} → (had left : ℕ) (a b c : State) → RunsOn Q had left 0 a b → RunsWithin Q left b c → RunsWithin Q had a c
-refused_after had left a b c m r = record {
-  made = m.made + r.made;
-  at_most = omega (arith, m.counted, r.at_most);
-  runs = runs_on m.made r.made a b c m.runs r.runs;
-  running = r.running;
-  places_none = λ x alone. r.places_none x (m.runs.by_itself alone (m.places_none x alone)).alone ∙ m.places_none x alone;
-}
+use Rattle.arachne_machine.proofs.Going.{leaves_same, start_in, top_same}
 
 pub on_value : (p : Progress) (A : Type 0) → A → OnValue p A
 on_value (part.Value value) A a = a
@@ -121,10 +106,12 @@ pub current_running : (begins : Option (Bor Expr)) (t : State) → (begins ≡ N
 current_running None t h = left_running t.control (h refl)
 current_running (Some expr) t h = refl
 
-pub refused_next : {Q : Type 0} → (had rest : ℕ) (a b c : State) → RunsOn Q had rest 0 a b → RunsWithin Q (rest - 1) b c → 0 < rest → RunsWithin Q (had - 1) a c
-refused_next had rest a b c m r some = record {
+-- Memory was refused in the next step, of which some were made.
+pub refused_next : {Q : Type 0} → (had some left : ℕ) (a b c : State) → RunsOn Q had (some + 1) 0 a b → RunsOn Q some left 0 b c → RunsOn Q had (left + 1) 0 a c
+refused_next had some left a b c m r = record {
   made = m.made + r.made;
-  at_most = omega (arith, m.counted, r.at_most, some);
+  fewer = omega (arith, m.fewer, r.fewer);
+  counted = omega (arith, m.counted, r.counted);
   runs = runs_on m.made r.made a b c m.runs r.runs;
   running = r.running;
   places_none = λ x alone. r.places_none x (m.runs.by_itself alone (m.places_none x alone)).alone ∙ m.places_none x alone;

@@ -1,5 +1,5 @@
 -- What callers see of an advance.
-use Rattle.std.proofs.Common.{◌≡◌, ◌-◌, ℕ, ◌+◌, List, [], ◌∷◌, ◌++◌, None, Some, Option, refl, ap, sym, ◌∙◌, subst, arith}
+use Rattle.std.proofs.Common.{◌≡◌, ◌-◌, ◌≤◌, ℕ, ◌+◌, List, [], ◌∷◌, ◌++◌, None, Some, Option, refl, ap, sym, ◌∙◌, subst, arith}
 use Rattle.std.specs.Prelude.{map, option_map, slice_get}
 use Rattle.std.specs.Global.{Box}
 use Rattle.arachne_lang.specs.declared.program.Class.{Class}
@@ -17,9 +17,11 @@ use Rattle.arachne_machine.specs.Ending.{unjoined_of, work_left}
 use Rattle.arachne_machine.specs.Steps.{pending_of, suspended, task_begun, top, waiting_in}
 use Rattle.arachne_machine.specs.Runs.{IsByItself, last_of, outermost_in}
 use Rattle.arachne_machine.specs.Suspended.{IsFresh}
-use Rattle.arachne_machine.specs.Nested.{ArePlaced, FallsBy, outermost, IsAlone, SameWhole, Stops, whole, work_in, works}
+use Rattle.arachne_machine.specs.Trace.{At, task_trace}
+use Rattle.arachne_machine.specs.Work.{task_work}
+use Rattle.arachne_machine.specs.Nested.{ArePlaced, FallsBy, outermost, IsAlone, IsRest, SameWhole, Stops, whole, work_in, works}
 use Rattle.arachne_machine.specs.Advance.{Advanced, AdvancedAlone, AwaitsAt, IsCharged, IsSpentAt, Moves, PausesAt, PlacesNone, RefusedAlone, pause_at, pause_seen}
-use Rattle.arachne_machine.specs.Kept.{AdvancesWith, IsKept, Went, WentToFork, WentToPause, WentWithin, nested, seen_children}
+use Rattle.arachne_machine.specs.Kept.{AdvancesWith, IsKept, Went, WentToFork, WentToPause, nested, seen_children}
 use Rattle.arachne_machine.proofs.Soundness.{fork_has_task, forked_seen, gives_after, goes_then_stops, same_thread, sound_fork, with_fork-sums}
 use Rattle.arachne_machine.proofs.Advancing.{advanced_seen}
 use Rattle.arachne_machine.proofs.Levels.{alone_waiting, last_same, leaves_waiting, sound_top}
@@ -33,6 +35,7 @@ pub record Shown (Q : Type 0) (had left : ℕ) (old : State) (ps : List (Box Sta
   pub moves : Moves had (nested old ps) gives (nested new qs)
   pub spent : IsSpentAt gives had left
   pub charged : IsCharged had left (nested old ps) gives (nested new qs)
+  pub rest : IsRest (seen_children ps) (seen_children qs)
   pub elsewhere : AwaitsAt gives (nested new qs)
   pub within : IsChecked (source_of old.program.now) → PausesAt gives (suspended (top new))
   pub alone : IsAlone (nested old ps) → PlacesNone (nested old ps) gives (nested new qs) → AdvancedAlone had (nested old ps) gives (nested new qs)
@@ -57,6 +60,7 @@ shown_budget Q had left old new ps qs w none_left = record {
   moves = (same_whole old new ps qs w.program w.own, w.running, omega (arith, w.work, w.counted, none_left));
   spent = none_left;
   charged = omega (arith, w.work, w.counted, none_left);
+  rest = w.rest;
   elsewhere = tt;
   within = λ checked. tt;
   alone = λ alone places.
@@ -117,23 +121,24 @@ shown_pause : (Q : Type 0) (had beside left : ℕ) (old new : State) (ps qs : Li
 shown_pause Q had beside left old new ps qs pause.Forks one p = absurd p.stops
 shown_pause Q had beside left old new ps qs pause.Joins one p =
     let s = shown_stop Q had beside left old new ps qs pause.Joins one p in
-    record { kept = s.kept; moves = s.stops; spent = omega (arith, p.went.fewer, one); charged = omega (arith, s.charged); elsewhere = p.elsewhere refl; within = s.within; alone = s.alone; everywhere = s.everywhere }
+    record { kept = s.kept; moves = s.stops; spent = omega (arith, p.went.fewer, one); charged = omega (arith, s.charged); rest = p.went.rest; elsewhere = p.elsewhere refl; within = s.within; alone = s.alone; everywhere = s.everywhere }
 shown_pause Q had beside left old new ps qs (pause.Asks lock) one p =
     let s = shown_stop Q had beside left old new ps qs (pause.Asks lock) one p in
-    record { kept = s.kept; moves = s.stops; spent = omega (arith, p.went.fewer, one); charged = omega (arith, s.charged); elsewhere = tt; within = s.within; alone = s.alone; everywhere = s.everywhere }
+    record { kept = s.kept; moves = s.stops; spent = omega (arith, p.went.fewer, one); charged = omega (arith, s.charged); rest = p.went.rest; elsewhere = tt; within = s.within; alone = s.alone; everywhere = s.everywhere }
 shown_pause Q had beside left old new ps qs (pause.Frees lock) one p =
     let s = shown_stop Q had beside left old new ps qs (pause.Frees lock) one p in
-    record { kept = s.kept; moves = s.stops; spent = omega (arith, p.went.fewer, one); charged = omega (arith, s.charged); elsewhere = tt; within = s.within; alone = s.alone; everywhere = s.everywhere }
+    record { kept = s.kept; moves = s.stops; spent = omega (arith, p.went.fewer, one); charged = omega (arith, s.charged); rest = p.went.rest; elsewhere = tt; within = s.within; alone = s.alone; everywhere = s.everywhere }
 shown_pause Q had beside left old new ps qs (pause.Tallies ledger amount) one p =
     let s = shown_stop Q had beside left old new ps qs (pause.Tallies ledger amount) one p in
-    record { kept = s.kept; moves = s.stops; spent = omega (arith, p.went.fewer, one); charged = omega (arith, s.charged); elsewhere = tt; within = s.within; alone = s.alone; everywhere = s.everywhere }
+    record { kept = s.kept; moves = s.stops; spent = omega (arith, p.went.fewer, one); charged = omega (arith, s.charged); rest = p.went.rest; elsewhere = tt; within = s.within; alone = s.alone; everywhere = s.everywhere }
 shown_pause Q had beside left old new ps qs pause.Ended one p =
     let s = shown_stop Q had beside left old new ps qs pause.Ended one p in
     record {
       kept = s.kept;
-      moves = (s.stops, ap (map suspended) (alone_waiting new (p.ended refl)));
+      moves = (s.stops, ap (map suspended) (alone_waiting new (p.ended refl)), p.stops.4, p.stops.2, p.stops.5);
       spent = omega (arith, p.went.fewer, one);
       charged = omega (arith, s.charged);
+      rest = p.went.rest;
       elsewhere = tt;
       within = s.within;
       alone = s.alone;
@@ -186,6 +191,8 @@ shown_fork Q had beside left old new ps qs class child was one f =
           task = shown.task;
           is_child = subst (λ p. child_of (source_of p.now) (top new).own.name (top last).forks ≡ Some (record { class = class; task = shown.task })) (sym g.program)
               (subst (λ n. child_of (source_of last.program.now) n (top last).forks ≡ Some (record { class = class; task = shown.task })) (ap (λ o. o.name) (sym g.own)) shown.is_child);
+          childs_work = ap (λ s. s.work) whole_c ∙ shown.childs_work ∙ ap (λ p. task_work (source_of p.now).arrays shown.task) (sym g.program);
+          childs_trace = ap (λ s. s.trace) whole_c ∙ shown.childs_trace ∙ ap (λ p. task_trace (source_of p.now).arrays shown.task ++ At pause.Ended ∷ []) (sym g.program);
         },
         record {
           awaits = ap (λ l. option_map (λ number. (top new).own.name ++ number ∷ []) (slice_get l 0)) g.unjoined ∙ ap Some (sym fresh.has_name);
@@ -201,6 +208,7 @@ shown_fork Q had beside left old new ps qs class child was one f =
         },
       );
       spent = omega (arith, w.fewer, one);
+      rest = w.rest;
       charged = omega (arith, w.work, kept.work, taken, ap works (ap (map suspended) waits), ap works (ap (map suspended) (alone_waiting c f.alone)), w.counted, one);
       elsewhere = tt;
       within = λ checked. pauses_seen new sound (subst (λ p. IsChecked (source_of p.now)) (sym (l.program ∙ w.program)) checked);
@@ -237,19 +245,23 @@ shown Q had left old new ps qs None (Some next) was h = shown_pause Q had h.0 le
 shown Q had left old new ps qs (Some forked) next was h = shown_fork Q had h.0 left old new ps qs forked.0 forked.1 was h.1 h.2
 
 -- Memory was refused.
-pub record ShownRefusal (Q : Type 0) (had : ℕ) (old : State) (ps : List (Box State)) (new : State) (qs : List (Box State)) : Type 0 where
+pub record ShownRefusal (Q : Type 0) (had left : ℕ) (old : State) (ps : List (Box State)) (new : State) (qs : List (Box State)) : Type 0 where
   pub kept : IsKept new qs
   pub same : SameWhole (nested old ps) (nested new qs)
   pub work : FallsBy 0 (had - 1) (work_in (nested old ps)) (work_in (nested new qs))
+  pub charged : work_in (nested new qs) + had ≡ work_in (nested old ps) + left
+  pub rest : IsRest (seen_children ps) (seen_children qs)
   pub pending : pending_of new.control ≡ None
   pub alone : IsAlone (nested old ps) → (whole (nested new qs)).forks ≡ (whole (nested old ps)).forks → RefusedAlone had (nested old ps) (nested new qs)
   pub everywhere : Q → IsAlone (nested old ps) → (whole (nested new qs)).forks ≡ (whole (nested old ps)).forks
 
-pub shown_refusal : (Q : Type 0) (had : ℕ) (old new : State) (ps qs : List (Box State)) → WentWithin Q (had - 1) old ps new qs → ShownRefusal Q had old ps new qs
-shown_refusal Q had old new ps qs w = record {
+pub shown_refusal : (Q : Type 0) (had left : ℕ) (old new : State) (ps qs : List (Box State)) → Went Q had left old ps new qs → 1 ≤ left → ShownRefusal Q had left old ps new qs
+shown_refusal Q had left old new ps qs w some = record {
   kept = w.kept;
   same = same_whole old new ps qs w.program w.own;
-  work = record { made = w.made; at_least = omega arith; at_most = w.at_most; left = w.work };
+  work = record { made = w.made; at_least = omega arith; at_most = omega (arith, w.counted, some); left = w.work };
+  charged = omega (arith, w.work, w.counted);
+  rest = w.rest;
   pending = w.running;
   alone = λ alone places.
       let b = w.by_itself (none_placed ps alone.1) in
@@ -257,7 +269,8 @@ shown_refusal Q had old new ps qs w = record {
       let g = r.runs.by_itself (by_itself old ps alone) (sym (whole_forks new qs) ∙ places ∙ whole_forks old ps) in
       record {
         same = same_thread r.made (top old) (top new) g.goes;
-        steps = record { made = r.made; at_least = omega arith; at_most = r.at_most; work = g.goes.work; trace = sym g.goes.trace };
+        alone = alone_nested new qs b.0 g.alone;
+        steps = record { made = r.made; at_least = omega arith; at_most = omega (arith, r.counted, some); work = g.goes.work; trace = sym g.goes.trace };
         locks = g.locks;
         sums = r.runs.sums;
         holds = ap (λ o. o.holds) g.goes.own;

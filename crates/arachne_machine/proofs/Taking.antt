@@ -1,10 +1,9 @@
 -- A child of another state goes on in the place of the thread that awaits it.
-use Rattle.std.proofs.Common.{◌≡◌, length, length-append, ℕ, ◌+◌, List, [], ◌∷◌, ◌++◌, false, None, Some, refl, ap, sym, ◌∙◌, subst, arith, take, drop}
+use Rattle.std.proofs.Common.{◌≡◌, length, length-append, ℕ, ◌+◌, List, [], ◌∷◌, ◌++◌, false, None, Some, refl, ap, sym, ◌∙◌, subst, arith}
 use Rattle.std.specs.Prelude.{map, reverse}
 use Rattle.std.proofs.lemmas.List.{map-append}
 use Rattle.arachne_lang.specs.Program.{source_of}
 use Rattle.arachne_lang.specs.Tree.{Source}
-use Rattle.arachne_lang.specs.Value.{Environment}
 use Rattle.arachne_lang.specs.Effects.{Task, tabulated}
 use Rattle.arachne_lang.specs.Meaning.{task_of}
 use Rattle.arachne_machine.specs.declared.frame.Frame.{Frame}
@@ -12,25 +11,21 @@ use Rattle.arachne_machine.specs.declared.frame.Frame.TheVariants.{Join, Merge}
 use Rattle.arachne_machine.specs.declared.frame.Control.{Control}
 use Rattle.arachne_machine.specs.declared.frame.Control.TheVariants.{Begin, Give, Cover, Forked, Halved, Awaits, AwaitsHalf, Asks, Frees, Tallies, Ended}
 use Rattle.arachne_machine.specs.declared.level.Parent.{Parent}
-use Rattle.arachne_machine.specs.declared.line.Label.{Label}
 use Rattle.arachne_machine.specs.declared.line.ThreadLine.{ThreadLine}
-use Rattle.arachne_machine.specs.declared.line.Ran.TheVariants as ways
 use Rattle.arachne_machine.specs.declared.pause.Pending.TheVariants as pause
 use Rattle.arachne_machine.specs.declared.state.State.{State}
-use Rattle.arachne_machine.specs.Account.{Account}
-use Rattle.arachne_machine.specs.Trace.{At, Event}
-use Rattle.arachne_machine.specs.Ending.{begun_trace, resume_trace, forks_of, forks_here, lock_freed, releases, AwaitsFork, IsForkedIn, KeepsForks, begun, ending, environment_of, fork_awaited, frames_left, trace_left, work_left}
+use Rattle.arachne_machine.specs.Ending.{AwaitsFork, IsForkedIn, KeepsForks, begun, ending, environment_of, fork_awaited, frames_left, work_left}
 use Rattle.arachne_machine.specs.Faultless.{IsFaultlessFrame, IsFaultlessNext, IsWithoutFault, held_by}
 use Rattle.arachne_machine.specs.Outcome.{named_holds}
 use Rattle.arachne_machine.specs.Strands.{Strand, Fits, moved_level, moved_parents, moved_place, own_line, strand_at}
 use Rattle.arachne_machine.specs.Steps.{AfterSteps, Becomes, IsPopped, Changes, LeavesOthers, giving, pending_of, suspended, top, waiting, waiting_in}
 use Rattle.arachne_machine.specs.Sound.{AreSound, IsRunningFor, IsSoundState, RunFor}
 use Rattle.arachne_machine.specs.Runs.{StandsBefore, TakesIn, outermost_in, work_in_state, works_left}
-use Rattle.arachne_machine.specs.Suspended.{Suspended, added, awaited}
+use Rattle.arachne_machine.specs.Suspended.{added, awaited}
 use Rattle.arachne_machine.specs.Nested.{marked, marked_parents, of_program}
 use Rattle.arachne_machine.proofs.Tabulated.{added_is}
 use Rattle.arachne_machine.proofs.Faultlessness.{append-faultless}
-use Rattle.arachne_machine.proofs.Outlooks.{IsAt, account_at, append-keeps, at_faultless, ending_at, faultless_at, keeps_there, there_keeps, work_at}
+use Rattle.arachne_machine.proofs.Outlooks.{IsAt, append-keeps, at_faultless, faultless_at, keeps_there, there_keeps}
 use Rattle.arachne_machine.proofs.Soundness.{sound_same}
 use Rattle.arachne_machine.proofs.Copies.{copy_ending, copy_seen}
 use Rattle.arachne_machine.proofs.Marking.{here_state, marks}

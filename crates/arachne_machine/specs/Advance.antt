@@ -57,6 +57,7 @@ PlacesNone old _ new = (whole new).forks ≡ (whole old).forks
 -- An advance of such a thread was refused memory.
 pub record RefusedAlone (budget : ℕ) (old new : Nested) : Type 0 where
   pub same : SameThread old.running new.running
+  pub alone : IsAlone new
   pub steps : MakesSteps 0 (budget - 1) old.running new.running
   pub locks : new.running.locks ≡ old.running.locks
   pub sums : new.sums ≡ old.sums
@@ -72,7 +73,9 @@ Moves budget old pauses.Joins new = Stops budget old new pause.Joins
 Moves budget old (pauses.Asks lock) new = Stops budget old new (pause.Asks lock)
 Moves budget old (pauses.Frees lock) new = Stops budget old new (pause.Frees lock)
 Moves budget old (pauses.Tallies ledger amount) new = Stops budget old new (pause.Tallies ledger amount)
-Moves budget old pauses.Ended new = Stops budget old new pause.Ended × (new.parents ≡ [])
+-- the outermost has ended, and has joined each child and freed each lock
+Moves budget old pauses.Ended new =
+    Stops budget old new pause.Ended × (new.parents ≡ []) × (new.running.locks ≡ []) × (new.running.unjoined ≡ []) × (new.running.work ≡ 0)
 
 -- Callers are asked for an outcome only of a child at a place of its own: one that was placed here runs as soon as it is awaited.
 abbrev pub AwaitsAt : Pause → Nested → Type 0

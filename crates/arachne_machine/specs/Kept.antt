@@ -7,8 +7,8 @@ use Rattle.arachne_lang.specs.Effects.{tabulated}
 use Rattle.arachne_machine.specs.declared.pause.Pending.{Pending}
 use Rattle.arachne_machine.specs.declared.pause.Pending.TheVariants as pause
 use Rattle.arachne_machine.specs.Suspended.{awaited}
-use Rattle.arachne_machine.specs.Nested.{AwaitsElsewhere, Nested, Placed, IsNested, work_in}
-use Rattle.arachne_machine.specs.Runs.{LooksSame, RunsOn, RunsWithin, StandsBefore, TakesIn}
+use Rattle.arachne_machine.specs.Nested.{AwaitsElsewhere, IsRest, Nested, Placed, IsNested, work_in}
+use Rattle.arachne_machine.specs.Runs.{LooksSame, RunsOn, StandsBefore, TakesIn}
 use Rattle.arachne_machine.specs.Steps.{AfterSteps, GivesChild, IsSame, LeavesOthers, pending_of, suspended, task_begun, top, waiting_in}
 use Rattle.arachne_machine.specs.Sound.{IsSoundState}
 
@@ -51,6 +51,7 @@ pub record Went (Q : Type 0) (had left : ℕ) (old : State) (ps : List (Box Stat
   pub own : new.own ≡ old.own
   pub work : work_in (nested new qs) + made ≡ work_in (nested old ps)
   pub running : pending_of new.control ≡ None
+  pub rest : IsRest (seen_children ps) (seen_children qs)
   pub by_itself : ps ≡ [] → (qs ≡ []) × RunsOn Q had left 0 old new
 
 -- The same, and then the innermost pauses so in one step more.
@@ -77,17 +78,6 @@ abbrev pub AdvancesWith : Type 0 → ℕ → ℕ → State → List (Box State) 
 AdvancesWith Q had left old ps None None new qs = Went Q had left old ps new qs × (left ≡ 0)
 AdvancesWith Q had left old ps None (Some next) new qs = (beside : ℕ) × (had ≡ beside + 1) × WentToPause Q beside left old ps next new qs
 AdvancesWith Q had left old ps (Some forked) pending new qs = (beside : ℕ) × (had ≡ beside + 1) × WentToFork Q beside left old ps forked.0 forked.1.value new qs
-
--- At most so many steps were made, and no thread pauses.
-pub record WentWithin (Q : Type 0) (most : ℕ) (old : State) (ps : List (Box State)) (new : State) (qs : List (Box State)) : Type 0 where
-  pub made : ℕ
-  pub at_most : made ≤ most
-  pub kept : IsKept new qs
-  pub program : new.program ≡ old.program
-  pub own : new.own ≡ old.own
-  pub work : work_in (nested new qs) + made ≡ work_in (nested old ps)
-  pub running : pending_of new.control ≡ None
-  pub by_itself : ps ≡ [] → (qs ≡ []) × RunsWithin Q most old new
 
 -- The innermost awaits the newest of these children, which goes on in its place; or it awaits none, or another.
 abbrev pub TakesUp : Bool → State → List (Box State) → State → List (Box State) → Type 0

@@ -9,6 +9,8 @@ use Rattle.arachne_lang.specs.Program.{source_of}
 use Rattle.arachne_machine.specs.declared.line.Ran.TheVariants as ways
 use Rattle.arachne_machine.specs.declared.pause.Pending.{Pending}
 use Rattle.arachne_machine.specs.declared.pause.Pending.TheVariants as pause
+use Rattle.arachne_machine.specs.Trace.{At, task_trace}
+use Rattle.arachne_machine.specs.Work.{task_work}
 use Rattle.arachne_machine.specs.Suspended.{Suspended, IsAnswered, IsFresh, SameThread, added, awaited}
 
 -- a child that was handed back to run in its parent's place and is not awaited yet, with the threads that run in its own
@@ -116,6 +118,10 @@ pub record IsNested (t : Nested) : Type 0 where
   pub awaiting : Await t.running t.parents
   pub waiting : ArePlaced (source_of t.running.program) t.placed
 
+-- Of these children the newest have begun, and the others are left.
+abbrev pub IsRest : List Placed → List Placed → Type 0
+IsRest old new = (begun : List Placed) × (old ≡ begun ++ new)
+
 -- What a thread awaits is not the newest child that was placed here.
 abbrev pub AwaitsElsewhere : Suspended → List Placed → Type 0
 AwaitsElsewhere thread [] = Unit {0}
@@ -179,6 +185,8 @@ pub record IsForked (class : Class) (thread : Suspended) (child : Nested) : Type
   pub no_sums : child.sums ≡ tabulated thread.program.ledgers (λ ledger. 0)
   pub task : Task
   pub is_child : child_of (source_of thread.program) thread.name number ≡ Some (record { class = class; task = task })
+  pub childs_work : (whole child).work ≡ task_work (source_of thread.program).arrays task
+  pub childs_trace : (whole child).trace ≡ task_trace (source_of thread.program).arrays task ++ At pause.Ended ∷ []
 
 -- at least one step was made and at most so many, and this pause is not answered
 pub record Stops (budget : ℕ) (old new : Nested) (next : Pending) : Type 0 where

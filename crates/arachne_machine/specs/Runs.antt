@@ -257,14 +257,6 @@ Advances Q had left old None None new = RunsOn Q had left 0 old new × (left ≡
 Advances Q had left old None (Some next) new = (beside : ℕ) × (had ≡ beside + 1) × RunsToPause Q beside left old next new
 Advances Q had left old (Some forked) pending new = (beside : ℕ) × (had ≡ beside + 1) × RunsToFork Q beside left old forked.0 forked.1.value new
 
--- At most so many steps were made, and none pauses.
-pub record RunsWithin (Q : Type 0) (most : ℕ) (old new : State) : Type 0 where
-  pub made : ℕ
-  pub at_most : made ≤ most
-  pub runs : Runs made old new
-  pub running : pending_of new.control ≡ None
-  pub places_none : Q → IsByItself old → (outermost_in new).forks ≡ (outermost_in old).forks
-
 -- The innermost has joined a child that ended with this value, and goes on.
 abbrev pub ResumesAs : Control → Environment → List Frame → ℕ → State → Type 0
 ResumesAs (Awaits number during next) env frames value new =

@@ -35,6 +35,7 @@ impl<'p> State<'p> {
         ensures ok { IfOk result (λ progress. Comes (P.gives_all ≡ true) left.old left.new (beginning_in self.old expr.entry) progress self.new) }
         ensures fewer { left.new ≤ left.old }
         ensures err { OnErr result (IsSame self.old self.new) }
+        ensures uncharged { OnErr result (left.new ≡ left.old) }
     {
         let part = match expr {
             Expr::Num(number) => return Ok(Progress::Value(*number)),
@@ -89,16 +90,17 @@ impl<'p> State<'p> {
         ensures leaves { IfOk result (λ progress. LeavesOthers self.old self.new × OnStops progress ⊥) }
         ensures fewer { left.new ≤ left.old }
         ensures err { OnErr result (IsSame self.old self.new) }
+        ensures uncharged { OnErr result (left.new ≡ left.old) }
     {
         if *left >= 2
             && let Some(x) = self.leaf(first)
         {
-            *left -= 1;
             if let Some(y) = self.leaf(second) {
-                *left -= 1;
+                *left -= 2;
                 return Ok(Progress::Value(operation.apply(x, y)));
             }
             let part = self.enter(Frame::Apply(operation, x), second)?;
+            *left -= 1;
             return Ok(Progress::Begin(part));
         }
         let part = self.enter(Frame::Right(operation, second), first)?;

@@ -109,6 +109,7 @@ impl<'p> State<'p> {
         ensures ok { IfOk result (λ progress. Comes (P.gives_all ≡ true) left.old left.new self.old progress self.new) }
         ensures fewer { left.new ≤ left.old }
         ensures err { OnErr result (IsSame self.old self.new) }
+        ensures uncharged { OnErr result (left.new ≡ left.old) }
     {
         let count = stretch.end.saturating_sub(stretch.first);
         if count > stretch.grain.max(1) {

@@ -18,7 +18,7 @@ impl<'p> State<'p> {
     ghost use Rattle.arachne_machine.specs.Strands.{Strand};
     ghost use Rattle.arachne_machine.specs.Sound.{IsSoundState};
     ghost use Rattle.arachne_machine.specs.Steps.{Changes, HasLine, HasRoom, OnStops, IsPauseOrRange, IsOfRange, IsPopped, IsSame, IsWithin, LeavesOthers, OnValue, Pushes, Reaches, Turns, giving, top};
-    ghost use Rattle.arachne_machine.specs.Runs.{Comes, FoldsOn, HandsResult, IsOneStep, IsPoppedIn, RunsWithin, SweepsOn, giving_in, seen_in};
+    ghost use Rattle.arachne_machine.specs.Runs.{Comes, FoldsOn, HandsResult, IsOneStep, IsPoppedIn, RunsOn, SweepsOn, giving_in, seen_in};
     ghost use Rattle.arachne_machine.specs.declared.state.Progress.TheVariants as ways;
 
     /// Hands a value on from frame to frame, and from a child that ran here to its parent, until one of them says what
@@ -34,7 +34,7 @@ impl<'p> State<'p> {
         ensures ok { IfOk result (λ progress. Comes (P.gives_all ≡ true) left.old left.new (giving_in self.old value) progress self.new) }
         ensures handed { IfOk result (λ progress. OnValue progress ⊥) }
         ensures fewer { left.new ≤ left.old }
-        ensures err { OnErr result (RunsWithin (P.gives_all ≡ true) left.old (giving_in self.old value) self.new) }
+        ensures err { OnErr result (RunsOn (P.gives_all ≡ true) left.old left.new 0 (giving_in self.old value) self.new) }
     {
         if self.environment.try_reserve(2).is_err() {
             return self.refused(value);
@@ -63,6 +63,7 @@ impl<'p> State<'p> {
         ensures room { IfOk result (λ progress. OnValue progress (vec_len self.new.environment + 2 ≤ vec_capacity self.new.environment)) }
         ensures nearer { IfOk result (λ progress. OnValue progress (vec_len self.new.frames + vec_len self.new.parents < vec_len self.old.frames + vec_len self.old.parents)) }
         ensures err { OnErr result (IsSame (giving_in self.old value) self.new) }
+        ensures uncharged { OnErr result (left.new ≡ left.old) }
     {
         if self.frames.len() > self.level.start {
             let Some(frame) = self.frames.pop() else {
@@ -117,6 +118,7 @@ impl<'p> State<'p> {
         ensures frames { IfOk result (λ progress. OnValue progress (vec_len self.new.frames ≤ vec_len self.old.frames)) }
         ensures parents { IfOk result (λ progress. OnValue progress (vec_len self.new.parents ≤ vec_len self.old.parents)) }
         ensures err { OnErr result (Changes self.old self.new self.old.environment.items (self.old.frames.items ++ frame.entry ∷ []) (control.Give value)) }
+        ensures uncharged { OnErr result (left.new ≡ left.old) }
     {
         match frame {
             Frame::JoinHere {

@@ -144,6 +144,7 @@ impl<'p> State<'p> {
         ensures room { IfOk result (λ progress. OnValue progress (vec_len self.new.environment + 2 ≤ vec_capacity self.new.environment)) }
         ensures nearer { IfOk result (λ progress. OnValue progress (vec_len self.new.frames + vec_len self.new.parents < vec_len self.old.frames + vec_len self.old.parents)) }
         ensures err { OnErr result (Changes self.old self.new self.old.environment.items self.old.frames.items (control.Give value)) }
+        ensures uncharged { OnErr result (left.new ≡ left.old) }
     {
         if self.frames.try_reserve(1).is_err() {
             return self.refused(value);

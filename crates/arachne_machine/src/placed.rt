@@ -12,11 +12,11 @@ impl<'p> State<'p> {
     ghost use Rattle.arachne_machine.specs.declared.pause.Pending.TheVariants as pause;
     ghost use Rattle.arachne_machine.specs.Steps.{HasLine, HasRoom, IsSame, pending_of};
     ghost use Rattle.arachne_machine.specs.Runs.{FitsInto, LooksSame, TakesIn};
-    ghost use Rattle.arachne_machine.specs.Kept.{AdvancesWith, IsKept, StandsBack, TakesUp, WentWithin};
+    ghost use Rattle.arachne_machine.specs.Kept.{AdvancesWith, IsKept, StandsBack, TakesUp, Went};
 
     /// Goes on for at most as many steps as are left, until it pauses. Where the innermost thread comes to await the
     /// newest of these children, that one goes on in its place. Gives the child where it pauses for a fork. Where
-    /// memory is refused it stands before the refused step.
+    /// memory is refused it stands before the refused step, which is still left.
     pub fn advance_with<P: Placing>(
         &mut self,
         placed: &mut Vec<Box<State<'p>>>,
@@ -27,14 +27,21 @@ impl<'p> State<'p> {
         requires kept { IsKept self.old placed.old.items }
         requires running { pending_of self.old.control ≡ None }
         ensures ok { IfOk result (λ forked. AdvancesWith (P.gives_all ≡ true) left.old left.new self.old placed.old.items forked (pending_of self.new.control) self.new placed.new.items) }
-        ensures err { OnErr result (WentWithin (P.gives_all ≡ true) (left.old - 1) self.old placed.old.items self.new placed.new.items) }
+        ensures err { OnErr result (Went (P.gives_all ≡ true) left.old left.new self.old placed.old.items self.new placed.new.items) }
+        ensures err_left { OnErr result (1 ≤ left.new) }
     {
+        let _had = *left;
         while *left > 0 {
             if let Some(forked) = self.advance(left, spares, places)? {
                 return Ok(Some(forked));
             }
-            if !self.take_up(placed, spares)? {
-                return Ok(None);
+            match self.take_up(placed, spares) {
+                Ok(true) => {}
+                Ok(false) => return Ok(None),
+                Err(refused) => {
+                    *left += 1;
+                    return Err(refused);
+                }
             }
         }
         Ok(None)

@@ -79,7 +79,7 @@ impl<'p> State<'p> {
     ghost use Rattle.arachne_machine.specs.Sound.{IsSoundState};
     ghost use Rattle.arachne_machine.specs.Strands.{owned_of, own_line};
     ghost use Rattle.arachne_machine.specs.Steps.{pending_of, top, HasLine, IsLeftOver, IsRenewed, IsSame, OnValue};
-    ghost use Rattle.arachne_machine.specs.Runs.{Advances, Comes, RunsWithin, current_in};
+    ghost use Rattle.arachne_machine.specs.Runs.{Advances, Comes, RunsOn, current_in};
     ghost use Rattle.arachne_machine.specs.declared.line.Ran.TheVariants as ways;
     ghost use Rattle.arachne_machine.specs.declared.pause.Pending.TheVariants as pause;
     ghost use Rattle.arachne_machine.specs.declared.frame.Control.TheVariants as control;
@@ -157,7 +157,7 @@ impl<'p> State<'p> {
     }
 
     /// Goes on for at most as many steps as are left, until it pauses. Then fewer are left. Gives the child where it
-    /// pauses for a fork. Where memory is refused it stands before the refused step.
+    /// pauses for a fork. Where memory is refused it stands before the refused step, which is still left.
     pub fn advance<P: Placing>(
         &mut self,
         left: &mut u32,
@@ -167,25 +167,29 @@ impl<'p> State<'p> {
         requires running { pending_of self.old.control ≡ None }
         requires sound { IsSoundState self.old }
         ensures ok { IfOk result (λ forked. Advances (P.gives_all ≡ true) left.old left.new self.old forked (pending_of self.new.control) self.new) }
-        ensures err { OnErr result (RunsWithin (P.gives_all ≡ true) (left.old - 1) self.old self.new) }
+        ensures err { OnErr result (RunsOn (P.gives_all ≡ true) left.old left.new 0 self.old self.new) }
+        ensures err_left { OnErr result (1 ≤ left.new) }
     {
         let mut rest = *left;
         let mut begins = self.beginning();
         while rest > 0 {
             rest -= 1;
-            let progress = self.make(begins, &mut rest, spares, places)?;
-            match progress {
-                Progress::Begin(expr) => begins = Some(expr),
-                Progress::Goes => begins = None,
-                Progress::Stops => {
+            match self.make(begins, &mut rest, spares, places) {
+                Ok(Progress::Begin(expr)) => begins = Some(expr),
+                Ok(Progress::Goes) => begins = None,
+                Ok(Progress::Stops) => {
                     *left = rest;
                     return Ok(None);
                 }
-                Progress::Forks(class, child) => {
+                Ok(Progress::Forks(class, child)) => {
                     *left = rest;
                     return Ok(Some((class, child)));
                 }
-                Progress::Value(_) => unreachable!(),
+                Ok(Progress::Value(_)) => unreachable!(),
+                Err(refused) => {
+                    *left = rest + 1;
+                    return Err(refused);
+                }
             }
         }
         self.settle(begins);
@@ -231,7 +235,7 @@ impl<'p> State<'p> {
         ensures ok { IfOk result (λ progress. Comes (P.gives_all ≡ true) left.old left.new (current_in begins.entry self.old) progress self.new) }
         ensures handed { IfOk result (λ progress. OnValue progress ⊥) }
         ensures fewer { left.new ≤ left.old }
-        ensures err { OnErr result (RunsWithin (P.gives_all ≡ true) left.old (current_in begins.entry self.old) self.new) }
+        ensures err { OnErr result (RunsOn (P.gives_all ≡ true) left.old left.new 0 (current_in begins.entry self.old) self.new) }
     {
         match self.begin_next(begins, left, spares, places) {
             Ok(Progress::Value(value)) => self.give(value, left, places),
@@ -257,6 +261,7 @@ impl<'p> State<'p> {
         ensures ok { IfOk result (λ progress. Comes (P.gives_all ≡ true) left.old left.new (current_in begins.entry self.old) progress self.new) }
         ensures fewer { left.new ≤ left.old }
         ensures err { OnErr result (IsSame self.old self.new) }
+        ensures uncharged { OnErr result (left.new ≡ left.old) }
     {
         match begins {
             Some(expr) => self.begin(expr, left, spares, places),
@@ -277,6 +282,7 @@ impl<'p> State<'p> {
         ensures ok { IfOk result (λ progress. Comes (P.gives_all ≡ true) left.old left.new self.old progress self.new) }
         ensures fewer { left.new ≤ left.old }
         ensures err { OnErr result (IsSame self.old self.new) }
+        ensures uncharged { OnErr result (left.new ≡ left.old) }
     {
         match self.control {
             Control::Give(value) => Ok(Progress::Value(value)),

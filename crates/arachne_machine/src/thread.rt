@@ -3,7 +3,7 @@ ghost use Rattle.std.specs.Prelude.{◌≡◌, ◌≢◌, ◌↔◌, ◌≤◌, 
 ghost use Rattle.arachne_lang.specs.Effects.{tabulated};
 ghost use Rattle.arachne_machine.specs.Suspended.{IsAnswered, IsAsk, IsFree, IsFresh, IsNext, IsTally, Joined, SameThread, added, awaited, own_line_of, raised};
 ghost use Rattle.arachne_machine.specs.Advance.{AdvancedAlone, AwaitsAt, Moves, PlacesNone, RefusedAlone, IsForeign, IsCharged, IsNotAwaited, IsSpentAt, PausesAt, child_back, handed_back, pause_seen};
-ghost use Rattle.arachne_machine.specs.Nested.{AwaitsElsewhere, FallsBy, IsAlone, IsChildOf, IsNested, IsPlacing, MayBePlaced, Nested, PlacesAtFork, SameWhole, alone, begun_in, pending_in, spilled_of, whole, with_tag, work_in};
+ghost use Rattle.arachne_machine.specs.Nested.{AwaitsElsewhere, FallsBy, IsAlone, IsChildOf, IsNested, IsPlacing, IsRest, MayBePlaced, Nested, PlacesAtFork, SameWhole, alone, begun_in, pending_in, spilled_of, whole, with_tag, work_in};
 ghost use Rattle.arachne_machine.specs.Faultless.{PausesWithin};
 ghost use Rattle.arachne_machine.specs.Kept.{IsSoundChild, nested};
 ghost use Rattle.arachne_machine.specs.Trace.{At, trace_of};
@@ -133,6 +133,7 @@ impl<'p> Thread<'p> {
         ensures elsewhere { IfOk result (λ pause. AwaitsAt pause self.new) }
         ensures within { IfOk result (λ pause. IsChecked (source_of (whole self.old).program) → PausesAt pause self.new.running) }
         ensures alone { IfOk result (λ pause. IsAlone self.old → AdvancedAlone budget self.old pause self.new) }
+        ensures rest { IsRest self.old.placed self.new.placed }
         ensures err_same { OnErr result (SameWhole self.old self.new) }
         ensures err_work { OnErr result (FallsBy 0 (budget - 1) (work_in self.old) (work_in self.new)) }
         ensures err_pending { OnErr result (pending_in self.new ≡ None) }
@@ -160,9 +161,11 @@ impl<'p> Thread<'p> {
         ensures elsewhere { IfOk result (λ pause. AwaitsAt pause self.new) }
         ensures within { IfOk result (λ pause. IsChecked (source_of (whole self.old).program) → PausesAt pause self.new.running) }
         ensures alone { IfOk result (λ pause. IsAlone self.old → PlacesNone self.old pause self.new → AdvancedAlone left.old self.old pause self.new) }
+        ensures rest { IsRest self.old.placed self.new.placed }
         ensures everywhere { P.gives_all ≡ true → IfOk result (λ pause. IsAlone self.old → PlacesNone self.old pause self.new) }
         ensures err_same { OnErr result (SameWhole self.old self.new) }
         ensures err_work { OnErr result (FallsBy 0 (left.old - 1) (work_in self.old) (work_in self.new)) }
+        ensures err_charged { OnErr result (work_in self.new + left.old ≡ work_in self.old + left.new) }
         ensures err_pending { OnErr result (pending_in self.new ≡ None) }
         ensures err_alone { OnErr result (IsAlone self.old → (whole self.new).forks ≡ (whole self.old).forks → RefusedAlone left.old self.old self.new) }
         ensures err_everywhere { P.gives_all ≡ true → OnErr result (IsAlone self.old → (whole self.new).forks ≡ (whole self.old).forks) }

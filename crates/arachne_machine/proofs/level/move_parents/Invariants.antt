@@ -1,4 +1,4 @@
-use Rattle.std.proofs.Common.{◌≡◌, ◌+◌, ◌≤◌, ◌++◌, length, take, vec_len, vec_capacity}
+use Rattle.std.proofs.Common.{◌≡◌, ◌+◌, ◌≤◌, ◌++◌, take, vec_len, vec_capacity}
 use Rattle.std.specs.Prelude.{reverse}
 use Rattle.arachne_machine.specs.Strands.{moved_parents}
 use Rattle.arachne_machine.proofs.level.move_parents.Given as goal

@@ -1,9 +1,9 @@
-use Rattle.std.proofs.Common.{◌≡◌, true, None, refl, sym, subst}
+use Rattle.std.proofs.Common.{◌≡◌, true, None, refl, sym, subst, arith}
 use Rattle.arachne_machine.specs.Steps.{pending_of}
 use Rattle.arachne_machine.specs.Runs.{Advances}
 use Rattle.arachne_machine.specs.Kept.{AdvancesWith, TakesUp}
 use Rattle.arachne_machine.proofs.Lasting.{on_err}
-use Rattle.arachne_machine.proofs.Handed.{advanced_kept, all_fit, went_back, went_forked, went_nothing, went_paused, went_refused, went_up}
+use Rattle.arachne_machine.proofs.Handed.{advanced_kept, all_fit, went_back, went_all, went_forked, went_nothing, went_paused, went_up}
 use Rattle.arachne_machine.proofs.state.State.advance_with.Goals as goal
 
 pub loop-left-init : goal.loop-left-init
@@ -13,7 +13,7 @@ pub returns-in_err-forked-clause-err : goal.returns-in_err-forked-clause-err
 returns-in_err-forked-clause-err g c =
     let loop = c.loop-left in
     on_err c.from_residual.result _
-    (went_refused c.args.left.now loop.left c.args.self.now loop.self c.advance.new.self c.args.placed.now.items loop.placed.items loop.invariant c.loop-left-test.true c.in_err-forked.ensures.err)
+    (went_all c.args.left.now loop.left c.advance.new.left c.args.self.now loop.self c.advance.new.self c.args.placed.now.items loop.placed.items loop.invariant c.in_err-forked.ensures.err)
 
 pub returns-in-Some-clause-ok : goal.returns-in-Some-clause-ok
 returns-in-Some-clause-ok g c =
@@ -30,24 +30,31 @@ take_up-requires-clause-fit g c =
     all_fit new loop.placed.items
     (advanced_kept c.args.left.now loop.left c.advance.new.left c.args.self.now loop.self new c.args.placed.now.items loop.placed.items (pending_of new.control) loop.invariant r)
 
-pub returns-in_err-take_up-clause-err : goal.returns-in_err-take_up-clause-err
-returns-in_err-take_up-clause-err g c =
+pub returns-in-Err-clause-err : goal.returns-in-Err-clause-err
+returns-in-Err-clause-err g c =
     let loop = c.loop-left in
     let new = c.advance.new.self in
     let r = subst (λ f. Advances (g.P.Placing.gives_all ≡ true) loop.left c.advance.new.left loop.self f (pending_of new.control) new) c.in_default.is c.in_ok-forked.ensures.ok in
-    let back = c.in_err-take_up.ensures.err in
+    let back = c.in-Err.ensures.err in
     let at = subst (λ o. Advances (g.P.Placing.gives_all ≡ true) loop.left c.advance.new.left loop.self None o new) back.joins r in
-    on_err c.from_residual-in_err-take_up.result _
-    (went_back c.args.left.now loop.left c.advance.new.left c.args.self.now loop.self new c.take_up.new.self c.args.placed.now.items loop.placed.items c.take_up.new.placed.items loop.invariant
-    at.0 at.1 at.2 back)
+    went_back c.args.left.now loop.left c.advance.new.left c.args.self.now loop.self new c.take_up.new.self c.args.placed.now.items loop.placed.items c.take_up.new.placed.items loop.invariant
+    at.0 at.1 at.2 back
 
-pub returns-then-not-branch-clause-ok : goal.returns-then-not-branch-clause-ok
-returns-then-not-branch-clause-ok g c =
+pub overflow_add-left : goal.overflow_add-left
+overflow_add-left g c =
+    let loop = c.loop-left in
+    let new = c.advance.new.self in
+    let r = subst (λ f. Advances (g.P.Placing.gives_all ≡ true) loop.left c.advance.new.left loop.self f (pending_of new.control) new) c.in_default.is c.in_ok-forked.ensures.ok in
+    let at = subst (λ o. Advances (g.P.Placing.gives_all ≡ true) loop.left c.advance.new.left loop.self None o new) c.in-Err.ensures.err.joins r in
+    omega (arith, at.1, at.2.runs.fewer, loop.invariant.fewer)
+
+pub returns-in-Ok-false-clause-ok : goal.returns-in-Ok-false-clause-ok
+returns-in-Ok-false-clause-ok g c =
     let loop = c.loop-left in
     let new = c.advance.new.self in
     let ps = c.args.placed.now.items in
     let r = subst (λ f. Advances (g.P.Placing.gives_all ≡ true) loop.left c.advance.new.left loop.self f (pending_of new.control) new) c.in_default.is c.in_ok-forked.ensures.ok in
-    let t = subst (λ b. TakesUp b new loop.placed.items c.take_up.new.self c.take_up.new.placed.items) c.if-not-branch.true c.in_ok-take_up.ensures.ok in
+    let t = subst (λ b. TakesUp b new loop.placed.items c.take_up.new.self c.take_up.new.placed.items) c.in-Ok-false.field-0-test c.in-Ok-false.ensures.ok in
     let it = went_paused _ c.args.left.now loop.left c.advance.new.left c.args.self.now loop.self new ps loop.placed.items (pending_of new.control) loop.invariant r refl t.2 in
     subst (λ l. AdvancesWith (g.P.Placing.gives_all ≡ true) c.args.left.now c.advance.new.left c.args.self.now ps None (pending_of c.take_up.new.self.control) c.take_up.new.self l) (sym t.1)
     (subst (λ s. AdvancesWith (g.P.Placing.gives_all ≡ true) c.args.left.now c.advance.new.left c.args.self.now ps None (pending_of s.control) s loop.placed.items) (sym t.0) it)
@@ -57,7 +64,7 @@ loop-left-preserved g c =
     let loop = c.loop-left in
     let new = c.advance.new.self in
     let r = subst (λ f. Advances (g.P.Placing.gives_all ≡ true) loop.left c.advance.new.left loop.self f (pending_of new.control) new) c.in_default.is c.in_ok-forked.ensures.ok in
-    let t = subst (λ b. TakesUp b new loop.placed.items c.take_up.new.self c.take_up.new.placed.items) c.if-not-branch.false c.in_ok-take_up.ensures.ok in
+    let t = subst (λ b. TakesUp b new loop.placed.items c.take_up.new.self c.take_up.new.placed.items) c.in-Ok-true.field-0-test c.in-Ok-true.ensures.ok in
     let at = subst (λ o. Advances (g.P.Placing.gives_all ≡ true) loop.left c.advance.new.left loop.self None o new) t.2 r in
     went_up c.args.left.now loop.left c.advance.new.left c.args.self.now loop.self new c.take_up.new.self c.args.placed.now.items loop.placed.items c.take_up.new.placed.items t.0 loop.invariant
     at.0 at.1 at.2 t.1 t.3 t.4 t.2

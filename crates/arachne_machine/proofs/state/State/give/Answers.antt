@@ -1,9 +1,9 @@
-use Rattle.std.proofs.Common.{rules, ◌+◌, ◌≤◌, vec_len, vec_capacity, refl, subst, ◌∙◌, arith}
+use Rattle.std.proofs.Common.{rules, ◌+◌, ◌≤◌, vec_len, vec_capacity, refl, sym, subst, ◌∙◌, arith}
 use Rattle.arachne_machine.specs.declared.state.State.{State}
 use Rattle.arachne_machine.specs.Steps.{IsSame}
-use Rattle.arachne_machine.specs.Runs.{Comes, giving_in}
+use Rattle.arachne_machine.specs.Runs.{Comes, RunsOn, giving_in}
 use Rattle.arachne_machine.proofs.Going.{comes_more, runs_more, runs_nothing}
-use Rattle.arachne_machine.proofs.Lasting.{nearer_value, on_err, refused_after, refused_same, without_value}
+use Rattle.arachne_machine.proofs.Lasting.{nearer_value, on_err, without_value}
 use Rattle.arachne_machine.proofs.state.State.give.Goals as goal
 
 pub returns-then-is_err-clause-err : goal.returns-then-is_err-clause-err
@@ -21,7 +21,7 @@ returns-then-is_err-clause-err g c =
       frames_are = turns.frames_are;
       control_is = turns.control_is;
     } in
-    on_err c.refused.result _ (refused_same _ (giving_in t c.args.value) c.refused.new.self c.requires.sound same refl)
+    on_err c.refused.result _ (runs_nothing _ (giving_in t c.args.value) c.refused.new.self c.requires.sound same refl)
 
 pub loop-next-init : goal.loop-next-init
 loop-next-init g c =
@@ -48,7 +48,9 @@ returns-in_err-progress-clause-err g c =
     let from = giving_in c.args.self.now c.args.value in
     let at = giving_in c.loop-next.self c.loop-next.value in
     let m = c.loop-next.invariant.makes in
-    on_err c.from_residual.result _ (refused_after _ _ from at _ m (refused_same _ at c.hand_newest.new.self m.runs.sound c.in_err-progress.ensures.err refl))
+    let new = c.hand_newest.new.self in
+    let on = runs_more _ _ _ 0 from at new m (runs_nothing c.loop-next.left at new m.runs.sound c.in_err-progress.ensures.err refl) in
+    on_err c.from_residual.result _ (subst (λ n. RunsOn _ c.args.left.now n 0 from new) (sym c.in_err-progress.ensures.uncharged) on)
 
 pub loop-next-smaller : goal.loop-next-smaller
 loop-next-smaller g c = nearer_value c.in_ok-progress.progress c.in-Value.next _ c.in-Value.is c.in_ok-progress.ensures.nearer

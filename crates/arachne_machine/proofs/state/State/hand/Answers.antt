@@ -41,4 +41,5 @@ returns-in_default g c =
       frames = c.hand_within.ensures.frames;
       parents = on_value c.hand_within.result _ (omega (arith, ap length c.hand_within.ensures.leaves.parents, new.parents.ok.0, t.parents.ok.0));
       err = tt;
+      uncharged = tt;
     }

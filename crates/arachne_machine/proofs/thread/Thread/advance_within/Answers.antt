@@ -1,6 +1,6 @@
-use Rattle.std.proofs.Common.{◌≡◌, ◌-◌, true, ap, sym, ◌∙◌, subst}
+use Rattle.std.proofs.Common.{◌≡◌, true, ap, sym, ◌∙◌, subst}
 use Rattle.arachne_machine.specs.Steps.{pending_of, suspended, top}
-use Rattle.arachne_machine.specs.Kept.{AdvancesWith, IsKept, WentWithin, nested}
+use Rattle.arachne_machine.specs.Kept.{AdvancesWith, IsKept, Went, nested}
 use Rattle.arachne_machine.specs.Advance.{AdvancedAlone, IsCharged, Moves, PausesAt, PlacesNone, RefusedAlone, pause_seen}
 use Rattle.arachne_lang.specs.Program.{source_of}
 use Rattle.arachne_lang.specs.Checked.{IsChecked}
@@ -111,8 +111,8 @@ returns-in_err-forked-clause-err_same g c =
     let new = c.advance_with.new.self in
     let qs = c.advance_with.new.placed.items in
     let is = c.deref_mut.ensures.value in
-    let a = subst (λ s. WentWithin (g.P.Placing.gives_all ≡ true) (c.args.left.now - 1) s ps new qs) is c.in_err-forked.ensures.err in
-    let s = shown_refusal (g.P.Placing.gives_all ≡ true) c.args.left.now t new ps qs a in
+    let a = subst (λ s. Went (g.P.Placing.gives_all ≡ true) c.args.left.now c.advance_with.new.left s ps new qs) is c.in_err-forked.ensures.err in
+    let s = shown_refusal (g.P.Placing.gives_all ≡ true) c.args.left.now c.advance_with.new.left t new ps qs a c.in_err-forked.ensures.err_left in
     let n = nested new qs in
     on_err c.from_residual.result _ (subst (λ v. SameWhole v n) c.self.view_is s.same)
 
@@ -123,8 +123,8 @@ returns-in_err-forked-clause-err_alone g c =
     let new = c.advance_with.new.self in
     let qs = c.advance_with.new.placed.items in
     let is = c.deref_mut.ensures.value in
-    let a = subst (λ s. WentWithin (g.P.Placing.gives_all ≡ true) (c.args.left.now - 1) s ps new qs) is c.in_err-forked.ensures.err in
-    let s = shown_refusal (g.P.Placing.gives_all ≡ true) c.args.left.now t new ps qs a in
+    let a = subst (λ s. Went (g.P.Placing.gives_all ≡ true) c.args.left.now c.advance_with.new.left s ps new qs) is c.in_err-forked.ensures.err in
+    let s = shown_refusal (g.P.Placing.gives_all ≡ true) c.args.left.now c.advance_with.new.left t new ps qs a c.in_err-forked.ensures.err_left in
     let n = nested new qs in
     on_err c.from_residual.result _ (subst (λ v. IsAlone v → (whole n).forks ≡ (whole v).forks → RefusedAlone c.args.left.now v n) c.self.view_is s.alone)
 
@@ -135,7 +135,7 @@ returns-in_err-forked-clause-err_everywhere g c =
     let new = c.advance_with.new.self in
     let qs = c.advance_with.new.placed.items in
     let is = c.deref_mut.ensures.value in
-    let a = subst (λ s. WentWithin (g.P.Placing.gives_all ≡ true) (c.args.left.now - 1) s ps new qs) is c.in_err-forked.ensures.err in
-    let s = shown_refusal (g.P.Placing.gives_all ≡ true) c.args.left.now t new ps qs a in
+    let a = subst (λ s. Went (g.P.Placing.gives_all ≡ true) c.args.left.now c.advance_with.new.left s ps new qs) is c.in_err-forked.ensures.err in
+    let s = shown_refusal (g.P.Placing.gives_all ≡ true) c.args.left.now c.advance_with.new.left t new ps qs a c.in_err-forked.ensures.err_left in
     let n = nested new qs in
     λ all. on_err c.from_residual.result _ (subst (λ v. IsAlone v → (whole n).forks ≡ (whole v).forks) c.self.view_is (s.everywhere all))
