@@ -1,7 +1,5 @@
-//! Each public call once, refused memory, and values that pass between threads.
+//! Each public call once, and refused memory.
 ghost use Rattle.std.specs.Prelude.{◌≡◌, ◌<◌, IfOk};
-
-mod parcels;
 
 use arachne_join::{CellState, Fits, JoinCell, SendingEnd};
 use std::alloc::{AllocError, Global};

@@ -21,6 +21,9 @@ impl Fits<u64> for Square {
 
 type Cell = JoinCell<Square, u64>;
 
+/// How many squares are added up in the end, each by a kernel thread of its own.
+const MANY: u64 = 10_000;
+
 /// The child's part. Its sending end is used up.
 fn leave(cell: &Cell, end: SendingEnd<Square, u64>, number: u64)
     requires place { end ≡ cell.now.table }
@@ -60,5 +63,10 @@ fn main(rt: HostRuntime) -> Result<()> {
         let square = square_beside(&rt, rt.alloc(), number)?;
         println!(rt; "{square}")?;
     }
+    let mut sum = 0u64;
+    for number in 0..MANY {
+        sum = sum.wrapping_add(square_beside(&rt, rt.alloc(), number)?);
+    }
+    println!(rt; "{sum}")?;
     Ok(())
 }
