@@ -18,10 +18,10 @@ use std::sync::Wait;
 /// got it.
 pub trait Contexts<T: Tagged>: Seats {
     /// A place that a seat has claimed.
-    type Claim: Placed + Drop + Send;
+    type Claim: Placed + Drop;
 
     /// What a thread that a seat holds is known by.
-    type Hold: Identified + Drop + Send;
+    type Hold: Identified + Drop;
 
     /// What is out with the seat, in any order: what it has claimed or taken and not spent.
     ghost has: { Self → Self.Seat → List (Out Self.Claim Self.Hold) → Type 0 };

@@ -9,7 +9,7 @@ use std::sync::Wait;
 /// A table's seats, with which its threads step. Each has a part of the whole weight, so whoever has all of it knows that
 /// no other seat is in use. A seat is used with the table that it came from.
 pub trait Seats {
-    type Seat: Drop + Send;
+    type Seat: Drop;
 
     /// The seat is of this table.
     ghost sits: { Self → Self.Seat → Type 0 };

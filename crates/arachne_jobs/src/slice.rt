@@ -75,13 +75,13 @@ pub trait RunThread: Tagged + Drop {
 }
 
 /// What stands for a child that waits for a place.
-pub trait RunTicket: Tagged + Drop + Send {
+pub trait RunTicket: Tagged + Drop {
     /// Whether its child waits still. Nothing is taken.
     fn still_waits(&self) -> bool;
 }
 
 /// What a worker keeps of ended threads for those that begin.
-pub trait RunSpares: Drop + Send {
+pub trait RunSpares: Drop {
     /// Nothing is kept yet. It takes no memory.
     fn none(alloc: Global) -> Self;
 }
@@ -89,7 +89,7 @@ pub trait RunSpares: Drop + Send {
 /// What a context holds in a run: a thread with all that its slices and its forks need.
 pub trait RunJob: RunThread {
     /// A thread that was forked and has no place yet.
-    type Child: Drop + Send;
+    type Child: Drop;
 
     /// What stands for a child that waits for a place.
     type Ticket: RunTicket;

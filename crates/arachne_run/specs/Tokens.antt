@@ -8,6 +8,8 @@ use Rattle.arachne_spill.specs.Views.{IsPassOf, QueueView}
 use Rattle.arachne_arbiter.specs.Orders.{Progress}
 use Rattle.arachne_core.specs.declared.layout.TheConstants.{CORES, SLOTS}
 use Rattle.arachne_run.specs.declared.machine.Machine.{Machine}
+use Rattle.arachne_run.specs.declared.resources.Holdings.{Holdings}
+use Rattle.arachne_run.specs.declared.resources.Resources.{Resources}
 use Rattle.arachne_run.specs.declared.tokens.Tokens.{Tokens}
 
 -- what a worker's seat is a seat at: the table, the queue of tickets, and how many cores and orders there are
@@ -24,20 +26,20 @@ ground_of machine = record { table = machine.table; tickets = machine.tickets; c
 abbrev pub IsArbiterOf : {Table Ticket : Type 0} → Machine Table Ticket → Option Progress → Type 0
 IsArbiterOf machine arbiter = IfSome arbiter (λ progress. (length progress.list ≡ machine.orders) × (progress.cores ≡ machine.cores))
 
--- the seat sits at the machine's table, the share is of its ledgers, the lock seats are of its locks, the pass is of
--- its queue, and the arbiter, if there is one, is its arbiter; nothing is out with the seat
+-- the share is of these ledgers, and the lock seats are of these locks
+abbrev pub AreHoldingsOf : Resources → Holdings → Type 0
+AreHoldingsOf resources holdings = IsShareOf resources.ledgers holdings.share × AreSeatsOf resources.locks holdings.lock_seats
+
+-- the seat sits at the machine's table, the pass is of its queue, the holdings are of its ledgers and locks, and the
+-- arbiter, if there is one, is its arbiter; nothing is out with the seat
 abbrev pub AreIdle : {Table Seat Ticket : Type 0} → (Table → Seat → Type 0) → (Table → Seat → Type 0) → Machine Table Ticket → Tokens Seat Ticket → Type 0
 AreIdle sits idle machine tokens =
-    sits machine.table tokens.seat × idle machine.table tokens.seat × IsShareOf machine.ledgers tokens.share × AreSeatsOf machine.locks tokens.lock_seats
-    × IsPassOf machine.tickets tokens.pass × IsArbiterOf machine tokens.arbiter
+    sits machine.table tokens.seat × idle machine.table tokens.seat × IsPassOf machine.tickets tokens.pass
+    × AreHoldingsOf machine.resources tokens.holdings × IsArbiterOf machine tokens.arbiter
 
 -- the thread that is held, as the table knows it
 abbrev pub thread_in : {C T H : Type 0} → (T → ℕ) → Held T H → Out C H
 thread_in tag held = Thread held.hold (tag held.value)
-
--- the same thread: the table knows it by the same, and its tag has not changed
-abbrev pub IsSameThread : {T H : Type 0} → (T → ℕ) → Held T H → Held T H → Type 0
-IsSameThread tag old new = (new.hold ≡ old.hold) × (tag new.value ≡ tag old.value)
 
 -- what is out where this thread, or none, is held
 abbrev pub in_hand : {C T H : Type 0} → (T → ℕ) → Option (Held T H) → List (Out C H)

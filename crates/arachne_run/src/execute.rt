@@ -1,53 +1,38 @@
 //! A slice of a thread, the answers to what it asks for, and its end.
 ghost use Rattle.std.specs.Prelude.{◌≡◌};
 
-use crate::desk::Stop;
+use crate::access::Access;
+use crate::desk::{Desk, Stop, thin_out};
 use crate::fault::WorkerFault;
 use crate::gate::{Cause, Event, Gate, SliceEnd};
-use crate::locks::Locks;
 use crate::policy;
 use crate::queue::Agenda;
-use crate::seat::Seat;
 use crate::shared::Shared;
-use crate::sums::Sums;
 use crate::wake::{posted, tell};
-use arachne_contexts::Contexts;
 use arachne_core::Rest;
-use arachne_jobs::RunJob;
-use rand_core::Rng;
 use std::sync::Wait;
-
-/// What comes of what a thread asks for.
-#[derive(Clone, Copy, Debug, PartialEq, Eq)]
-enum Served {
-    /// It goes on for so many steps.
-    Left(u32),
-    /// It awaits this lock.
-    Awaits(u64),
-}
 
 /// The worker of one core.
 #[derive(Drop)]
-pub(crate) struct Worker<'a, H, T: RunJob, C: Contexts<T>, R, G> {
+pub(crate) struct Worker<'a, H, D, G> {
     pub(crate) rt: &'a H,
     pub(crate) gate: &'a G,
     pub(crate) shared: &'a Shared,
     pub(crate) core: u8,
     pub(crate) slots: u8,
     pub(crate) quantum: u32,
-    pub(crate) desk: Seat<'a, H, T, C, R>,
-    pub(crate) locks: Locks<'a>,
-    pub(crate) sums: Sums<'a>,
+    pub(crate) access: Access<'a>,
     pub(crate) agenda: Agenda,
     /// How many slices it has begun.
     pub(crate) slices: u64,
+    pub(crate) desk: D,
 }
 
-impl<'a, H: Wait, T: RunJob, C: Contexts<T>, R: Rng + Drop, G: Gate> Worker<'a, H, T, C, R, G> {
+impl<'a, H: Wait, D: Desk, G: Gate> Worker<'a, H, D, G> {
     /// The thread in hand, which was at this index, has a slice, and more as long as nothing else is to go on. Then it
     /// rests, or has ended. Whether it waits.
     pub(crate) fn turn(&mut self, index: u8) -> Result<bool, WorkerFault>
-        ensures { (self.new.desk ≡ self.old.desk) × (self.new.locks ≡ self.old.locks) × (self.new.sums ≡ self.old.sums) }
+        ensures { (self.new.desk ≡ self.old.desk) × (self.new.access ≡ self.old.access) }
     {
         if let Some((id, name)) = self.desk.named() {
             self.gate.told(self.core, Event::Turn(id, name));
@@ -73,7 +58,7 @@ impl<'a, H: Wait, T: RunJob, C: Contexts<T>, R: Rng + Drop, G: Gate> Worker<'a, 
     /// Whether the thread in hand has another slice at once: no other is known to be ready, no ticket could be taken,
     /// and the workers go on.
     fn goes_on(&mut self) -> bool
-        ensures { (self.new.desk ≡ self.old.desk) × (self.new.locks ≡ self.old.locks) × (self.new.sums ≡ self.old.sums) }
+        ensures { (self.new.desk ≡ self.old.desk) × (self.new.access ≡ self.old.access) }
     {
         if self.agenda.is_any()
             || self.shared.is_stopped()
@@ -85,14 +70,14 @@ impl<'a, H: Wait, T: RunJob, C: Contexts<T>, R: Rng + Drop, G: Gate> Worker<'a, 
         if now.is_closed() {
             return false;
         }
-        !policy::may_take_ticket(now, self.desk.kept(), self.slots)
-            || !self.shared.room().is_any_waiting()
+        !self.shared.room().is_any_waiting()
+            || !policy::may_take_ticket(now, self.desk.kept(), self.slots)
     }
 
     /// One slice of the thread in hand: it goes on for at most a quantum of steps, and what it asks for meanwhile is
     /// answered.
     fn slice(&mut self) -> Result<SliceEnd, WorkerFault>
-        ensures { (self.new.desk ≡ self.old.desk) × (self.new.locks ≡ self.old.locks) × (self.new.sums ≡ self.old.sums) }
+        ensures { (self.new.desk ≡ self.old.desk) × (self.new.access ≡ self.old.access) }
     {
         self.gate.slice(self.core, self.slices);
         self.slices = self.slices.saturating_add(1);
@@ -105,7 +90,7 @@ impl<'a, H: Wait, T: RunJob, C: Contexts<T>, R: Rng + Drop, G: Gate> Worker<'a, 
     /// The steps of a slice, how many they are, and how it ends. Where the quantum is used up, all that the worker posted
     /// is told of.
     fn spend_quantum(&mut self) -> Result<(u32, SliceEnd), WorkerFault>
-        ensures { (self.new.desk ≡ self.old.desk) × (self.new.locks ≡ self.old.locks) × (self.new.sums ≡ self.old.sums) }
+        ensures { (self.new.desk ≡ self.old.desk) × (self.new.access ≡ self.old.access) }
     {
         self.agenda.begin_slice();
         let mut left = self.quantum;
@@ -125,82 +110,82 @@ impl<'a, H: Wait, T: RunJob, C: Contexts<T>, R: Rng + Drop, G: Gate> Worker<'a, 
             }
             match stop {
                 Stop::Goes => {}
+                Stop::Posted(post) => {
+                    posted(&mut self.agenda, self.shared.signals(), self.core, post);
+                }
                 Stop::Spilled => self.gate.told(self.core, Event::Spilled),
                 Stop::Ends => return Ok((made, SliceEnd::Ended)),
                 Stop::Blocks => return Ok((made, SliceEnd::AwaitsChild)),
-                stop => match self.serve(stop, left)? {
-                    Served::Left(most) => left = most,
-                    Served::Awaits(lock) => return Ok((made, SliceEnd::AwaitsLock(lock))),
-                },
+                stop => {
+                    if let Some(lock) = self.serve(stop)? {
+                        return Ok((made, SliceEnd::AwaitsLock(lock)));
+                    }
+                    if self.agenda.has_next() {
+                        // The next holder of a lock is to go on here.
+                        left = left.min(policy::STEPS_PAST_FREE);
+                    }
+                }
             }
         }
         tell(&mut self.agenda, self.shared.signals());
         Ok((made, SliceEnd::GoesOn))
     }
 
-    /// Does what the thread in hand asks for, which had so many steps left.
-    fn serve(&mut self, stop: Stop, left: u32) -> Result<Served, WorkerFault>
-        ensures { (self.new.desk ≡ self.old.desk) × (self.new.locks ≡ self.old.locks) × (self.new.sums ≡ self.old.sums) }
+    /// Does what the thread in hand asks for. The lock that it awaits, if it doesn't go on.
+    fn serve(&mut self, stop: Stop) -> Result<Option<u64>, WorkerFault>
+        ensures { (self.new.desk ≡ self.old.desk) × (self.new.access ≡ self.old.access) }
     {
         let who = self.desk.in_hand()?;
         match stop {
-            Stop::Posted(post) => {
-                posted(&mut self.agenda, self.shared.signals(), self.core, post);
-                return Ok(Served::Left(left));
-            }
             Stop::Asks(lock) => {
-                if !self.locks.ask(self.rt, lock, who)? {
-                    return Ok(Served::Awaits(lock));
+                if !self.access.ask(self.rt, lock, who)? {
+                    return Ok(Some(lock));
                 }
             }
             Stop::Awaits(lock) => {
-                if !self.locks.check(self.rt, lock, who)? {
-                    return Ok(Served::Awaits(lock));
+                if !self.access.check(self.rt, lock, who)? {
+                    return Ok(Some(lock));
                 }
             }
             Stop::Frees(lock) => {
-                if let Some(next) = self.locks.free(self.rt, lock, who)? {
+                if let Some(next) = self.access.free(self.rt, lock, who)? {
                     self.wake(next, Cause::HoldsLock);
                 }
             }
-            Stop::Tallies(ledger, amount) => self.sums.add(ledger, amount)?,
-            Stop::Goes | Stop::Spilled | Stop::Blocks | Stop::Ends => {
-                return Ok(Served::Left(left));
+            Stop::Tallies(ledger, amount) => self.access.add(ledger, amount)?,
+            Stop::Goes | Stop::Posted(_) | Stop::Spilled | Stop::Blocks | Stop::Ends => {
+                return Ok(None);
             }
         }
         self.desk.answer()?;
-        if self.agenda.has_next() {
-            // The next holder of a lock is to go on here.
-            return Ok(Served::Left(left.min(policy::STEPS_PAST_FREE)));
-        }
-        Ok(Served::Left(left))
+        Ok(None)
     }
 
     /// Ends the thread in hand, and wakes its parent. With the root all workers stop. Then places of the core are kept
     /// or given back.
     fn end(&mut self) -> Result<(), WorkerFault>
-        ensures { (self.new.desk ≡ self.old.desk) × (self.new.locks ≡ self.old.locks) × (self.new.sums ≡ self.old.sums) }
+        ensures { (self.new.desk ≡ self.old.desk) × (self.new.access ≡ self.old.access) }
     {
         let before = self.desk.look();
         match self.desk.end()? {
             Some(parent) => self.wake(parent, Cause::ChildEnded),
             None => self.shared.stop(),
         }
-        self.desk.settle_places(before)
+        self.desk.keep_place(before)?;
+        thin_out(&mut self.desk, self.slots)
     }
 
     /// The worker that has the arbiter applies the orders that are due, and moves threads away from a closed core.
     pub(crate) fn tend(&mut self)
-        ensures { (self.new.desk ≡ self.old.desk) × (self.new.locks ≡ self.old.locks) × (self.new.sums ≡ self.old.sums) }
+        ensures { (self.new.desk ≡ self.old.desk) × (self.new.access ≡ self.old.access) }
     {
-        let tended = self.desk.tend();
-        if let Some(applied) = tended.applied {
+        let (applied, receivers) = self.desk.tend();
+        if let Some(applied) = applied {
             self.gate.told(self.core, Event::Applied(applied));
         }
-        if tended.receivers != 0 {
-            self.shared.signals().hint_cores(tended.receivers);
-            self.gate
-                .told(self.core, Event::MovedAway(tended.receivers));
+        if receivers != 0 {
+            self.shared.signals().hint_cores(receivers);
+            self.gate.told(self.core, Event::MovedAway(receivers));
         }
     }
 }

@@ -1,32 +1,29 @@
 //! What a worker does next: a scan of what may be ready, a ticket, a look at all, and else it waits.
 ghost use Rattle.std.specs.Prelude.{◌≡◌};
 
-use crate::desk::Grip;
+use crate::desk::{Desk, Grip, give_all_back, thin_out};
 use crate::execute::Worker;
 use crate::fault::WorkerFault;
 use crate::gate::{Event, Gate};
 use crate::policy;
 use crate::shared::Shared;
 use crate::wake::tell;
-use arachne_contexts::Contexts;
 use arachne_core::SLOTS;
-use arachne_jobs::RunJob;
-use rand_core::Rng;
 use std::hint::spin_loop;
 use std::sync::Wait;
 use std::thread;
 use std::time::Duration;
 
-impl<'a, H: Wait, T: RunJob, C: Contexts<T>, R: Rng + Drop, G: Gate> Worker<'a, H, T, C, R, G> {
+impl<'a, H: Wait, D: Desk, G: Gate> Worker<'a, H, D, G> {
     /// Runs threads until all workers stop, and gives back the places that it keeps.
     pub(crate) fn work(&mut self) -> Result<(), WorkerFault>
-        ensures { (self.new.desk ≡ self.old.desk) × (self.new.locks ≡ self.old.locks) × (self.new.sums ≡ self.old.sums) }
+        ensures { (self.new.desk ≡ self.old.desk) × (self.new.access ≡ self.old.access) }
     {
         // How many rounds in turn have found nothing.
         let mut idle: u32 = 0;
         for _ in self.rt.forever() {
             if self.shared.is_stopped() {
-                return self.desk.give_all_back();
+                return give_all_back(&mut self.desk);
             }
             let looks = idle == 0 || idle > policy::LAST_YIELD;
             if self.scan()? || looks && self.scan_all(idle)? {
@@ -44,9 +41,9 @@ impl<'a, H: Wait, T: RunJob, C: Contexts<T>, R: Rng + Drop, G: Gate> Worker<'a, 
     /// Runs each thread that may be ready as far as is known, once, and then takes a ticket. Whether there was
     /// anything.
     fn scan(&mut self) -> Result<bool, WorkerFault>
-        ensures { (self.new.desk ≡ self.old.desk) × (self.new.locks ≡ self.old.locks) × (self.new.sums ≡ self.old.sums) }
+        ensures { (self.new.desk ≡ self.old.desk) × (self.new.access ≡ self.old.access) }
     {
-        self.desk.thin_out()?;
+        thin_out(&mut self.desk, self.slots)?;
         let mut indexes = self.shared.signals().take(self.core);
         if self.agenda.is_look_due() {
             indexes |= self.desk.look().mask();
@@ -59,10 +56,10 @@ impl<'a, H: Wait, T: RunJob, C: Contexts<T>, R: Rng + Drop, G: Gate> Worker<'a, 
     /// The same for all that is occupied, and parks where the core is closed and nothing is on it. Before it sleeps the
     /// places that it keeps are given back, and all that it has posted is told of.
     fn scan_all(&mut self, idle: u32) -> Result<bool, WorkerFault>
-        ensures { (self.new.desk ≡ self.old.desk) × (self.new.locks ≡ self.old.locks) × (self.new.sums ≡ self.old.sums) }
+        ensures { (self.new.desk ≡ self.old.desk) × (self.new.access ≡ self.old.access) }
     {
         if idle > policy::LAST_YIELD {
-            self.desk.give_all_back()?;
+            give_all_back(&mut self.desk)?;
         }
         let occupied = self.desk.look().mask();
         self.agenda.begin_scan(occupied);
@@ -82,7 +79,7 @@ impl<'a, H: Wait, T: RunJob, C: Contexts<T>, R: Rng + Drop, G: Gate> Worker<'a, 
     /// Runs each thread that is ready at the indexes of the scan, upwards, unless all workers stop. Whether there was
     /// one.
     fn run_each(&mut self) -> Result<bool, WorkerFault>
-        ensures { (self.new.desk ≡ self.old.desk) × (self.new.locks ≡ self.old.locks) × (self.new.sums ≡ self.old.sums) }
+        ensures { (self.new.desk ≡ self.old.desk) × (self.new.access ≡ self.old.access) }
     {
         let mut found = false;
         for _ in 0..SLOTS {
@@ -103,7 +100,7 @@ impl<'a, H: Wait, T: RunJob, C: Contexts<T>, R: Rng + Drop, G: Gate> Worker<'a, 
     /// Runs the thread at an index of the core for a turn, if it is ready, and then each that is to go on before all
     /// others. None begins once all workers stop. Whether there was one that was ready.
     fn run_at(&mut self, index: u8) -> Result<bool, WorkerFault>
-        ensures { (self.new.desk ≡ self.old.desk) × (self.new.locks ≡ self.old.locks) × (self.new.sums ≡ self.old.sums) }
+        ensures { (self.new.desk ≡ self.old.desk) × (self.new.access ≡ self.old.access) }
     {
         let mut index = index;
         let mut found = false;
@@ -132,7 +129,7 @@ impl<'a, H: Wait, T: RunJob, C: Contexts<T>, R: Rng + Drop, G: Gate> Worker<'a, 
 
     /// Takes a ticket, if a place of the core is free or kept for its child. Whether there was one.
     fn take_ticket(&mut self) -> Result<bool, WorkerFault>
-        ensures { (self.new.desk ≡ self.old.desk) × (self.new.locks ≡ self.old.locks) × (self.new.sums ≡ self.old.sums) }
+        ensures { (self.new.desk ≡ self.old.desk) × (self.new.access ≡ self.old.access) }
     {
         if !self.shared.room().is_any_waiting() {
             return Ok(false);

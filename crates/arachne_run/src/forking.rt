@@ -4,7 +4,7 @@
 ghost use Rattle.std.specs.Prelude.{◌≡◌, ◌<◌, ◌≤◌, [], ◌∷◌, IfOk, MatchOption, OnOk, map};
 ghost use Rattle.arachne_contexts.specs.Out.{Claim as a_claim, HasOut};
 ghost use Rattle.arachne_spill.specs.Views.{IsPassOf};
-ghost use Rattle.arachne_run.specs.Tokens.{IsSameThread, IsSetUp, IsSpent, thread_in};
+ghost use Rattle.arachne_run.specs.Tokens.{IsSetUp, IsSpent, thread_in};
 
 use crate::claims::Claims;
 use crate::desk::Stop;
@@ -19,6 +19,16 @@ use rand_core::Rng;
 use std::alloc::Global;
 use std::sync::Wait;
 
+/// What a worker has for the forks of threads.
+#[derive(Drop)]
+pub(crate) struct Forks<R, P> {
+    /// The core's chooser.
+    pub(crate) chooser: R,
+    pub(crate) openings: Openings,
+    /// What is kept of ended threads for those that begin.
+    pub(crate) spares: P,
+}
+
 /// The thread in hand goes on for at most as many steps as are left, and its fork, if it comes to one, is answered.
 #[inline(always)]
 pub(crate) fn go_on<H: Wait, T: RunJob, C: Contexts<T>, R: Rng>(
@@ -28,9 +38,7 @@ pub(crate) fn go_on<H: Wait, T: RunJob, C: Contexts<T>, R: Rng>(
     seat: &mut C::Seat,
     pass: &mut SpillPass<T::Ticket>,
     held: &mut Held<T, C::Hold>,
-    chooser: &mut R,
-    openings: &mut Openings,
-    spares: &mut T::Spares,
+    forks: &mut Forks<R, T::Spares>,
     left: &mut u32,
 ) -> Result<Stop, WorkerFault>
     requires seat { C.sits machine.now.table seat.old }
@@ -43,15 +51,15 @@ pub(crate) fn go_on<H: Wait, T: RunJob, C: Contexts<T>, R: Rng>(
     ensures pass { IsPassOf machine.now.tickets pass.new }
 {
     let room = machine.shared.room();
-    let slice = held.value.slice(left, spares, room, openings)?;
-    draw(chooser, openings.draws);
-    openings.draws = 0;
+    let slice = held
+        .value
+        .slice(left, &mut forks.spares, room, &mut forks.openings)?;
+    draw(&mut forks.chooser, forks.openings.draws);
+    forks.openings.draws = 0;
     match slice {
         Slice::Goes => Ok(Stop::Goes),
         Slice::Forks(class, child) => {
-            let tag = openings.tags.take(room);
-            let fork = Fork { class, child, tag };
-            answer_fork::<H, T, C, R>(rt, alloc, machine, seat, pass, held, fork, chooser, spares)
+            answer_fork::<H, T, C, R>(rt, alloc, machine, seat, pass, held, class, child, forks)
         }
         Slice::Blocks => Ok(Stop::Blocks),
         Slice::Asks(lock) => Ok(Stop::Asks(lock)),
@@ -69,18 +77,9 @@ fn draw<R: Rng>(chooser: &mut R, words: u64) {
     }
 }
 
-/// A child that is forked, and the tag that it gets.
-#[derive(Drop)]
-struct Fork<Child> {
-    class: Class,
-    child: Child,
-    tag: u64,
-}
-
 /// Answers a fork of the thread in hand: a normal child gets a place on the core with fewer threads of two that are
 /// drawn, else on another core that has one; an exclusive one on an empty core. Else a normal one waits, if there is
 /// room in the queue, and another one runs in place.
-#[inline(always)]
 fn answer_fork<H: Wait, T: RunJob, C: Contexts<T>, R: Rng>(
     rt: &H,
     alloc: Global,
@@ -88,85 +87,42 @@ fn answer_fork<H: Wait, T: RunJob, C: Contexts<T>, R: Rng>(
     seat: &mut C::Seat,
     pass: &mut SpillPass<T::Ticket>,
     held: &mut Held<T, C::Hold>,
-    fork: Fork<T::Child>,
-    chooser: &mut R,
-    spares: &mut T::Spares,
+    class: Class,
+    child: T::Child,
+    forks: &mut Forks<R, T::Spares>,
 ) -> Result<Stop, WorkerFault>
     requires seat { C.sits machine.now.table seat.old }
     requires out { C.has machine.now.table seat.old (thread_in T.tag_of held.old ∷ []) }
     requires pass { IsPassOf machine.now.tickets pass.old }
     requires set_up { IsSetUp C.core_count C.slot_count machine.now }
-    requires forks { T.forks held.old.value fork.child }
+    requires forks { T.forks held.old.value child }
     ensures seat { C.sits machine.now.table seat.new }
     ensures out { OnOk result (C.has machine.now.table seat.new (thread_in T.tag_of held.new ∷ [])) }
     ensures pass { IsPassOf machine.now.tickets pass.new }
 {
-    let Fork { class, child, tag } = fork;
+    let (me, room) = (held.id(), machine.shared.room());
+    let tag = forks.openings.tags.take(room);
     let cores = machine.cores::<H, T>(rt);
     let place = match class {
-        Class::Normal => cores.claim_normal(seat, chooser)?,
+        Class::Normal => cores.claim_normal(seat, &mut forks.chooser)?,
         Class::Exclusive => cores.claim_exclusive(seat)?,
     };
-    match place {
-        Some(claim) => {
-            machine.shared.room().place_was_claimed();
-            post_child::<H, T, C>(rt, alloc, machine, seat, held, claim, child, tag, spares)
-        }
-        None => put_aside::<H, T, C>(rt, alloc, machine, pass, held, class, child, tag),
+    if let Some(claim) = place {
+        room.place_was_claimed();
+        let place = claim.place();
+        let job = held
+            .value
+            .fork_off(alloc, me, child, tag, &mut forks.spares)?;
+        return match machine.table.post(rt, seat, claim, job) {
+            Ok(id) => Ok(Stop::Posted(Post { id, place })),
+            Err(_) => Err(WorkerFault::Token),
+        };
     }
-}
-
-/// The child that the thread in hand forks becomes a thread at the claimed place.
-#[inline(always)]
-fn post_child<H: Wait, T: RunJob, C: Contexts<T>>(
-    rt: &H,
-    alloc: Global,
-    machine: &Machine<C, T::Ticket>,
-    seat: &mut C::Seat,
-    held: &mut Held<T, C::Hold>,
-    claim: C::Claim,
-    child: T::Child,
-    tag: u64,
-    spares: &mut T::Spares,
-) -> Result<Stop, WorkerFault>
-    requires seat { C.sits machine.now.table seat.old }
-    requires out { C.has machine.now.table seat.old (a_claim claim ∷ thread_in T.tag_of held.old ∷ []) }
-    requires forks { T.forks held.old.value child }
-    ensures seat { C.sits machine.now.table seat.new }
-    ensures out { OnOk result (C.has machine.now.table seat.new (thread_in T.tag_of held.new ∷ [])) }
-{
-    let me = held.id();
-    let job = held.value.fork_off(alloc, me, child, tag, spares)?;
-    let place = claim.place();
-    match machine.table.post(rt, seat, claim, job) {
-        Ok(id) => Ok(Stop::Posted(Post { id, place })),
-        Err(_) => Err(WorkerFault::Token),
-    }
-}
-
-/// The child that the thread in hand forks waits for a place, or runs in place.
-#[inline(always)]
-fn put_aside<H: Wait, T: RunJob, C: Contexts<T>>(
-    rt: &H,
-    alloc: Global,
-    machine: &Machine<C, T::Ticket>,
-    pass: &mut SpillPass<T::Ticket>,
-    held: &mut Held<T, C::Hold>,
-    class: Class,
-    child: T::Child,
-    tag: u64,
-) -> Result<Stop, WorkerFault>
-    requires pass { IsPassOf machine.now.tickets pass.old }
-    requires forks { T.forks held.old.value child }
-    ensures pass { IsPassOf machine.now.tickets pass.new }
-    ensures thread { IsSameThread T.tag_of held.old held.new }
-{
     let waits = class == Class::Normal && !machine.tickets.is_full(pass);
-    let me = held.id();
     if let Some(ticket) = held.value.put_aside(alloc, me, child, tag, waits)? {
         // Where the queue was filled meanwhile, the child waits without a ticket, for its parent.
         if machine.tickets.push(rt, pass, ticket).is_ok() {
-            machine.shared.room().child_waits();
+            room.child_waits();
             return Ok(Stop::Spilled);
         }
     }

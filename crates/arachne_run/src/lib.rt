@@ -1,6 +1,7 @@
 //! The parallel run: a task program's threads on one kernel thread for each core, over any context table.
 #![tactic(auto)]
 
+mod access;
 mod audit;
 mod claims;
 mod desk;
@@ -9,19 +10,17 @@ mod fault;
 mod find;
 mod forking;
 mod gate;
-mod locking;
-mod locks;
 mod machine;
 mod policy;
 mod queue;
 mod report;
+mod resources;
 mod rooting;
 mod running;
 mod seat;
 mod setup;
 mod shared;
 mod signals;
-mod sums;
 mod tokens;
 mod wake;
 mod workers;

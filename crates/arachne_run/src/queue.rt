@@ -10,7 +10,7 @@ use arachne_core::{Place, SLOTS, ThreadId};
 use std::alloc::Global;
 
 /// A thread that was posted, and where it was then.
-#[derive(Clone, Copy, Debug, PartialEq, Eq)]
+#[derive(Clone, Copy)]
 pub(crate) struct Post {
     pub(crate) id: ThreadId,
     pub(crate) place: Place,

@@ -8,7 +8,7 @@ ghost use Rattle.arachne_run.specs.Reports.{histories_in, meaning_in, tags_of};
 
 use crate::audit::{are_grants_holds, marks_of};
 use crate::fault::WorkerFault;
-use crate::machine::Remains;
+use crate::resources::Remains;
 use arachne_lang::Sequence;
 use arachne_machine::{DetachedOutcome, ThreadLine};
 use arachne_sleep::LockEvent;
@@ -36,22 +36,19 @@ impl Report {
         alloc: Global,
         outcome: DetachedOutcome,
         remains: Remains,
+        applied: usize,
     ) -> Result<Report, WorkerFault>
         requires { outcome.name ≡ [] }
         ensures meaning { IfOk result (λ report. meaning_in report ≡ meaning_of (source_of outcome.program)) }
         ensures tags { IfOk result (λ report. AreDistinct (tags_of report)) }
         ensures histories { IfOk result (λ report. report.histories ≡ remains.histories) }
         ensures grants { IfOk result (λ report. GrantsAreHolds report.threads (histories_in report)) }
-        ensures applied { IfOk result (λ report. report.applied ≡ remains.applied) }
+        ensures applied { IfOk result (λ report. report.applied ≡ applied) }
     {
         let Ok(parts) = outcome.into_parts() else {
             return Err(WorkerFault::Memory);
         };
-        let Remains {
-            words,
-            histories,
-            applied,
-        } = remains;
+        let Remains { words, histories } = remains;
         if parts.sums.as_slice() != words.as_slice() {
             return Err(WorkerFault::Ledgers);
         }

@@ -46,6 +46,13 @@ pub fn run<
     choosers: Vec<R>,
     gate: &G,
 ) -> Result<Report, RunFault>
+where
+    T::Child: Send,
+    T::Ticket: Send,
+    T::Spares: Send,
+    C::Claim: Send,
+    C::Hold: Send,
+    C::Seat: Send,
     requires { IsChecked (source_of program.now) }
     ensures meaning { IfOk result (λ report. meaning_in report ≡ meaning_of (source_of program.now)) }
     ensures tags { IfOk result (λ report. AreDistinct (tags_of report)) }
@@ -71,13 +78,11 @@ pub fn run<
         setup.orders,
         program,
     )?;
-    let tokens = work_all::<H, T, T::Ticket, C, R, G>(
-        rt, alloc, &machine, gate, root, choosers, tokens,
-    );
-    let remains = machine.close::<H, T>(rt, alloc, tokens)?;
+    let tokens = work_all::<H, T, C, R, G>(rt, alloc, &machine, gate, root, choosers, tokens);
+    let (remains, applied) = machine.close::<H, T>(rt, alloc, tokens)?;
     let Ok((outcome, _)) = receiver.fetch() else {
         return Err(RunFault::Foreign);
     };
-    let report = Report::of(alloc, outcome, remains)?;
+    let report = Report::of(alloc, outcome, remains, applied)?;
     Ok(report)
 }

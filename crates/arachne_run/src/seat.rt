@@ -7,22 +7,22 @@ ghost use Rattle.arachne_run.specs.Tokens.{IsArbiterOf, IsSetUp, ground_of};
 ghost use Rattle.arachne_spill.specs.Views.{IsPassOf};
 
 use crate::claims::Claims;
-use crate::desk::{Grip, Stop, Tended};
+use crate::desk::{Desk, Grip, Stop};
 use crate::fault::WorkerFault;
-use crate::forking::{free_place, go_on, post_waiting};
+use crate::forking::{Forks, free_place, go_on, post_waiting};
 use crate::machine::Machine;
 use crate::policy;
 use crate::rooting::post_root;
-use arachne_arbiter::{Arbiter, Cores};
+use arachne_arbiter::Arbiter;
 use arachne_contexts::{Claimed, Contexts, Held, Moved, Placed, Rested, Taken, Woken};
-use arachne_core::{MarkWord, OccWord, Place, Rest, SLOTS, ThreadId};
+use arachne_core::{MarkWord, OccWord, Place, Rest, ThreadId};
 use arachne_jobs::{Openings, RunJob, RunSpares, RunThread, RunTicket};
 use arachne_lang::Name;
 use arachne_sleep::Who;
 use arachne_spill::SpillPass;
 use rand_core::Rng;
 use std::alloc::Global;
-use std::marker::{Model, PhantomData};
+use std::marker::Model;
 use std::sync::Wait;
 
 /// What a worker has at the table. Contracts see what it is a seat at: its invariant says what is out with it.
@@ -42,12 +42,7 @@ pub(crate) struct Seat<'a, H, T: RunJob, C: Contexts<T>, R> {
     pub(crate) kept: Claims<C::Claim>,
     pub(crate) pass: SpillPass<T::Ticket>,
     pub(crate) arbiter: Option<Arbiter>,
-    /// The core's chooser.
-    pub(crate) chooser: R,
-    /// What is here for the forks of threads.
-    pub(crate) openings: Openings,
-    /// What is kept of ended threads for those that begin.
-    pub(crate) spares: T::Spares,
+    pub(crate) forks: Forks<R, T::Spares>,
 }
 
 impl<'a, H, T: RunJob, C: Contexts<T>, R> Model for Seat<'a, H, T, C, R> {
@@ -106,18 +101,19 @@ impl<'a, H: Wait, T: RunJob, C: Contexts<T>, R: Rng + Drop> Seat<'a, H, T, C, R>
             kept: Claims::new(alloc),
             pass,
             arbiter,
-            chooser,
-            openings: Openings::new(),
-            spares: T::Spares::none(alloc),
+            forks: Forks {
+                chooser,
+                openings: Openings::new(),
+                spares: T::Spares::none(alloc),
+            },
         };
         Ok((seat, root))
     }
+}
 
-    /// Takes the thread at an index of the core in hand, if it is ready and none is.
+impl<'a, H: Wait, T: RunJob, C: Contexts<T>, R: Rng + Drop> Desk for Seat<'a, H, T, C, R> {
     #[inline(always)]
-    pub(crate) fn take(&mut self, index: u8) -> Grip
-        ensures { self.new ≡ self.old }
-    {
+    fn take(&mut self, index: u8) -> Grip {
         if index >= self.machine.slots || self.held.is_some() || self.is_broken {
             return Grip::None;
         }
@@ -132,8 +128,7 @@ impl<'a, H: Wait, T: RunJob, C: Contexts<T>, R: Rng + Drop> Seat<'a, H, T, C, R>
         }
     }
 
-    /// The thread in hand as the locks know it: by the tag of the one that goes on next in its place, under its own id.
-    pub(crate) fn in_hand(&self) -> Result<Who, WorkerFault> {
+    fn in_hand(&self) -> Result<Who, WorkerFault> {
         match &self.held {
             Some(held) => Ok(Who {
                 tag: held.value.running_tag(),
@@ -143,19 +138,14 @@ impl<'a, H: Wait, T: RunJob, C: Contexts<T>, R: Rng + Drop> Seat<'a, H, T, C, R>
         }
     }
 
-    /// The id and the name of the thread in hand. A thread that runs in its place has another name.
     #[inline(always)]
-    pub(crate) fn named(&self) -> Option<(ThreadId, &Name)> {
+    fn named(&self) -> Option<(ThreadId, &Name)> {
         let held = self.held.as_ref()?;
         Some((held.id(), held.value.name()))
     }
 
-    /// The thread in hand goes on for at most as many steps as are left, and its forks are answered.
     #[inline(always)]
-    pub(crate) fn advance(&mut self, left: &mut u32) -> Result<Stop, WorkerFault>
-        requires { 1 ≤ left.old }
-        ensures { self.new ≡ self.old }
-    {
+    fn advance(&mut self, left: &mut u32) -> Result<Stop, WorkerFault> {
         if self.is_broken {
             return Err(WorkerFault::Token);
         }
@@ -170,31 +160,22 @@ impl<'a, H: Wait, T: RunJob, C: Contexts<T>, R: Rng + Drop> Seat<'a, H, T, C, R>
             &mut self.seat,
             &mut self.pass,
             held,
-            &mut self.chooser,
-            &mut self.openings,
-            &mut self.spares,
+            &mut self.forks,
             left,
         )?;
         self.is_broken = false;
         Ok(stop)
     }
 
-    /// What the thread in hand asks for is done.
-    pub(crate) fn answer(&mut self) -> Result<(), WorkerFault>
-        ensures { self.new ≡ self.old }
-    {
+    fn answer(&mut self) -> Result<(), WorkerFault> {
         match &mut self.held {
             Some(held) => Ok(held.value.answer()?),
             None => Err(WorkerFault::Token),
         }
     }
 
-    /// Puts the thread in hand back, as ready or blocked by its pause. How it rests then: one that was woken meanwhile
-    /// is ready.
     #[inline(always)]
-    pub(crate) fn rest(&mut self) -> Result<Rest, WorkerFault>
-        ensures { self.new ≡ self.old }
-    {
+    fn rest(&mut self) -> Result<Rest, WorkerFault> {
         if self.is_broken {
             return Err(WorkerFault::Token);
         }
@@ -216,11 +197,8 @@ impl<'a, H: Wait, T: RunJob, C: Contexts<T>, R: Rng + Drop> Seat<'a, H, T, C, R>
         }
     }
 
-    /// Ends the thread in hand, which leaves its outcome for its parent. The parent's id; the root has none.
     #[inline(always)]
-    pub(crate) fn end(&mut self) -> Result<Option<ThreadId>, WorkerFault>
-        ensures { self.new ≡ self.old }
-    {
+    fn end(&mut self) -> Result<Option<ThreadId>, WorkerFault> {
         if self.is_broken {
             return Err(WorkerFault::Token);
         }
@@ -231,7 +209,7 @@ impl<'a, H: Wait, T: RunJob, C: Contexts<T>, R: Rng + Drop> Seat<'a, H, T, C, R>
         match table.finish(self.rt, &mut self.seat, held) {
             Ok(job) => {
                 self.machine.shared.room().place_was_left();
-                Ok(job.leave(&mut self.spares)?)
+                Ok(job.leave(&mut self.forks.spares)?)
             }
             Err(held) => {
                 self.held = Some(held);
@@ -240,11 +218,7 @@ impl<'a, H: Wait, T: RunJob, C: Contexts<T>, R: Rng + Drop> Seat<'a, H, T, C, R>
         }
     }
 
-    /// Keeps the place that a thread has left, if the core was full before. Then what is kept is given back, if that is
-    /// due.
-    pub(crate) fn settle_places(&mut self, before: OccWord) -> Result<(), WorkerFault>
-        ensures { self.new ≡ self.old }
-    {
+    fn keep_place(&mut self, before: OccWord) -> Result<(), WorkerFault> {
         if !self.machine.may_keep || self.is_broken {
             return Ok(());
         }
@@ -264,30 +238,14 @@ impl<'a, H: Wait, T: RunJob, C: Contexts<T>, R: Rng + Drop> Seat<'a, H, T, C, R>
             }
             self.is_broken = false;
         }
-        self.thin_out()
-    }
-
-    /// Gives back all places that are kept, if that is due by what is on the core.
-    #[inline(always)]
-    pub(crate) fn thin_out(&mut self) -> Result<(), WorkerFault>
-        ensures { self.new ≡ self.old }
-    {
-        let kept = self.kept.count();
-        if kept > 0 && policy::gives_back(self.look(), kept, self.machine.slots) {
-            return self.give_all_back();
-        }
         Ok(())
     }
 
-    /// How many places are kept.
-    pub(crate) fn kept(&self) -> usize {
+    fn kept(&self) -> usize {
         self.kept.count()
     }
 
-    /// Gives back the newest place that is kept. Whether there was one.
-    pub(crate) fn give_one_back(&mut self) -> Result<bool, WorkerFault>
-        ensures { self.new ≡ self.old }
-    {
+    fn give_one_back(&mut self) -> Result<bool, WorkerFault> {
         if self.is_broken {
             return Err(WorkerFault::Token);
         }
@@ -303,23 +261,8 @@ impl<'a, H: Wait, T: RunJob, C: Contexts<T>, R: Rng + Drop> Seat<'a, H, T, C, R>
         Ok(true)
     }
 
-    /// Gives back all places that are kept.
-    pub(crate) fn give_all_back(&mut self) -> Result<(), WorkerFault>
-        ensures { self.new ≡ self.old }
-    {
-        for _ in 0..SLOTS {
-            if !self.give_one_back()? {
-                break;
-            }
-        }
-        Ok(())
-    }
-
-    /// What is on the core.
     #[inline(always)]
-    pub(crate) fn look(&mut self) -> OccWord
-        ensures { self.new ≡ self.old }
-    {
+    fn look(&mut self) -> OccWord {
         let table = &self.machine.table;
         let word = table.look(self.rt, &mut self.seat, self.core);
         match OccWord::from_word(word) {
@@ -328,10 +271,7 @@ impl<'a, H: Wait, T: RunJob, C: Contexts<T>, R: Rng + Drop> Seat<'a, H, T, C, R>
         }
     }
 
-    /// What is marked of a context. None where there is no such context.
-    pub(crate) fn mark_of(&mut self, context: u32) -> Option<MarkWord>
-        ensures { self.new ≡ self.old }
-    {
+    fn mark_of(&mut self, context: u32) -> Option<MarkWord> {
         if context >= u32::from(self.machine.cores) * u32::from(self.machine.slots) {
             return None;
         }
@@ -340,32 +280,12 @@ impl<'a, H: Wait, T: RunJob, C: Contexts<T>, R: Rng + Drop> Seat<'a, H, T, C, R>
         MarkWord::from_word(word)
     }
 
-    /// Wakes the thread of an id, if it has not ended. Whether it was blocked.
-    pub(crate) fn wake(&mut self, id: ThreadId) -> bool
-        ensures { self.new ≡ self.old }
-    {
-        for _ in self.rt.forever() {
-            match self.try_wake(id) {
-                Woken::Lost(_) => {}
-                Woken::Woken => return true,
-                Woken::Already(_) | Woken::Gone => return false,
-            }
-        }
-        unreachable!()
-    }
-
-    /// Tries once to wake the thread of an id.
-    fn try_wake(&mut self, id: ThreadId) -> Woken
-        ensures { self.new ≡ self.old }
-    {
+    fn try_wake(&mut self, id: ThreadId) -> Woken {
         let table = &self.machine.table;
         table.wake(self.rt, &mut self.seat, id)
     }
 
-    /// Moves the thread at a place of another core to this one, if workers may. Whether it was moved.
-    pub(crate) fn pull(&mut self, place: Place) -> bool
-        ensures { self.new ≡ self.old }
-    {
+    fn pull(&mut self, place: Place) -> bool {
         if !self.machine.may_pull
             || place.core == self.core
             || place.core >= self.machine.cores
@@ -380,11 +300,7 @@ impl<'a, H: Wait, T: RunJob, C: Contexts<T>, R: Rng + Drop> Seat<'a, H, T, C, R>
         )
     }
 
-    /// Takes a ticket from the queue, and posts its child on the core if that waits still and there is a place. Whether
-    /// there was a ticket, and the index of the child.
-    pub(crate) fn take_ticket(&mut self) -> Result<(bool, Option<u8>), WorkerFault>
-        ensures { self.new ≡ self.old }
-    {
+    fn take_ticket(&mut self) -> Result<(bool, Option<u8>), WorkerFault> {
         if self.is_broken {
             return Err(WorkerFault::Token);
         }
@@ -403,57 +319,38 @@ impl<'a, H: Wait, T: RunJob, C: Contexts<T>, R: Rng + Drop> Seat<'a, H, T, C, R>
             return Ok((true, None));
         };
         let index = claim.place().index;
-        let job = T::of_ticket(self.alloc, ticket, &mut self.spares);
+        let job = T::of_ticket(self.alloc, ticket, &mut self.forks.spares);
         let posted = post_waiting::<H, T, C>(rt, machine, &mut self.spare, claim, job)?;
         let index = if posted { Some(index) } else { None };
         self.is_broken = false;
         Ok((true, index))
     }
 
-    /// Applies the orders that are due, and moves threads away from a closed core, if this worker is to.
-    pub(crate) fn tend(&mut self) -> Tended
-        ensures { self.new ≡ self.old }
-    {
-        let nothing = Tended {
-            applied: None,
-            receivers: 0,
-        };
-        if self.machine.orders == 0 {
-            return nothing;
+    fn tend(&mut self) -> (Option<usize>, u64) {
+        let machine = self.machine;
+        if machine.orders == 0 {
+            return (None, 0);
         }
         let Some(arbiter) = &mut self.arbiter else {
-            return nothing;
+            return (None, 0);
         };
         let before = arbiter.applied();
-        let machine = self.machine;
-        let cores: Cores<'_, H, T, C> = Cores {
-            rt: self.rt,
-            table: &machine.table,
-            count: machine.cores,
-            slots: machine.slots,
-            of: PhantomData,
-        };
+        let cores = machine.cores::<H, T>(self.rt);
         let signals = machine.shared.signals();
         let receivers = arbiter.tend(&cores, &mut self.seat, signals.parking(), signals.slices());
         let after = arbiter.applied();
-        Tended {
-            applied: if after != before { Some(after) } else { None },
-            receivers,
-        }
+        let applied = if after != before { Some(after) } else { None };
+        (applied, receivers)
     }
 
-    /// Whether this worker is to apply orders and some are left.
-    pub(crate) fn has_orders_left(&self) -> bool {
+    fn has_orders_left(&self) -> bool {
         match &self.arbiter {
             Some(arbiter) => arbiter.applied() < self.machine.orders,
             None => false,
         }
     }
 
-    /// Whether the core is closed and nothing is left on it.
-    pub(crate) fn is_drained(&mut self) -> bool
-        ensures { self.new ≡ self.old }
-    {
+    fn is_drained(&mut self) -> bool {
         let table = &self.machine.table;
         table.is_drained(self.rt, &mut self.seat, self.core)
     }

@@ -83,7 +83,8 @@ impl Shared {
         self.stop();
     }
 
-    pub(crate) fn into_first_fault(self) -> Option<WorkerFault> {
-        self.first_fault.into_inner()
+    /// The fault for which all workers were stopped first.
+    pub(crate) fn first_fault<H: Wait>(&self, rt: &H) -> Option<WorkerFault> {
+        *self.first_fault.lock(rt)
     }
 }

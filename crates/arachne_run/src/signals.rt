@@ -131,17 +131,18 @@ impl Signals {
 
     /// Whether there is something to take.
     pub(crate) fn is_any(&self, core: u8) -> bool {
-        match self.words.get(usize::from(core)) {
-            Some(word) => word.load(Ordering::SeqCst) != 0,
-            None => false,
-        }
+        self.word_of(core) != 0
     }
 
     /// Whether the core's worker sleeps.
     pub(crate) fn is_asleep(&self, core: u8) -> bool {
+        self.word_of(core) & SLEEPS != 0
+    }
+
+    fn word_of(&self, core: u8) -> u64 {
         match self.words.get(usize::from(core)) {
-            Some(word) => word.load(Ordering::SeqCst) & SLEEPS != 0,
-            None => false,
+            Some(word) => word.load(Ordering::SeqCst),
+            None => 0,
         }
     }
 

@@ -3,22 +3,20 @@ ghost use Rattle.std.specs.Prelude.{◌≡◌, ◌≤◌, IfOk, IfErr};
 ghost use Rattle.arachne_run.specs.Tokens.{AreIdle};
 
 use crate::machine::Machine;
+use crate::resources::Holdings;
 use arachne_arbiter::Arbiter;
 use arachne_contexts::{Seats, Tagged};
-use arachne_ledger::Share;
-use arachne_sleep::LockSeats;
 use arachne_spill::SpillPass;
 use std::alloc::Global;
 use std::sync::Wait;
 
-/// A seat at the table, a share of the ledgers, a seat of each lock, and for one of the workers the arbiter.
+/// A seat at the table, a pass of the queue of tickets, what there is of the ledgers and locks, and for one of the
+/// workers the arbiter.
 #[derive(Drop)]
 pub(crate) struct Tokens<S, K> {
     pub(crate) seat: S,
-    pub(crate) share: Share,
-    pub(crate) lock_seats: LockSeats,
-    /// A pass of the queue of tickets.
     pub(crate) pass: SpillPass<K>,
+    pub(crate) holdings: Holdings,
     pub(crate) arbiter: Option<Arbiter>,
 }
 
@@ -35,25 +33,22 @@ impl<S, K: Tagged + Drop> Tokens<S, K> {
         ensures others { IfOk result (λ parts. AreIdle C.sits C.idle machine.now parts.1) }
         ensures err { IfErr result (AreIdle C.sits C.idle machine.now) }
     {
-        let (lock_seats, other_lock_seats) = match machine.locks.split(alloc, self.lock_seats) {
+        let (holdings, other_holdings) = match machine.resources.split(alloc, self.holdings) {
             Ok(parts) => parts,
-            Err(lock_seats) => return Err(Tokens { lock_seats, ..self }),
+            Err(holdings) => return Err(Tokens { holdings, ..self }),
         };
         let (seat, other_seat) = machine.table.split(rt, self.seat);
-        let (share, other_share) = machine.ledgers.split(self.share);
         let (pass, other_pass) = machine.tickets.split(rt, self.pass);
         let own = Tokens {
             seat,
-            share,
-            lock_seats,
             pass,
+            holdings,
             arbiter: self.arbiter,
         };
         let others = Tokens {
             seat: other_seat,
-            share: other_share,
-            lock_seats: other_lock_seats,
             pass: other_pass,
+            holdings: other_holdings,
             arbiter: None,
         };
         Ok((own, others))
@@ -72,9 +67,8 @@ impl<S, K: Tagged + Drop> Tokens<S, K> {
     {
         Tokens {
             seat: machine.table.join_seats(rt, self.seat, other.seat),
-            share: machine.ledgers.join_shares(self.share, other.share),
-            lock_seats: machine.locks.join_seats(self.lock_seats, other.lock_seats),
             pass: machine.tickets.join_passes(rt, self.pass, other.pass),
+            holdings: machine.resources.join(self.holdings, other.holdings),
             arbiter: self.arbiter,
         }
     }

@@ -1,25 +1,23 @@
 //! Threads that a worker posts or wakes, and how the workers of their cores learn of them.
 ghost use Rattle.std.specs.Prelude.{◌≡◌};
 
+use crate::desk::Desk;
 use crate::execute::Worker;
 use crate::gate::{Cause, Event, Gate};
-use crate::policy;
 use crate::queue::{Agenda, Post};
 use crate::signals::Signals;
-use arachne_contexts::Contexts;
+use crate::{desk, policy};
 use arachne_core::{Mark, MarkWord, Place, ThreadId};
-use arachne_jobs::RunJob;
-use rand_core::Rng;
 use std::sync::Wait;
 
-impl<'a, H: Wait, T: RunJob, C: Contexts<T>, R: Rng + Drop, G: Gate> Worker<'a, H, T, C, R, G> {
+impl<'a, H: Wait, D: Desk, G: Gate> Worker<'a, H, D, G> {
     /// Wakes the thread of this id, if it has not ended, and has it go on. One that holds a lock goes on here, as
     /// others may wait for it; another one too where its core's worker sleeps: moving it takes less than waking a
     /// kernel thread. If the thread is moved meanwhile, the arbiter says so of its new core.
     pub(crate) fn wake(&mut self, id: ThreadId, cause: Cause)
-        ensures { (self.new.desk ≡ self.old.desk) × (self.new.locks ≡ self.old.locks) × (self.new.sums ≡ self.old.sums) }
+        ensures { (self.new.desk ≡ self.old.desk) × (self.new.access ≡ self.old.access) }
     {
-        if !self.desk.wake(id) {
+        if !desk::wake(self.rt, &mut self.desk, id) {
             return;
         }
         self.gate.told(self.core, Event::Woken(id, cause));
@@ -37,11 +35,10 @@ impl<'a, H: Wait, T: RunJob, C: Contexts<T>, R: Rng + Drop, G: Gate> Worker<'a, 
             }
             place = here.place();
         }
-        let goes_next = cause == Cause::HoldsLock
-            && place.core == self.core
-            && self.agenda.goes_next(place.index);
-        if !goes_next {
-            hint(&mut self.agenda, self.shared.signals(), self.core, place);
+        if place.core != self.core {
+            self.shared.signals().hint(place);
+        } else if cause != Cause::HoldsLock || !self.agenda.goes_next(place.index) {
+            self.agenda.note(place.index);
         }
     }
 
@@ -49,7 +46,7 @@ impl<'a, H: Wait, T: RunJob, C: Contexts<T>, R: Rng + Drop, G: Gate> Worker<'a, 
     /// wait, the newest that the worker has posted and not told of, which is moved here. Those that can't be are told
     /// of, and those that went on meanwhile are forgotten.
     pub(crate) fn next(&mut self, waits: bool) -> Option<u8>
-        ensures { (self.new.desk ≡ self.old.desk) × (self.new.locks ≡ self.old.locks) × (self.new.sums ≡ self.old.sums) }
+        ensures { (self.new.desk ≡ self.old.desk) × (self.new.access ≡ self.old.access) }
     {
         if let Some(index) = self.agenda.take_next() {
             return Some(index);
@@ -59,11 +56,9 @@ impl<'a, H: Wait, T: RunJob, C: Contexts<T>, R: Rng + Drop, G: Gate> Worker<'a, 
         }
         for _ in 0..policy::MOST_KEPT_BACK {
             let Post { id, .. } = self.agenda.take_newest()?;
-            let ready = match self.desk.mark_of(id.context) {
-                Some(mark) => ready_place(mark, id),
-                None => None,
-            };
-            if let Some(place) = ready {
+            if let Some(mark) = self.desk.mark_of(id.context)
+                && let Some(place) = ready_place(mark, id)
+            {
                 if self.desk.pull(place)
                     && let Some(here) = self.desk.mark_of(id.context)
                     && here.place().core == self.core
@@ -103,14 +98,5 @@ pub(crate) fn tell(agenda: &mut Agenda, signals: &Signals) {
             break;
         };
         signals.hint(post.place);
-    }
-}
-
-/// Says that a thread may be ready at a place: to the worker of its core, or to this one, which is that of `core`.
-fn hint(agenda: &mut Agenda, signals: &Signals, core: u8, place: Place) {
-    if place.core == core {
-        agenda.note(place.index);
-    } else {
-        signals.hint(place);
     }
 }

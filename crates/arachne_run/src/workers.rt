@@ -3,14 +3,13 @@ ghost use Rattle.std.specs.Prelude.{◌≡◌, ◌<◌, ◌≤◌, All, IfSome, 
 ghost use Rattle.std.specs.Thread.{IsSync};
 ghost use Rattle.arachne_run.specs.Tokens.{AreIdle, IsSetUp, ground_of};
 
+use crate::access::Access;
 use crate::execute::Worker;
 use crate::fault::WorkerFault;
 use crate::gate::Gate;
-use crate::locks::Locks;
 use crate::machine::Machine;
 use crate::queue::Agenda;
 use crate::seat::Seat;
-use crate::sums::Sums;
 use crate::tokens::Tokens;
 use arachne_contexts::{Contexts, Seats, Tagged};
 use arachne_jobs::RunJob;
@@ -45,20 +44,26 @@ impl<C: Seats, K: Tagged + Drop> Promise<Option<Tokens<C::Seat, K>>> for Returns
 /// Has all cores work until they are stopped, each with its chooser. The last chooser is that of core 0.
 pub(crate) fn work_all<
     H: Threads + Wait + Sync,
-    T: RunJob<Ticket = K> + Send,
-    K: Tagged + Drop + Send,
+    T: RunJob + Send,
     C: Contexts<T> + Sync,
     R: Rng + Drop + Send,
     G: Gate + Sync,
 >(
     rt: &H,
     alloc: Global,
-    machine: &Machine<C, K>,
+    machine: &Machine<C, T::Ticket>,
     gate: &G,
     root: T,
     choosers: Vec<R>,
-    tokens: Tokens<C::Seat, K>,
-) -> Option<Tokens<C::Seat, K>>
+    tokens: Tokens<C::Seat, T::Ticket>,
+) -> Option<Tokens<C::Seat, T::Ticket>>
+where
+    T::Child: Send,
+    T::Ticket: Send,
+    T::Spares: Send,
+    C::Claim: Send,
+    C::Hold: Send,
+    C::Seat: Send,
     requires tokens { AreIdle C.sits C.idle machine.now tokens }
     requires set_up { IsSetUp C.core_count C.slot_count machine.now }
     ensures { IfSome result (AreIdle C.sits C.idle machine.now) }
@@ -66,7 +71,7 @@ pub(crate) fn work_all<
     thread::scope(
         thread::scope_env(),
         rt,
-        |scope| -> Option<Tokens<C::Seat, K>>
+        |scope| -> Option<Tokens<C::Seat, T::Ticket>>
             requires { IsSync H.row × AreIdle C.sits C.idle machine.now tokens × IsSetUp C.core_count C.slot_count machine.now }
             ensures { IfSome result (AreIdle C.sits C.idle machine.entry.now) }
         {
@@ -83,11 +88,11 @@ pub(crate) fn work_all<
                 };
                 let started = scope.spawn_with(
                     Returns::to(machine),
-                    move || -> Option<Tokens<C::Seat, K>>
+                    move || -> Option<Tokens<C::Seat, T::Ticket>>
                         requires { AreIdle C.sits C.idle machine.now theirs × IsSetUp C.core_count C.slot_count machine.now × (core < machine.now.cores) }
                         ensures { IfSome result (AreIdle C.sits C.idle machine.entry.now) }
                     {
-                        work_on::<H, T, K, C, R, G>(
+                        work_on::<H, T, C, R, G>(
                             rt, alloc, machine, gate, core, chooser, theirs, None, of,
                         )
                     },
@@ -99,9 +104,7 @@ pub(crate) fn work_all<
                 others.push_reserved(other);
             }
             let root = Some(root);
-            let own = work_on::<H, T, K, C, R, G>(
-                rt, alloc, machine, gate, 0, own, tokens, root, of,
-            );
+            let own = work_on::<H, T, C, R, G>(rt, alloc, machine, gate, 0, own, tokens, root, of);
             join_all(rt, machine, own, others)
         },
     )
@@ -158,24 +161,17 @@ fn join_all<H: Threads + Wait, C: Seats, K: Tagged + Drop>(
 
 /// Works on one core until all stop, where there is a root from it on. The tokens, unless something is out with them
 /// after a fault. A core without a chooser has no worker, and that is a fault.
-fn work_on<
-    H: Wait,
-    T: RunJob<Ticket = K>,
-    K: Tagged + Drop + Send,
-    C: Contexts<T>,
-    R: Rng + Drop,
-    G: Gate,
->(
+fn work_on<H: Wait, T: RunJob, C: Contexts<T>, R: Rng + Drop, G: Gate>(
     rt: &H,
     alloc: Global,
-    machine: &Machine<C, K>,
+    machine: &Machine<C, T::Ticket>,
     gate: &G,
     core: u8,
     chooser: Option<R>,
-    tokens: Tokens<C::Seat, K>,
+    tokens: Tokens<C::Seat, T::Ticket>,
     root: Option<T>,
     _of: PhantomData<(T, R)>,
-) -> Option<Tokens<C::Seat, K>>
+) -> Option<Tokens<C::Seat, T::Ticket>>
     requires tokens { AreIdle C.sits C.idle machine.now tokens }
     requires set_up { IsSetUp C.core_count C.slot_count machine.now }
     requires core { core < machine.now.cores }
@@ -183,9 +179,8 @@ fn work_on<
 {
     let Tokens {
         seat,
-        share,
-        lock_seats,
         pass,
+        holdings,
         arbiter,
     } = tokens;
     let opened = Seat::open(rt, alloc, machine, core, seat, pass, arbiter, chooser, root);
@@ -196,62 +191,56 @@ fn work_on<
             return None;
         }
     };
-    let mut worker: Worker<'_, H, T, C, R, G> = Worker {
+    let mut worker = Worker {
         rt,
         gate,
         shared: &machine.shared,
         core,
         slots: machine.slots,
         quantum: machine.quantum,
-        desk,
-        locks: Locks::new(&machine.locks, lock_seats),
-        sums: Sums::new(&machine.ledgers, share),
+        access: Access::new(&machine.resources, holdings),
         agenda: Agenda::new(alloc, root),
         slices: 0,
+        desk,
     };
     if let Err(fault) = worker.work() {
         machine.shared.fail(rt, fault);
         return None;
     }
-    worker.into_tokens(machine)
+    let Worker { desk, access, .. } = worker;
+    into_tokens(machine, desk, access)
 }
 
-impl<'a, H: Wait, T: RunJob, C: Contexts<T>, R: Rng + Drop, G: Gate> Worker<'a, H, T, C, R, G> {
-    /// The tokens of a worker that has ended, unless something is out with them.
-    fn into_tokens(self, machine: &Machine<C, T::Ticket>) -> Option<Tokens<C::Seat, T::Ticket>>
-        requires desk { self.desk ≡ ground_of machine.now }
-        requires locks { self.locks ≡ machine.now.locks }
-        requires sums { self.sums ≡ machine.now.ledgers }
-        ensures { IfSome result (AreIdle C.sits C.idle machine.now) }
-    {
-        let Worker {
-            rt,
-            desk,
-            locks,
-            sums,
-            ..
-        } = self;
-        let Seat {
-            is_broken,
-            seat,
-            held,
-            spare,
-            kept,
-            pass,
-            arbiter,
-            ..
-        } = desk;
-        let mut kept = kept;
-        if is_broken || held.is_some() || kept.take().is_some() {
-            machine.shared.fail(rt, WorkerFault::Token);
-            return None;
-        }
-        Some(Tokens {
-            seat: machine.table.join_seats(rt, seat, spare),
-            share: sums.into_share(),
-            lock_seats: locks.into_seats(),
-            pass,
-            arbiter,
-        })
+/// The tokens of a worker that has ended, unless something is out with them.
+fn into_tokens<'a, H: Wait, T: RunJob, C: Contexts<T>, R: Rng + Drop>(
+    machine: &Machine<C, T::Ticket>,
+    desk: Seat<'a, H, T, C, R>,
+    access: Access<'a>,
+) -> Option<Tokens<C::Seat, T::Ticket>>
+    requires desk { desk ≡ ground_of machine.now }
+    requires access { access ≡ machine.now.resources }
+    ensures { IfSome result (AreIdle C.sits C.idle machine.now) }
+{
+    let Seat {
+        rt,
+        is_broken,
+        seat,
+        held,
+        spare,
+        kept,
+        pass,
+        arbiter,
+        ..
+    } = desk;
+    let mut kept = kept;
+    if is_broken || held.is_some() || kept.take().is_some() {
+        machine.shared.fail(rt, WorkerFault::Token);
+        return None;
     }
+    Some(Tokens {
+        seat: machine.table.join_seats(rt, seat, spare),
+        pass,
+        holdings: access.into_holdings(),
+        arbiter,
+    })
 }

@@ -2,4 +2,4 @@ use Rattle.std.proofs.Common.{◌≡◌}
 use Rattle.arachne_run.proofs.execute.Worker.work.Given as goal
 
 abbrev pub invariant-loop : goal.invariant-loop
-invariant-loop g l = (l.self.desk ≡ l.initial.self.desk) × (l.self.locks ≡ l.initial.self.locks) × (l.self.sums ≡ l.initial.self.sums)
+invariant-loop g l = (l.self.desk ≡ l.initial.self.desk) × (l.self.access ≡ l.initial.self.access)

@@ -1,0 +1,139 @@
+//! The ledgers and the locks of a run, and what a worker has of them.
+ghost use Rattle.std.specs.Prelude.{◌≡◌, All, Err, IfErr, IfOk, length};
+ghost use Rattle.arachne_ledger.specs.Views.{IsShareOf, IsWhole as IsWholeShare};
+ghost use Rattle.arachne_sleep.specs.History.{IsSound};
+ghost use Rattle.arachne_sleep.specs.OneHolder.{HasOneHolderAtATime};
+ghost use Rattle.arachne_sleep.specs.SleepLocks.{AreSeatsOf};
+ghost use Rattle.arachne_sleep.specs.Views.{IsWhole as IsWholeSeat};
+ghost use Rattle.arachne_run.specs.declared.fault.WorkerFault.TheVariants.{Memory, Token};
+ghost use Rattle.arachne_run.specs.Tokens.{AreHoldingsOf};
+
+use crate::fault::WorkerFault;
+use arachne_ledger::{Ledgers, Share};
+use arachne_sleep::{LockEvent, LockSeats, SleepLocks};
+use std::alloc::{AllocError, Global};
+
+/// The ledgers and the locks of a run.
+#[derive(Drop)]
+pub(crate) struct Resources {
+    pub(crate) ledgers: Ledgers,
+    pub(crate) locks: SleepLocks,
+}
+
+/// A share of the ledgers, and a seat of each lock.
+#[derive(Drop)]
+pub(crate) struct Holdings {
+    pub(crate) share: Share,
+    pub(crate) lock_seats: LockSeats,
+}
+
+/// What is left of the ledgers and the locks once all workers have ended.
+#[derive(Drop)]
+pub(crate) struct Remains {
+    /// The words of the ledgers.
+    pub(crate) words: Vec<u64>,
+    /// The history of each lock.
+    pub(crate) histories: Vec<Vec<LockEvent>>,
+}
+
+impl Resources {
+    /// So many ledgers and locks, and all that there is of them.
+    pub(crate) fn new(
+        alloc: Global,
+        ledgers: u8,
+        locks: u8,
+    ) -> Result<(Resources, Holdings), AllocError>
+        ensures holdings { IfOk result (λ made. AreHoldingsOf made.0 made.1) }
+        ensures locks { IfOk result (λ made. length made.0.locks ≡ locks) }
+    {
+        let (ledgers, share) = Ledgers::new(alloc, usize::from(ledgers))?;
+        let (locks, lock_seats) = SleepLocks::new(alloc, locks)?;
+        Ok((Resources { ledgers, locks }, Holdings { share, lock_seats }))
+    }
+
+    /// Halves. Where memory is refused the whole comes back.
+    pub(crate) fn split(
+        &self,
+        alloc: Global,
+        holdings: Holdings,
+    ) -> Result<(Holdings, Holdings), Holdings>
+        requires { AreHoldingsOf self.now holdings }
+        ensures own { IfOk result (λ parts. AreHoldingsOf self.now parts.0) }
+        ensures others { IfOk result (λ parts. AreHoldingsOf self.now parts.1) }
+        ensures err { IfErr result (AreHoldingsOf self.now) }
+    {
+        let Holdings { share, lock_seats } = holdings;
+        let (lock_seats, other_lock_seats) = match self.locks.split(alloc, lock_seats) {
+            Ok(parts) => parts,
+            Err(lock_seats) => return Err(Holdings { share, lock_seats }),
+        };
+        let (share, other_share) = self.ledgers.split(share);
+        let own = Holdings { share, lock_seats };
+        let others = Holdings {
+            share: other_share,
+            lock_seats: other_lock_seats,
+        };
+        Ok((own, others))
+    }
+
+    /// Both together.
+    pub(crate) fn join(&self, holdings: Holdings, other: Holdings) -> Holdings
+        requires own { AreHoldingsOf self.now holdings }
+        requires others { AreHoldingsOf self.now other }
+        ensures { AreHoldingsOf self.now result }
+    {
+        Holdings {
+            share: self.ledgers.join_shares(holdings.share, other.share),
+            lock_seats: self.locks.join_seats(holdings.lock_seats, other.lock_seats),
+        }
+    }
+
+    /// What is left, where all of the holdings are back.
+    pub(crate) fn close(self, alloc: Global, holdings: Holdings) -> Result<Remains, WorkerFault>
+        requires { AreHoldingsOf self holdings }
+        ensures count { IfOk result (λ remains. length remains.histories.items ≡ length self.locks) }
+        ensures sound { IfOk result (λ remains. All (λ history. IsSound history.items) remains.histories.items) }
+        ensures one_holder { IfOk result (λ remains. All (λ history. HasOneHolderAtATime history.items) remains.histories.items) }
+    {
+        let histories = closed_locks(alloc, self.locks, holdings.lock_seats)?;
+        let words = closed_words(alloc, self.ledgers, holdings.share)?;
+        Ok(Remains { words, histories })
+    }
+}
+
+/// The history of each lock, in their order. Where not all of their seats are back a token is missing.
+fn closed_locks(
+    alloc: Global,
+    locks: SleepLocks,
+    seats: LockSeats,
+) -> Result<Vec<Vec<LockEvent>>, WorkerFault>
+    requires { AreSeatsOf locks seats }
+    ensures missing { (All IsWholeSeat seats → ⊥) → result ≡ Err Token }
+    ensures whole { All IsWholeSeat seats → IfErr result (λ fault. fault ≡ Memory) }
+    ensures count { IfOk result (λ histories. length histories.items ≡ length locks) }
+    ensures sound { IfOk result (λ histories. All (λ history. IsSound history.items) histories.items) }
+    ensures one_holder { IfOk result (λ histories. All (λ history. HasOneHolderAtATime history.items) histories.items) }
+{
+    if !locks.are_whole(&seats) {
+        return Err(WorkerFault::Token);
+    }
+    match locks.close(alloc, seats) {
+        Ok(histories) => Ok(histories),
+        Err(_) => Err(WorkerFault::Memory),
+    }
+}
+
+/// The words of the ledgers. Where the share is not the whole a token is missing.
+fn closed_words(alloc: Global, ledgers: Ledgers, share: Share) -> Result<Vec<u64>, WorkerFault>
+    requires { IsShareOf ledgers share }
+    ensures missing { (IsWholeShare share → ⊥) → result ≡ Err Token }
+    ensures whole { IsWholeShare share → IfErr result (λ fault. fault ≡ Memory) }
+{
+    if !share.is_whole() {
+        return Err(WorkerFault::Token);
+    }
+    match ledgers.close(alloc, share) {
+        Ok(words) => Ok(words),
+        Err(_) => Err(WorkerFault::Memory),
+    }
+}
