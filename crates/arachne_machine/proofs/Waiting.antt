@@ -117,14 +117,14 @@ ready program old mid threads outcome keys same some (newest, waits) =
     }
 
 -- a thread has ended, and its outcome lies ready
-pub rests_end : (program : Program) (old : Nested) (mid : Suspended) (threads : List Nested) (outcome : Finished) (keys : List (Program × List ℕ)) →
-    SameThread old.running mid → mid.unjoined ≡ [] → outcome.program ≡ mid.program → outcome.name ≡ mid.name →
-    Rests program (old ∷ threads) keys → Rests program threads (key outcome ∷ keys)
-rests_end program old mid [] outcome keys same none is_program is_name (newest, waits) =
+pub rests_end : (program : Program) (old : Nested) (mid : Suspended) (threads : List Nested) (end : Program) (name : List ℕ) (keys : List (Program × List ℕ)) →
+    SameThread old.running mid → mid.unjoined ≡ [] → end ≡ mid.program → name ≡ mid.name →
+    Rests program (old ∷ threads) keys → Rests program threads ((end, name) ∷ keys)
+rests_end program old mid [] end name keys same none is_program is_name (newest, waits) =
     let keys_are : keys ≡ newest.rest = newest.brought ∙ ap (λ l. childs_keys program old.running.name l ++ newest.rest) (sym same.unjoined ∙ none) in
-    ap (λ p. (p, outcome.name) ∷ keys) (is_program ∙ same.program ∙ newest.same_program)
+    ap (λ p. (p, name) ∷ keys) (is_program ∙ same.program ∙ newest.same_program)
     ∙ ap (λ n. (program, n) ∷ keys) (is_name ∙ same.name ∙ waits.0) ∙ ap (λ l. (program, []) ∷ l) (keys_are ∙ waits.1)
-rests_end program old mid (thread ∷ threads) outcome keys same none is_program is_name (newest, waits) =
+rests_end program old mid (thread ∷ threads) end name keys same none is_program is_name (newest, waits) =
     let parent = waits.0 in
     let keys_are : keys ≡ newest.rest = newest.brought ∙ ap (λ l. childs_keys program old.running.name l ++ newest.rest) (sym same.unjoined ∙ none) in (
       record {
@@ -133,7 +133,7 @@ rests_end program old mid (thread ∷ threads) outcome keys same none is_program
         running = parent.running;
         rest = parent.rest;
         brought =
-            ap (λ p. (p, outcome.name) ∷ keys) (is_program ∙ same.program ∙ newest.same_program)
+            ap (λ p. (p, name) ∷ keys) (is_program ∙ same.program ∙ newest.same_program)
             ∙ ap (λ n. (program, n) ∷ keys) (is_name ∙ same.name ∙ parent.named)
             ∙ ap (λ l. (program, thread.running.name ++ parent.number ∷ []) ∷ l) (keys_are ∙ parent.brought)
             ∙ ap (λ l. childs_keys program thread.running.name l ++ parent.rest) (sym parent.unjoined);
