@@ -173,3 +173,7 @@ some_outcome program old mid threads outcomes same some (newest, waits) =
 -- and the root's lies ready in the end
 pub root_outcome : (program : Program) (outcomes : List Finished) → Rests program [] (map key (reverse outcomes)) → 0 < length outcomes
 root_outcome program outcomes h = omega (arith, ap length h, length-map (reverse outcomes) key, length-reverse outcomes)
+
+pub last_outcome : (program : Program) (outcomes left : List Finished) (outcome : Finished) → outcomes ≡ left ++ outcome ∷ [] → Rests program [] (map key (reverse outcomes)) → key outcome ≡ (program, [])
+last_outcome program outcomes left outcome popped h =
+    (same_first (key outcome) (program, []) (map key (reverse left)) [] (ap (map key) (sym (pushed left outcomes outcome popped)) ∙ h)).0

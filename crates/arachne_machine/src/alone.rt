@@ -1,5 +1,5 @@
 //! Runs all threads of a program in turn on one kernel thread.
-ghost use Rattle.std.specs.Prelude.{◌≡◌, ◌+◌, ◌∷◌, ◌≤◌, ◌<◌, List, map, reverse, sum_by, None, Some, IfOk, OnOk};
+ghost use Rattle.std.specs.Prelude.{[], ◌≡◌, ◌+◌, ◌∷◌, ◌≤◌, ◌<◌, List, map, reverse, sum_by, None, Some, IfOk, OnOk};
 ghost use Rattle.arachne_lang.specs.Program.{source_of};
 ghost use Rattle.arachne_lang.specs.Meaning.{meaning_of};
 ghost use Rattle.arachne_machine.specs.Outcome.{meaning_in, named_holds, IsOfItsName};
@@ -22,15 +22,25 @@ use std::alloc::{AllocError, Global};
 pub fn run_alone(alloc: Global, program: &Program, budget: u32) -> Result<Meaning, AllocError>
     ensures { IfOk result (λ meaning. meaning ≡ meaning_of (source_of program.now)) }
 {
-    let budget = budget.max(1);
+    let root = Thread::start(alloc, program, 0)?;
+    let outcome = run_all(alloc, root, budget.max(1))?;
+    meaning(alloc, outcome)
+}
+
+/// The outcome of a root thread, which runs with all threads below it.
+fn run_all<'p>(alloc: Global, root: Thread<'p>, budget: u32) -> Result<Outcome<'p>, AllocError>
+    requires some { 1 ≤ budget }
+    requires rests { Rests root.running.program (root ∷ []) [] }
+    ensures { IfOk result (λ outcome. key outcome ≡ (root.entry.running.program, [])) }
+{
     let mut threads = Vec::new(alloc);
+    threads.push(root)?;
     let mut outcomes: Vec<Outcome> = Vec::new(alloc);
     let mut spares = Spares::new(alloc);
-    threads.push(Thread::start(alloc, program, 0)?)?;
     while let Some(thread) = threads.pop() {
         take_turn(&mut threads, &mut outcomes, &mut spares, thread, budget)?;
     }
-    meaning(alloc, outcomes.pop().unwrap())
+    Ok(outcomes.pop().unwrap())
 }
 
 /// What comes of a turn.
