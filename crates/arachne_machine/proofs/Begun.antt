@@ -1,5 +1,5 @@
 -- A child comes back to run in its parent's place.
-use Rattle.std.proofs.Common.{◌≡◌, ◌+◌, List, [], ◌∷◌, ◌++◌, None, Some, refl, ap, sym, ◌∙◌, subst, arith}
+use Rattle.std.proofs.Common.{◌≡◌, ◌+◌, List, [], ◌∷◌, ◌++◌, None, Some, Option, refl, ap, sym, ◌∙◌, subst, arith}
 use Rattle.std.specs.Prelude.{map, reverse, All}
 use Rattle.std.specs.Global.{Box}
 use Rattle.std.proofs.lemmas.List.{map-append, reverse-append}
@@ -8,6 +8,7 @@ use Rattle.arachne_lang.specs.Tree.{Source}
 use Rattle.arachne_lang.specs.Program.{source_of}
 use Rattle.arachne_machine.specs.declared.line.Label.{Label}
 use Rattle.arachne_machine.specs.declared.line.ThreadLine.{ThreadLine}
+use Rattle.arachne_machine.specs.declared.pause.Pending.{Pending}
 use Rattle.arachne_machine.specs.declared.pause.Pending.TheVariants as pause
 use Rattle.arachne_machine.specs.declared.state.State.{State}
 use Rattle.arachne_machine.specs.Ending.{work_left}
@@ -16,14 +17,15 @@ use Rattle.arachne_machine.specs.Steps.{Turns, pending_of, suspended, top, waiti
 use Rattle.arachne_machine.specs.Sound.{AreSound, IsSoundState, RunFor}
 use Rattle.arachne_machine.specs.Runs.{LooksSame, TakesIn, after_fork, last_of, work_in_state}
 use Rattle.arachne_machine.specs.Suspended.{awaited, own_line_of}
-use Rattle.arachne_machine.specs.Nested.{ArePlaced, IsPlaced, MayBePlaced, Placed, PlacesAtFork, SameWhole, begun_in, placed_of, whole, work_in, works_placed}
-use Rattle.arachne_machine.specs.Kept.{IsKept, nested, seen_child, seen_children}
+use Rattle.arachne_machine.specs.Nested.{ArePlaced, IsPlaced, IsPlacing, MayBePlaced, Placed, PlacesAtFork, SameWhole, begun_in, placed_of, whole, work_in, works_placed}
+use Rattle.arachne_machine.specs.Kept.{IsKept, IsReturned, IsTakenBack, nested, seen_child, seen_children}
 use Rattle.arachne_machine.proofs.Levels.{alone_waiting}
 use Rattle.arachne_machine.proofs.Nesting.{label_seen, program_seen, same_whole, whole_seen, works_seen}
 use Rattle.arachne_machine.proofs.Answering.{fork_past, going}
 use Rattle.arachne_machine.proofs.Copies.{IsCopy, copy_seen, copy_sound, copy_work, here_sound, relabelled}
 use Rattle.arachne_machine.proofs.Marking.{here_state, marks}
 use Rattle.arachne_machine.proofs.Taking.{taken}
+use Rattle.arachne_machine.proofs.Lasting.{same_kept, same_seen}
 use Rattle.arachne_machine.proofs.Handed.{all_one, kept_sound, looks_nested, looks_sound, newest_seen, work_seen}
 
 -- A thread by itself has another label.
@@ -207,4 +209,54 @@ as_it_was child back cps kept l =
       kept = kept_sound back cps looks.sound kept.children (subst (λ p. ArePlaced (source_of p.now) (seen_children cps)) (sym l.program) kept.nested_is.waiting)
           (λ e. l.parents ∙ kept.ended (ap pending_of (sym l.control) ∙ e));
       seen = looks_nested child back l looks cps;
+    }
+
+-- What callers see of a child that came back.
+pub record PlacedHere (old child new : State) (ps cps qs : List (Box State)) : Type 0 where
+  pub kept : IsKept new qs
+  pub whole : SameWhole (nested old ps) (nested new qs)
+  pub at_fork : pending_of old.control ≡ Some pause.Forks → PlacesAtFork (nested old ps) (nested child cps) (nested new qs)
+  pub at_join : pending_of old.control ≡ Some pause.Joins → nested new qs ≡ begun_in (nested old ps) (nested child cps)
+  pub pending : pending_of new.control ≡ None
+  pub work : work_in (nested new qs) ≡ work_in (nested old ps) + work_in (nested child cps)
+
+pub forks_no_join : ◌≡◌ {A = Option Pending} (Some pause.Forks) (Some pause.Joins) → ⊥
+forks_no_join e = cc
+
+placed_by : (old child new : State) (ps cps qs : List (Box State)) (next : Option Pending) → IsKept old ps → IsKept child cps → MayBePlaced (nested old ps) (nested child cps) →
+    pending_of old.control ≡ next → IsPlacing next → IsTakenBack old ps child cps new qs → PlacedHere old child new ps cps qs
+placed_by old child new ps cps qs (Some pause.Forks) kept kept_c may e placing taken =
+    let w = taken.at_fork e in
+    let b = handed_back old child new ps cps qs w.0 kept kept_c may e w.3 w.1 w.2 in
+    record { kept = b.kept; whole = b.whole; at_fork = λ forks. b.places; at_join = λ joins. absurd (forks_no_join (sym e ∙ joins)); pending = b.pending; work = b.work }
+placed_by old child new ps cps qs (Some pause.Joins) kept kept_c may e placing taken =
+    let w = taken.at_join e in
+    let b = begun_here old child new ps cps kept kept_c may e taken.of_child w.1 in
+    subst (PlacedHere old child new ps cps) (sym w.0)
+    (record { kept = b.kept; whole = b.whole; at_fork = λ forks. absurd (forks_no_join (sym forks ∙ e)); at_join = λ joins. b.seen; pending = b.pending; work = b.work })
+placed_by old child new ps cps qs None kept kept_c may e placing taken = absurd placing
+placed_by old child new ps cps qs (Some (pause.Asks lock)) kept kept_c may e placing taken = absurd placing
+placed_by old child new ps cps qs (Some (pause.Frees lock)) kept kept_c may e placing taken = absurd placing
+placed_by old child new ps cps qs (Some (pause.Tallies ledger amount)) kept kept_c may e placing taken = absurd placing
+placed_by old child new ps cps qs (Some pause.Ended) kept kept_c may e placing taken = absurd placing
+
+pub placed_seen : (old child new : State) (ps cps qs : List (Box State)) → IsKept old ps → IsKept child cps → MayBePlaced (nested old ps) (nested child cps) →
+    IsPlacing (pending_of old.control) → IsTakenBack old ps child cps new qs → PlacedHere old child new ps cps qs
+placed_seen old child new ps cps qs kept kept_c may placing taken = placed_by old child new ps cps qs (pending_of old.control) kept kept_c may refl placing taken
+
+-- And of one that was refused.
+pub record Returned (old child new back : State) (ps cps qs rs : List (Box State)) : Type 0 where
+  pub kept : IsKept new qs
+  pub seen : nested new qs ≡ nested old ps
+  pub kept_child : IsKept back rs
+  pub seen_child : nested back rs ≡ nested child cps
+
+pub returned : (old child new back : State) (ps cps qs rs : List (Box State)) → IsKept old ps → IsKept child cps → IsReturned old ps child cps new qs rs back → Returned old child new back ps cps qs rs
+returned old child new back ps cps qs rs kept kept_c r =
+    let it = as_it_was child back cps kept_c r.looks in
+    record {
+      kept = subst (IsKept new) (sym r.placed) (same_kept old new ps kept r.same);
+      seen = ap (nested new) r.placed ∙ same_seen old new ps kept.sound r.same;
+      kept_child = subst (IsKept back) (sym r.others) it.kept;
+      seen_child = ap (nested back) r.others ∙ it.seen;
     }

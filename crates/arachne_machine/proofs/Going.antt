@@ -636,13 +636,12 @@ pub spawns_begun : (t child : State) (e : Bor Expr) (begins : Control) → IsSpa
 spawns_begun t child e begins c = record { renewed = c.renewed; named = c.named; label = c.label; holds = c.holds; sums = c.sums }
 
 -- A part of an expression is begun, with a frame for what comes after it.
-pub comes_enter : (Q : Type 0) → (had : ℕ) (t s new : State) (e part p q : Bor Expr) (f : Frame) → IsSoundState (beginning_in t e) → s ≡ new → p ≡ q → q ≡ part → Pushes t new f →
+pub comes_enter : (Q : Type 0) → (had : ℕ) (t new : State) (e part : Bor Expr) (f : Frame) → IsSoundState (beginning_in t e) → Pushes t new f →
     (Becomes (beginning (top t) e) (beginning (top new) part) (top t).environment ((top t).frames ++ f ∷ []) (Begin part) → AfterSteps 1 (beginning (top t) e) None (beginning (top new) part)) →
-    RunsOn Q had had 1 (beginning_in t e) (beginning_in s p)
-comes_enter Q had t s new e part p q f sound is also begun pushes step =
+    RunsOn Q had had 1 (beginning_in t e) (beginning_in new part)
+comes_enter Q had t new e part f sound pushes step =
     let le = start_in (beginning_in t e) sound in
     let c = begins_part t new e part _ _ _ pushes in
     let goes = step (top_becomes (beginning_in t e) (beginning_in new part) _ _ _ c le) in
-    subst (λ x. RunsOn Q had had 1 (beginning_in t e) (beginning_in x p)) (sym is) (subst (λ y. RunsOn Q had had 1 (beginning_in t e) (beginning_in new y)) (sym (also ∙ begun))
-    (runs_made had had 1 (beginning_in t e) (beginning_in new part) sound (changes_leave (beginning_in t e) (beginning_in new part) _ _ _ c le)
-    (record { made = 1; fewer = omega arith; counted = omega arith; goes = goes })))
+    runs_made had had 1 (beginning_in t e) (beginning_in new part) sound (changes_leave (beginning_in t e) (beginning_in new part) _ _ _ c le)
+    (record { made = 1; fewer = omega arith; counted = omega arith; goes = goes })

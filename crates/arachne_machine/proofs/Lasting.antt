@@ -1,6 +1,6 @@
 -- What stays as it is: after refused memory, at a pause, and where nothing has changed but room.
 use Rattle.std.proofs.Common.{◌≡◌, ℕ, ◌+◌, List, [], ◌∷◌, Option, None, Some, inl, inr, refl, ap, sym, subst, ◌∙◌, arith}
-use Rattle.std.specs.Prelude.{◌==◌, true, false, map, reverse, Result, Ok, Err, OnErr, OnOk}
+use Rattle.std.specs.Prelude.{◌==◌, true, false, map, reverse, Result, Ok, Err, IfOk, OnErr, OnOk}
 use Rattle.std.specs.Borrow.{Bor}
 use Rattle.std.specs.Global.{Box}
 use Rattle.std.proofs.lemmas.Bool.{cases_lt}
@@ -18,7 +18,7 @@ use Rattle.arachne_machine.specs.declared.level.Parent.{Parent}
 use Rattle.arachne_machine.specs.Ending.{ending}
 use Rattle.arachne_machine.specs.Strands.{Strand}
 use Rattle.arachne_machine.specs.Sound.{IsSoundState, RunFor}
-use Rattle.arachne_machine.specs.Steps.{AfterSteps, suspended, OnStops, OnValue, waiting, IsLeftOver, IsSame, LeavesOthers, pending_of, top}
+use Rattle.arachne_machine.specs.Steps.{AfterSteps, suspended, OnStops, OnValue, waiting, IsForkOf, IsLeftOver, IsSame, LeavesOthers, pending_of, top}
 use Rattle.arachne_machine.specs.Runs.{IsOneStep, RunsOn, RunsToFork, RunsToPause, HasParent, beginning_in, current_in, giving_in}
 use Rattle.arachne_machine.proofs.Levels.{leaves_waiting, runs_on, runs_top}
 use Rattle.arachne_machine.specs.Nested.{IsNested}
@@ -221,3 +221,21 @@ in_both (Err e) a b f g = g b
 pub ok_map : {X E A B : Type 0} (r : Result X E) → OnOk r A → (A → B) → OnOk r B
 ok_map (Ok x) h f = f h
 ok_map (Err e) h f = tt
+
+-- what is so of a known outcome of a part of a step
+pub ok_known : {X E A : Type 0} (r : Result X E) (x : X) (P : X → Type 0) → IfOk r (λ p. p ≡ x) → OnOk r A → (A → P x) → IfOk r P
+ok_known (Ok p) x P is a f = subst P (sym is) (f a)
+ok_known (Err e) x P is a f = tt
+
+-- and of a fork
+fork_known : {A : Type 0} (p : Progress) (class : Class) (S : State → Type 0) (P : Progress → Type 0) → IsForkOf p class S → A → ((child : Box State) → A → S child.value → P (part.Forks class child)) → P p
+fork_known (part.Forks given child) class S P is a f = subst (λ k. P (part.Forks k child)) (sym is.0) (f child a is.1)
+fork_known (part.Value value) class S P is a f = absurd is
+fork_known (part.Begin expr) class S P is a f = absurd is
+fork_known part.Goes class S P is a f = absurd is
+fork_known part.Stops class S P is a f = absurd is
+
+pub ok_forked : {E A : Type 0} (r : Result Progress E) (class : Class) (S : State → Type 0) (P : Progress → Type 0) → IfOk r (λ p. IsForkOf p class S) → OnOk r A →
+    ((child : Box State) → A → S child.value → P (part.Forks class child)) → IfOk r P
+ok_forked (Ok p) class S P is a f = fork_known p class S P is a f
+ok_forked (Err e) class S P is a f = tt

@@ -19,11 +19,11 @@ use Rattle.arachne_machine.specs.declared.line.Label.{Label}
 use Rattle.arachne_machine.specs.Outcome.{Finished, named_holds, meaning_as, meaning_in, outcome_of, IsOfItsName}
 use Rattle.arachne_machine.specs.Account.{Account, untouched, after, with_fork, with_join}
 use Rattle.arachne_machine.specs.Ending.{child_task, account_joined, ending, account_at_end, work_left, trace_left, unjoined_of, locks_of, forks_here, KeepsForks, resume, resume_account, frames_left, begun, begun_account, fork_awaited, forks_of, lock_freed, releases}
-use Rattle.arachne_machine.specs.Steps.{Goes, GoesWithin, GoesToFork, GivesChild, PlacesChild, AwaitsHere, IsNew, IsNumbered, Joins, KeepsOverJoin, Counts, AfterSteps, IsUnchanged, pending_of, suspended, untagged}
+use Rattle.arachne_machine.specs.Steps.{Goes, GoesWithin, GoesToFork, GivesChild, AwaitsHere, IsNew, IsNumbered, Joins, KeepsOverJoin, Counts, AfterSteps, IsUnchanged, pending_of, suspended, untagged}
 use Rattle.arachne_lang.specs.Checked.{IsChecked}
 use Rattle.arachne_machine.specs.Faultless.{IsWithoutFault}
 use Rattle.arachne_machine.specs.Sound.{IsSound}
-use Rattle.arachne_machine.specs.Trace.{Event, At, with_steps}
+use Rattle.arachne_machine.specs.Trace.{Event, with_steps}
 use Rattle.arachne_machine.proofs.Accounts.{after-children}
 use Rattle.arachne_machine.proofs.Frames.{with_steps-add}
 use Rattle.arachne_machine.proofs.Names.{task_below-child, slice_get-seam}
@@ -102,14 +102,6 @@ gives_after m n k a b c child made p locks q le =
       faultless = λ h. q.faultless (p.faultless h);
     }
 
--- or placed
-pub places_after : (m n k : ℕ) (a b c : Strand) (made : Child) → Goes m [] a b → locks_of b ≡ locks_of a → PlacesChild n b c made → m + n ≤ k → PlacesChild k a c made
-places_after m n k a b c made p locks q le = record {
-  forked = subst (λ l. GoesToFork k 0 (At pause.Forks ∷ []) l a c made) (ap (λ x. x ∷ []) p.forks)
-      (forks_after m n k 0 (At pause.Forks ∷ []) (b.forks ∷ []) a b c made p locks q.forked le);
-  pending = q.pending;
-}
-
 -- so it is where the thread stops
 pub goes_then_stops : (m n k : ℕ) (a b c : Strand) (next : Pending) → Goes m [] a b → locks_of b ≡ locks_of a → AfterSteps n b (Some next) c → m + n ≤ k → AfterSteps k a (Some next) c
 goes_then_stops m n k a b c pause.Forks p l q le = q
@@ -118,11 +110,6 @@ goes_then_stops m n k a b c (pause.Asks lock) p l q le = (within_more 1 (m + n) 
 goes_then_stops m n k a b c (pause.Frees lock) p l q le = (within_more 1 (m + n) k a c (goes_on_within m 1 n a b c p q.0) le, q.1, q.2 ∙ l, q.3)
 goes_then_stops m n k a b c (pause.Tallies ledger amount) p l q le = (within_more 1 (m + n) k a c (goes_on_within m 1 n a b c p q.0) le, q.1, q.2 ∙ l)
 goes_then_stops m n k a b c pause.Ended p l q le = (within_more 1 (m + n) k a c (goes_on_within m 1 n a b c p q.0) le, q.1, q.2, q.3 ∙ l, q.4, q.5)
-
--- the same, with or without a reason to stop
-pub goes_then_made : (a b c : Strand) (next : Option Pending) → Goes 0 [] a b → locks_of b ≡ locks_of a → AfterSteps 1 b next c → AfterSteps 1 a next c
-goes_then_made a b c None p l q = (goes_on 0 1 1 a b c p q.0 refl, q.1, q.2 ∙ l)
-goes_then_made a b c (Some next) p l q = goes_then_stops 0 1 1 a b c next p l q (omega arith)
 
 -- a new thread of the task of its name is sound
 pub sound_new : (program : Program) (name : List ℕ) (label : Label) (task : Task) (t : Strand) →

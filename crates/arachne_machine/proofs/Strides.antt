@@ -1,5 +1,5 @@
 -- Steps that are made together, of those that are left.
-use Rattle.std.proofs.Common.{◌≡◌, ℕ, ◌++◌, None, Some, refl, ap, sym, subst, ◌∙◌, arith}
+use Rattle.std.proofs.Common.{◌≡◌, ℕ, None, Some, refl, sym, subst, ◌∙◌, arith}
 use Rattle.std.specs.Prelude.{IfOk, Result, Ok, Err}
 use Rattle.std.specs.Borrow.{Bor}
 use Rattle.arachne_lang.specs.declared.program.Expr.{Expr}
@@ -7,23 +7,9 @@ use Rattle.arachne_machine.specs.declared.pause.Pending.{Pending}
 use Rattle.arachne_machine.specs.declared.state.State.{State}
 use Rattle.arachne_machine.specs.declared.state.Progress.{Progress}
 use Rattle.arachne_machine.specs.declared.state.Progress.TheVariants as part
-use Rattle.arachne_machine.specs.Ending.{lock_freed, releases}
 use Rattle.arachne_machine.specs.Strands.{Strand}
-use Rattle.arachne_machine.specs.Steps.{AfterSteps, IsNotEnd, IsUnchanged, Makes, Reaches, beginning, giving, pending_of, top}
+use Rattle.arachne_machine.specs.Steps.{AfterSteps, IsNotEnd, Makes, Reaches, beginning, giving, top}
 use Rattle.arachne_machine.specs.Runs.{IsOneStep, seen_in}
-use Rattle.arachne_machine.proofs.Soundness.{goes_nowhere}
-
-pub makes_nothing : (had : ℕ) (a b : Strand) → IsUnchanged a b → pending_of a.control ≡ None → Makes had had 0 a b
-makes_nothing had a b same running = record {
-  made = 0;
-  fewer = omega arith;
-  counted = omega arith;
-  goes = (
-    goes_nowhere a b same,
-    ap pending_of same.control_is ∙ running,
-    ap (λ k. lock_freed k ++ releases b.frames) same.control_is ∙ ap (λ fs. lock_freed a.control ++ releases fs) same.frames_are,
-  );
-}
 
 -- a value that is known at once
 pub reaches_value : (had value : ℕ) (a c : Strand) → AfterSteps 0 a None (giving c value) → Reaches had had a (part.Value value) c

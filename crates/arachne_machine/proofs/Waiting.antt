@@ -117,14 +117,14 @@ ready program old mid threads outcome keys same some (newest, waits) =
     }
 
 -- a thread has ended, and its outcome lies ready
-pub rests_end : (program : Program) (old : Nested) (mid : Suspended) (threads : List Nested) (outcome : Finished) (keys : List (Program × List ℕ)) →
-    SameThread old.running mid → mid.unjoined ≡ [] → outcome.program ≡ mid.program → outcome.name ≡ mid.name →
-    Rests program (old ∷ threads) keys → Rests program threads (key outcome ∷ keys)
-rests_end program old mid [] outcome keys same none is_program is_name (newest, waits) =
+pub rests_end : (program : Program) (old : Nested) (mid : Suspended) (threads : List Nested) (end : Program) (name : List ℕ) (keys : List (Program × List ℕ)) →
+    SameThread old.running mid → mid.unjoined ≡ [] → end ≡ mid.program → name ≡ mid.name →
+    Rests program (old ∷ threads) keys → Rests program threads ((end, name) ∷ keys)
+rests_end program old mid [] end name keys same none is_program is_name (newest, waits) =
     let keys_are : keys ≡ newest.rest = newest.brought ∙ ap (λ l. childs_keys program old.running.name l ++ newest.rest) (sym same.unjoined ∙ none) in
-    ap (λ p. (p, outcome.name) ∷ keys) (is_program ∙ same.program ∙ newest.same_program)
+    ap (λ p. (p, name) ∷ keys) (is_program ∙ same.program ∙ newest.same_program)
     ∙ ap (λ n. (program, n) ∷ keys) (is_name ∙ same.name ∙ waits.0) ∙ ap (λ l. (program, []) ∷ l) (keys_are ∙ waits.1)
-rests_end program old mid (thread ∷ threads) outcome keys same none is_program is_name (newest, waits) =
+rests_end program old mid (thread ∷ threads) end name keys same none is_program is_name (newest, waits) =
     let parent = waits.0 in
     let keys_are : keys ≡ newest.rest = newest.brought ∙ ap (λ l. childs_keys program old.running.name l ++ newest.rest) (sym same.unjoined ∙ none) in (
       record {
@@ -133,7 +133,7 @@ rests_end program old mid (thread ∷ threads) outcome keys same none is_program
         running = parent.running;
         rest = parent.rest;
         brought =
-            ap (λ p. (p, outcome.name) ∷ keys) (is_program ∙ same.program ∙ newest.same_program)
+            ap (λ p. (p, name) ∷ keys) (is_program ∙ same.program ∙ newest.same_program)
             ∙ ap (λ n. (program, n) ∷ keys) (is_name ∙ same.name ∙ parent.named)
             ∙ ap (λ l. (program, thread.running.name ++ parent.number ∷ []) ∷ l) (keys_are ∙ parent.brought)
             ∙ ap (λ l. childs_keys program thread.running.name l ++ parent.rest) (sym parent.unjoined);
@@ -173,3 +173,7 @@ some_outcome program old mid threads outcomes same some (newest, waits) =
 -- and the root's lies ready in the end
 pub root_outcome : (program : Program) (outcomes : List Finished) → Rests program [] (map key (reverse outcomes)) → 0 < length outcomes
 root_outcome program outcomes h = omega (arith, ap length h, length-map (reverse outcomes) key, length-reverse outcomes)
+
+pub last_outcome : (program : Program) (outcomes left : List Finished) (outcome : Finished) → outcomes ≡ left ++ outcome ∷ [] → Rests program [] (map key (reverse outcomes)) → key outcome ≡ (program, [])
+last_outcome program outcomes left outcome popped h =
+    (same_first (key outcome) (program, []) (map key (reverse left)) [] (ap (map key) (sym (pushed left outcomes outcome popped)) ∙ h)).0

@@ -97,16 +97,6 @@ pause_at (Some (pause.Frees lock)) = pauses.Frees lock
 pause_at (Some (pause.Tallies ledger amount)) = pauses.Tallies ledger amount
 pause_at (Some pause.Ended) = pauses.Ended
 
--- what is to be answered then
-abbrev pub pending_at : Pause → Option Pending
-pending_at pauses.Budget = None
-pending_at (pauses.Forks class child) = Some pause.Forks
-pending_at pauses.Joins = Some pause.Joins
-pending_at (pauses.Asks lock) = Some (pause.Asks lock)
-pending_at (pauses.Frees lock) = Some (pause.Frees lock)
-pending_at (pauses.Tallies ledger amount) = Some (pause.Tallies ledger amount)
-pending_at pauses.Ended = Some pause.Ended
-
 -- So many steps were left and so many are: none where the budget is used, else fewer.
 abbrev pub IsSpentAt : Pause → ℕ → ℕ → Type 0
 IsSpentAt pauses.Budget had left = left ≡ 0

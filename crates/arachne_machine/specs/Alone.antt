@@ -2,7 +2,9 @@
 use Rattle.std.specs.Prelude.{◌≡◌, ℕ, ◌+◌, ◌*◌, List, [], ◌∷◌, ◌++◌, None}
 use Rattle.arachne_lang.specs.declared.program.Program.{Program}
 use Rattle.arachne_machine.specs.Outcome.{Finished}
-use Rattle.arachne_machine.specs.Nested.{Nested, IsAlone, pending_in}
+use Rattle.arachne_machine.specs.Nested.{Nested, IsAlone, pending_in, whole}
+use Rattle.arachne_machine.specs.declared.alone.Turn.{Turn}
+use Rattle.arachne_machine.specs.declared.alone.Turn.TheVariants.{Goes, Forks, Ends}
 
 -- of what program and thread an outcome is
 abbrev pub key : Finished → Program × List ℕ
@@ -46,3 +48,20 @@ Rests program (thread ∷ threads) keys = (newest : IsNewest program keys thread
 -- a bound on the turns that are left
 abbrev pub turns_left : Nested → ℕ
 turns_left thread = 2 * thread.running.work + 1
+
+-- What comes of a turn of the first thread, which is now like this, the others being these.
+abbrev pub RestsAfter : Program → Turn → Nested → List Nested → List (Program × List ℕ) → Type 0
+RestsAfter program Goes thread others keys = Rests program (thread ∷ others) keys
+RestsAfter program (Forks child) thread others keys = Rests program (child ∷ thread ∷ others) keys
+RestsAfter program Ends thread others keys = Rests program others (((whole thread).program, (whole thread).name) ∷ keys)
+
+-- where it has ended
+abbrev pub OnEnd : Turn → Type 0 → Type 0
+OnEnd Ends A = A
+OnEnd _ A = Unit {0}
+
+-- the bound for those that came of it
+abbrev pub turns_after : Turn → Nested → ℕ
+turns_after Goes thread = turns_left thread
+turns_after (Forks child) thread = turns_left thread + turns_left child
+turns_after Ends thread = 0

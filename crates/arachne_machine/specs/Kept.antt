@@ -1,6 +1,9 @@
 -- A thread as callers see it, with what is so of it between two calls.
-use Rattle.std.specs.Prelude.{◌≡◌, ◌≢◌, ◌≤◌, ℕ, ◌+◌, Bool, true, false, List, [], ◌∷◌, ◌++◌, map, reverse, All, Option, None, Some}
+use Rattle.std.specs.Prelude.{◌≡◌, ◌≢◌, ◌≤◌, ℕ, ◌+◌, Bool, true, false, List, [], ◌∷◌, ◌++◌, map, reverse, All, Option, None, Some, Result, Ok, Err}
 use Rattle.std.specs.Global.{Box}
+use Rattle.arachne_machine.specs.declared.line.Ran.TheVariants as ways
+use Rattle.arachne_machine.specs.declared.placed.Unplaced.{Unplaced}
+use Rattle.arachne_machine.specs.declared.placed.Unplaced.TheVariants.{Foreign, Memory}
 use Rattle.arachne_machine.specs.declared.state.State.{State}
 use Rattle.arachne_lang.specs.declared.program.Class.{Class}
 use Rattle.arachne_lang.specs.Effects.{tabulated}
@@ -8,8 +11,8 @@ use Rattle.arachne_machine.specs.declared.pause.Pending.{Pending}
 use Rattle.arachne_machine.specs.declared.pause.Pending.TheVariants as pause
 use Rattle.arachne_machine.specs.Suspended.{awaited}
 use Rattle.arachne_machine.specs.Nested.{AwaitsElsewhere, IsRest, Nested, Placed, IsNested, work_in}
-use Rattle.arachne_machine.specs.Runs.{LooksSame, RunsOn, StandsBefore, TakesIn}
-use Rattle.arachne_machine.specs.Steps.{AfterSteps, GivesChild, IsSame, LeavesOthers, pending_of, suspended, task_begun, top, waiting_in}
+use Rattle.arachne_machine.specs.Runs.{LooksSame, RunsOn, StandsBefore, TakesIn, after_fork}
+use Rattle.arachne_machine.specs.Steps.{AfterSteps, GivesChild, IsSame, LeavesOthers, Turns, pending_of, suspended, task_begun, top, waiting_in}
 use Rattle.arachne_machine.specs.Sound.{IsSoundState}
 
 -- a child that was handed back
@@ -99,3 +102,25 @@ pub record StandsBack (old : State) (ps : List (Box State)) (new : State) (qs : 
   pub mid : State
   pub same : IsSame old mid
   pub stands : StandsBefore mid.control mid new
+
+-- A child that comes back waits at its fork behind those that were handed back to it; or, where it is awaited, it goes on, and those are the newest.
+pub record IsTakenBack (old : State) (ps : List (Box State)) (child : State) (cps : List (Box State)) (new : State) (qs : List (Box State)) : Type 0 where
+  pub of_child : awaited (suspended (top old)) ≡ Some child.own.name
+  pub at_fork : pending_of old.control ≡ Some pause.Forks →
+      (box : Box State) × (box.value ≡ record child { own = record child.own { label = record child.own.label { ran = ways.InPlace } } })
+      × (qs ≡ ps ++ cps ++ box ∷ []) × Turns old new (after_fork old.control)
+  pub at_join : pending_of old.control ≡ Some pause.Joins → (qs ≡ ps ++ cps) × TakesIn old child new
+
+-- It was refused, and nothing has changed but room.
+pub record IsReturned (old : State) (ps : List (Box State)) (child : State) (cps : List (Box State)) (new : State) (qs rs : List (Box State)) (back : State) : Type 0 where
+  pub same : IsSame old new
+  pub placed : qs ≡ ps
+  pub others : rs ≡ cps
+  pub looks : LooksSame child back
+
+abbrev pub Places : Result (Unit {0}) Unplaced → State → List (Box State) → State → List (Box State) → State → List (Box State) → List (Box State) → Type 0
+Places (Ok done) old ps child cps new qs rs = IsTakenBack old ps child cps new qs
+Places (Err (Foreign back)) old ps child cps new qs rs =
+    (awaited (suspended (top old)) ≢ Some child.own.name) × IsReturned old ps child cps new qs rs back.value
+Places (Err (Memory back)) old ps child cps new qs rs =
+    (awaited (suspended (top old)) ≡ Some child.own.name) × IsReturned old ps child cps new qs rs back.value

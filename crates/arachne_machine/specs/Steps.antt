@@ -1,6 +1,7 @@
 -- What the steps of a thread do.
 use Rattle.std.specs.Prelude.{◌≡◌, ◌≤◌, ◌<◌, ℕ, ◌+◌, ◌^◌, false, List, [], ◌∷◌, ◌++◌, length, reverse, take, vec_len, vec_capacity, Option, None, Some}
 use Rattle.arachne_lang.specs.declared.program.Program.{Program}
+use Rattle.arachne_lang.specs.declared.program.Class.{Class}
 use Rattle.arachne_lang.specs.declared.program.Reduction.{Reduction}
 use Rattle.arachne_lang.specs.declared.program.Expr.{Expr}
 use Rattle.std.specs.Borrow.{Bor}
@@ -241,6 +242,11 @@ pub record IsSpawned (old : State) (begins : Control) (child : State) : Type 0 w
   pub label : child.own.label ≡ untagged
   pub holds : child.own.holds.items ≡ tabulated old.program.now.locks (λ lock. 0)
   pub sums : child.sums.items ≡ tabulated old.program.now.ledgers (λ ledger. 0)
+
+-- a child of this class was forked, of which this is so
+abbrev pub IsForkOf : Progress → Class → (State → Type 0) → Type 0
+IsForkOf (part.Forks given child) class P = (given ≡ class) × P child.value
+IsForkOf _ class P = ⊥
 
 -- a thread of a task that has not begun
 pub record IsNew (program : Program) (name : List ℕ) (label : Label) (task : Task) (t : Strand) : Type 0 where

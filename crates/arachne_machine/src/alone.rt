@@ -1,9 +1,11 @@
 //! Runs all threads of a program in turn on one kernel thread.
-ghost use Rattle.std.specs.Prelude.{◌≡◌, ◌+◌, ◌∷◌, ◌≤◌, ◌<◌, map, reverse, sum_by, None, IfOk, OnOk};
+ghost use Rattle.std.specs.Prelude.{[], ◌≡◌, ◌+◌, ◌∷◌, ◌≤◌, ◌<◌, List, map, reverse, sum_by, None, Some, IfOk, OnOk};
 ghost use Rattle.arachne_lang.specs.Program.{source_of};
 ghost use Rattle.arachne_lang.specs.Meaning.{meaning_of};
 ghost use Rattle.arachne_machine.specs.Outcome.{meaning_in, named_holds, IsOfItsName};
-ghost use Rattle.arachne_machine.specs.Alone.{Rests, key, turns_left};
+ghost use Rattle.arachne_machine.specs.Nested.{Nested, pending_in};
+ghost use Rattle.arachne_machine.specs.Alone.{OnEnd, Rests, RestsAfter, key, turns_after, turns_left};
+ghost use Rattle.arachne_machine.specs.declared.pause.Pending.TheVariants as pause;
 
 use crate::line::ThreadLine;
 use crate::outcome::Outcome;
@@ -20,15 +22,36 @@ use std::alloc::{AllocError, Global};
 pub fn run_alone(alloc: Global, program: &Program, budget: u32) -> Result<Meaning, AllocError>
     ensures { IfOk result (λ meaning. meaning ≡ meaning_of (source_of program.now)) }
 {
-    let budget = budget.max(1);
+    let root = Thread::start(alloc, program, 0)?;
+    let outcome = run_all(alloc, root, budget.max(1))?;
+    meaning(alloc, outcome)
+}
+
+/// The outcome of a root thread, which runs with all threads below it.
+fn run_all<'p>(alloc: Global, root: Thread<'p>, budget: u32) -> Result<Outcome<'p>, AllocError>
+    requires some { 1 ≤ budget }
+    requires rests { Rests root.running.program (root ∷ []) [] }
+    ensures { IfOk result (λ outcome. key outcome ≡ (root.entry.running.program, [])) }
+{
     let mut threads = Vec::new(alloc);
+    threads.push(root)?;
     let mut outcomes: Vec<Outcome> = Vec::new(alloc);
     let mut spares = Spares::new(alloc);
-    threads.push(Thread::start(alloc, program, 0)?)?;
     while let Some(thread) = threads.pop() {
         take_turn(&mut threads, &mut outcomes, &mut spares, thread, budget)?;
     }
-    meaning(alloc, outcomes.pop().unwrap())
+    Ok(outcomes.pop().unwrap())
+}
+
+/// What comes of a turn.
+#[derive(Drop)]
+enum Turn<'p> {
+    /// The thread goes on.
+    Goes,
+    /// It waits for this child.
+    Forks(Thread<'p>),
+    /// It has ended.
+    Ends,
 }
 
 /// A turn of the newest thread, which is given apart from the list. An outcome lies ready until its parent
@@ -45,37 +68,67 @@ fn take_turn<'p>(
     ensures rests { OnOk result (Rests thread.entry.running.program (reverse threads.new.items) (map key (reverse outcomes.new.items))) }
     ensures falls { OnOk result (sum_by turns_left threads.new.items < sum_by turns_left threads.old.items + turns_left thread.entry) }
 {
+    threads.try_reserve(2)?;
+    match go_on(&mut thread, outcomes, spares, budget)? {
+        Turn::Goes => {
+            threads.push_reserved(thread);
+            Ok(())
+        }
+        Turn::Forks(child) => {
+            threads.push_reserved(thread);
+            threads.push_reserved(child);
+            Ok(())
+        }
+        Turn::Ends => {
+            outcomes.push(thread.finish_into(spares))?;
+            Ok(())
+        }
+    }
+}
+
+/// The newest thread goes on for so many steps, and is answered.
+fn go_on<'p>(
+    thread: &mut Thread<'p>,
+    outcomes: &mut Vec<Outcome<'p>>,
+    spares: &mut Spares<'p>,
+    budget: u32,
+) -> Result<Turn<'p>, AllocError>
+    requires some { 1 ≤ budget }
+    requires rests { (others : List Nested) × Rests thread.old.running.program (thread.old ∷ others) (map key (reverse outcomes.old.items)) }
+    ensures rests { IfOk result (λ turn. (others : List Nested) → Rests thread.old.running.program (thread.old ∷ others) (map key (reverse outcomes.old.items))
+        → RestsAfter thread.old.running.program turn thread.new others (map key (reverse outcomes.new.items))) }
+    ensures falls { IfOk result (λ turn. turns_after turn thread.new < turns_left thread.old) }
+    ensures ended { IfOk result (λ turn. OnEnd turn (pending_in thread.new ≡ Some pause.Ended)) }
+{
     let mut left = budget;
     match thread.advance_within(&mut left, spares, &mut Everywhere)? {
-        Pause::Budget => threads.push(thread)?,
+        Pause::Budget => Ok(Turn::Goes),
         Pause::Forks(_, child) => {
             thread.forked();
-            threads.push(thread)?;
-            threads.push(child)?;
+            Ok(Turn::Forks(child))
         }
         Pause::Joins => {
             let outcome = outcomes.pop().unwrap();
             match thread.joined(outcome) {
-                Ok(()) => threads.push(thread)?,
+                Ok(()) => Ok(Turn::Goes),
                 Err(NotJoined::Memory(_)) => return Err(AllocError),
                 Err(NotJoined::Foreign(_)) => unreachable!(),
             }
         }
         Pause::Asks(_) => {
             thread.granted();
-            threads.push(thread)?;
+            Ok(Turn::Goes)
         }
         Pause::Frees(_) => {
             thread.freed();
-            threads.push(thread)?;
+            Ok(Turn::Goes)
         }
         Pause::Tallies(_, _) => {
             thread.tallied();
-            threads.push(thread)?;
+            Ok(Turn::Goes)
         }
-        Pause::Ended => outcomes.push(thread.finish_into(spares))?,
+        Pause::Ended => Ok(Turn::Ends),
     }
-    Ok(())
 }
 
 /// The meaning that an outcome has.

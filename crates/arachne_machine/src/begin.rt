@@ -17,6 +17,7 @@ impl<'p> State<'p> {
     ghost use Rattle.arachne_lang.specs.Value.{array_at, value_of};
     ghost use Rattle.arachne_machine.specs.declared.frame.Frame.TheVariants as frames;
     ghost use Rattle.arachne_machine.specs.declared.frame.Control.TheVariants as control;
+    ghost use Rattle.arachne_machine.specs.declared.state.Progress.TheVariants as ways;
     ghost use Rattle.arachne_machine.specs.Pure.{IsLeaf};
     ghost use Rattle.arachne_machine.specs.Sound.{IsSoundState};
     ghost use Rattle.arachne_machine.specs.Steps.{beginning, Changes, IsSame, LeavesOthers, OnStops, Pushes, Reaches, top};
@@ -37,42 +38,32 @@ impl<'p> State<'p> {
         ensures err { OnErr result (IsSame self.old self.new) }
         ensures uncharged { OnErr result (left.new ≡ left.old) }
     {
-        let part = match expr {
-            Expr::Num(number) => return Ok(Progress::Value(*number)),
-            Expr::Var(variable) => return Ok(Progress::Value(variable_in(
+        match expr {
+            Expr::Num(number) => Ok(Progress::Value(*number)),
+            Expr::Var(variable) => Ok(Progress::Value(variable_in(
                 self.environment.as_slice(),
                 *variable,
             ))),
-            Expr::Len(array) => return Ok(Progress::Value(length_in(self.program, *array))),
-            Expr::Item(array, index) => self.enter(Frame::Index(*array), index)?,
-            Expr::Binary(operation, first, second) => {
-                return self.operate(*operation, first, second, left);
+            Expr::Len(array) => Ok(Progress::Value(length_in(self.program, *array))),
+            Expr::Item(array, index) => self.enter(Frame::Index(*array), index),
+            Expr::Binary(operation, first, second) => self.operate(*operation, first, second, left),
+            Expr::If(condition, first, second) => {
+                self.enter(Frame::Branch(first, second), condition)
             }
-            Expr::If(condition, first, second) => self.enter(
-                Frame::Branch(first, second),
-                condition,
-            )?,
-            Expr::Let(bound, body) => self.enter(Frame::Extend(body), bound)?,
-            Expr::Tally(ledger, amount, body) => self.enter(Frame::Amount(*ledger, body), amount)?,
-            Expr::Fold(from, to, first, body) => self.enter(Frame::FoldTo(to, first, body), from)?,
-            Expr::Sweep(reduction, grain, from, to, body) => self.enter(
-                Frame::SweepTo(*reduction, *grain, to, body),
-                from,
-            )?,
-            Expr::Hold(lock, body) => {
-                self.ask(*lock, body)?;
-                return Ok(Progress::Stops);
+            Expr::Let(bound, body) => self.enter(Frame::Extend(body), bound),
+            Expr::Tally(ledger, amount, body) => self.enter(Frame::Amount(*ledger, body), amount),
+            Expr::Fold(from, to, first, body) => self.enter(Frame::FoldTo(to, first, body), from),
+            Expr::Sweep(reduction, grain, from, to, body) => {
+                self.enter(Frame::SweepTo(*reduction, *grain, to, body), from)
             }
+            Expr::Hold(lock, body) => self.ask(*lock, body),
             Expr::Fork(class, child, during, after) => {
                 if !places.is_any(*class) {
-                    self.fork_here(child, during, after)?;
-                    return Ok(Progress::Begin(during));
+                    return self.fork_here(child, during, after);
                 }
-                let child = self.fork(child, during, after, spares)?;
-                return Ok(Progress::Forks(*class, child));
+                self.fork(*class, child, during, after, spares)
             }
-        };
-        Ok(Progress::Begin(part))
+        }
     }
 
     /// Begins an operation. Sides that are numbers or variables are begun with it, each by a step, where two are left.
@@ -99,12 +90,11 @@ impl<'p> State<'p> {
                 *left -= 2;
                 return Ok(Progress::Value(operation.apply(x, y)));
             }
-            let part = self.enter(Frame::Apply(operation, x), second)?;
+            let begun = self.enter(Frame::Apply(operation, x), second)?;
             *left -= 1;
-            return Ok(Progress::Begin(part));
+            return Ok(begun);
         }
-        let part = self.enter(Frame::Right(operation, second), first)?;
-        Ok(Progress::Begin(part))
+        self.enter(Frame::Right(operation, second), first)
     }
 
     /// The value of a number or a variable.
@@ -122,23 +112,24 @@ impl<'p> State<'p> {
 
     /// Begins a part of an expression; the frame says what comes after it.
     #[inline(always)]
-    fn enter(&mut self, frame: Frame<'p>, part: &'p Expr) -> Result<&'p Expr, AllocError>
-        ensures part { IfOk result (λ begun. begun ≡ part.entry) }
+    fn enter(&mut self, frame: Frame<'p>, part: &'p Expr) -> Result<Progress<'p>, AllocError>
+        ensures begins { IfOk result (λ begun. begun ≡ ways.Begin part.entry) }
         ensures ok { OnOk result (Pushes self.old self.new frame.entry) }
         ensures err { OnErr result (IsSame self.old self.new) }
     {
         self.frames.push(frame)?;
-        Ok(part)
+        Ok(Progress::Begin(part))
     }
 
     /// Asks for a lock. It is freed once the value of the expression is known.
     #[inline(always)]
-    fn ask(&mut self, lock: u64, body: &'p Expr) -> Result<(), AllocError>
+    fn ask(&mut self, lock: u64, body: &'p Expr) -> Result<Progress<'p>, AllocError>
+        ensures stops { IfOk result (λ asked. asked ≡ ways.Stops) }
         ensures ok { OnOk result (Changes self.old self.new self.old.environment.items (self.old.frames.items ++ frames.Release lock ∷ []) (control.Asks lock body.entry)) }
         ensures err { OnErr result (IsSame self.old self.new) }
     {
         self.frames.push(Frame::Release(lock))?;
         self.control = Control::Asks { lock, body };
-        Ok(())
+        Ok(Progress::Stops)
     }
 }

@@ -14,26 +14,29 @@ impl<'p> State<'p> {
     ghost use Rattle.arachne_machine.specs.declared.frame.Frame.TheVariants as frames;
     ghost use Rattle.arachne_machine.specs.declared.frame.Control.TheVariants as control;
     ghost use Rattle.arachne_machine.specs.declared.state.Progress.TheVariants as progress;
+    ghost use Rattle.arachne_lang.specs.declared.program.Class.TheVariants as classes;
     ghost use Rattle.arachne_machine.specs.Sound.{IsSoundState};
     ghost use Rattle.arachne_machine.specs.Runs.{Comes};
-    ghost use Rattle.arachne_machine.specs.Steps.{CountsFork, HasLine, IsSame, IsSpawned};
+    ghost use Rattle.arachne_machine.specs.Steps.{CountsFork, HasLine, IsForkOf, IsSame, IsSpawned};
 
-    /// A new child, whose number is the fork's. The thread goes on with what it does meanwhile.
+    /// A new child of this class, whose number is the fork's. The thread goes on with what it does meanwhile.
     pub fn fork(
         &mut self,
+        class: Class,
         child: &'p Expr,
         during: &'p Expr,
         after: &'p Expr,
         spares: &mut Spares<'p>,
-    ) -> Result<Box<State<'p>>, AllocError>
+    ) -> Result<Progress<'p>, AllocError>
         requires number { self.old.level.forks + 1 < 2 ^ 64 }
         requires line { HasLine self.old }
         ensures counts { OnOk result (CountsFork self.old self.new (frames.Join self.old.level.forks after.entry) (control.Forked during.entry)) }
-        ensures child { IfOk result (λ t. IsSpawned self.old (control.Begin child.entry) t.value) }
+        ensures child { IfOk result (λ forked. IsForkOf forked class (λ t. IsSpawned self.old (control.Begin child.entry) t)) }
         ensures err { OnErr result (IsSame self.old self.new) }
     {
         let number = self.level.forks;
         self.spawn(
+            class,
             Control::Begin(child),
             Frame::Join { number, after },
             Control::Forked(during),
@@ -48,8 +51,9 @@ impl<'p> State<'p> {
         child: &'p Expr,
         during: &'p Expr,
         after: &'p Expr,
-    ) -> Result<(), AllocError>
+    ) -> Result<Progress<'p>, AllocError>
         requires number { self.old.level.forks + 1 < 2 ^ 64 }
+        ensures begins { IfOk result (λ begun. begun ≡ progress.Begin during.entry) }
         ensures counts { OnOk result (CountsFork self.old self.new (frames.JoinHere self.old.level.forks child.entry after.entry) self.old.control) }
         ensures err { OnErr result (IsSame self.old self.new) }
     {
@@ -61,21 +65,22 @@ impl<'p> State<'p> {
         };
         self.frames.push(frame)?;
         self.level.forks += 1;
-        Ok(())
+        Ok(Progress::Begin(during))
     }
 
-    /// A new child that begins like this, the thread's new frame, and what it does next.
+    /// A new child of this class that begins like this, the thread's new frame, and what it does next.
     fn spawn(
         &mut self,
+        class: Class,
         begins: Control<'p>,
         frame: Frame<'p>,
         next: Control<'p>,
         spares: &mut Spares<'p>,
-    ) -> Result<Box<State<'p>>, AllocError>
+    ) -> Result<Progress<'p>, AllocError>
         requires number { self.old.level.forks + 1 < 2 ^ 64 }
         requires line { HasLine self.old }
         ensures counts { OnOk result (CountsFork self.old self.new frame.entry next.entry) }
-        ensures child { IfOk result (λ t. IsSpawned self.old begins.entry t.value) }
+        ensures child { IfOk result (λ forked. IsForkOf forked class (λ t. IsSpawned self.old begins.entry t)) }
         ensures err { OnErr result (IsSame self.old self.new) }
     {
         let name = self.running_name().child(self.alloc, self.level.forks)?;
@@ -92,7 +97,7 @@ impl<'p> State<'p> {
         self.frames.push(frame)?;
         self.level.forks += 1;
         self.control = next;
-        Ok(state)
+        Ok(Progress::Forks(class, state))
     }
 
     /// Begins a part of a sweep: where it is longer than the grain, its left half is forked.
@@ -115,11 +120,9 @@ impl<'p> State<'p> {
         if count > stretch.grain.max(1) {
             let middle = stretch.first + count / 2;
             if !places.is_any(Class::Normal) {
-                self.halve_here(stretch, middle)?;
-                return Ok(Progress::Goes);
+                return self.halve_here(stretch, middle);
             }
-            let child = self.halve(stretch, middle, spares)?;
-            return Ok(Progress::Forks(Class::Normal, child));
+            return self.halve(stretch, middle, spares);
         }
         self.reserve_turn()?;
         let unit = stretch.reduction.unit();
@@ -139,11 +142,11 @@ impl<'p> State<'p> {
         stretch: Stretch<'p>,
         middle: u64,
         spares: &mut Spares<'p>,
-    ) -> Result<Box<State<'p>>, AllocError>
+    ) -> Result<Progress<'p>, AllocError>
         requires number { self.old.level.forks + 1 < 2 ^ 64 }
         requires line { HasLine self.old }
         ensures counts { OnOk result (CountsFork self.old self.new (frames.Merge self.old.level.forks stretch.entry.reduction) (control.Halved (record stretch.entry { first = middle }))) }
-        ensures child { IfOk result (λ t. IsSpawned self.old (control.Cover (record stretch.entry { end = middle })) t.value) }
+        ensures child { IfOk result (λ forked. IsForkOf forked classes.Normal (λ t. IsSpawned self.old (control.Cover (record stretch.entry { end = middle })) t)) }
         ensures err { OnErr result (IsSame self.old self.new) }
     {
         let left = Stretch {
@@ -158,13 +161,20 @@ impl<'p> State<'p> {
             number: self.level.forks,
             reduction: stretch.reduction,
         };
-        self.spawn(Control::Cover(left), frame, Control::Halved(right), spares)
+        self.spawn(
+            Class::Normal,
+            Control::Cover(left),
+            frame,
+            Control::Halved(right),
+            spares,
+        )
     }
 
     /// A split whose left half will run here, as a child. The thread goes on with what is right of the middle.
     #[inline(always)]
-    fn halve_here(&mut self, stretch: Stretch<'p>, middle: u64) -> Result<(), AllocError>
+    fn halve_here(&mut self, stretch: Stretch<'p>, middle: u64) -> Result<Progress<'p>, AllocError>
         requires number { self.old.level.forks + 1 < 2 ^ 64 }
+        ensures goes { IfOk result (λ begun. begun ≡ progress.Goes) }
         ensures counts { OnOk result (CountsFork self.old self.new (frames.MergeHere self.old.level.forks (record stretch.entry { end = middle }))
             (control.Cover (record stretch.entry { first = middle }))) }
         ensures err { OnErr result (IsSame self.old self.new) }
@@ -181,6 +191,6 @@ impl<'p> State<'p> {
         self.frames.push(Frame::MergeHere { number, left })?;
         self.level.forks += 1;
         self.control = Control::Cover(right);
-        Ok(())
+        Ok(Progress::Goes)
     }
 }

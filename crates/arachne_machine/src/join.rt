@@ -53,8 +53,8 @@ impl<'p> State<'p> {
         ensures frames { OnErr result (self.new.frames ≡ self.old.frames) }
     {
         self.parents.try_reserve(1)?;
-        let name = self.running_name().child(self.alloc, number)?;
         let holds = zeros(self.alloc, self.program.locks)?;
+        let name = self.running_name().child(self.alloc, number)?;
         let place = self.lines.len();
         self.lines.push(ThreadLine {
             name,

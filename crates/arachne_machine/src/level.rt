@@ -5,7 +5,7 @@ ghost use Rattle.arachne_machine.specs.Strands.{Fits, moved_parents};
 use crate::frame::Control;
 
 /// Where a thread is in a state, in which others may run in its place.
-#[derive(Clone, Copy, Debug)]
+#[derive(Clone, Copy)]
 pub struct Level {
     /// How many frames there are below its own.
     pub start: usize,

@@ -18,7 +18,7 @@ pub enum Ran {
 }
 
 /// What is told of a thread beside what it does.
-#[derive(Clone, Copy, Debug)]
+#[derive(Clone, Copy)]
 pub struct Label {
     /// The tag that it runs under.
     pub tag: u64,

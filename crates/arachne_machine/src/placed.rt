@@ -1,18 +1,30 @@
 //! Children that were handed back to run in their parent's place, and have not begun there.
 use crate::frame::Control;
+use crate::line::Ran;
 use crate::placing::Placing;
 use crate::spares::Spares;
 use crate::state::State;
 use arachne_lang::Class;
 use std::alloc::AllocError;
 
+/// A child that was not placed.
+#[derive(Drop)]
+pub enum Unplaced<'p> {
+    /// Another one is awaited.
+    Foreign(Box<State<'p>>),
+    /// Memory was refused.
+    Memory(Box<State<'p>>),
+}
+
 /// How a thread goes on with the children that were handed back to it, the newest of which is the last.
 impl<'p> State<'p> {
-    ghost use Rattle.std.specs.Prelude.{◌≡◌, ◌≤◌, ◌-◌, ◌++◌, None, Some, true, All, IfOk, OnOk, OnErr};
+    ghost use Rattle.std.specs.Prelude.{◌≡◌, ◌≤◌, None, Some, true, All, IfOk, OnOk, OnErr};
     ghost use Rattle.arachne_machine.specs.declared.pause.Pending.TheVariants as pause;
-    ghost use Rattle.arachne_machine.specs.Steps.{HasLine, HasRoom, IsSame, pending_of};
-    ghost use Rattle.arachne_machine.specs.Runs.{FitsInto, LooksSame, TakesIn};
-    ghost use Rattle.arachne_machine.specs.Kept.{AdvancesWith, IsKept, StandsBack, TakesUp, Went};
+    ghost use Rattle.arachne_machine.specs.Steps.{HasLine, HasRoom, pending_of, suspended, top};
+    ghost use Rattle.arachne_machine.specs.Runs.{FitsInto};
+    ghost use Rattle.arachne_machine.specs.Nested.{IsPlacing};
+    ghost use Rattle.arachne_machine.specs.Suspended.{awaited};
+    ghost use Rattle.arachne_machine.specs.Kept.{AdvancesWith, IsKept, Places, StandsBack, TakesUp, Went};
 
     /// Goes on for at most as many steps as are left, until it pauses. Where the innermost thread comes to await the
     /// newest of these children, that one goes on in its place. Gives the child where it pauses for a fork. Where
@@ -98,24 +110,70 @@ impl<'p> State<'p> {
         Ok(true)
     }
 
-    /// The child that is awaited goes on here, and those that were handed back to it are the newest of these. Where
-    /// memory is refused nothing has changed but room.
-    pub fn take_in_with(
+    /// A child comes back: it waits to run here, behind those that were handed back to it; or, where it is awaited, it
+    /// goes on here, and those are the newest of these. Where it answers an error nothing has changed but room.
+    pub fn place(
         &mut self,
         placed: &mut Vec<Box<State<'p>>>,
-        child: &mut State<'p>,
+        child: Box<State<'p>>,
         others: &mut Vec<Box<State<'p>>>,
-    ) -> Result<(), AllocError>
-        requires { FitsInto self.old child.old }
-        ensures ok { OnOk result (TakesIn self.old child.old self.new) }
-        ensures placed { OnOk result (placed.new.items ≡ placed.old.items ++ others.old.items) }
-        ensures err { OnErr result (IsSame self.old self.new) }
-        ensures childs { OnErr result (LooksSame child.old child.new) }
-        ensures err_placed { OnErr result (placed.new.items ≡ placed.old.items) }
-        ensures err_others { OnErr result (others.new ≡ others.old) }
+    ) -> Result<(), Unplaced<'p>>
+        requires placing { IsPlacing (pending_of self.old.control) }
+        requires line { HasLine self.old }
+        requires fits { FitsInto self.old child.value }
+        requires forked { pending_of self.old.control ≡ Some pause.Forks → awaited (suspended (top self.old)) ≡ Some child.value.own.name }
+        ensures { Places result self.old placed.old.items child.entry.value others.old.items self.new placed.new.items others.new.items }
     {
-        placed.try_reserve(others.len())?;
-        self.take_in(child)?;
+        match self.control {
+            Control::Awaits { .. } | Control::AwaitsHalf { .. } => {
+                self.go_on_with(placed, child, others)
+            }
+            _ => self.wait_with(placed, child, others),
+        }
+    }
+
+    /// A child that was forked waits to run here, behind those that were handed back to it.
+    fn wait_with(
+        &mut self,
+        placed: &mut Vec<Box<State<'p>>>,
+        child: Box<State<'p>>,
+        grandchildren: &mut Vec<Box<State<'p>>>,
+    ) -> Result<(), Unplaced<'p>>
+        requires forks { pending_of self.old.control ≡ Some pause.Forks }
+        requires forked { awaited (suspended (top self.old)) ≡ Some child.value.own.name }
+        ensures { Places result self.old placed.old.items child.entry.value grandchildren.old.items self.new placed.new.items grandchildren.new.items }
+    {
+        let mut waiting = child;
+        if placed.try_reserve(grandchildren.len() + 1).is_err() {
+            return Err(Unplaced::Memory(waiting));
+        }
+        let _ = placed.append(grandchildren);
+        waiting.own.label.ran = Ran::InPlace;
+        placed.push_reserved(waiting);
+        self.forked();
+        Ok(())
+    }
+
+    /// The child that is awaited goes on here, and those that were handed back to it are the newest of these.
+    fn go_on_with(
+        &mut self,
+        placed: &mut Vec<Box<State<'p>>>,
+        child: Box<State<'p>>,
+        others: &mut Vec<Box<State<'p>>>,
+    ) -> Result<(), Unplaced<'p>>
+        requires joins { pending_of self.old.control ≡ Some pause.Joins }
+        requires line { HasLine self.old }
+        requires fits { FitsInto self.old child.value }
+        ensures { Places result self.old placed.old.items child.entry.value others.old.items self.new placed.new.items others.new.items }
+    {
+        let mut child = child;
+        let is_awaited = self.awaits(&child.own.name);
+        if !is_awaited {
+            return Err(Unplaced::Foreign(child));
+        }
+        if placed.try_reserve(others.len()).is_err() || self.take_in(&mut child).is_err() {
+            return Err(Unplaced::Memory(child));
+        }
         let _ = placed.append(others);
         Ok(())
     }

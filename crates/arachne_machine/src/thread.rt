@@ -16,6 +16,7 @@ use crate::frame::Control;
 use crate::line::Ran;
 use crate::outcome::Outcome;
 use crate::pause::{NotJoined, NotPlaced, Pause, Pending};
+use crate::placed::Unplaced;
 use crate::placing::{Everywhere, Placing};
 use crate::spares::Spares;
 use crate::state::State;
@@ -207,68 +208,12 @@ impl<'p> Thread<'p> {
         ensures err { OnErr result (self.new ≡ self.old) }
         ensures handed_back { IfErr result (λ e. child_back e ≡ child.entry) }
     {
-        match self.state.pending() {
-            Some(Pending::Joins) => self.begin_awaited(child),
-            _ => match self.place_forked(child) {
-                Ok(()) => Ok(()),
-                Err(child) => Err(NotPlaced::Memory(child)),
-            },
+        let Thread { state, mut placed } = child;
+        match self.state.place(&mut self.placed, state, &mut placed) {
+            Ok(()) => Ok(()),
+            Err(Unplaced::Foreign(state)) => Err(NotPlaced::Foreign(Thread { state, placed })),
+            Err(Unplaced::Memory(state)) => Err(NotPlaced::Memory(Thread { state, placed })),
         }
-    }
-
-    /// Answers a fork with its child, which runs in this thread's place once it is awaited. Where memory is
-    /// refused nothing has changed, and the child comes back.
-    fn place_forked(&mut self, child: Thread<'p>) -> Result<(), Thread<'p>>
-        requires pending { pending_in self.old ≡ Some pause.Forks }
-        requires child { MayBePlaced self.old child }
-        ensures whole { SameWhole self.old self.new }
-        ensures ok { OnOk result (PlacesAtFork self.old child.entry self.new) }
-        ensures pending { OnOk result (pending_in self.new ≡ None) }
-        ensures work { OnOk result (work_in self.new ≡ work_in self.old + work_in child.entry) }
-        ensures err { OnErr result (self.new ≡ self.old) }
-        ensures handed_back { IfErr result (λ back. back ≡ child.entry) }
-    {
-        let mut child = child;
-        if self.placed.try_reserve(child.placed.len() + 1).is_err() {
-            return Err(child);
-        }
-        let _ = self.placed.append(&mut child.placed);
-        let mut state = child.state;
-        state.own.label.ran = Ran::InPlace;
-        self.placed.push_reserved(state);
-        self.state.forked();
-        Ok(())
-    }
-
-    /// The child that is awaited goes on in this thread's place. Where it answers an error nothing has changed, and the
-    /// child comes back.
-    fn begin_awaited(&mut self, child: Thread<'p>) -> Result<(), NotPlaced<'p>>
-        requires pending { pending_in self.old ≡ Some pause.Joins }
-        requires child { MayBePlaced self.old child }
-        ensures whole { SameWhole self.old self.new }
-        ensures ok { OnOk result (self.new ≡ begun_in self.old child.entry) }
-        ensures pending { OnOk result (pending_in self.new ≡ None) }
-        ensures work { OnOk result (work_in self.new ≡ work_in self.old + work_in child.entry) }
-        ensures foreign { IsNotAwaited result ↔ (awaited self.old.running ≢ Some (whole child.entry).name) }
-        ensures err { OnErr result (self.new ≡ self.old) }
-        ensures handed_back { IfErr result (λ e. child_back e ≡ child.entry) }
-    {
-        if !self.state.awaits(&child.state.own.name) {
-            return Err(NotPlaced::Foreign(child));
-        }
-        let Thread {
-            mut state,
-            mut placed,
-        } = child;
-        if self
-            .state
-            .take_in_with(&mut self.placed, &mut state, &mut placed)
-            .is_err()
-        {
-            let child = Thread { state, placed };
-            return Err(NotPlaced::Memory(child));
-        }
-        Ok(())
     }
 
     /// Answers that the thread holds the lock that it asked for. It takes no memory.

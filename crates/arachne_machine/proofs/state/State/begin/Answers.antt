@@ -7,7 +7,7 @@ use Rattle.arachne_machine.specs.declared.frame.Control.TheVariants.{Give, Asks}
 use Rattle.arachne_machine.specs.declared.pause.Pending.TheVariants as pause
 use Rattle.arachne_machine.specs.declared.state.Progress.TheVariants as way
 use Rattle.arachne_machine.specs.Steps.{beginning, giving, top}
-use Rattle.arachne_machine.specs.Runs.{beginning_in}
+use Rattle.arachne_machine.specs.Runs.{Comes, beginning_in}
 use Rattle.arachne_machine.proofs.Outlooks.{as_beginning, given}
 use Rattle.arachne_machine.proofs.Openings.{begins_by, goes_to_value, goes_to_part, open_number, open_variable, open_length, open_item, open_choice, open_binding, open_tally, open_hold, open_fold, open_sweep}
 use Rattle.arachne_machine.proofs.Handings.{once}
@@ -15,8 +15,7 @@ use Rattle.arachne_machine.proofs.Splitting.{goes_to_fork, places_fork}
 use Rattle.arachne_machine.proofs.Strides.{ok_both, reaches_value}
 use Rattle.arachne_machine.proofs.Levels.{changes_leave, top_becomes}
 use Rattle.arachne_machine.proofs.Going.{comes_enter, comes_fork, comes_of, comes_stop, enters_begun, forks_begun, forks_part, leaves_begun, line_in, not_ended, number_fits, runs_place, spawns_begun, start_in}
-use Rattle.arachne_machine.proofs.Lasting.{ask_is_no_join, leaves_from, no_stop}
-use Rattle.arachne_machine.proofs.state.State.begin.Goals.{in-Item+in_ok-part-in-Item, in-If+in_ok-part-in-If, in-Let+in_ok-part-in-Let, in-Tally+in_ok-part-in-Tally, in-Fold+in_ok-part-in-Fold, in-Sweep+in_ok-part-in-Sweep}
+use Rattle.arachne_machine.proofs.Lasting.{ask_is_no_join, leaves_from, no_stop, ok_forked, ok_known}
 use Rattle.arachne_machine.proofs.state.State.begin.Goals as goal
 
 pub operate-requires : goal.operate-requires
@@ -73,23 +72,23 @@ returns-in-Hold-clause-ok g c =
     let lock = c.in-Hold.lock in
     let s = c.requires.sound in
     let le = start_in (beginning_in t e) s in
-    let asked = enters_begun t new e _ _ _ c.in_ok-ask-in-Hold.ensures.ok in
+    ok_known c.ask.result way.Stops (λ p. Comes _ _ _ (beginning_in t e) p new) c.ask.ensures.stops c.ask.ensures.ok (λ asks.
+    let asked = enters_begun t new e _ _ _ asks in
     let step = begins_by 1 (beginning (top t) e) (top new) e (Hold lock (tree_of body.now)) (Asks lock body) (Release lock ∷ []) refl
     (rw c.deref-in-Hold.ensures (ap tree_of c.in-Hold.is)) (top_becomes (beginning_in t e) new _ _ _ asked le) (λ fs. refl) refl
     (open_hold (source_of t.program.now) (top t).own.name t.environment.items lock body) in
     comes_stop _ (beginning_in t e) new (pause.Asks lock) s refl (changes_leave (beginning_in t e) new _ _ _ asked le) (not_ended new (pause.Asks lock) tt) (λ e. absurd (ask_is_no_join lock e))
-    (once (beginning (top t) e) _ step.goes, step.pending, step.locks ∙ ap (λ l. lock ∷ l) (sym step.old_locks))
+    (once (beginning (top t) e) _ step.goes, step.pending, step.locks ∙ ap (λ l. lock ∷ l) (sym step.old_locks)))
 
-pub returns-in-Fork-clause-ok : goal.returns-in-Fork-clause-ok
-returns-in-Fork-clause-ok g c =
+pub returns-else-not-is_any-clause-ok : goal.returns-else-not-is_any-clause-ok
+returns-else-not-is_any-clause-ok g c =
     let t = c.args.self.now in
     let e = c.args.expr in
-    let child = c.in_ok-child-in-Fork.child in
     let new = c.fork.new.self in
-    comes_fork _ (beginning_in t e) new child c.in-Fork.class _ _ _ c.requires.sound refl tt (forks_begun t new e _ _ c.in_ok-child-in-Fork.ensures.counts)
-    (spawns_begun t child.value e _ c.in_ok-child-in-Fork.ensures.child)
+    ok_forked c.fork.result c.in-Fork.class _ (λ p. Comes _ _ _ (beginning_in t e) p new) c.fork.ensures.child c.fork.ensures.counts
+    (λ child counts spawned. comes_fork _ (beginning_in t e) new child c.in-Fork.class _ _ _ c.requires.sound refl tt (forks_begun t new e _ _ counts) (spawns_begun t child.value e _ spawned)
     (λ spawned. goes_to_fork (beginning (top t) e) (top new) (top child.value) e c.deref-in-Fork.result c.deref-in-Fork-2.result c.deref-in-Fork-3.result c.in-Fork.class refl
-    (rw (c.deref-in-Fork.ensures, c.deref-in-Fork-2.ensures, c.deref-in-Fork-3.ensures) (ap tree_of c.in-Fork.is)) spawned)
+    (rw (c.deref-in-Fork.ensures, c.deref-in-Fork-2.ensures, c.deref-in-Fork-3.ensures) (ap tree_of c.in-Fork.is)) spawned))
 
 pub returns-then-not-is_any-clause-ok : goal.returns-then-not-is_any-clause-ok
 returns-then-not-is_any-clause-ok g c =
@@ -97,11 +96,12 @@ returns-then-not-is_any-clause-ok g c =
     let e = c.args.expr in
     let new = c.fork_here.new.self in
     let child = c.deref-then-not-is_any.result in
-    let during = c.deref-then-not-is_any-4.result in
+    let during = c.deref-then-not-is_any-2.result in
     let next = c.deref-then-not-is_any-3.result in
-    runs_place _ (beginning_in t e) (beginning_in new during) _ _ _ (λ all. search (rules, c.is_any.ensures all)) c.requires.sound (forks_part t new e during _ _ c.in_ok-fork_here-in-Fork.ensures.counts)
+    ok_known c.fork_here.result (way.Begin during) (λ p. Comes _ _ _ (beginning_in t e) p new) c.fork_here.ensures.begins c.fork_here.ensures.counts
+    (λ counts. runs_place _ (beginning_in t e) (beginning_in new during) _ _ _ (λ all. search (rules, c.is_any.ensures all)) c.requires.sound (forks_part t new e during _ _ counts)
     (λ pushed. places_fork (beginning (top t) e) (beginning (top new) during) e child during next c.in-Fork.class refl
-    (rw (c.deref-then-not-is_any.ensures, c.deref-then-not-is_any-4.ensures, c.deref-then-not-is_any-3.ensures) (ap tree_of c.in-Fork.is)) pushed)
+    (rw (c.deref-then-not-is_any.ensures, c.deref-then-not-is_any-2.ensures, c.deref-then-not-is_any-3.ensures) (ap tree_of c.in-Fork.is)) pushed))
 
 pub returns-in-Binary-clause-ok : goal.returns-in-Binary-clause-ok
 returns-in-Binary-clause-ok g c =
@@ -112,8 +112,8 @@ returns-in-Binary-clause-ok g c =
     ok_both c.operate.result _ _ _ c.operate.ensures.leaves (c.operate.ensures.ok e (rw (c.deref-in-Binary.ensures, c.deref-in-Binary-2.ensures) (ap tree_of c.in-Binary.is)))
     (λ p leaves r. comes_of _ _ _ (beginning_in t e) p new s refl (leaves_from t new e leaves.0) (no_stop p _ leaves.1) r)
 
-pub returns-clause-ok : goal.returns-clause-ok
-returns-clause-ok g c =
+pub returns-in-Item-clause-ok : goal.returns-in-Item-clause-ok
+returns-in-Item-clause-ok g c =
     let t = c.args.self.now in
     let e = c.args.expr in
     let b = beginning (top t) e in
@@ -121,41 +121,89 @@ returns-clause-ok g c =
     let source = source_of t.program.now in
     let name = (top t).own.name in
     let env = t.environment.items in
-    elim c.match-expr.branch [
-      | in-Item+in_ok-part-in-Item w ↦
-          let part = w.deref.result in
-          let new = w.enter.new.self in
-          comes_enter _ _ t c.match-expr.self new e part c.match-expr.part w.in_ok-part-in-Item.part _ s w.self-is w.part-is w.in_ok-part-in-Item.ensures.part w.in_ok-part-in-Item.ensures.ok
-          (λ on. goes_to_part 1 b (beginning (top new) part) e part (Item w.in-Item.array (tree_of part.now)) (Index w.in-Item.array) refl
-          (rw (w.deref.ensures) (ap tree_of w.in-Item.is)) on refl refl (open_item source name env w.in-Item.array part))
-      | in-If+in_ok-part-in-If w ↦
-          let part = w.deref-in-If-3.result in
-          let new = w.enter-in-If.new.self in
-          comes_enter _ _ t c.match-expr.self new e part c.match-expr.part w.in_ok-part-in-If.part _ s w.self-is w.part-is w.in_ok-part-in-If.ensures.part w.in_ok-part-in-If.ensures.ok
-          (λ on. goes_to_part 1 b (beginning (top new) part) e part (Choose (tree_of part.now) (tree_of w.deref-in-If.result.now) (tree_of w.deref-in-If-2.result.now)) (Branch w.deref-in-If.result w.deref-in-If-2.result) refl
-          (rw (w.deref-in-If.ensures, w.deref-in-If-2.ensures, w.deref-in-If-3.ensures) (ap tree_of w.in-If.is)) on refl refl (open_choice source name env part w.deref-in-If.result w.deref-in-If-2.result))
-      | in-Let+in_ok-part-in-Let w ↦
-          let part = w.deref-in-Let-2.result in
-          let new = w.enter-in-Let.new.self in
-          comes_enter _ _ t c.match-expr.self new e part c.match-expr.part w.in_ok-part-in-Let.part _ s w.self-is w.part-is w.in_ok-part-in-Let.ensures.part w.in_ok-part-in-Let.ensures.ok
-          (λ on. goes_to_part 1 b (beginning (top new) part) e part (Bind (tree_of part.now) (tree_of w.deref-in-Let.result.now)) (Extend w.deref-in-Let.result) refl
-          (rw (w.deref-in-Let.ensures, w.deref-in-Let-2.ensures) (ap tree_of w.in-Let.is)) on refl refl (open_binding source name env part w.deref-in-Let.result))
-      | in-Tally+in_ok-part-in-Tally w ↦
-          let part = w.deref-in-Tally-2.result in
-          let new = w.enter-in-Tally.new.self in
-          comes_enter _ _ t c.match-expr.self new e part c.match-expr.part w.in_ok-part-in-Tally.part _ s w.self-is w.part-is w.in_ok-part-in-Tally.ensures.part w.in_ok-part-in-Tally.ensures.ok
-          (λ on. goes_to_part 1 b (beginning (top new) part) e part (Tally w.in-Tally.ledger (tree_of part.now) (tree_of w.deref-in-Tally.result.now)) (Amount w.in-Tally.ledger w.deref-in-Tally.result) refl
-          (rw (w.deref-in-Tally.ensures, w.deref-in-Tally-2.ensures) (ap tree_of w.in-Tally.is)) on refl refl (open_tally source name env w.in-Tally.ledger part w.deref-in-Tally.result))
-      | in-Fold+in_ok-part-in-Fold w ↦
-          let part = w.deref-in-Fold-4.result in
-          let new = w.enter-in-Fold.new.self in
-          comes_enter _ _ t c.match-expr.self new e part c.match-expr.part w.in_ok-part-in-Fold.part _ s w.self-is w.part-is w.in_ok-part-in-Fold.ensures.part w.in_ok-part-in-Fold.ensures.ok
-          (λ on. goes_to_part 1 b (beginning (top new) part) e part (Fold (tree_of part.now) (tree_of w.deref-in-Fold.result.now) (tree_of w.deref-in-Fold-2.result.now) (tree_of w.deref-in-Fold-3.result.now)) (FoldTo w.deref-in-Fold.result w.deref-in-Fold-2.result w.deref-in-Fold-3.result) refl
-          (rw (w.deref-in-Fold.ensures, w.deref-in-Fold-2.ensures, w.deref-in-Fold-3.ensures, w.deref-in-Fold-4.ensures) (ap tree_of w.in-Fold.is)) on refl refl (open_fold source name env part w.deref-in-Fold.result w.deref-in-Fold-2.result w.deref-in-Fold-3.result))
-      | in-Sweep+in_ok-part-in-Sweep w ↦
-          let part = w.deref-in-Sweep-3.result in
-          let new = w.enter-in-Sweep.new.self in
-          comes_enter _ _ t c.match-expr.self new e part c.match-expr.part w.in_ok-part-in-Sweep.part _ s w.self-is w.part-is w.in_ok-part-in-Sweep.ensures.part w.in_ok-part-in-Sweep.ensures.ok
-          (λ on. goes_to_part 1 b (beginning (top new) part) e part (Sweep w.in-Sweep.reduction w.in-Sweep.grain (tree_of part.now) (tree_of w.deref-in-Sweep.result.now) (tree_of w.deref-in-Sweep-2.result.now)) (SweepTo w.in-Sweep.reduction w.in-Sweep.grain w.deref-in-Sweep.result w.deref-in-Sweep-2.result) refl
-          (rw (w.deref-in-Sweep.ensures, w.deref-in-Sweep-2.ensures, w.deref-in-Sweep-3.ensures) (ap tree_of w.in-Sweep.is)) on refl refl (open_sweep source name env w.in-Sweep.reduction w.in-Sweep.grain part w.deref-in-Sweep.result w.deref-in-Sweep-2.result))
-    ]
+    let part = c.deref.result in
+    let new = c.enter.new.self in
+    ok_known c.enter.result (way.Begin part) (λ p. Comes _ _ _ (beginning_in t e) p new) c.enter.ensures.begins c.enter.ensures.ok
+    (λ pushes. comes_enter _ _ t new e part _ s pushes
+    (λ on. goes_to_part 1 b (beginning (top new) part) e part (Item c.in-Item.array (tree_of part.now)) (Index c.in-Item.array) refl
+    (rw (c.deref.ensures) (ap tree_of c.in-Item.is)) on refl refl (open_item source name env c.in-Item.array part)))
+
+pub returns-in-If-clause-ok : goal.returns-in-If-clause-ok
+returns-in-If-clause-ok g c =
+    let t = c.args.self.now in
+    let e = c.args.expr in
+    let b = beginning (top t) e in
+    let s = c.requires.sound in
+    let source = source_of t.program.now in
+    let name = (top t).own.name in
+    let env = t.environment.items in
+    let part = c.deref-in-If-3.result in
+    let new = c.enter-in-If.new.self in
+    ok_known c.enter-in-If.result (way.Begin part) (λ p. Comes _ _ _ (beginning_in t e) p new) c.enter-in-If.ensures.begins c.enter-in-If.ensures.ok
+    (λ pushes. comes_enter _ _ t new e part _ s pushes
+    (λ on. goes_to_part 1 b (beginning (top new) part) e part (Choose (tree_of part.now) (tree_of c.deref-in-If.result.now) (tree_of c.deref-in-If-2.result.now)) (Branch c.deref-in-If.result c.deref-in-If-2.result) refl
+    (rw (c.deref-in-If.ensures, c.deref-in-If-2.ensures, c.deref-in-If-3.ensures) (ap tree_of c.in-If.is)) on refl refl (open_choice source name env part c.deref-in-If.result c.deref-in-If-2.result)))
+
+pub returns-in-Let-clause-ok : goal.returns-in-Let-clause-ok
+returns-in-Let-clause-ok g c =
+    let t = c.args.self.now in
+    let e = c.args.expr in
+    let b = beginning (top t) e in
+    let s = c.requires.sound in
+    let source = source_of t.program.now in
+    let name = (top t).own.name in
+    let env = t.environment.items in
+    let part = c.deref-in-Let-2.result in
+    let new = c.enter-in-Let.new.self in
+    ok_known c.enter-in-Let.result (way.Begin part) (λ p. Comes _ _ _ (beginning_in t e) p new) c.enter-in-Let.ensures.begins c.enter-in-Let.ensures.ok
+    (λ pushes. comes_enter _ _ t new e part _ s pushes
+    (λ on. goes_to_part 1 b (beginning (top new) part) e part (Bind (tree_of part.now) (tree_of c.deref-in-Let.result.now)) (Extend c.deref-in-Let.result) refl
+    (rw (c.deref-in-Let.ensures, c.deref-in-Let-2.ensures) (ap tree_of c.in-Let.is)) on refl refl (open_binding source name env part c.deref-in-Let.result)))
+
+pub returns-in-Tally-clause-ok : goal.returns-in-Tally-clause-ok
+returns-in-Tally-clause-ok g c =
+    let t = c.args.self.now in
+    let e = c.args.expr in
+    let b = beginning (top t) e in
+    let s = c.requires.sound in
+    let source = source_of t.program.now in
+    let name = (top t).own.name in
+    let env = t.environment.items in
+    let part = c.deref-in-Tally-2.result in
+    let new = c.enter-in-Tally.new.self in
+    ok_known c.enter-in-Tally.result (way.Begin part) (λ p. Comes _ _ _ (beginning_in t e) p new) c.enter-in-Tally.ensures.begins c.enter-in-Tally.ensures.ok
+    (λ pushes. comes_enter _ _ t new e part _ s pushes
+    (λ on. goes_to_part 1 b (beginning (top new) part) e part (Tally c.in-Tally.ledger (tree_of part.now) (tree_of c.deref-in-Tally.result.now)) (Amount c.in-Tally.ledger c.deref-in-Tally.result) refl
+    (rw (c.deref-in-Tally.ensures, c.deref-in-Tally-2.ensures) (ap tree_of c.in-Tally.is)) on refl refl (open_tally source name env c.in-Tally.ledger part c.deref-in-Tally.result)))
+
+pub returns-in-Fold-clause-ok : goal.returns-in-Fold-clause-ok
+returns-in-Fold-clause-ok g c =
+    let t = c.args.self.now in
+    let e = c.args.expr in
+    let b = beginning (top t) e in
+    let s = c.requires.sound in
+    let source = source_of t.program.now in
+    let name = (top t).own.name in
+    let env = t.environment.items in
+    let part = c.deref-in-Fold-4.result in
+    let new = c.enter-in-Fold.new.self in
+    ok_known c.enter-in-Fold.result (way.Begin part) (λ p. Comes _ _ _ (beginning_in t e) p new) c.enter-in-Fold.ensures.begins c.enter-in-Fold.ensures.ok
+    (λ pushes. comes_enter _ _ t new e part _ s pushes
+    (λ on. goes_to_part 1 b (beginning (top new) part) e part (Fold (tree_of part.now) (tree_of c.deref-in-Fold.result.now) (tree_of c.deref-in-Fold-2.result.now) (tree_of c.deref-in-Fold-3.result.now)) (FoldTo c.deref-in-Fold.result c.deref-in-Fold-2.result c.deref-in-Fold-3.result) refl
+    (rw (c.deref-in-Fold.ensures, c.deref-in-Fold-2.ensures, c.deref-in-Fold-3.ensures, c.deref-in-Fold-4.ensures) (ap tree_of c.in-Fold.is)) on refl refl (open_fold source name env part c.deref-in-Fold.result c.deref-in-Fold-2.result c.deref-in-Fold-3.result)))
+
+pub returns-in-Sweep-clause-ok : goal.returns-in-Sweep-clause-ok
+returns-in-Sweep-clause-ok g c =
+    let t = c.args.self.now in
+    let e = c.args.expr in
+    let b = beginning (top t) e in
+    let s = c.requires.sound in
+    let source = source_of t.program.now in
+    let name = (top t).own.name in
+    let env = t.environment.items in
+    let part = c.deref-in-Sweep-3.result in
+    let new = c.enter-in-Sweep.new.self in
+    ok_known c.enter-in-Sweep.result (way.Begin part) (λ p. Comes _ _ _ (beginning_in t e) p new) c.enter-in-Sweep.ensures.begins c.enter-in-Sweep.ensures.ok
+    (λ pushes. comes_enter _ _ t new e part _ s pushes
+    (λ on. goes_to_part 1 b (beginning (top new) part) e part (Sweep c.in-Sweep.reduction c.in-Sweep.grain (tree_of part.now) (tree_of c.deref-in-Sweep.result.now) (tree_of c.deref-in-Sweep-2.result.now)) (SweepTo c.in-Sweep.reduction c.in-Sweep.grain c.deref-in-Sweep.result c.deref-in-Sweep-2.result) refl
+    (rw (c.deref-in-Sweep.ensures, c.deref-in-Sweep-2.ensures, c.deref-in-Sweep-3.ensures) (ap tree_of c.in-Sweep.is)) on refl refl (open_sweep source name env c.in-Sweep.reduction c.in-Sweep.grain part c.deref-in-Sweep.result c.deref-in-Sweep-2.result)))

@@ -2,12 +2,14 @@ use Rattle.std.proofs.Common.{rules, ◌≤◌, ◌<◌, ◌+◌, ◌-◌, ◌/�
 use Rattle.std.specs.Prelude.{max}
 use Rattle.arachne_lang.specs.declared.program.Class.TheVariants.{Normal}
 use Rattle.arachne_machine.specs.Ending.{fork_awaited}
+use Rattle.arachne_machine.specs.declared.state.Progress.TheVariants as way
+use Rattle.arachne_machine.specs.Runs.{Comes}
 use Rattle.arachne_machine.specs.Steps.{IsLeftOver, pending_of, top}
 use Rattle.arachne_machine.proofs.Handings.{covers}
 use Rattle.arachne_machine.proofs.Splitting.{goes_to_half, places_half}
 use Rattle.arachne_machine.proofs.Turning.{makes_once}
 use Rattle.arachne_machine.proofs.Going.{comes_fork, comes_of, leaves_on, leaves_same, line_in, number_fits, runs_place, start_in, start_same, top_same}
-use Rattle.arachne_machine.proofs.Lasting.{no_stop}
+use Rattle.arachne_machine.proofs.Lasting.{no_stop, ok_forked, ok_known}
 use Rattle.arachne_machine.proofs.state.State.cover.Goals as goal
 
 pub halve_here-requires : goal.halve_here-requires
@@ -28,23 +30,23 @@ returns-then-not-is_any-clause-ok g c =
     let t = c.args.self.now in
     let s = c.args.stretch in
     let new = c.halve_here.new.self in
-    let counts = c.in_ok-halve_here.ensures.counts in
-    let long : max 1 s.grain < s.end - s.first = omega (arith, c.if-count-max.true, c.max.ensures, c.saturating_sub-count.ensures) in (
+    let long : max 1 s.grain < s.end - s.first = omega (arith, c.if-count-max.true, c.max.ensures, c.saturating_sub-count.ensures) in
+    ok_known c.halve_here.result way.Goes (λ p. Comes _ _ _ t p new) c.halve_here.ensures.goes c.halve_here.ensures.counts (λ counts. (
       runs_place _ t new _ _ _ (λ all. search (rules, c.is_any.ensures all)) c.requires.sound counts
           (λ pushed. places_half (top t) (top new) s (s.first + c.saturating_sub-count.result / 2) c.requires.covers long (ap (λ n. s.first + n / 2) c.saturating_sub-count.ensures) pushed),
       subst IsLeftOver (sym counts.control_is) tt,
-    )
+    ))
 
 pub returns-then-count-max-clause-ok : goal.returns-then-count-max-clause-ok
 returns-then-count-max-clause-ok g c =
     let t = c.args.self.now in
     let s = c.args.stretch in
     let new = c.halve.new.self in
-    let child = c.in_ok-child.child in
     let long : max 1 s.grain < s.end - s.first = omega (arith, c.if-count-max.true, c.max.ensures, c.saturating_sub-count.ensures) in
-    comes_fork _ t new child Normal _ _ _ c.requires.sound (ap pending_of c.requires.covers) tt c.in_ok-child.ensures.counts c.in_ok-child.ensures.child
+    ok_forked c.halve.result Normal _ (λ p. Comes _ _ _ t p new) c.halve.ensures.child c.halve.ensures.counts
+    (λ child counts spawned. comes_fork _ t new child Normal _ _ _ c.requires.sound (ap pending_of c.requires.covers) tt counts spawned
     (λ spawned. goes_to_half (top t) (top new) (top child.value) s (s.first + c.saturating_sub-count.result / 2) c.requires.covers long
-    (ap (λ n. s.first + n / 2) c.saturating_sub-count.ensures) spawned)
+    (ap (λ n. s.first + n / 2) c.saturating_sub-count.ensures) spawned))
 
 pub returns-clause-ok : goal.returns-clause-ok
 returns-clause-ok g c =
