@@ -5,8 +5,6 @@
 #[cfg(test)]
 mod crew;
 #[cfg(test)]
-mod loads;
-#[cfg(test)]
 mod orders;
 #[cfg(test)]
 mod rounds;

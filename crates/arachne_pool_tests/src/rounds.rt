@@ -1,8 +1,9 @@
 //! What is done with a pool by one worker, act by act, and what is seen of it.
-ghost use Rattle.std.specs.Prelude.{◌≡◌, ◌<◌, ◌≤◌, IfOk};
+ghost use Rattle.std.specs.Prelude.{◌≡◌, ◌<◌, ◌≤◌, IfSome};
 ghost use Rattle.arachne_core.specs.declared.layout.TheConstants.{CORES, SLOTS};
 ghost use Rattle.arachne_pool.specs.Workers.{IsWorkerOf};
 
+use crate::crew::Crew;
 use crate::orders::{Order, orders_of};
 use crate::tasks::{Sort, Task};
 use arachne_contexts::Contexts;
@@ -11,6 +12,7 @@ use arachne_pool::{Handle, Pool, PoolFault, Spawned, Worker};
 use std::alloc::Global;
 use std::sync::Wait;
 use std::test::Fail;
+use std::thread::Threads;
 
 /// One act.
 #[derive(Clone, Copy)]
@@ -19,28 +21,32 @@ pub(crate) enum Act {
     Spawns(Sort),
     /// A round on a core; whether it finds anything.
     Turns(u8, bool),
-    /// So many places of a core are taken.
-    Has(u8, u8),
-    /// Whether a core is closed.
-    IsClosed(u8, bool),
-    /// Whether one job has a core alone.
-    IsAlone(u8, bool),
+    /// So many places of a core are taken, and so it is.
+    Has(u8, u8, Is),
     /// From now on these orders.
     Orders(&'static [Order]),
     /// So many jobs have not ended.
     Lives(u64),
-    /// The job that was spawned last of those that gave nothing gives this.
-    Gives(u64),
-    /// It gives nothing yet.
-    GivesNothing,
-    /// It is joined on a core, and gives this.
-    Joins(u8, u64),
-    /// It is joined on a core of a pool that is stopped.
-    JoinsInVain(u8),
+    /// The job that was spawned last of those that gave nothing is joined on core 0, and gives this, or nothing, as of a
+    /// pool that is stopped.
+    Gives(Option<u64>),
     /// The worker works on a core until no job is left, or it is to stop.
     Works(u8),
+    /// Two kernel threads do, for core 0 and core 1. With a number that for core 0 stops the pool after so many rounds.
+    TwoWork(u32),
+    /// They do until no job is left, and each ends one.
+    BothEnd,
     /// The worker is to stop.
     Stops,
+}
+
+/// How a core is.
+#[derive(Clone, Copy, PartialEq)]
+pub(crate) enum Is {
+    Open,
+    Closed,
+    /// One job has it alone.
+    Alone,
 }
 
 /// A row: a pool, what is done, and how many jobs are left with a place and without.
@@ -55,7 +61,7 @@ pub(crate) struct Row {
 
 /// The first act of a row that doesn't come out as it says, from 0; their number if it is how many jobs are left. None
 /// where all do.
-pub(crate) fn failed_act<C: Contexts<Spawned<Task>> + Drop, R: Wait>(
+pub(crate) fn failed_act<C: Crew + Drop, R: Threads + Wait + Sync>(
     rt: &R,
     alloc: Global,
     row: &Row,
@@ -64,126 +70,111 @@ pub(crate) fn failed_act<C: Contexts<Spawned<Task>> + Drop, R: Wait>(
     if cores < 1 || cores > CORES || slots < 1 || slots > SLOTS {
         return Err("no such pool")?;
     }
-    let orders = orders_of(alloc, row.orders, cores)?;
+    let orders = orders_of(alloc, row.orders, cores).ok_or("no such orders")?;
+    let mut handles = Vec::with_capacity(alloc, row.acts.len())?;
     let (pool, mut worker) = Pool::<C>::new::<Task>(alloc, cores, slots, orders)?;
-    let mut handles = Vec::new(alloc);
     for (nth, act) in row.acts.iter().enumerate() {
-        if !holds::<C, R>(rt, &pool, &mut worker, &mut handles, *act)? {
-            return Ok(Some(nth));
-        }
+        worker = match act_of::<C, R>(rt, &pool, worker, &mut handles, *act) {
+            Some(worker) => worker,
+            None => return Ok(Some(nth)),
+        };
     }
-    let Ok(left) = pool.close(rt, alloc, worker) else {
-        return Ok(Some(row.acts.len()));
-    };
-    if left.placed.len() == row.left.0 && left.near.len() == row.left.1 {
-        Ok(None)
-    } else {
-        Ok(Some(row.acts.len()))
+    match pool.close(rt, alloc, worker) {
+        Ok(left) if (left.placed.len(), left.near.len()) == row.left => Ok(None),
+        _ => Ok(Some(row.acts.len())),
     }
 }
 
-/// Does an act. Whether it comes out as it says.
+/// Does an act. The worker, if it comes out as it says.
+fn act_of<C: Crew, R: Threads + Wait + Sync>(
+    rt: &R,
+    pool: &Pool<C>,
+    mut worker: Worker<C::Seat, Task>,
+    handles: &mut Vec<Handle<Task>>,
+    act: Act,
+) -> Option<Worker<C::Seat, Task>>
+    requires { IsWorkerOf C.sits C.idle pool.now.table pool.now.cores worker }
+    ensures { IfSome result (IsWorkerOf C.sits C.idle pool.now.table pool.now.cores) }
+{
+    let (rounds, are_both) = match act {
+        Act::TwoWork(rounds) => (rounds, false),
+        Act::BothEnd => (0, true),
+        act => {
+            return if holds::<C, R>(rt, pool, &mut worker, handles, act) {
+                Some(worker)
+            } else {
+                None
+            };
+        }
+    };
+    if pool.cores < 2 {
+        return None;
+    }
+    match C::have_two_work(rt, pool, worker, rounds) {
+        Some((worker, busy)) if busy || !are_both => Some(worker),
+        _ => None,
+    }
+}
+
+/// Whether an act of one worker comes out as it says.
 fn holds<C: Contexts<Spawned<Task>>, R: Wait>(
     rt: &R,
     pool: &Pool<C>,
     worker: &mut Worker<C::Seat, Task>,
     handles: &mut Vec<Handle<Task>>,
     act: Act,
-) -> Result<bool, Fail>
+) -> bool
     requires worker { IsWorkerOf C.sits C.idle pool.now.table pool.now.cores worker.old }
     ensures worker { IsWorkerOf C.sits C.idle pool.now.table pool.now.cores worker.new }
 {
     match act {
         Act::Spawns(sort) => match pool.spawn(rt, worker, Task::new(sort)) {
-            Ok(handle) => {
-                handles.push(handle)?;
-                Ok(true)
-            }
-            Err(_) => Ok(false),
+            Ok(handle) => handles.push(handle).is_ok(),
+            Err(_) => false,
         },
-        Act::Turns(core, finds) if core < pool.cores => {
-            Ok(pool.turn(rt, worker, core) == Ok(finds))
+        Act::Turns(core, finds) if core < pool.cores => pool.turn(rt, worker, core) == Ok(finds),
+        Act::Works(core) if core < pool.cores => pool.work(rt, worker, core).is_ok(),
+        Act::Gives(wanted) if pool.cores > 0 => gives::<C, R>(rt, pool, worker, handles, wanted),
+        Act::Orders(orders) => match orders_of(*handles.allocator(), orders, pool.cores) {
+            Some(orders) => pool.order(rt, worker, orders).is_ok(),
+            None => false,
+        },
+        Act::Has(core, taken, is) if core < pool.cores => {
+            match OccWord::from_word(pool.table.glance(rt, core)) {
+                Some(now) => {
+                    now.count() == taken
+                        && now.is_closed() == (is == Is::Closed)
+                        && now.is_exclusive() == (is == Is::Alone)
+                }
+                None => false,
+            }
         }
-        Act::Works(core) if core < pool.cores => Ok(pool.work(rt, worker, core).is_ok()),
-        Act::Orders(orders) => {
-            let orders = orders_of(*handles.allocator(), orders, pool.cores)?;
-            Ok(pool.order(rt, worker, orders).is_ok())
-        }
+        Act::Lives(count) => pool.live() == count,
         Act::Stops => {
             pool.stop();
-            Ok(true)
-        }
-        Act::Joins(core, _) | Act::JoinsInVain(core) if core < pool.cores => {
-            joins::<C, R>(rt, pool, worker, handles, core, act)
-        }
-        Act::Gives(_) | Act::GivesNothing => gives(handles, act),
-        seen => Ok(is_seen::<C, R>(rt, pool, seen)),
-    }
-}
-
-/// Joins the job that was spawned last. Whether that comes out as it says.
-fn joins<C: Contexts<Spawned<Task>>, R: Wait>(
-    rt: &R,
-    pool: &Pool<C>,
-    worker: &mut Worker<C::Seat, Task>,
-    handles: &mut Vec<Handle<Task>>,
-    core: u8,
-    act: Act,
-) -> Result<bool, Fail>
-    requires worker { IsWorkerOf C.sits C.idle pool.now.table pool.now.cores worker.old }
-    requires core { core < pool.now.cores }
-    ensures worker { IsWorkerOf C.sits C.idle pool.now.table pool.now.cores worker.new }
-{
-    let Some(handle) = handles.pop() else {
-        return Ok(false);
-    };
-    match pool.join(rt, worker, core, handle) {
-        Ok(counted) => Ok(matches!(act, Act::Joins(_, wanted) if wanted == counted)),
-        Err((fault, handle)) => {
-            handles.push(handle)?;
-            Ok(fault == PoolFault::Stopped && matches!(act, Act::JoinsInVain(_)))
-        }
-    }
-}
-
-/// Looks whether the job that was spawned last has ended. Whether that comes out as it says.
-fn gives(handles: &mut Vec<Handle<Task>>, act: Act) -> Result<bool, Fail> {
-    let Some(handle) = handles.pop() else {
-        return Ok(false);
-    };
-    match handle.poll() {
-        Ok(counted) => Ok(matches!(act, Act::Gives(wanted) if wanted == counted)),
-        Err(handle) => {
-            handles.push(handle)?;
-            Ok(matches!(act, Act::GivesNothing))
-        }
-    }
-}
-
-/// Whether this is to be seen of a pool.
-fn is_seen<C: Contexts<Spawned<Task>>, R: Wait>(rt: &R, pool: &Pool<C>, act: Act) -> bool {
-    match act {
-        Act::Lives(count) => pool.live() == count,
-        Act::Has(core, count) if core < pool.cores => {
-            occupancy::<C, R>(rt, pool, core).is_some_and(|now| now.count() == count)
-        }
-        Act::IsClosed(core, is_closed) if core < pool.cores => {
-            occupancy::<C, R>(rt, pool, core).is_some_and(|now| now.is_closed() == is_closed)
-        }
-        Act::IsAlone(core, is_alone) if core < pool.cores => {
-            occupancy::<C, R>(rt, pool, core).is_some_and(|now| now.is_exclusive() == is_alone)
+            true
         }
         _ => false,
     }
 }
 
-/// What is on a core.
-fn occupancy<C: Contexts<Spawned<Task>>, R: Wait>(
+/// Joins the job that was spawned last on core 0. Whether it gives this, or nothing where the pool is stopped.
+fn gives<C: Contexts<Spawned<Task>>, R: Wait>(
     rt: &R,
     pool: &Pool<C>,
-    core: u8,
-) -> Option<OccWord>
-    requires { core < pool.now.cores }
+    worker: &mut Worker<C::Seat, Task>,
+    handles: &mut Vec<Handle<Task>>,
+    wanted: Option<u64>,
+) -> bool
+    requires worker { IsWorkerOf C.sits C.idle pool.now.table pool.now.cores worker.old }
+    requires core { 0 < pool.now.cores }
+    ensures worker { IsWorkerOf C.sits C.idle pool.now.table pool.now.cores worker.new }
 {
-    OccWord::from_word(pool.table.glance(rt, core))
+    let Some(handle) = handles.pop() else {
+        return false;
+    };
+    match pool.join(rt, worker, 0, handle) {
+        Ok(counted) => wanted == Some(counted),
+        Err((fault, _)) => wanted.is_none() && fault == PoolFault::Stopped,
+    }
 }

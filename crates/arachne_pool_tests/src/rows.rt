@@ -1,14 +1,14 @@
-//! Rows by rounds of one worker, for both forms of table.
-use crate::orders::{GRANT, RELEASE};
-use crate::rounds::{Act, Row, failed_act};
+//! Rows of acts, over the table on words.
+use crate::crew::Crew;
+use crate::orders::{GRANT, Order, RELEASE};
+use crate::rounds::{Act, Is, Row, failed_act};
 use crate::tasks::{Joins, LEAF, PARENT, Sort, Task};
-use arachne_contexts::Contexts;
-use arachne_locked::LockedContexts;
 use arachne_pool::Spawned;
 use arachne_words::WordContexts;
 use std::alloc::Global;
 use std::sync::Wait;
 use std::test::Fail;
+use std::thread::Threads;
 
 /// A job that has a core for itself, the first that is empty.
 const ALONE: Sort = Sort {
@@ -24,6 +24,47 @@ const ALONE_PARENT: Sort = Sort {
 
 /// One that ends at its eleventh step.
 const ELEVEN: Sort = Sort { steps: 10, ..LEAF };
+
+/// A tree of jobs with three children each, four generations deep: 121 jobs.
+const TREE: Sort = Sort {
+    depth: 4,
+    forks: 3,
+    ..LEAF
+};
+
+/// One that goes on for longer than any test.
+const ENDLESS: Sort = Sort {
+    steps: u32::MAX,
+    ..LEAF
+};
+
+/// Two kernel threads end trees.
+const TREES: &[Act] = &[
+    Act::Spawns(TREE),
+    Act::Spawns(TREE),
+    Act::Spawns(TREE),
+    Act::Spawns(Sort {
+        joins: Joins::InTurn,
+        bound: 5,
+        ..TREE
+    }),
+    Act::TwoWork(0),
+    Act::Lives(0),
+    Act::Gives(Some(121)),
+    Act::Gives(Some(121)),
+    Act::Gives(Some(121)),
+    Act::Gives(Some(121)),
+];
+
+/// Core 1 is taken back and granted again.
+const ORDERS: &[Order] = &[
+    (0, RELEASE, 1),
+    (50, GRANT, 1),
+    (100, RELEASE, 1),
+    (200, GRANT, 1),
+    (300, RELEASE, 1),
+    (1_000_000_000, GRANT, 1),
+];
 
 const ROWS: &[Row] = &[
     Row {
@@ -41,9 +82,8 @@ const ROWS: &[Row] = &[
             Act::Stops,
             Act::Works(0),
             Act::Works(1),
-            Act::GivesNothing,
             Act::Lives(4),
-            Act::JoinsInVain(0),
+            Act::Gives(None),
         ],
         left: (2, 2),
     },
@@ -54,20 +94,20 @@ const ROWS: &[Row] = &[
         orders: &[],
         acts: &[
             Act::Spawns(ALONE_PARENT),
-            Act::Has(0, 1),
-            Act::Has(1, 0),
+            Act::Has(0, 1, Is::Alone),
+            Act::Has(1, 0, Is::Open),
             Act::Turns(0, true),
-            Act::Has(1, 1),
+            Act::Has(1, 1, Is::Alone),
             Act::Lives(2),
             Act::Turns(0, true),
             Act::Turns(0, true),
             Act::Turns(0, false),
-            Act::GivesNothing,
+            Act::Lives(2),
             Act::Turns(1, true),
-            Act::Has(1, 0),
+            Act::Has(1, 0, Is::Open),
             Act::Lives(1),
             Act::Turns(0, true),
-            Act::Gives(2),
+            Act::Gives(Some(2)),
             Act::Lives(0),
             Act::Turns(0, false),
         ],
@@ -84,7 +124,7 @@ const ROWS: &[Row] = &[
             Act::Turns(1, true),
             Act::Turns(0, true),
             Act::Turns(0, true),
-            Act::Gives(2),
+            Act::Gives(Some(2)),
         ],
         left: (0, 0),
     },
@@ -97,18 +137,18 @@ const ROWS: &[Row] = &[
             Act::Spawns(Sort { bound: 4, ..ELEVEN }),
             Act::Turns(0, true),
             Act::Turns(0, true),
-            Act::GivesNothing,
+            Act::Lives(1),
             Act::Turns(0, true),
-            Act::Gives(1),
+            Act::Gives(Some(1)),
             Act::Spawns(Sort {
                 bound: 0,
                 steps: 1,
                 ..LEAF
             }),
             Act::Turns(0, true),
-            Act::GivesNothing,
+            Act::Lives(1),
             Act::Turns(0, true),
-            Act::Gives(1),
+            Act::Gives(Some(1)),
         ],
         left: (0, 0),
     },
@@ -121,17 +161,17 @@ const ROWS: &[Row] = &[
             Act::Spawns(Sort { steps: 1, ..LEAF }),
             Act::Spawns(ELEVEN),
             Act::Spawns(ELEVEN),
-            Act::Has(0, 1),
+            Act::Has(0, 1, Is::Open),
             Act::Lives(3),
             Act::Turns(0, true),
             Act::Turns(0, true),
             Act::Lives(2),
-            Act::Has(0, 1),
+            Act::Has(0, 1, Is::Open),
             Act::Works(0),
-            Act::Gives(1),
-            Act::Gives(1),
-            Act::Gives(1),
-            Act::Has(0, 0),
+            Act::Gives(Some(1)),
+            Act::Gives(Some(1)),
+            Act::Gives(Some(1)),
+            Act::Has(0, 0, Is::Open),
         ],
         left: (0, 0),
     },
@@ -147,14 +187,14 @@ const ROWS: &[Row] = &[
                 ..LEAF
             }),
             Act::Works(0),
-            Act::Gives(40),
+            Act::Gives(Some(40)),
             Act::Spawns(Sort {
                 depth: 3,
                 forks: 3,
                 joins: Joins::InTurn,
                 ..LEAF
             }),
-            Act::Joins(0, 40),
+            Act::Gives(Some(40)),
             Act::Lives(0),
         ],
         left: (0, 0),
@@ -173,13 +213,13 @@ const ROWS: &[Row] = &[
             }),
             Act::Turns(0, true),
             Act::Turns(0, true),
-            Act::Has(0, 1),
+            Act::Has(0, 1, Is::Open),
             Act::Lives(2),
             Act::Turns(0, true),
             Act::Turns(0, true),
-            Act::Has(0, 1),
+            Act::Has(0, 1, Is::Open),
             Act::Works(0),
-            Act::Gives(2),
+            Act::Gives(Some(2)),
         ],
         left: (0, 0),
     },
@@ -190,15 +230,14 @@ const ROWS: &[Row] = &[
         orders: &[],
         acts: &[
             Act::Spawns(ALONE),
-            Act::IsAlone(0, true),
+            Act::Has(0, 1, Is::Alone),
             Act::Spawns(LEAF),
             Act::Spawns(LEAF),
             Act::Spawns(LEAF),
-            Act::Has(0, 1),
-            Act::Has(1, 3),
-            Act::IsAlone(1, false),
+            Act::Has(0, 1, Is::Alone),
+            Act::Has(1, 3, Is::Open),
             Act::Turns(0, true),
-            Act::Has(0, 0),
+            Act::Has(0, 0, Is::Open),
             Act::Lives(3),
             Act::Turns(1, true),
             Act::Lives(0),
@@ -213,10 +252,9 @@ const ROWS: &[Row] = &[
         acts: &[
             Act::Spawns(LEAF),
             Act::Spawns(ALONE),
-            Act::Has(0, 1),
-            Act::IsAlone(0, false),
+            Act::Has(0, 1, Is::Open),
             Act::Works(0),
-            Act::Gives(1),
+            Act::Gives(Some(1)),
         ],
         left: (0, 0),
     },
@@ -228,24 +266,23 @@ const ROWS: &[Row] = &[
         acts: &[
             Act::Spawns(ALONE),
             Act::Spawns(ELEVEN),
-            Act::Has(1, 1),
+            Act::Has(1, 1, Is::Open),
             Act::Turns(0, true),
             Act::Turns(1, true),
-            Act::IsClosed(1, false),
+            Act::Has(1, 1, Is::Open),
             Act::Turns(0, true),
-            Act::IsClosed(1, true),
-            Act::Has(1, 0),
-            Act::Has(0, 1),
-            Act::Turns(0, true),
+            Act::Has(1, 0, Is::Closed),
+            Act::Has(0, 1, Is::Open),
             Act::Turns(0, true),
             Act::Turns(0, true),
             Act::Turns(0, true),
             Act::Turns(0, true),
-            Act::IsClosed(1, true),
             Act::Turns(0, true),
-            Act::IsClosed(1, false),
+            Act::Has(1, 0, Is::Closed),
+            Act::Turns(0, true),
+            Act::Has(1, 0, Is::Open),
             Act::Works(0),
-            Act::Gives(1),
+            Act::Gives(Some(1)),
         ],
         left: (0, 0),
     },
@@ -256,19 +293,19 @@ const ROWS: &[Row] = &[
         orders: &[(0, RELEASE, 1)],
         acts: &[
             Act::Turns(0, false),
-            Act::IsClosed(1, true),
+            Act::Has(1, 0, Is::Closed),
             Act::Orders(&[(0, RELEASE, 2)]),
             Act::Turns(0, false),
-            Act::IsClosed(1, true),
-            Act::IsClosed(2, true),
+            Act::Has(1, 0, Is::Closed),
+            Act::Has(2, 0, Is::Closed),
             Act::Orders(&[(0, GRANT, 1)]),
             Act::Turns(0, false),
-            Act::IsClosed(1, false),
-            Act::IsClosed(2, true),
+            Act::Has(1, 0, Is::Open),
+            Act::Has(2, 0, Is::Closed),
             Act::Orders(&[]),
             Act::Turns(0, false),
-            Act::IsClosed(1, false),
-            Act::IsClosed(2, true),
+            Act::Has(1, 0, Is::Open),
+            Act::Has(2, 0, Is::Closed),
         ],
         left: (0, 0),
     },
@@ -287,7 +324,7 @@ const ROWS: &[Row] = &[
             Act::Turns(0, true),
             Act::Turns(0, true),
             Act::Turns(0, true),
-            Act::Gives(1),
+            Act::Gives(Some(1)),
             Act::Lives(3),
             Act::Turns(1, true),
             Act::Turns(2, true),
@@ -296,10 +333,91 @@ const ROWS: &[Row] = &[
         ],
         left: (0, 0),
     },
+    Row {
+        shows: "two kernel threads end trees on cores of one place",
+        cores: 2,
+        slots: 1,
+        orders: &[],
+        acts: TREES,
+        left: (0, 0),
+    },
+    Row {
+        shows: "trees of exclusive jobs end, of which most find no empty core",
+        cores: 2,
+        slots: 3,
+        orders: &[],
+        acts: &[
+            Act::Spawns(Sort {
+                is_exclusive: true,
+                ..TREE
+            }),
+            Act::TwoWork(0),
+            Act::Lives(0),
+            Act::Gives(Some(121)),
+        ],
+        left: (0, 0),
+    },
+    Row {
+        shows: "each of two kernel threads ends the job that is alone on its core",
+        cores: 2,
+        slots: 2,
+        orders: &[],
+        acts: &[
+            Act::Spawns(Sort {
+                steps: 1_000,
+                ..ALONE
+            }),
+            Act::Spawns(Sort {
+                steps: 1_000,
+                ..ALONE
+            }),
+            Act::BothEnd,
+            Act::Lives(0),
+        ],
+        left: (0, 0),
+    },
+    Row {
+        shows: "trees end while a core comes and goes, and its kernel thread is woken at the last end",
+        cores: 2,
+        slots: 2,
+        orders: ORDERS,
+        acts: TREES,
+        left: (0, 0),
+    },
+    Row {
+        shows: "the same on one place a core, where a closed core can't be left",
+        cores: 2,
+        slots: 1,
+        orders: ORDERS,
+        acts: TREES,
+        left: (0, 0),
+    },
+    Row {
+        shows: "a stop ends a kernel thread that works and leaves all jobs",
+        cores: 2,
+        slots: 1,
+        orders: &[],
+        acts: &[
+            Act::Spawns(ENDLESS),
+            Act::Spawns(ENDLESS),
+            Act::Spawns(ENDLESS),
+            Act::TwoWork(100),
+            Act::Lives(3),
+        ],
+        left: (2, 1),
+    },
+    Row {
+        shows: "a stop wakes a kernel thread that is parked",
+        cores: 2,
+        slots: 1,
+        orders: &[(0, RELEASE, 1)],
+        acts: &[Act::Spawns(ENDLESS), Act::TwoWork(10_000), Act::Lives(1)],
+        left: (1, 0),
+    },
 ];
 
-/// Each row holds for a form of table.
-fn failed_row<C: Contexts<Spawned<Task>> + Drop, R: Wait>(
+/// The first row and act that don't come out as they say.
+fn failed_row<C: Crew + Drop, R: Threads + Wait + Sync>(
     rt: &R,
     alloc: Global,
 ) -> Result<Option<(&'static str, usize)>, Fail> {
@@ -312,15 +430,8 @@ fn failed_row<C: Contexts<Spawned<Task>> + Drop, R: Wait>(
 }
 
 #[test]
-fn each_row_holds_over_words(rt: HostRuntime) -> Result<(), Fail> {
+fn each_row_holds(rt: HostRuntime) -> Result<(), Fail> {
     let failed = failed_row::<WordContexts<Spawned<Task>>, HostRuntime>(&rt, rt.alloc())?;
-    assert!(rt; failed.is_none(), "{failed:?}");
-    Ok(())
-}
-
-#[test]
-fn each_row_holds_behind_a_lock(rt: HostRuntime) -> Result<(), Fail> {
-    let failed = failed_row::<LockedContexts<Spawned<Task>>, HostRuntime>(&rt, rt.alloc())?;
     assert!(rt; failed.is_none(), "{failed:?}");
     Ok(())
 }

@@ -34,23 +34,7 @@ pub struct Done<W> {
 }
 
 /// Sends each request once its time has come and a place may be free, and takes the answers, until all are answered.
-pub fn send<R: Clock + Wait, C: Contexts<Spawned<Request>>>(
-    rt: &R,
-    alloc: Global,
-    server: &Server<C>,
-    mut worker: Worker<C::Seat, Request>,
-    mut keeper: Keeper,
-    requests: &[Due],
-    mut report: Report,
-    template: Request,
-) -> Option<Done<Worker<C::Seat, Request>>>
-    requires worker { IsWorkerOf C.sits C.idle server.now.pool.table server.now.pool.cores worker }
-    requires cores { keeper.most + 1 ≡ server.now.pool.cores }
-    requires none { vec_len report.answers ≡ 0 }
-    ensures worker { IfSome result (λ done. IsWorkerOf C.sits C.idle server.now.pool.table server.now.pool.cores done.worker) }
-    ensures all { IfSome result (λ done. vec_len done.report.answers ≡ length requests.now) }
-{
-    let mut sent: VecDeque<Sent> = VecDeque::new(alloc);
+SENDSIG    let mut sent: VecDeque<Sent> = VecDeque::new(alloc);
     let begin = now(rt);
     let mut next: usize = 0;
     for _ in rt.forever() {
