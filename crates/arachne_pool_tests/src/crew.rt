@@ -1,5 +1,5 @@
 //! Two kernel threads work for a pool, over a trait of what each does, whatever the table is.
-ghost use Rattle.std.specs.Prelude.{◌≡◌, ◌<◌, IfSome};
+ghost use Rattle.std.specs.Prelude.{◌≡◌, ◌<◌};
 ghost use Rattle.arachne_pool.specs.Workers.{IsWorkerOf};
 ghost use Rattle.arachne_pool_tests.specs.Hands.{IsHandOf};
 
@@ -11,52 +11,48 @@ use std::sync::Wait;
 use std::thread;
 use std::thread::Threads;
 
-/// A form of table for which two kernel threads can be started.
-pub(crate) trait Crew: Contexts<Spawned<Task>> {
-    /// One works for core 1, and one for core 0: so many rounds, after which it stops the pool, or to the end where that is
-    /// 0. The worker of both, if there is memory, and whether each has ended a job.
-    fn have_two_work<R: Threads + Wait + Sync>(
-        rt: &R,
-        pool: &Pool<Self>,
-        worker: Worker<Self::Seat, Task>,
-        rounds: u32,
-    ) -> Option<(Worker<Self::Seat, Task>, bool)>
-        requires worker { IsWorkerOf Self.sits Self.idle pool.now.table pool.now.cores worker }
-        requires cores { 1 < pool.now.cores }
-        ensures { IfSome result (λ made. IsWorkerOf Self.sits Self.idle pool.now.table pool.now.cores made.0) };
-}
+/// The pool's table.
+pub(crate) type Table = WordContexts<Spawned<Task>>;
 
-type Table = WordContexts<Spawned<Task>>;
-
+/// What a kernel thread has of the pool.
 type Hand = Worker<WordSeat<Spawned<Task>>, Task>;
 
-impl Crew for WordContexts<Spawned<Task>> {
-    fn have_two_work<R: Threads + Wait + Sync>(
-        rt: &R,
-        pool: &Pool<Table>,
-        worker: Hand,
-        rounds: u32,
-    ) -> Option<(Hand, bool)> {
-        let (worker, other) = pool.split(rt, worker);
-        let first = Post {
-            pool,
-            worker,
-            core: 0,
-            rounds,
-        };
-        let second = Post {
-            pool,
-            worker: other,
-            core: 1,
-            rounds: 0,
-        };
-        let (worker, other) = two(rt, first, second);
-        let busy = worker.tally().ended > 0 && other.tally().ended > 0;
-        match pool.join_workers(rt, worker, other) {
-            Ok(worker) => Some((worker, busy)),
-            Err(_) => None,
-        }
-    }
+/// How long a kernel thread works.
+#[derive(Clone, Copy)]
+pub(crate) enum Spell {
+    /// Not at all.
+    Not,
+    /// Until no job is left, or the pool is stopped.
+    ToTheEnd,
+    /// So many rounds. Then it stops the pool.
+    Rounds(u32),
+}
+
+/// Two kernel threads work, for core 0 and core 1, so long each.
+pub(crate) fn have_two_work<R: Threads + Wait + Sync>(
+    rt: &R,
+    pool: &Pool<Table>,
+    workers: (Hand, Hand),
+    spells: (Spell, Spell),
+) -> (Hand, Hand)
+    requires first { IsHandOf pool.now.table pool.now.cores workers.0 }
+    requires second { IsHandOf pool.now.table pool.now.cores workers.1 }
+    ensures first { IsHandOf pool.now.table pool.now.cores result.0 }
+    ensures second { IsHandOf pool.now.table pool.now.cores result.1 }
+{
+    let first = Post {
+        pool,
+        worker: workers.0,
+        core: 0,
+        spell: spells.0,
+    };
+    let second = Post {
+        pool,
+        worker: workers.1,
+        core: 1,
+        spell: spells.1,
+    };
+    two(rt, first, second)
 }
 
 /// What a kernel thread does.
@@ -75,47 +71,54 @@ trait Part: Drop {
         ensures { gives self result };
 }
 
-/// A kernel thread's worker, its core, and after how many rounds it stops the pool, if that is not 0.
+/// A kernel thread's worker, its core, which may be none of the pool's, and how long it works.
 #[derive(Drop)]
 struct Post<'p> {
     pool: &'p Pool<Table>,
     worker: Hand,
     core: u8,
-    rounds: u32,
+    spell: Spell,
 }
 
 impl<'p> Part for Post<'p> {
     type Back = Hand;
 
-    ghost is_ready = { λ post. IsHandOf post.pool.now.table post.pool.now.cores post.worker × (post.core < post.pool.now.cores) };
+    ghost is_ready = { λ post. IsHandOf post.pool.now.table post.pool.now.cores post.worker };
 
     ghost gives = { λ post worker. IsHandOf post.pool.now.table post.pool.now.cores worker };
 
     fn run<R: Wait>(self, rt: &R) -> Hand {
-        work::<Table, R>(rt, self.pool, self.worker, self.core, self.rounds)
+        work::<Table, R>(rt, self.pool, self.worker, self.core, self.spell)
     }
 }
 
-/// Works for a core to the end, or for some rounds, if that is not 0, and stops the pool then.
+/// Works for a core for so long.
 fn work<C: Contexts<Spawned<Task>>, R: Wait>(
     rt: &R,
     pool: &Pool<C>,
-    mut worker: Worker<C::Seat, Task>,
+    worker: Worker<C::Seat, Task>,
     core: u8,
-    rounds: u32,
+    spell: Spell,
 ) -> Worker<C::Seat, Task>
-    requires worker { IsWorkerOf C.sits C.idle pool.now.table pool.now.cores worker }
-    requires core { core < pool.now.cores }
+    requires { IsWorkerOf C.sits C.idle pool.now.table pool.now.cores worker }
     ensures { IsWorkerOf C.sits C.idle pool.now.table pool.now.cores result }
 {
-    if rounds == 0 {
-        let _ = pool.work(rt, &mut worker, core);
+    let mut worker = worker;
+    if core >= pool.cores {
         return worker;
     }
-    for _ in 0..rounds {
-        let _ = pool.turn(rt, &mut worker, core);
+    match spell {
+        Spell::Not => {}
+        Spell::ToTheEnd => {
+            let _ = pool.work(rt, &mut worker, core);
+        }
+        Spell::Rounds(rounds) => {
+            for _ in 0..rounds {
+                let _ = pool.turn(rt, &mut worker, core);
+            }
+            pool.stop();
+        }
     }
-    pool.stop();
     worker
 }
 

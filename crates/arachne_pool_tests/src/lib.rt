@@ -11,6 +11,4 @@ mod rounds;
 #[cfg(test)]
 mod rows;
 #[cfg(test)]
-mod shortage;
-#[cfg(test)]
 mod tasks;

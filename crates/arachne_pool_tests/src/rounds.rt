@@ -3,22 +3,29 @@ ghost use Rattle.std.specs.Prelude.{◌≡◌, ◌<◌, ◌≤◌, IfSome};
 ghost use Rattle.arachne_core.specs.declared.layout.TheConstants.{CORES, SLOTS};
 ghost use Rattle.arachne_pool.specs.Workers.{IsWorkerOf};
 
-use crate::crew::Crew;
+use crate::crew::Spell;
 use crate::orders::{Order, orders_of};
 use crate::tasks::{Sort, Task};
 use arachne_contexts::Contexts;
 use arachne_core::{CORES, OccWord, SLOTS};
-use arachne_pool::{Handle, Pool, PoolFault, Spawned, Worker};
+use arachne_pool::{Pool, PoolFault, Spawned, Worker};
+use arachne_shortage::Hoard;
 use std::alloc::Global;
 use std::sync::Wait;
-use std::test::Fail;
-use std::thread::Threads;
+
+/// How many bytes are given back where a growth was refused.
+const FEW: usize = 40;
+
+/// How often something is tried at most.
+const TRIES: u32 = 100_000;
 
 /// One act.
 #[derive(Clone, Copy)]
 pub(crate) enum Act {
     /// A job is spawned.
     Spawns(Sort),
+    /// A job is spawned and joined on core 0, and gives this, or nothing, as in a pool that is stopped.
+    Joins(Sort, Option<u64>),
     /// A round on a core; whether it finds anything.
     Turns(u8, bool),
     /// So many places of a core are taken, and so it is.
@@ -27,15 +34,12 @@ pub(crate) enum Act {
     Orders(&'static [Order]),
     /// So many jobs have not ended.
     Lives(u64),
-    /// The job that was spawned last of those that gave nothing is joined on core 0, and gives this, or nothing, as of a
-    /// pool that is stopped.
-    Gives(Option<u64>),
+    /// The worker has counted so many that were spawned.
+    Counts(u64),
     /// The worker works on a core until no job is left, or it is to stop.
     Works(u8),
-    /// Two kernel threads do, for core 0 and core 1. With a number that for core 0 stops the pool after so many rounds.
-    TwoWork(u32),
-    /// They do until no job is left, and each ends one.
-    BothEnd,
+    /// A job and those that it forks end while memory is used up.
+    EndsInNeed(Sort),
     /// The worker is to stop.
     Stops,
 }
@@ -49,93 +53,109 @@ pub(crate) enum Is {
     Alone,
 }
 
-/// A row: a pool, what is done, and how many jobs are left with a place and without.
+/// A row: a pool, what its worker does, how long two kernel threads work then, for core 0 and core 1, how many of them end
+/// a job at least, what one does after that, and how many jobs are left with a place and without.
 pub(crate) struct Row {
     pub(crate) shows: &'static str,
     pub(crate) cores: u8,
     pub(crate) slots: u8,
     pub(crate) orders: &'static [Order],
     pub(crate) acts: &'static [Act],
+    pub(crate) spells: (Spell, Spell),
+    pub(crate) busy: usize,
+    pub(crate) then: &'static [Act],
     pub(crate) left: (usize, usize),
 }
 
-/// The first act of a row that doesn't come out as it says, from 0; their number if it is how many jobs are left. None
-/// where all do.
-pub(crate) fn failed_act<C: Crew + Drop, R: Threads + Wait + Sync>(
+/// A row's pool and two workers of it, one of which has done the row's first acts. None where one doesn't come out as it
+/// says.
+pub(crate) fn begin<C: Contexts<Spawned<Task>> + Drop, R: Wait>(
     rt: &R,
     alloc: Global,
     row: &Row,
-) -> Result<Option<usize>, Fail> {
+) -> Option<(Pool<C>, (Worker<C::Seat, Task>, Worker<C::Seat, Task>))>
+    ensures first { IfSome result (λ made. IsWorkerOf C.sits C.idle made.0.table made.0.cores made.1.0) }
+    ensures second { IfSome result (λ made. IsWorkerOf C.sits C.idle made.0.table made.0.cores made.1.1) }
+{
     let Row { cores, slots, .. } = *row;
     if cores < 1 || cores > CORES || slots < 1 || slots > SLOTS {
-        return Err("no such pool")?;
-    }
-    let orders = orders_of(alloc, row.orders, cores).ok_or("no such orders")?;
-    let mut handles = Vec::with_capacity(alloc, row.acts.len())?;
-    let (pool, mut worker) = Pool::<C>::new::<Task>(alloc, cores, slots, orders)?;
-    for (nth, act) in row.acts.iter().enumerate() {
-        worker = match act_of::<C, R>(rt, &pool, worker, &mut handles, *act) {
-            Some(worker) => worker,
-            None => return Ok(Some(nth)),
-        };
-    }
-    match pool.close(rt, alloc, worker) {
-        Ok(left) if (left.placed.len(), left.near.len()) == row.left => Ok(None),
-        _ => Ok(Some(row.acts.len())),
-    }
-}
-
-/// Does an act. The worker, if it comes out as it says.
-fn act_of<C: Crew, R: Threads + Wait + Sync>(
-    rt: &R,
-    pool: &Pool<C>,
-    mut worker: Worker<C::Seat, Task>,
-    handles: &mut Vec<Handle<Task>>,
-    act: Act,
-) -> Option<Worker<C::Seat, Task>>
-    requires { IsWorkerOf C.sits C.idle pool.now.table pool.now.cores worker }
-    ensures { IfSome result (IsWorkerOf C.sits C.idle pool.now.table pool.now.cores) }
-{
-    let (rounds, are_both) = match act {
-        Act::TwoWork(rounds) => (rounds, false),
-        Act::BothEnd => (0, true),
-        act => {
-            return if holds::<C, R>(rt, pool, &mut worker, handles, act) {
-                Some(worker)
-            } else {
-                None
-            };
-        }
-    };
-    if pool.cores < 2 {
         return None;
     }
-    match C::have_two_work(rt, pool, worker, rounds) {
-        Some((worker, busy)) if busy || !are_both => Some(worker),
-        _ => None,
+    let orders = orders_of(alloc, row.orders, cores)?;
+    let (pool, worker) = Pool::<C>::new::<Task>(alloc, cores, slots, orders).ok()?;
+    let mut worker = worker;
+    if !all_hold::<C, R>(rt, alloc, &pool, &mut worker, row.acts) {
+        return None;
     }
+    let workers = pool.split(rt, worker);
+    Some((pool, workers))
+}
+
+/// Whether both workers have done what the row says, the acts that come last do too, and so many jobs are left.
+pub(crate) fn end<C: Contexts<Spawned<Task>> + Drop, R: Wait>(
+    rt: &R,
+    alloc: Global,
+    pool: Pool<C>,
+    workers: (Worker<C::Seat, Task>, Worker<C::Seat, Task>),
+    row: &Row,
+) -> bool
+    requires first { IsWorkerOf C.sits C.idle pool.table pool.cores workers.0 }
+    requires second { IsWorkerOf C.sits C.idle pool.table pool.cores workers.1 }
+{
+    let (worker, other) = workers;
+    let busy = usize::from(worker.tally().ended > 0) + usize::from(other.tally().ended > 0);
+    let Ok(worker) = pool.join_workers(rt, worker, other) else {
+        return false;
+    };
+    let mut worker = worker;
+    let all = all_hold::<C, R>(rt, alloc, &pool, &mut worker, row.then);
+    let Ok(left) = pool.close(rt, alloc, worker) else {
+        return false;
+    };
+    all && busy >= row.busy && left.placed.len() == row.left.0 && left.near.len() == row.left.1
+}
+
+/// Whether each act comes out as it says.
+fn all_hold<C: Contexts<Spawned<Task>>, R: Wait>(
+    rt: &R,
+    alloc: Global,
+    pool: &Pool<C>,
+    worker: &mut Worker<C::Seat, Task>,
+    acts: &[Act],
+) -> bool
+    requires worker { IsWorkerOf C.sits C.idle pool.now.table pool.now.cores worker.old }
+    ensures worker { IsWorkerOf C.sits C.idle pool.now.table pool.now.cores worker.new }
+{
+    for act in acts {
+        if !holds::<C, R>(rt, alloc, pool, worker, *act) {
+            return false;
+        }
+    }
+    true
 }
 
 /// Whether an act of one worker comes out as it says.
 fn holds<C: Contexts<Spawned<Task>>, R: Wait>(
     rt: &R,
+    alloc: Global,
     pool: &Pool<C>,
     worker: &mut Worker<C::Seat, Task>,
-    handles: &mut Vec<Handle<Task>>,
     act: Act,
 ) -> bool
     requires worker { IsWorkerOf C.sits C.idle pool.now.table pool.now.cores worker.old }
     ensures worker { IsWorkerOf C.sits C.idle pool.now.table pool.now.cores worker.new }
 {
     match act {
-        Act::Spawns(sort) => match pool.spawn(rt, worker, Task::new(sort)) {
-            Ok(handle) => handles.push(handle).is_ok(),
-            Err(_) => false,
-        },
+        Act::Spawns(sort) => pool.spawn(rt, worker, Task::new(sort)).is_ok(),
         Act::Turns(core, finds) if core < pool.cores => pool.turn(rt, worker, core) == Ok(finds),
         Act::Works(core) if core < pool.cores => pool.work(rt, worker, core).is_ok(),
-        Act::Gives(wanted) if pool.cores > 0 => gives::<C, R>(rt, pool, worker, handles, wanted),
-        Act::Orders(orders) => match orders_of(*handles.allocator(), orders, pool.cores) {
+        Act::Joins(sort, wanted) if pool.cores > 0 => {
+            joins::<C, R>(rt, pool, worker, sort, wanted)
+        }
+        Act::EndsInNeed(sort) if pool.cores > 0 => {
+            ends_in_need::<C, R>(rt, alloc, pool, worker, sort)
+        }
+        Act::Orders(orders) => match orders_of(alloc, orders, pool.cores) {
             Some(orders) => pool.order(rt, worker, orders).is_ok(),
             None => false,
         },
@@ -150,6 +170,7 @@ fn holds<C: Contexts<Spawned<Task>>, R: Wait>(
             }
         }
         Act::Lives(count) => pool.live() == count,
+        Act::Counts(count) => worker.tally().spawned == count,
         Act::Stops => {
             pool.stop();
             true
@@ -158,23 +179,63 @@ fn holds<C: Contexts<Spawned<Task>>, R: Wait>(
     }
 }
 
-/// Joins the job that was spawned last on core 0. Whether it gives this, or nothing where the pool is stopped.
-fn gives<C: Contexts<Spawned<Task>>, R: Wait>(
+/// Spawns a job and joins it on core 0. Whether it gives this, or nothing where the pool is stopped.
+fn joins<C: Contexts<Spawned<Task>>, R: Wait>(
     rt: &R,
     pool: &Pool<C>,
     worker: &mut Worker<C::Seat, Task>,
-    handles: &mut Vec<Handle<Task>>,
+    sort: Sort,
     wanted: Option<u64>,
 ) -> bool
     requires worker { IsWorkerOf C.sits C.idle pool.now.table pool.now.cores worker.old }
     requires core { 0 < pool.now.cores }
     ensures worker { IsWorkerOf C.sits C.idle pool.now.table pool.now.cores worker.new }
 {
-    let Some(handle) = handles.pop() else {
+    let Ok(handle) = pool.spawn(rt, worker, Task::new(sort)) else {
         return false;
     };
     match pool.join(rt, worker, 0, handle) {
         Ok(counted) => wanted == Some(counted),
         Err((fault, _)) => wanted.is_none() && fault == PoolFault::Stopped,
     }
+}
+
+/// Spawns a job where memory is used up, and works on core 0 until all have ended. What is refused is tried again with a
+/// little more. Whether a spawn was refused, and more than 20 rounds were.
+fn ends_in_need<C: Contexts<Spawned<Task>>, R: Wait>(
+    rt: &R,
+    alloc: Global,
+    pool: &Pool<C>,
+    worker: &mut Worker<C::Seat, Task>,
+    sort: Sort,
+) -> bool
+    requires worker { IsWorkerOf C.sits C.idle pool.now.table pool.now.cores worker.old }
+    requires core { 0 < pool.now.cores }
+    ensures worker { IsWorkerOf C.sits C.idle pool.now.table pool.now.cores worker.new }
+{
+    let Ok(mut hoard) = Hoard::take(alloc) else {
+        return false;
+    };
+    let mut is_spawned = false;
+    let (mut spawns, mut rounds) = (0u32, 0u32);
+    for _ in 0..TRIES {
+        if is_spawned && pool.live() == 0 {
+            break;
+        }
+        let is_done = if is_spawned {
+            let turned = pool.turn(rt, worker, 0).is_ok();
+            rounds = rounds.saturating_add(u32::from(!turned));
+            turned
+        } else {
+            is_spawned = pool.spawn(rt, worker, Task::new(sort)).is_ok();
+            spawns = spawns.saturating_add(u32::from(!is_spawned));
+            is_spawned
+        };
+        if !is_done {
+            hoard.give_back(FEW);
+        } else if hoard.take_again().is_err() {
+            break;
+        }
+    }
+    is_spawned && pool.live() == 0 && spawns > 0 && rounds > 20
 }

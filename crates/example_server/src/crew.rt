@@ -1,6 +1,5 @@
-//! The kernel threads of the server, over the table that it has.
+//! The kernel threads of the server, over the form of table that it has.
 ghost use Rattle.std.specs.Prelude.{◌≡◌, ◌+◌, ◌<◌, IfSome, length, vec_len};
-ghost use Rattle.arachne_pool.specs.Workers.{IsWorkerOf};
 ghost use Rattle.example_server.specs.Hands.{IsHandOf};
 
 use crate::job::Request;
@@ -11,7 +10,7 @@ use crate::send::{Done, send};
 use crate::serve::{Server, serve};
 use crate::task::{Task, five};
 use arachne_pool::{Spawned, Worker};
-use arachne_table::{Contexts, WordContexts, WordSeat};
+use arachne_table::{WordContexts, WordSeat};
 use std::alloc::Global;
 use std::rt::Clock;
 use std::sync::Wait;
@@ -30,64 +29,49 @@ pub struct Sending<'r> {
     pub template: Request,
 }
 
-/// A form of table for which the kernel threads of the server can be started.
-pub trait Crew: Contexts<Spawned<Request>> {
-    /// Four serve on cores, and one sends the requests, until all are answered. The four workers, and what the sender has.
-    fn have_all_work<R: Threads + Wait + Clock + Sync>(
-        rt: &R,
-        server: &Server<Self>,
-        workers: Four<Worker<Self::Seat, Request>>,
-        worker: Worker<Self::Seat, Request>,
-        sending: Sending<'_>,
-    ) -> (
-        Four<Option<Worker<Self::Seat, Request>>>,
-        Option<Done<Worker<Self::Seat, Request>>>,
-    )
-        requires first { IsWorkerOf Self.sits Self.idle server.now.pool.table server.now.pool.cores workers.0.0 }
-        requires second { IsWorkerOf Self.sits Self.idle server.now.pool.table server.now.pool.cores workers.0.1 }
-        requires third { IsWorkerOf Self.sits Self.idle server.now.pool.table server.now.pool.cores workers.1.0 }
-        requires fourth { IsWorkerOf Self.sits Self.idle server.now.pool.table server.now.pool.cores workers.1.1 }
-        requires worker { IsWorkerOf Self.sits Self.idle server.now.pool.table server.now.pool.cores worker }
-        requires cores { sending.keeper.most + 1 ≡ server.now.pool.cores }
-        requires none { vec_len sending.report.answers ≡ 0 }
-        ensures first { IfSome result.0.0.0 (IsWorkerOf Self.sits Self.idle server.now.pool.table server.now.pool.cores) }
-        ensures second { IfSome result.0.0.1 (IsWorkerOf Self.sits Self.idle server.now.pool.table server.now.pool.cores) }
-        ensures third { IfSome result.0.1.0 (IsWorkerOf Self.sits Self.idle server.now.pool.table server.now.pool.cores) }
-        ensures fourth { IfSome result.0.1.1 (IsWorkerOf Self.sits Self.idle server.now.pool.table server.now.pool.cores) }
-        ensures worker { IfSome result.1 (λ done. IsWorkerOf Self.sits Self.idle server.now.pool.table server.now.pool.cores done.worker) }
-        ensures all { IfSome result.1 (λ done. vec_len done.report.answers ≡ length sending.requests.now) };
-}
-
 /// The pool's table.
-type Table = WordContexts<Spawned<Request>>;
+pub type Table = WordContexts<Spawned<Request>>;
 
 /// What a kernel thread has of the pool.
 type Hand = Worker<WordSeat<Spawned<Request>>, Request>;
 
-impl Crew for WordContexts<Spawned<Request>> {
-    fn have_all_work<R: Threads + Wait + Clock + Sync>(
-        rt: &R,
-        server: &Server<Table>,
-        workers: Four<Hand>,
-        worker: Hand,
-        sending: Sending<'_>,
-    ) -> (Four<Option<Hand>>, Option<Done<Hand>>) {
-        let ((first, second), (third, fourth)) = workers;
-        let sender = Sender {
-            server,
-            worker,
-            sending,
-        };
-        let ((first, second), ((third, fourth), done)) = five(
-            rt,
-            at_core(server, first, 0),
-            at_core(server, second, 1),
-            at_core(server, third, 2),
-            at_core(server, fourth, 3),
-            sender,
-        );
-        (((first, second), (third, fourth)), done)
-    }
+/// Four serve on cores, and one sends the requests, until all are answered. The four workers, and what the sender has.
+pub fn have_all_work<R: Threads + Wait + Clock + Sync>(
+    rt: &R,
+    server: &Server<Table>,
+    workers: Four<Hand>,
+    worker: Hand,
+    sending: Sending<'_>,
+) -> (Four<Option<Hand>>, Option<Done<Hand>>)
+    requires first { IsHandOf server.now.pool.table server.now.pool.cores workers.0.0 }
+    requires second { IsHandOf server.now.pool.table server.now.pool.cores workers.0.1 }
+    requires third { IsHandOf server.now.pool.table server.now.pool.cores workers.1.0 }
+    requires fourth { IsHandOf server.now.pool.table server.now.pool.cores workers.1.1 }
+    requires worker { IsHandOf server.now.pool.table server.now.pool.cores worker }
+    requires cores { sending.keeper.most + 1 ≡ server.now.pool.cores }
+    requires none { vec_len sending.report.answers ≡ 0 }
+    ensures first { IfSome result.0.0.0 (IsHandOf server.now.pool.table server.now.pool.cores) }
+    ensures second { IfSome result.0.0.1 (IsHandOf server.now.pool.table server.now.pool.cores) }
+    ensures third { IfSome result.0.1.0 (IsHandOf server.now.pool.table server.now.pool.cores) }
+    ensures fourth { IfSome result.0.1.1 (IsHandOf server.now.pool.table server.now.pool.cores) }
+    ensures worker { IfSome result.1 (λ done. IsHandOf server.now.pool.table server.now.pool.cores done.worker) }
+    ensures all { IfSome result.1 (λ done. vec_len done.report.answers ≡ length sending.entry.requests.now) }
+{
+    let ((first, second), (third, fourth)) = workers;
+    let sender = Sender {
+        server,
+        worker,
+        sending,
+    };
+    let ((first, second), ((third, fourth), done)) = five(
+        rt,
+        at_core(server, first, 0),
+        at_core(server, second, 1),
+        at_core(server, third, 2),
+        at_core(server, fourth, 3),
+        sender,
+    );
+    (((first, second), (third, fourth)), done)
 }
 
 /// The kernel thread of a core, which may be none of the server's.
@@ -123,13 +107,13 @@ fn at_core(server: &Server<Table>, worker: Hand, core: u8) -> Post<'_>
 
 /// The kernel thread that sends the requests.
 #[derive(Drop)]
-struct Sender<'s> {
+struct Sender<'s, 'r> {
     server: &'s Server<Table>,
     worker: Hand,
-    sending: Sending<'s>,
+    sending: Sending<'r>,
 }
 
-impl<'s> Task for Sender<'s> {
+impl<'s, 'r> Task for Sender<'s, 'r> {
     type Back = Option<Done<Hand>>;
 
     ghost is_ready = { λ s. IsHandOf s.server.now.pool.table s.server.now.pool.cores s.worker

@@ -1,8 +1,8 @@
 //! Starts the kernel threads of the server, and ends them.
-ghost use Rattle.std.specs.Prelude.{◌≡◌, ◌+◌, ◌≤◌, IfOk, IfSome, length, vec_len};
+ghost use Rattle.std.specs.Prelude.{◌≡◌, ◌+◌, ◌≤◌, IfOk, IfSome, IsSome, length, vec_len};
 ghost use Rattle.arachne_pool.specs.Workers.{IsWorkerOf};
 
-use crate::crew::{Crew, Four, Sending};
+use crate::crew::{Four, Sending, Table, have_all_work};
 use crate::job::Request;
 use crate::keeper::Keeper;
 use crate::report::Report;
@@ -11,15 +11,15 @@ use crate::send::Done;
 use crate::serve::Server;
 use crate::station::stations;
 use anyhow::{Result, bail};
-use arachne_pool::{Pool, Worker};
-use arachne_table::Seats;
+use arachne_pool::{Pool, Spawned, Worker};
+use arachne_table::Contexts;
 use std::alloc::Global;
 use std::rt::Clock;
 use std::sync::Wait;
 use std::thread::Threads;
 
 /// Answers all requests of a list, with the cores of a keeper and one more core, on which nothing runs: the sender's.
-pub fn run<C: Crew + Drop, R: Threads + Wait + Clock + Sync>(
+pub fn run<R: Threads + Wait + Clock + Sync>(
     rt: &R,
     alloc: Global,
     requests: &[Due],
@@ -29,11 +29,7 @@ pub fn run<C: Crew + Drop, R: Threads + Wait + Clock + Sync>(
     ensures { IfOk result (λ made. vec_len made.0.answers ≡ length requests.now) }
 {
     let report = Report::new(alloc, requests.len())?;
-    let most = keeper.most;
-    let orders = keeper.listed(alloc, keeper.sender())?;
-    let stations = stations(alloc, most)?;
-    let (pool, worker) = Pool::<C>::new::<Request>(alloc, most + 1, Keeper::PLACES, orders)?;
-    let server = Server::new(pool, stations);
+    let (server, worker, others) = begin::<Table, R>(rt, alloc, &keeper)?;
     let sending = Sending {
         alloc,
         keeper,
@@ -41,7 +37,62 @@ pub fn run<C: Crew + Drop, R: Threads + Wait + Clock + Sync>(
         report,
         template,
     };
-    let Some(done) = work::<C, R>(rt, &server, worker, sending) else {
+    let (others, done) = have_all_work(rt, &server, others, worker, sending);
+    end::<Table, R>(rt, alloc, server, others, done)
+}
+
+/// The server before anything is sent, the sender's worker, and four for its cores.
+fn begin<C: Contexts<Spawned<Request>> + Drop, R: Wait>(
+    rt: &R,
+    alloc: Global,
+    keeper: &Keeper,
+) -> Result<
+    (
+        Server<C>,
+        Worker<C::Seat, Request>,
+        Four<Worker<C::Seat, Request>>,
+    ),
+>
+    ensures cores { IfOk result (λ made. keeper.now.most + 1 ≡ made.0.pool.cores) }
+    ensures worker { IfOk result (λ made. IsWorkerOf C.sits C.idle made.0.pool.table made.0.pool.cores made.1) }
+    ensures first { IfOk result (λ made. IsWorkerOf C.sits C.idle made.0.pool.table made.0.pool.cores made.2.0.0) }
+    ensures second { IfOk result (λ made. IsWorkerOf C.sits C.idle made.0.pool.table made.0.pool.cores made.2.0.1) }
+    ensures third { IfOk result (λ made. IsWorkerOf C.sits C.idle made.0.pool.table made.0.pool.cores made.2.1.0) }
+    ensures fourth { IfOk result (λ made. IsWorkerOf C.sits C.idle made.0.pool.table made.0.pool.cores made.2.1.1) }
+{
+    let orders = keeper.listed(alloc, keeper.sender())?;
+    let stations = stations(alloc, keeper.most)?;
+    let (pool, worker) = Pool::<C>::new::<Request>(alloc, keeper.most + 1, Keeper::PLACES, orders)?;
+    let (worker, first) = pool.split(rt, worker);
+    let (worker, second) = pool.split(rt, worker);
+    let (worker, third) = pool.split(rt, worker);
+    let (worker, fourth) = pool.split(rt, worker);
+    let others = ((first, second), (third, fourth));
+    Ok((Server::new(pool, stations), worker, others))
+}
+
+/// What was done by a server, which is closed, if nothing is left and memory was not refused.
+fn end<C: Contexts<Spawned<Request>> + Drop, R: Wait>(
+    rt: &R,
+    alloc: Global,
+    server: Server<C>,
+    others: Four<Option<Worker<C::Seat, Request>>>,
+    done: Option<Done<Worker<C::Seat, Request>>>,
+) -> Result<(Report, Keeper)>
+    requires first { IfSome others.0.0 (IsWorkerOf C.sits C.idle server.pool.table server.pool.cores) }
+    requires second { IfSome others.0.1 (IsWorkerOf C.sits C.idle server.pool.table server.pool.cores) }
+    requires third { IfSome others.1.0 (IsWorkerOf C.sits C.idle server.pool.table server.pool.cores) }
+    requires fourth { IfSome others.1.1 (IsWorkerOf C.sits C.idle server.pool.table server.pool.cores) }
+    requires worker { IfSome done (λ done. IsWorkerOf C.sits C.idle server.pool.table server.pool.cores done.worker) }
+    ensures report { IfOk result (λ made. IfSome done (λ done. made.0 ≡ done.report)) }
+    ensures done { IfOk result (λ made. IsSome done) }
+{
+    let Server { pool, .. } = server;
+    let ((first, second), (third, fourth)) = others;
+    let pair = joined::<C, R>(rt, &pool, first, second);
+    let others = joined::<C, R>(rt, &pool, third, fourth);
+    let others = joined::<C, R>(rt, &pool, pair, others);
+    let Some(done) = done else {
         bail!("memory was refused");
     };
     let Done {
@@ -49,63 +100,28 @@ pub fn run<C: Crew + Drop, R: Threads + Wait + Clock + Sync>(
         keeper,
         report,
     } = done;
-    let Server { pool, .. } = server;
-    match pool.close(rt, alloc, worker) {
-        Ok(left) if left.placed.len() == 0 && left.near.len() == 0 => Ok((report, keeper)),
-        Ok(_) => bail!("requests are left"),
-        Err(_) => bail!("the pool was not closed"),
+    let Some(worker) = joined::<C, R>(rt, &pool, Some(worker), others) else {
+        bail!("memory was refused");
+    };
+    let Ok(left) = pool.close(rt, alloc, worker) else {
+        bail!("the pool was not closed");
+    };
+    if left.placed.len() > 0 || left.near.len() > 0 {
+        bail!("requests are left");
     }
+    Ok((report, keeper))
 }
 
-/// Serves on all cores and sends the requests, by a kernel thread each, until all are answered. None where memory is
-/// refused.
-fn work<C: Crew, R: Threads + Wait + Clock + Sync>(
-    rt: &R,
-    server: &Server<C>,
-    worker: Worker<C::Seat, Request>,
-    sending: Sending<'_>,
-) -> Option<Done<Worker<C::Seat, Request>>>
-    requires worker { IsWorkerOf C.sits C.idle server.now.pool.table server.now.pool.cores worker }
-    requires cores { sending.keeper.most + 1 ≡ server.now.pool.cores }
-    requires none { vec_len sending.report.answers ≡ 0 }
-    ensures worker { IfSome result (λ done. IsWorkerOf C.sits C.idle server.now.pool.table server.now.pool.cores done.worker) }
-    ensures all { IfSome result (λ done. vec_len done.report.answers ≡ length sending.requests.now) }
-{
-    let (worker, first) = server.pool.split(rt, worker);
-    let (worker, second) = server.pool.split(rt, worker);
-    let (worker, third) = server.pool.split(rt, worker);
-    let (worker, fourth) = server.pool.split(rt, worker);
-    let others = ((first, second), (third, fourth));
-    let (others, done) = C::have_all_work(rt, server, others, worker, sending);
-    let Done {
-        worker,
-        keeper,
-        report,
-    } = done?;
-    Some(Done {
-        worker: together::<C, R>(rt, &server.pool, worker, others)?,
-        keeper,
-        report,
-    })
-}
-
-/// One worker of five, if all are there, and there is memory.
-fn together<C: Seats, R: Wait>(
+/// Two workers together, if both are there, and there is memory.
+fn joined<C: Contexts<Spawned<Request>>, R: Wait>(
     rt: &R,
     pool: &Pool<C>,
-    worker: Worker<C::Seat, Request>,
-    others: Four<Option<Worker<C::Seat, Request>>>,
+    worker: Option<Worker<C::Seat, Request>>,
+    other: Option<Worker<C::Seat, Request>>,
 ) -> Option<Worker<C::Seat, Request>>
-    requires worker { IsWorkerOf C.sits C.idle pool.now.table pool.now.cores worker }
-    requires first { IfSome others.0.0 (IsWorkerOf C.sits C.idle pool.now.table pool.now.cores) }
-    requires second { IfSome others.0.1 (IsWorkerOf C.sits C.idle pool.now.table pool.now.cores) }
-    requires third { IfSome others.1.0 (IsWorkerOf C.sits C.idle pool.now.table pool.now.cores) }
-    requires fourth { IfSome others.1.1 (IsWorkerOf C.sits C.idle pool.now.table pool.now.cores) }
+    requires worker { IfSome worker (IsWorkerOf C.sits C.idle pool.now.table pool.now.cores) }
+    requires other { IfSome other (IsWorkerOf C.sits C.idle pool.now.table pool.now.cores) }
     ensures { IfSome result (IsWorkerOf C.sits C.idle pool.now.table pool.now.cores) }
 {
-    let ((first, second), (third, fourth)) = others;
-    let worker = pool.join_workers(rt, worker, first?).ok()?;
-    let worker = pool.join_workers(rt, worker, second?).ok()?;
-    let worker = pool.join_workers(rt, worker, third?).ok()?;
-    pool.join_workers(rt, worker, fourth?).ok()
+    pool.join_workers(rt, worker?, other?).ok()
 }

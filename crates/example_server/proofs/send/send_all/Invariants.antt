@@ -1,7 +1,7 @@
 use Rattle.std.proofs.Common.{◌≡◌, ◌+◌, ◌≤◌, length, vec_len}
 use Rattle.std.specs.VecDeque.{deque_len}
 use Rattle.arachne_pool.specs.Workers.{IsWorkerOf}
-use Rattle.example_server.proofs.send.send.Given as goal
+use Rattle.example_server.proofs.send.send_all.Given as goal
 
 -- between two rounds the worker is the pool's, and what was sent was answered or waits to be
 abbrev pub invariant-loop : goal.invariant-loop
