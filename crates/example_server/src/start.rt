@@ -38,7 +38,10 @@ pub fn run<R: Threads + Wait + Clock + Sync>(
         template,
     };
     let (others, done) = have_all_work(rt, &server, others, worker, sending);
-    end::<Table, R>(rt, alloc, server, others, done)
+    match end::<Table, R>(rt, alloc, server, others, done) {
+        Ok(made) => Ok(made),
+        Err(why) => bail!("{why}"),
+    }
 }
 
 /// The server before anything is sent, the sender's worker, and four for its cores.
@@ -71,14 +74,14 @@ fn begin<C: Contexts<Spawned<Request>> + Drop, R: Wait>(
     Ok((Server::new(pool, stations), worker, others))
 }
 
-/// What was done by a server, which is closed, if nothing is left and memory was not refused.
+/// What the server has done, whose pool is closed; else why that can't be.
 fn end<C: Contexts<Spawned<Request>> + Drop, R: Wait>(
     rt: &R,
     alloc: Global,
     server: Server<C>,
     others: Four<Option<Worker<C::Seat, Request>>>,
     done: Option<Done<Worker<C::Seat, Request>>>,
-) -> Result<(Report, Keeper)>
+) -> Result<(Report, Keeper), &'static str>
     requires first { IfSome others.0.0 (IsWorkerOf C.sits C.idle server.pool.table server.pool.cores) }
     requires second { IfSome others.0.1 (IsWorkerOf C.sits C.idle server.pool.table server.pool.cores) }
     requires third { IfSome others.1.0 (IsWorkerOf C.sits C.idle server.pool.table server.pool.cores) }
@@ -93,7 +96,7 @@ fn end<C: Contexts<Spawned<Request>> + Drop, R: Wait>(
     let others = joined::<C, R>(rt, &pool, third, fourth);
     let others = joined::<C, R>(rt, &pool, pair, others);
     let Some(done) = done else {
-        bail!("memory was refused");
+        return Err("memory was refused");
     };
     let Done {
         worker,
@@ -101,13 +104,13 @@ fn end<C: Contexts<Spawned<Request>> + Drop, R: Wait>(
         report,
     } = done;
     let Some(worker) = joined::<C, R>(rt, &pool, Some(worker), others) else {
-        bail!("memory was refused");
+        return Err("memory was refused");
     };
     let Ok(left) = pool.close(rt, alloc, worker) else {
-        bail!("the pool was not closed");
+        return Err("the pool was not closed");
     };
     if left.placed.len() > 0 || left.near.len() > 0 {
-        bail!("requests are left");
+        return Err("requests are left");
     }
     Ok((report, keeper))
 }

@@ -6,8 +6,8 @@ use Rattle.example_server.proofs.job.Answer.TheSendSync as answer
 use Rattle.example_server.proofs.start.run.Goals as goal
 
 -- a seat of this table may cross threads
-pub begin-server-requires-send-C-Seat : goal.begin-server-requires-send-C-Seat
-begin-server-requires-send-C-Seat g c κs = search (sendable, seat.the_send, spawned_send, request.the_send, answer.the_send) depth 20
+pub begin-requires-send-C-Seat : goal.begin-requires-send-C-Seat
+begin-requires-send-C-Seat g c κs = search (sendable, seat.the_send, spawned_send, request.the_send, answer.the_send) depth 20
 
 pub end-requires-send-C-Seat : goal.end-requires-send-C-Seat
 end-requires-send-C-Seat g c κs within = search (sendable, seat.the_send, spawned_send, request.the_send, answer.the_send) depth 20
