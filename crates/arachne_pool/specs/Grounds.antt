@@ -10,7 +10,3 @@ thread_in tag held = Thread held.hold (tag held.value)
 -- it is known what is out with the seat
 abbrev pub IsKnown : {Seat C H : Type 0} → (Seat → List (Out C H) → Type 0) → Seat → Type 0
 IsKnown {Seat} {C} {H} has seat = (outs : List (Out C H)) × has seat outs
-
--- it is out no more, and what else was out is out
-abbrev pub IsSpent : {Seat C H : Type 0} → (Seat → List (Out C H) → Type 0) → Out C H → Seat → Seat → Type 0
-IsSpent {Seat} {C} {H} has out old new = (outs : List (Out C H)) → has old (out ∷ outs) → has new outs

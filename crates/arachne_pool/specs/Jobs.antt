@@ -1,5 +1,5 @@
 -- What the steps of a job keep, of its results and of the children that it awaits.
-use Rattle.std.specs.Prelude.{◌≡◌, List, [], ◌∷◌, Option, None, Some}
+use Rattle.std.specs.Prelude.{List, [], ◌∷◌, Option, None, Some}
 use Rattle.arachne_core.specs.declared.thread_id.ThreadId.{ThreadId}
 use Rattle.arachne_pool.specs.declared.job.Step.{Step}
 use Rattle.arachne_pool.specs.declared.job.Step.TheVariants.{Again, Waits, Forks, Done}
@@ -16,17 +16,21 @@ module _ {Job : Type 0} where
   children_of None linked = linked
   children_of (Some child) linked = child ∷ linked
 
-  -- the children after a step, the newest first
-  abbrev pub with_fork : {Output : Type 0} → Step Job Output → List Job → List Job
-  with_fork Again children = children
-  with_fork Waits children = children
-  with_fork (Forks child) children = child ∷ children
-  with_fork (Done output) children = children
-
   module _ (awaits : Job → List Job → Type 0) where
-    -- what it awaited it awaits still, and the child that it forked, if it did
+    -- it is known which children it awaits, as it is while a job has not ended
+    abbrev pub KnowsChildren : Job → Type 0
+    KnowsChildren job = (children : List Job) × awaits job children
+
+    -- what it awaited it awaits still
+    abbrev pub KeepsAwaited : Job → Job → Type 0
+    KeepsAwaited old new = (children : List Job) → awaits old children → awaits new children
+
+    -- so it is after a step, with the child that it forked, if it did. What has ended awaits nobody
     abbrev pub KeepsChildren : {Output : Type 0} → Step Job Output → Job → Job → Type 0
-    KeepsChildren step old new = (children : List Job) → awaits old children → awaits new (with_fork step children)
+    KeepsChildren Again old new = KeepsAwaited old new
+    KeepsChildren Waits old new = KeepsAwaited old new
+    KeepsChildren (Forks child) old new = (children : List Job) → awaits old children → awaits new (child ∷ children)
+    KeepsChildren (Done output) old new = Unit {0}
 
     -- a child that is forked awaits no child yet
     abbrev pub ForksFresh : {Output : Type 0} → Step Job Output → Type 0

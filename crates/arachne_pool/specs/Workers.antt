@@ -1,7 +1,9 @@
 -- What contracts see of a worker, and whose worker it is.
-use Rattle.std.specs.Prelude.{◌≡◌, ℕ, Option, IfSome}
+use Rattle.std.specs.Prelude.{◌≡◌, ℕ, List, ◌++◌, Option, IfSome, All}
 use Rattle.arachne_arbiter.specs.Orders.{Progress}
 use Rattle.arachne_pool.specs.declared.tally.Tally.{Tally}
+use Rattle.arachne_policy.specs.declared.orders.CoreOrder.{CoreOrder}
+use Rattle.arachne_policy.specs.declared.orders.OrderKind.TheVariants.{Release}
 
 -- its seat, unless the table has disowned it; how many jobs it has that have no place; what it has counted; and its
 -- orders, if it has some
@@ -14,6 +16,12 @@ pub record WorkerView (Seat : Type 0) : Type 0 where
 -- the orders, if there are some, are for so many cores
 abbrev pub IsArbiterFor : ℕ → Option Progress → Type 0
 IsArbiterFor cores arbiter = IfSome arbiter (λ progress. progress.cores ≡ cores)
+
+-- the orders come last in this list, behind some that close cores at once
+pub record ComeLast (orders list : List CoreOrder) : Type 0 where
+  pub closing : List CoreOrder
+  pub both : list ≡ closing ++ orders
+  pub close : All (λ order. (order.kind ≡ Release) × (order.after ≡ 0)) closing
 
 module _ {Table Seat : Type 0} (sits idle : Table → Seat → Type 0) where
   -- the seat sits at this table, with nothing out

@@ -1,7 +1,7 @@
 //! What a worker does at its pool: it spawns jobs, works, and gets results.
-ghost use Rattle.std.specs.Prelude.{◌≡◌, ◌+◌, ◌<◌, [], IfErr, IfOk, OnErr, OnOk};
+ghost use Rattle.std.specs.Prelude.{◌≡◌, ◌+◌, ◌<◌, [], IfErr, IfOk, IsSome, OnErr, OnOk};
 
-use crate::desk::{Disowned, place_first};
+use crate::desk::{Disowned, place};
 use crate::handle::Handle;
 use crate::job::PoolJob;
 use crate::outcome::Wanted;
@@ -38,7 +38,7 @@ impl<C: Seats> Pool<C> {
         if worker.desk.near.try_reserve(1).is_err() {
             return Err(job);
         }
-        let Some(mut seat) = worker.seat.take() else {
+        let Some(seat) = &mut worker.seat else {
             return Err(job);
         };
         let wanted = Wanted {
@@ -46,18 +46,17 @@ impl<C: Seats> Pool<C> {
         };
         let desk = &mut worker.desk;
         let Ok((receiver, sender)) = desk.cells.open(desk.alloc, &wanted) else {
-            worker.seat = Some(seat);
             return Err(job);
         };
         let job = Spawned::begin(desk.alloc, job, sender, None, &mut desk.tally);
         self.job_begins();
         let handle = Handle::of(receiver);
-        match place_first::<H, J, C>(rt, self, &mut seat, desk, job) {
-            Ok(()) => {
-                worker.seat = Some(seat);
+        match place::<H, J, C>(rt, self, seat, desk, job) {
+            Ok(()) => Ok(handle),
+            Err(Disowned) => {
+                worker.seat = None;
                 Ok(handle)
             }
-            Err(Disowned) => Ok(handle),
         }
     }
 
@@ -74,15 +73,16 @@ impl<C: Seats> Pool<C> {
         requires worker { IsWorkerOf C.sits C.idle self.now.table self.now.cores worker.old }
         requires core { core < self.now.cores }
         ensures worker { IsWorkerOf C.sits C.idle self.now.table self.now.cores worker.new }
+        ensures seat { OnOk result (IsSome worker.new.seat) }
     {
-        let Some(mut seat) = worker.seat.take() else {
+        let Some(seat) = &mut worker.seat else {
             return Err(PoolFault::Token);
         };
-        tend::<H, J, C>(rt, self, &mut seat, &mut worker.arbiter);
-        let Ok(found) = round::<H, J, C>(rt, self, core, &mut seat, &mut worker.desk) else {
+        tend::<H, J, C>(rt, self, seat, &mut worker.arbiter);
+        let Ok(found) = round::<H, J, C>(rt, self, core, seat, &mut worker.desk) else {
+            worker.seat = None;
             return Err(PoolFault::Token);
         };
-        worker.seat = Some(seat);
         if worker.desk.is_short {
             worker.desk.is_short = false;
             return Err(PoolFault::Memory);
@@ -90,32 +90,8 @@ impl<C: Seats> Pool<C> {
         Ok(found)
     }
 
-    /// Waits a little on a core, longer the more rounds have found nothing. A worker that others may wait for isn't parked:
-    /// one with orders, or with jobs that have no place.
-    fn rest<H: Wait, J: PoolJob>(
-        &self,
-        rt: &H,
-        worker: &mut Worker<C::Seat, J>,
-        core: u8,
-        idle: u32,
-        may_park: bool,
-    )
-    where
-        C: Contexts<Spawned<J>>,
-        requires worker { IsWorkerOf C.sits C.idle self.now.table self.now.cores worker.old }
-        requires core { core < self.now.cores }
-        ensures worker { IsWorkerOf C.sits C.idle self.now.table self.now.cores worker.new }
-    {
-        let Some(mut seat) = worker.seat.take() else {
-            return;
-        };
-        let may_park = may_park && worker.desk.near.is_empty() && worker.arbiter.is_none();
-        wait::<H, J, C>(rt, self, core, &mut seat, idle, may_park);
-        worker.seat = Some(seat);
-    }
-
-    /// A round on a core, and a wait where it found nothing, which is the more often in turn counted. With a fault the
-    /// other workers stop too.
+    /// A round on a core, and a wait where it found nothing, which is the more often in turn counted. A worker that others
+    /// may wait for isn't parked: one with orders, or with jobs that have no place. With a fault the other workers stop too.
     fn go_on<H: Wait, J: PoolJob>(
         &self,
         rt: &H,
@@ -133,7 +109,11 @@ impl<C: Seats> Pool<C> {
         match self.turn(rt, worker, core) {
             Ok(true) => Ok(0),
             Ok(false) => {
-                self.rest(rt, worker, core, idle, may_park);
+                let may_park = may_park && worker.desk.near.is_empty() && worker.arbiter.is_none();
+                let Some(seat) = &mut worker.seat else {
+                    unreachable!()
+                };
+                wait::<H, J, C>(rt, self, core, seat, idle, may_park);
                 Ok(idle.saturating_add(1))
             }
             Err(fault) => {

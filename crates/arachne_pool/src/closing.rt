@@ -1,5 +1,5 @@
 //! The begin of a pool, and its end.
-ghost use Rattle.std.specs.Prelude.{◌≡◌, ◌+◌, ◌<◌, ◌≤◌, true, IfOk, IfSome, length};
+ghost use Rattle.std.specs.Prelude.{◌≡◌, ◌+◌, ◌<◌, ◌≤◌, ◌↔◌, IfOk, IfSome, IsSome, IsTrue, OnErr, OnOk, Some, length};
 ghost use Rattle.arachne_core.specs.declared.layout.TheConstants.{CORES, SLOTS};
 ghost use Rattle.arachne_policy.specs.Orders.{AreInOrder};
 ghost use Rattle.arachne_policy.specs.declared.orders.OrderKind.TheVariants.{Release};
@@ -58,6 +58,8 @@ impl<C: Seats + Drop> Pool<C> {
         ensures worker { IfOk result (λ made. IsWorkerOf C.sits C.idle made.0.table made.0.cores made.1) }
         ensures weight { IfOk result (λ made. IfSome made.1.seat (λ seat. C.weight seat ≡ whole)) }
         ensures tally { IfOk result (λ made. (made.1.tally.spawned ≡ 0) × (made.1.tally.ended ≡ 0)) }
+        ensures near { IfOk result (λ made. made.1.near ≡ 0) }
+        ensures orders { IfOk result (λ made. made.1.arbiter ≡ Some (record { list = orders.items; cores = cores; applied = 0 })) }
     {
         let arbiter = Arbiter::new(alloc, orders, cores)?;
         let (pool, seat) = Pool::<C>::with_seat(alloc, cores, slots)?;
@@ -73,10 +75,11 @@ impl<C: Seats + Drop> Pool<C> {
 impl<C: Seats> Pool<C> {
     ghost use Rattle.arachne_pool.specs.Workers.{IsWorkerOf};
     ghost use Rattle.arachne_pool.specs.Leftover.{count_of};
+    ghost use Rattle.arachne_pool.specs.Workers.{ComeLast};
 
     /// From now on these orders, as by a policy of the caller's between two rounds; what is left of those before is
     /// forgotten. A core that those have closed stays closed until one of these grants it. One and the same worker is given
-    /// all orders of a pool.
+    /// all orders of a pool. Where memory is refused the worker has the orders that it had.
     pub fn order<H: Wait, J: PoolJob>(
         &self,
         rt: &H,
@@ -88,7 +91,10 @@ impl<C: Seats> Pool<C> {
         requires worker { IsWorkerOf C.sits C.idle self.now.table self.now.cores worker.old }
         requires orders { AreInOrder self.now.cores orders.items }
         ensures worker { IsWorkerOf C.sits C.idle self.now.table self.now.cores worker.new }
-        ensures same { (worker.new.tally ≡ worker.old.tally) × (worker.new.near ≡ worker.old.near) }
+        ensures same { worker.new ≡ record worker.old { arbiter = worker.new.arbiter } }
+        ensures orders { OnOk result (IfSome worker.new.arbiter (λ arbiter. ComeLast orders.items arbiter.list × (arbiter.applied ≡ 0))) }
+        ensures given { OnOk result (IsSome worker.new.arbiter) }
+        ensures refused { OnErr result (worker.new ≡ worker.old) }
     {
         let mut orders = orders;
         for core in 1..self.cores {
@@ -179,7 +185,7 @@ impl Tally {
 
     /// Whether those that ended and those that are left are as many as were spawned.
     fn is_over<J: PoolJob>(self, left: &Left<J>) -> bool
-        ensures { result ≡ true → self.spawned ≡ self.ended + count_of left.now }
+        ensures { IsTrue result ↔ (self.spawned ≡ self.ended + count_of left.now) }
     {
         let Some(rest) = self.spawned.checked_sub(self.ended) else {
             return false;

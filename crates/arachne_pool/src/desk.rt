@@ -1,8 +1,8 @@
 //! What a worker has beside its seat, and what it does with a job in hand.
 ghost use Rattle.std.specs.Prelude.{◌≡◌, ◌<◌, ◌≤◌, [], ◌∷◌, IfOk, IfSome, OnOk, vec_len, vec_capacity};
 ghost use Rattle.arachne_arbiter.specs.Placed.{GetsPlace};
-ghost use Rattle.arachne_contexts.specs.Out.{Claim as a_claim, HasOut, KeepsOut};
-ghost use Rattle.arachne_pool.specs.Grounds.{IsKnown, IsSpent, thread_in};
+ghost use Rattle.arachne_contexts.specs.Out.{KeepsOut};
+ghost use Rattle.arachne_pool.specs.Grounds.{IsKnown, thread_in};
 ghost use Rattle.arachne_pool.specs.Stops.{EndsAs};
 
 use crate::job::PoolJob;
@@ -48,10 +48,14 @@ pub(crate) fn have_slice<H: Wait, J: PoolJob, C: Contexts<Spawned<J>>>(
     ensures out { OnOk result (C.has pool.now.table seat.new []) }
 {
     let mut held = held;
-    match advance::<H, J, C>(rt, pool, seat, desk, &mut held)? {
-        Stop::Goes | Stop::Forks => rest::<H, J, C>(rt, pool, seat, held, Rest::Ready),
-        Stop::Waits => rest::<H, J, C>(rt, pool, seat, held, Rest::Blocked),
-        Stop::Ends(output) => end::<H, J, C>(rt, pool, seat, desk, held, output),
+    let rest = match advance::<H, J, C>(rt, pool, seat, desk, &mut held)? {
+        Stop::Goes | Stop::Forks => Rest::Ready,
+        Stop::Waits => Rest::Blocked,
+        Stop::Ends(output) => return end::<H, J, C>(rt, pool, seat, desk, held, output),
+    };
+    match pool.table.put_back(rt, seat, held, rest) {
+        Ok(_) => Ok(()),
+        Err(_) => Err(Disowned),
     }
 }
 
@@ -75,25 +79,6 @@ fn advance<H: Wait, J: PoolJob, C: Contexts<Spawned<J>>>(
         fork_off::<H, J, C>(rt, pool, seat, desk, &mut held.value, Some(me))?;
     }
     Ok(stop)
-}
-
-/// Puts the job in hand back.
-fn rest<H: Wait, J: PoolJob, C: Contexts<Spawned<J>>>(
-    rt: &H,
-    pool: &Pool<C>,
-    seat: &mut C::Seat,
-    held: Held<Spawned<J>, C::Hold>,
-    rest: Rest,
-) -> Result<(), Disowned>
-    requires seat { C.sits pool.now.table seat.old }
-    requires out { C.has pool.now.table seat.old (thread_in (λ s. J.tag_of s.job) held ∷ []) }
-    ensures seat { C.sits pool.now.table seat.new }
-    ensures out { OnOk result (C.has pool.now.table seat.new []) }
-{
-    match pool.table.put_back(rt, seat, held, rest) {
-        Ok(_) => Ok(()),
-        Err(_) => Err(Disowned),
-    }
 }
 
 /// Ends the job in hand with this result.
@@ -197,7 +182,7 @@ fn fork_off<H: Wait, J: PoolJob, C: Contexts<Spawned<J>>>(
 }
 
 /// A job gets a place, or is kept with those that have none.
-fn place<H: Wait, J: PoolJob, C: Contexts<Spawned<J>>>(
+pub(crate) fn place<H: Wait, J: PoolJob, C: Contexts<Spawned<J>>>(
     rt: &H,
     pool: &Pool<C>,
     seat: &mut C::Seat,
@@ -217,24 +202,6 @@ fn place<H: Wait, J: PoolJob, C: Contexts<Spawned<J>>>(
     Ok(())
 }
 
-/// The same for a job that is spawned, by a seat with which nothing is out.
-pub(crate) fn place_first<H: Wait, J: PoolJob, C: Contexts<Spawned<J>>>(
-    rt: &H,
-    pool: &Pool<C>,
-    seat: &mut C::Seat,
-    desk: &mut Desk<J>,
-    job: Spawned<J>,
-) -> Result<(), Disowned>
-    requires seat { C.sits pool.now.table seat.old }
-    requires out { C.has pool.now.table seat.old [] }
-    requires room { vec_len desk.old.near < vec_capacity desk.old.near }
-    ensures seat { C.sits pool.now.table seat.new }
-    ensures out { OnOk result (C.has pool.now.table seat.new []) }
-    ensures tally { desk.new.tally ≡ desk.old.tally }
-{
-    place::<H, J, C>(rt, pool, seat, desk, job)
-}
-
 /// A job gets a place. Where no core has one it comes back.
 fn offer<H: Wait, J: PoolJob, C: Contexts<Spawned<J>>>(
     rt: &H,
@@ -252,25 +219,8 @@ fn offer<H: Wait, J: PoolJob, C: Contexts<Spawned<J>>>(
     let Ok(Some(claim)) = claim::<H, J, C>(rt, pool, seat, chooser, job.is_exclusive()) else {
         return Ok(Some(job));
     };
-    post::<H, J, C>(rt, pool, seat, claim, job)?;
-    Ok(None)
-}
-
-/// Posts a job at a claimed place.
-fn post<H: Wait, J: PoolJob, C: Contexts<Spawned<J>>>(
-    rt: &H,
-    pool: &Pool<C>,
-    seat: &mut C::Seat,
-    claim: C::Claim,
-    job: Spawned<J>,
-) -> Result<(), Disowned>
-    requires seat { C.sits pool.now.table seat.old }
-    requires out { HasOut (C.has pool.now.table) (a_claim claim) seat.old }
-    ensures seat { C.sits pool.now.table seat.new }
-    ensures out { OnOk result (IsSpent (C.has pool.now.table) (a_claim claim) seat.old seat.new) }
-{
     match pool.table.post(rt, seat, claim, job) {
-        Ok(_) => Ok(()),
+        Ok(_) => Ok(None),
         Err(_) => Err(Disowned),
     }
 }

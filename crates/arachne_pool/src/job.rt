@@ -1,6 +1,6 @@
 //! What a pool runs.
 ghost use Rattle.std.specs.Prelude.{◌≡◌, List, [], ◌∷◌};
-ghost use Rattle.arachne_pool.specs.Jobs.{EndsWith, ForksFresh, HasJoined, IsAwaited, KeepsChildren, KeepsResults};
+ghost use Rattle.arachne_pool.specs.Jobs.{EndsWith, ForksFresh, HasJoined, IsAwaited, KeepsChildren, KeepsResults, KnowsChildren};
 
 use arachne_contexts::Tagged;
 
@@ -29,8 +29,9 @@ pub trait PoolJob: Tagged + Drop {
     /// job says nothing of them, all that it knows of what it joins is that it is a result of some job.
     ghost awaits: { Self → List Self → Type 0 };
 
-    /// One step.
+    /// One step. A job that has ended makes none.
     fn step(&mut self) -> Step<Self, Self::Output>
+        requires goes_on { KnowsChildren awaits self.old }
         ensures tag { Self.tag_of self.new ≡ Self.tag_of self.old }
         ensures results { KeepsResults is_result self.old self.new }
         ensures children { KeepsChildren awaits result self.old self.new }

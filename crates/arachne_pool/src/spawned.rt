@@ -27,17 +27,19 @@ pub struct Spawned<J: PoolJob> {
     parent: Option<ThreadId>,
     /// It is to get the result of its newest child before its next step.
     waits: bool,
+    /// It has given its result, and makes no step.
+    has_ended: bool,
 }
 
 impl<J: PoolJob> Model for Spawned<J> {
-    ghost use Rattle.std.specs.Prelude.{[], IfSome};
+    ghost use Rattle.std.specs.Prelude.{◌≡◌, [], false, IfSome};
     ghost use Rattle.arachne_pool.specs.Jobs.{Being, KeepsResults, children_of};
 
     ghost Value = { Being J };
 
     ghost view = { λ s. record { job = s.job; asked = s.sender.key.job.value; parent = s.parent } };
 
-    ghost invariant = { λ s. KeepsResults J.is_result s.sender.key.job.value s.job × J.awaits s.job (children_of s.child s.links)
+    ghost invariant = { λ s. KeepsResults J.is_result s.sender.key.job.value s.job × (s.has_ended ≡ false → J.awaits s.job (children_of s.child s.links))
         × IfSome s.child (λ child. J.awaits child []) };
 }
 
@@ -72,6 +74,7 @@ impl<J: PoolJob> Spawned<J> {
             sender,
             parent,
             waits: false,
+            has_ended: false,
         }
     }
 
@@ -102,13 +105,16 @@ impl<J: PoolJob> Spawned<J> {
         Stop::Goes
     }
 
-    /// Goes on by a step, if it doesn't wait and its last child was parted off.
+    /// Goes on by a step, if it has not ended and doesn't wait, and its last child was parted off.
     fn go_on(&mut self, cells: &mut Cells<J>) -> Stop<J::Output>
         ensures tag { J.tag_of self.new.job ≡ J.tag_of self.old.job }
         ensures asked { self.new.asked ≡ self.old.asked }
         ensures parent { self.new.parent ≡ self.old.parent }
         ensures output { EndsAs (J.is_result self.old.asked) result }
     {
+        if self.has_ended {
+            return Stop::Waits;
+        }
         if self.child.is_some() {
             return Stop::Forks;
         }
@@ -128,7 +134,10 @@ impl<J: PoolJob> Spawned<J> {
                 self.child = Some(child);
                 Stop::Forks
             }
-            Step::Done(output) => Stop::Ends(output),
+            Step::Done(output) => {
+                self.has_ended = true;
+                Stop::Ends(output)
+            }
         }
     }
 

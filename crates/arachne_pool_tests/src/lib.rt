@@ -5,14 +5,10 @@
 #[cfg(test)]
 mod crew;
 #[cfg(test)]
-mod loads;
-#[cfg(test)]
 mod orders;
 #[cfg(test)]
 mod rounds;
 #[cfg(test)]
 mod rows;
-#[cfg(test)]
-mod shortage;
 #[cfg(test)]
 mod tasks;

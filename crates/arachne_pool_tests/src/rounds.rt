@@ -1,189 +1,241 @@
 //! What is done with a pool by one worker, act by act, and what is seen of it.
-ghost use Rattle.std.specs.Prelude.{◌≡◌, ◌<◌, ◌≤◌, IfOk};
+ghost use Rattle.std.specs.Prelude.{◌≡◌, ◌<◌, ◌≤◌, IfSome};
 ghost use Rattle.arachne_core.specs.declared.layout.TheConstants.{CORES, SLOTS};
 ghost use Rattle.arachne_pool.specs.Workers.{IsWorkerOf};
 
+use crate::crew::Spell;
 use crate::orders::{Order, orders_of};
 use crate::tasks::{Sort, Task};
 use arachne_contexts::Contexts;
 use arachne_core::{CORES, OccWord, SLOTS};
-use arachne_pool::{Handle, Pool, PoolFault, Spawned, Worker};
+use arachne_pool::{Pool, PoolFault, Spawned, Worker};
+use arachne_shortage::Hoard;
 use std::alloc::Global;
 use std::sync::Wait;
-use std::test::Fail;
+
+/// How many bytes are given back where a growth was refused.
+const FEW: usize = 40;
+
+/// How often something is tried at most.
+const TRIES: u32 = 100_000;
 
 /// One act.
 #[derive(Clone, Copy)]
 pub(crate) enum Act {
     /// A job is spawned.
     Spawns(Sort),
+    /// A job is spawned and joined on core 0, and gives this, or nothing, as in a pool that is stopped.
+    Joins(Sort, Option<u64>),
     /// A round on a core; whether it finds anything.
     Turns(u8, bool),
-    /// So many places of a core are taken.
-    Has(u8, u8),
-    /// Whether a core is closed.
-    IsClosed(u8, bool),
-    /// Whether one job has a core alone.
-    IsAlone(u8, bool),
+    /// So many places of a core are taken, and so it is.
+    Has(u8, u8, Is),
     /// From now on these orders.
     Orders(&'static [Order]),
     /// So many jobs have not ended.
     Lives(u64),
-    /// The job that was spawned last of those that gave nothing gives this.
-    Gives(u64),
-    /// It gives nothing yet.
-    GivesNothing,
-    /// It is joined on a core, and gives this.
-    Joins(u8, u64),
-    /// It is joined on a core of a pool that is stopped.
-    JoinsInVain(u8),
+    /// The worker has counted so many that were spawned.
+    Counts(u64),
     /// The worker works on a core until no job is left, or it is to stop.
     Works(u8),
+    /// A job and those that it forks end while memory is used up.
+    EndsInNeed(Sort),
     /// The worker is to stop.
     Stops,
 }
 
-/// A row: a pool, what is done, and how many jobs are left with a place and without.
+/// How a core is.
+#[derive(Clone, Copy, PartialEq)]
+pub(crate) enum Is {
+    Open,
+    Closed,
+    /// One job has it alone.
+    Alone,
+}
+
+/// A row: a pool, what its worker does, how long two kernel threads work then, for core 0 and core 1, how many of them end
+/// a job at least, what one does after that, and how many jobs are left with a place and without.
 pub(crate) struct Row {
     pub(crate) shows: &'static str,
     pub(crate) cores: u8,
     pub(crate) slots: u8,
     pub(crate) orders: &'static [Order],
     pub(crate) acts: &'static [Act],
+    pub(crate) spells: (Spell, Spell),
+    pub(crate) busy: usize,
+    pub(crate) then: &'static [Act],
     pub(crate) left: (usize, usize),
 }
 
-/// The first act of a row that doesn't come out as it says, from 0; their number if it is how many jobs are left. None
-/// where all do.
-pub(crate) fn failed_act<C: Contexts<Spawned<Task>> + Drop, R: Wait>(
+/// A row's pool and two workers of it, one of which has done the row's first acts. None where one doesn't come out as it
+/// says.
+pub(crate) fn begin<C: Contexts<Spawned<Task>> + Drop, R: Wait>(
     rt: &R,
     alloc: Global,
     row: &Row,
-) -> Result<Option<usize>, Fail> {
+) -> Option<(Pool<C>, (Worker<C::Seat, Task>, Worker<C::Seat, Task>))>
+    ensures first { IfSome result (λ made. IsWorkerOf C.sits C.idle made.0.table made.0.cores made.1.0) }
+    ensures second { IfSome result (λ made. IsWorkerOf C.sits C.idle made.0.table made.0.cores made.1.1) }
+{
     let Row { cores, slots, .. } = *row;
     if cores < 1 || cores > CORES || slots < 1 || slots > SLOTS {
-        return Err("no such pool")?;
+        return None;
     }
     let orders = orders_of(alloc, row.orders, cores)?;
-    let (pool, mut worker) = Pool::<C>::new::<Task>(alloc, cores, slots, orders)?;
-    let mut handles = Vec::new(alloc);
-    for (nth, act) in row.acts.iter().enumerate() {
-        if !holds::<C, R>(rt, &pool, &mut worker, &mut handles, *act)? {
-            return Ok(Some(nth));
-        }
+    let (pool, worker) = Pool::<C>::new::<Task>(alloc, cores, slots, orders).ok()?;
+    let mut worker = worker;
+    if !all_hold::<C, R>(rt, alloc, &pool, &mut worker, row.acts) {
+        return None;
     }
-    let Ok(left) = pool.close(rt, alloc, worker) else {
-        return Ok(Some(row.acts.len()));
-    };
-    if left.placed.len() == row.left.0 && left.near.len() == row.left.1 {
-        Ok(None)
-    } else {
-        Ok(Some(row.acts.len()))
-    }
+    let workers = pool.split(rt, worker);
+    Some((pool, workers))
 }
 
-/// Does an act. Whether it comes out as it says.
+/// Whether both workers have done what the row says, the acts that come last do too, and so many jobs are left.
+pub(crate) fn end<C: Contexts<Spawned<Task>> + Drop, R: Wait>(
+    rt: &R,
+    alloc: Global,
+    pool: Pool<C>,
+    workers: (Worker<C::Seat, Task>, Worker<C::Seat, Task>),
+    row: &Row,
+) -> bool
+    requires first { IsWorkerOf C.sits C.idle pool.table pool.cores workers.0 }
+    requires second { IsWorkerOf C.sits C.idle pool.table pool.cores workers.1 }
+{
+    let (worker, other) = workers;
+    let busy = usize::from(worker.tally().ended > 0) + usize::from(other.tally().ended > 0);
+    let Ok(worker) = pool.join_workers(rt, worker, other) else {
+        return false;
+    };
+    let mut worker = worker;
+    let all = all_hold::<C, R>(rt, alloc, &pool, &mut worker, row.then);
+    let Ok(left) = pool.close(rt, alloc, worker) else {
+        return false;
+    };
+    all && busy >= row.busy && left.placed.len() == row.left.0 && left.near.len() == row.left.1
+}
+
+/// Whether each act comes out as it says.
+fn all_hold<C: Contexts<Spawned<Task>>, R: Wait>(
+    rt: &R,
+    alloc: Global,
+    pool: &Pool<C>,
+    worker: &mut Worker<C::Seat, Task>,
+    acts: &[Act],
+) -> bool
+    requires worker { IsWorkerOf C.sits C.idle pool.now.table pool.now.cores worker.old }
+    ensures worker { IsWorkerOf C.sits C.idle pool.now.table pool.now.cores worker.new }
+{
+    for act in acts {
+        if !holds::<C, R>(rt, alloc, pool, worker, *act) {
+            return false;
+        }
+    }
+    true
+}
+
+/// Whether an act of one worker comes out as it says.
 fn holds<C: Contexts<Spawned<Task>>, R: Wait>(
     rt: &R,
+    alloc: Global,
     pool: &Pool<C>,
     worker: &mut Worker<C::Seat, Task>,
-    handles: &mut Vec<Handle<Task>>,
     act: Act,
-) -> Result<bool, Fail>
+) -> bool
     requires worker { IsWorkerOf C.sits C.idle pool.now.table pool.now.cores worker.old }
     ensures worker { IsWorkerOf C.sits C.idle pool.now.table pool.now.cores worker.new }
 {
     match act {
-        Act::Spawns(sort) => match pool.spawn(rt, worker, Task::new(sort)) {
-            Ok(handle) => {
-                handles.push(handle)?;
-                Ok(true)
-            }
-            Err(_) => Ok(false),
+        Act::Spawns(sort) => pool.spawn(rt, worker, Task::new(sort)).is_ok(),
+        Act::Turns(core, finds) if core < pool.cores => pool.turn(rt, worker, core) == Ok(finds),
+        Act::Works(core) if core < pool.cores => pool.work(rt, worker, core).is_ok(),
+        Act::Joins(sort, wanted) if pool.cores > 0 => {
+            joins::<C, R>(rt, pool, worker, sort, wanted)
+        }
+        Act::EndsInNeed(sort) if pool.cores > 0 => {
+            ends_in_need::<C, R>(rt, alloc, pool, worker, sort)
+        }
+        Act::Orders(orders) => match orders_of(alloc, orders, pool.cores) {
+            Some(orders) => pool.order(rt, worker, orders).is_ok(),
+            None => false,
         },
-        Act::Turns(core, finds) if core < pool.cores => {
-            Ok(pool.turn(rt, worker, core) == Ok(finds))
+        Act::Has(core, taken, is) if core < pool.cores => {
+            match OccWord::from_word(pool.table.glance(rt, core)) {
+                Some(now) => {
+                    now.count() == taken
+                        && now.is_closed() == (is == Is::Closed)
+                        && now.is_exclusive() == (is == Is::Alone)
+                }
+                None => false,
+            }
         }
-        Act::Works(core) if core < pool.cores => Ok(pool.work(rt, worker, core).is_ok()),
-        Act::Orders(orders) => {
-            let orders = orders_of(*handles.allocator(), orders, pool.cores)?;
-            Ok(pool.order(rt, worker, orders).is_ok())
-        }
+        Act::Lives(count) => pool.live() == count,
+        Act::Counts(count) => worker.tally().spawned == count,
         Act::Stops => {
             pool.stop();
-            Ok(true)
-        }
-        Act::Joins(core, _) | Act::JoinsInVain(core) if core < pool.cores => {
-            joins::<C, R>(rt, pool, worker, handles, core, act)
-        }
-        Act::Gives(_) | Act::GivesNothing => gives(handles, act),
-        seen => Ok(is_seen::<C, R>(rt, pool, seen)),
-    }
-}
-
-/// Joins the job that was spawned last. Whether that comes out as it says.
-fn joins<C: Contexts<Spawned<Task>>, R: Wait>(
-    rt: &R,
-    pool: &Pool<C>,
-    worker: &mut Worker<C::Seat, Task>,
-    handles: &mut Vec<Handle<Task>>,
-    core: u8,
-    act: Act,
-) -> Result<bool, Fail>
-    requires worker { IsWorkerOf C.sits C.idle pool.now.table pool.now.cores worker.old }
-    requires core { core < pool.now.cores }
-    ensures worker { IsWorkerOf C.sits C.idle pool.now.table pool.now.cores worker.new }
-{
-    let Some(handle) = handles.pop() else {
-        return Ok(false);
-    };
-    match pool.join(rt, worker, core, handle) {
-        Ok(counted) => Ok(matches!(act, Act::Joins(_, wanted) if wanted == counted)),
-        Err((fault, handle)) => {
-            handles.push(handle)?;
-            Ok(fault == PoolFault::Stopped && matches!(act, Act::JoinsInVain(_)))
-        }
-    }
-}
-
-/// Looks whether the job that was spawned last has ended. Whether that comes out as it says.
-fn gives(handles: &mut Vec<Handle<Task>>, act: Act) -> Result<bool, Fail> {
-    let Some(handle) = handles.pop() else {
-        return Ok(false);
-    };
-    match handle.poll() {
-        Ok(counted) => Ok(matches!(act, Act::Gives(wanted) if wanted == counted)),
-        Err(handle) => {
-            handles.push(handle)?;
-            Ok(matches!(act, Act::GivesNothing))
-        }
-    }
-}
-
-/// Whether this is to be seen of a pool.
-fn is_seen<C: Contexts<Spawned<Task>>, R: Wait>(rt: &R, pool: &Pool<C>, act: Act) -> bool {
-    match act {
-        Act::Lives(count) => pool.live() == count,
-        Act::Has(core, count) if core < pool.cores => {
-            occupancy::<C, R>(rt, pool, core).is_some_and(|now| now.count() == count)
-        }
-        Act::IsClosed(core, is_closed) if core < pool.cores => {
-            occupancy::<C, R>(rt, pool, core).is_some_and(|now| now.is_closed() == is_closed)
-        }
-        Act::IsAlone(core, is_alone) if core < pool.cores => {
-            occupancy::<C, R>(rt, pool, core).is_some_and(|now| now.is_exclusive() == is_alone)
+            true
         }
         _ => false,
     }
 }
 
-/// What is on a core.
-fn occupancy<C: Contexts<Spawned<Task>>, R: Wait>(
+/// Spawns a job and joins it on core 0. Whether it gives this, or nothing where the pool is stopped.
+fn joins<C: Contexts<Spawned<Task>>, R: Wait>(
     rt: &R,
     pool: &Pool<C>,
-    core: u8,
-) -> Option<OccWord>
-    requires { core < pool.now.cores }
+    worker: &mut Worker<C::Seat, Task>,
+    sort: Sort,
+    wanted: Option<u64>,
+) -> bool
+    requires worker { IsWorkerOf C.sits C.idle pool.now.table pool.now.cores worker.old }
+    requires core { 0 < pool.now.cores }
+    ensures worker { IsWorkerOf C.sits C.idle pool.now.table pool.now.cores worker.new }
 {
-    OccWord::from_word(pool.table.glance(rt, core))
+    let Ok(handle) = pool.spawn(rt, worker, Task::new(sort)) else {
+        return false;
+    };
+    match pool.join(rt, worker, 0, handle) {
+        Ok(counted) => wanted == Some(counted),
+        Err((fault, _)) => wanted.is_none() && fault == PoolFault::Stopped,
+    }
+}
+
+/// Spawns a job where memory is used up, and works on core 0 until all have ended. What is refused is tried again with a
+/// little more. Whether a spawn was refused, and more than 20 rounds were.
+fn ends_in_need<C: Contexts<Spawned<Task>>, R: Wait>(
+    rt: &R,
+    alloc: Global,
+    pool: &Pool<C>,
+    worker: &mut Worker<C::Seat, Task>,
+    sort: Sort,
+) -> bool
+    requires worker { IsWorkerOf C.sits C.idle pool.now.table pool.now.cores worker.old }
+    requires core { 0 < pool.now.cores }
+    ensures worker { IsWorkerOf C.sits C.idle pool.now.table pool.now.cores worker.new }
+{
+    let Ok(mut hoard) = Hoard::take(alloc) else {
+        return false;
+    };
+    let mut is_spawned = false;
+    let (mut spawns, mut rounds) = (0u32, 0u32);
+    for _ in 0..TRIES {
+        if is_spawned && pool.live() == 0 {
+            break;
+        }
+        let is_done = if is_spawned {
+            let turned = pool.turn(rt, worker, 0).is_ok();
+            rounds = rounds.saturating_add(u32::from(!turned));
+            turned
+        } else {
+            is_spawned = pool.spawn(rt, worker, Task::new(sort)).is_ok();
+            spawns = spawns.saturating_add(u32::from(!is_spawned));
+            is_spawned
+        };
+        if !is_done {
+            hoard.give_back(FEW);
+        } else if hoard.take_again().is_err() {
+            break;
+        }
+    }
+    is_spawned && pool.live() == 0 && spawns > 0 && rounds > 20
 }

@@ -1,14 +1,12 @@
-//! Rows by rounds of one worker, for both forms of table.
-use crate::orders::{GRANT, RELEASE};
-use crate::rounds::{Act, Row, failed_act};
-use crate::tasks::{Joins, LEAF, PARENT, Sort, Task};
-use arachne_contexts::Contexts;
-use arachne_locked::LockedContexts;
-use arachne_pool::Spawned;
-use arachne_words::WordContexts;
+//! Rows of acts, over the table on words.
+use crate::crew::{Spell, Table, have_two_work};
+use crate::orders::{GRANT, Order, RELEASE};
+use crate::rounds::{Act, Is, Row, begin, end};
+use crate::tasks::{Joins, LEAF, PARENT, Sort};
 use std::alloc::Global;
 use std::sync::Wait;
 use std::test::Fail;
+use std::thread::Threads;
 
 /// A job that has a core for itself, the first that is empty.
 const ALONE: Sort = Sort {
@@ -25,12 +23,62 @@ const ALONE_PARENT: Sort = Sort {
 /// One that ends at its eleventh step.
 const ELEVEN: Sort = Sort { steps: 10, ..LEAF };
 
+/// A tree of jobs with three children each, four generations deep: 121 jobs.
+const TREE: Sort = Sort {
+    depth: 4,
+    forks: 3,
+    ..LEAF
+};
+
+/// One that goes on for longer than any test.
+const ENDLESS: Sort = Sort {
+    steps: u32::MAX,
+    ..LEAF
+};
+
+/// Four trees are spawned.
+const TREES: &[Act] = &[
+    Act::Spawns(TREE),
+    Act::Spawns(TREE),
+    Act::Spawns(TREE),
+    Act::Spawns(Sort {
+        joins: Joins::InTurn,
+        bound: 5,
+        ..TREE
+    }),
+];
+
+/// Two kernel threads work until no job is left.
+const TO_THE_END: (Spell, Spell) = (Spell::ToTheEnd, Spell::ToTheEnd);
+
+/// Core 1 is taken back and granted again.
+const ORDERS: &[Order] = &[
+    (0, RELEASE, 1),
+    (50, GRANT, 1),
+    (100, RELEASE, 1),
+    (200, GRANT, 1),
+    (300, RELEASE, 1),
+    (1_000_000_000, GRANT, 1),
+];
+
+/// A row in which nothing is done.
+const NOTHING: Row = Row {
+    shows: "nothing",
+    cores: 1,
+    slots: 1,
+    orders: &[],
+    acts: &[],
+    spells: (Spell::Not, Spell::Not),
+    busy: 0,
+    then: &[],
+    left: (0, 0),
+};
+
 const ROWS: &[Row] = &[
     Row {
         shows: "a pool that is stopped hands back what is left, with a place and without",
         cores: 2,
         slots: 1,
-        orders: &[],
         acts: &[
             Act::Spawns(ALONE_PARENT),
             Act::Spawns(ELEVEN),
@@ -41,129 +89,123 @@ const ROWS: &[Row] = &[
             Act::Stops,
             Act::Works(0),
             Act::Works(1),
-            Act::GivesNothing,
             Act::Lives(4),
-            Act::JoinsInVain(0),
+            Act::Joins(LEAF, None),
         ],
-        left: (2, 2),
+        left: (2, 3),
+        ..NOTHING
     },
     Row {
         shows: "a job that waits is not stepped, and its child's end wakes it",
         cores: 2,
         slots: 1,
-        orders: &[],
         acts: &[
             Act::Spawns(ALONE_PARENT),
-            Act::Has(0, 1),
-            Act::Has(1, 0),
+            Act::Has(0, 1, Is::Alone),
+            Act::Has(1, 0, Is::Open),
             Act::Turns(0, true),
-            Act::Has(1, 1),
+            Act::Has(1, 1, Is::Alone),
             Act::Lives(2),
             Act::Turns(0, true),
             Act::Turns(0, true),
             Act::Turns(0, false),
-            Act::GivesNothing,
+            Act::Lives(2),
             Act::Turns(1, true),
-            Act::Has(1, 0),
+            Act::Has(1, 0, Is::Open),
             Act::Lives(1),
             Act::Turns(0, true),
-            Act::Gives(2),
             Act::Lives(0),
             Act::Turns(0, false),
         ],
-        left: (0, 0),
+        ..NOTHING
     },
     Row {
         shows: "a job whose child has ended before it waits goes on at once",
         cores: 2,
         slots: 1,
-        orders: &[],
         acts: &[
             Act::Spawns(ALONE_PARENT),
             Act::Turns(0, true),
             Act::Turns(1, true),
             Act::Turns(0, true),
             Act::Turns(0, true),
-            Act::Gives(2),
+            Act::Lives(0),
         ],
-        left: (0, 0),
+        ..NOTHING
     },
     Row {
         shows: "a slice has as many steps as its bound says, one where that is 0",
         cores: 1,
         slots: 2,
-        orders: &[],
         acts: &[
             Act::Spawns(Sort { bound: 4, ..ELEVEN }),
             Act::Turns(0, true),
             Act::Turns(0, true),
-            Act::GivesNothing,
+            Act::Lives(1),
             Act::Turns(0, true),
-            Act::Gives(1),
+            Act::Lives(0),
             Act::Spawns(Sort {
                 bound: 0,
                 steps: 1,
                 ..LEAF
             }),
             Act::Turns(0, true),
-            Act::GivesNothing,
+            Act::Lives(1),
             Act::Turns(0, true),
-            Act::Gives(1),
+            Act::Lives(0),
         ],
-        left: (0, 0),
+        ..NOTHING
     },
     Row {
         shows: "a job without a place has slices, and gets one once one is free",
         cores: 1,
         slots: 1,
-        orders: &[],
         acts: &[
             Act::Spawns(Sort { steps: 1, ..LEAF }),
             Act::Spawns(ELEVEN),
             Act::Spawns(ELEVEN),
-            Act::Has(0, 1),
+            Act::Has(0, 1, Is::Open),
             Act::Lives(3),
             Act::Turns(0, true),
             Act::Turns(0, true),
             Act::Lives(2),
-            Act::Has(0, 1),
+            Act::Has(0, 1, Is::Open),
             Act::Works(0),
-            Act::Gives(1),
-            Act::Gives(1),
-            Act::Gives(1),
-            Act::Has(0, 0),
+            Act::Lives(0),
+            Act::Has(0, 0, Is::Open),
         ],
-        left: (0, 0),
+        ..NOTHING
     },
     Row {
         shows: "a job without a place awaits its children",
         cores: 1,
         slots: 1,
-        orders: &[],
         acts: &[
-            Act::Spawns(Sort {
-                depth: 3,
-                forks: 3,
-                ..LEAF
-            }),
-            Act::Works(0),
-            Act::Gives(40),
-            Act::Spawns(Sort {
-                depth: 3,
-                forks: 3,
-                joins: Joins::InTurn,
-                ..LEAF
-            }),
-            Act::Joins(0, 40),
+            Act::Joins(
+                Sort {
+                    depth: 3,
+                    forks: 3,
+                    ..LEAF
+                },
+                Some(40),
+            ),
+            Act::Joins(
+                Sort {
+                    depth: 3,
+                    forks: 3,
+                    joins: Joins::InTurn,
+                    ..LEAF
+                },
+                Some(40),
+            ),
             Act::Lives(0),
         ],
-        left: (0, 0),
+        ..NOTHING
     },
     Row {
         shows: "a job without a place that awaits a child is kept, though a place is free, and asks each round",
         cores: 1,
         slots: 2,
-        orders: &[],
         acts: &[
             Act::Spawns(Sort { steps: 1, ..LEAF }),
             Act::Spawns(Sort { steps: 1, ..LEAF }),
@@ -173,52 +215,48 @@ const ROWS: &[Row] = &[
             }),
             Act::Turns(0, true),
             Act::Turns(0, true),
-            Act::Has(0, 1),
+            Act::Has(0, 1, Is::Open),
             Act::Lives(2),
             Act::Turns(0, true),
             Act::Turns(0, true),
-            Act::Has(0, 1),
+            Act::Has(0, 1, Is::Open),
             Act::Works(0),
-            Act::Gives(2),
+            Act::Lives(0),
         ],
-        left: (0, 0),
+        ..NOTHING
     },
     Row {
         shows: "an exclusive job gets an empty core, and no other job comes there",
         cores: 2,
         slots: 4,
-        orders: &[],
         acts: &[
             Act::Spawns(ALONE),
-            Act::IsAlone(0, true),
+            Act::Has(0, 1, Is::Alone),
             Act::Spawns(LEAF),
             Act::Spawns(LEAF),
             Act::Spawns(LEAF),
-            Act::Has(0, 1),
-            Act::Has(1, 3),
-            Act::IsAlone(1, false),
+            Act::Has(0, 1, Is::Alone),
+            Act::Has(1, 3, Is::Open),
             Act::Turns(0, true),
-            Act::Has(0, 0),
+            Act::Has(0, 0, Is::Open),
             Act::Lives(3),
             Act::Turns(1, true),
             Act::Lives(0),
         ],
-        left: (0, 0),
+        ..NOTHING
     },
     Row {
         shows: "where no core is empty an exclusive job is kept, and has slices",
         cores: 1,
         slots: 4,
-        orders: &[],
         acts: &[
             Act::Spawns(LEAF),
             Act::Spawns(ALONE),
-            Act::Has(0, 1),
-            Act::IsAlone(0, false),
+            Act::Has(0, 1, Is::Open),
             Act::Works(0),
-            Act::Gives(1),
+            Act::Lives(0),
         ],
-        left: (0, 0),
+        ..NOTHING
     },
     Row {
         shows: "a core that is taken back is closed, and its jobs are moved; one that is granted takes jobs again",
@@ -228,26 +266,25 @@ const ROWS: &[Row] = &[
         acts: &[
             Act::Spawns(ALONE),
             Act::Spawns(ELEVEN),
-            Act::Has(1, 1),
+            Act::Has(1, 1, Is::Open),
             Act::Turns(0, true),
             Act::Turns(1, true),
-            Act::IsClosed(1, false),
+            Act::Has(1, 1, Is::Open),
             Act::Turns(0, true),
-            Act::IsClosed(1, true),
-            Act::Has(1, 0),
-            Act::Has(0, 1),
-            Act::Turns(0, true),
+            Act::Has(1, 0, Is::Closed),
+            Act::Has(0, 1, Is::Open),
             Act::Turns(0, true),
             Act::Turns(0, true),
             Act::Turns(0, true),
             Act::Turns(0, true),
-            Act::IsClosed(1, true),
             Act::Turns(0, true),
-            Act::IsClosed(1, false),
+            Act::Has(1, 0, Is::Closed),
+            Act::Turns(0, true),
+            Act::Has(1, 0, Is::Open),
             Act::Works(0),
-            Act::Gives(1),
+            Act::Lives(0),
         ],
-        left: (0, 0),
+        ..NOTHING
     },
     Row {
         shows: "new orders leave closed what was closed, and can grant it",
@@ -256,27 +293,26 @@ const ROWS: &[Row] = &[
         orders: &[(0, RELEASE, 1)],
         acts: &[
             Act::Turns(0, false),
-            Act::IsClosed(1, true),
+            Act::Has(1, 0, Is::Closed),
             Act::Orders(&[(0, RELEASE, 2)]),
             Act::Turns(0, false),
-            Act::IsClosed(1, true),
-            Act::IsClosed(2, true),
+            Act::Has(1, 0, Is::Closed),
+            Act::Has(2, 0, Is::Closed),
             Act::Orders(&[(0, GRANT, 1)]),
             Act::Turns(0, false),
-            Act::IsClosed(1, false),
-            Act::IsClosed(2, true),
+            Act::Has(1, 0, Is::Open),
+            Act::Has(2, 0, Is::Closed),
             Act::Orders(&[]),
             Act::Turns(0, false),
-            Act::IsClosed(1, false),
-            Act::IsClosed(2, true),
+            Act::Has(1, 0, Is::Open),
+            Act::Has(2, 0, Is::Closed),
         ],
-        left: (0, 0),
+        ..NOTHING
     },
     Row {
         shows: "children of a job that doesn't join them go on, and end",
         cores: 4,
         slots: 1,
-        orders: &[],
         acts: &[
             Act::Spawns(Sort {
                 joins: Joins::Never,
@@ -287,40 +323,132 @@ const ROWS: &[Row] = &[
             Act::Turns(0, true),
             Act::Turns(0, true),
             Act::Turns(0, true),
-            Act::Gives(1),
             Act::Lives(3),
             Act::Turns(1, true),
             Act::Turns(2, true),
             Act::Turns(3, true),
             Act::Lives(0),
         ],
-        left: (0, 0),
+        ..NOTHING
+    },
+    Row {
+        shows: "two kernel threads end trees on cores of one place",
+        cores: 2,
+        slots: 1,
+        acts: TREES,
+        spells: TO_THE_END,
+        then: &[Act::Lives(0), Act::Counts(484)],
+        ..NOTHING
+    },
+    Row {
+        shows: "trees of exclusive jobs end, of which most find no empty core",
+        cores: 2,
+        slots: 3,
+        acts: &[Act::Spawns(Sort {
+            is_exclusive: true,
+            ..TREE
+        })],
+        spells: TO_THE_END,
+        then: &[Act::Lives(0), Act::Counts(121)],
+        ..NOTHING
+    },
+    Row {
+        shows: "each of two kernel threads ends the job that is alone on its core",
+        cores: 2,
+        slots: 2,
+        acts: &[
+            Act::Spawns(Sort {
+                steps: 1_000,
+                ..ALONE
+            }),
+            Act::Spawns(Sort {
+                steps: 1_000,
+                ..ALONE
+            }),
+        ],
+        spells: TO_THE_END,
+        busy: 2,
+        then: &[Act::Lives(0)],
+        ..NOTHING
+    },
+    Row {
+        shows: "trees end while a core comes and goes, and its kernel thread is woken at the last end",
+        cores: 2,
+        slots: 2,
+        orders: ORDERS,
+        acts: TREES,
+        spells: TO_THE_END,
+        then: &[Act::Lives(0), Act::Counts(484)],
+        ..NOTHING
+    },
+    Row {
+        shows: "the same on one place a core, where a closed core can't be left",
+        cores: 2,
+        slots: 1,
+        orders: ORDERS,
+        acts: TREES,
+        spells: TO_THE_END,
+        then: &[Act::Lives(0), Act::Counts(484)],
+        ..NOTHING
+    },
+    Row {
+        shows: "a stop ends a kernel thread that works and leaves all jobs",
+        cores: 2,
+        slots: 1,
+        acts: &[
+            Act::Spawns(ENDLESS),
+            Act::Spawns(ENDLESS),
+            Act::Spawns(ENDLESS),
+        ],
+        spells: (Spell::Rounds(100), Spell::ToTheEnd),
+        then: &[Act::Lives(3)],
+        left: (2, 1),
+        ..NOTHING
+    },
+    Row {
+        shows: "a stop wakes a kernel thread that is parked",
+        cores: 2,
+        slots: 1,
+        orders: &[(0, RELEASE, 1)],
+        acts: &[Act::Spawns(ENDLESS)],
+        spells: (Spell::Rounds(10_000), Spell::ToTheEnd),
+        then: &[Act::Lives(1)],
+        left: (1, 0),
+        ..NOTHING
+    },
+    Row {
+        shows: "where memory is refused that is told, and all is done at last",
+        cores: 1,
+        slots: 2,
+        acts: &[
+            Act::EndsInNeed(Sort {
+                depth: 3,
+                forks: 4,
+                ..LEAF
+            }),
+            Act::Counts(85),
+        ],
+        ..NOTHING
     },
 ];
 
-/// Each row holds for a form of table.
-fn failed_row<C: Contexts<Spawned<Task>> + Drop, R: Wait>(
-    rt: &R,
-    alloc: Global,
-) -> Result<Option<(&'static str, usize)>, Fail> {
+/// The first row that doesn't come out as it says.
+fn failed_row<R: Threads + Wait + Sync>(rt: &R, alloc: Global) -> Option<&'static str> {
     for row in ROWS {
-        if let Some(act) = failed_act::<C, R>(rt, alloc, row)? {
-            return Ok(Some((row.shows, act)));
+        let Some((pool, workers)) = begin::<Table, R>(rt, alloc, row) else {
+            return Some(row.shows);
+        };
+        let workers = have_two_work(rt, &pool, workers, row.spells);
+        if !end::<Table, R>(rt, alloc, pool, workers, row) {
+            return Some(row.shows);
         }
     }
-    Ok(None)
+    None
 }
 
 #[test]
-fn each_row_holds_over_words(rt: HostRuntime) -> Result<(), Fail> {
-    let failed = failed_row::<WordContexts<Spawned<Task>>, HostRuntime>(&rt, rt.alloc())?;
-    assert!(rt; failed.is_none(), "{failed:?}");
-    Ok(())
-}
-
-#[test]
-fn each_row_holds_behind_a_lock(rt: HostRuntime) -> Result<(), Fail> {
-    let failed = failed_row::<LockedContexts<Spawned<Task>>, HostRuntime>(&rt, rt.alloc())?;
+fn each_row_holds(rt: HostRuntime) -> Result<(), Fail> {
+    let failed = failed_row(&rt, rt.alloc());
     assert!(rt; failed.is_none(), "{failed:?}");
     Ok(())
 }

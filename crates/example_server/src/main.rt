@@ -3,6 +3,7 @@
 //! `example_server < LIST` says how many it has answered; `example_server CORES INTERVAL < LIST` also how long that took.
 #![tactic(auto)]
 
+mod crew;
 mod job;
 mod keeper;
 mod print;
@@ -17,39 +18,51 @@ mod task;
 use anyhow::{Result, bail};
 use job::Request;
 use keeper::Keeper;
-use requests::{Class, requests};
+use requests::{Class, Due, requests};
 use start::run;
 use std::env;
 use std::io::Read;
 
-fn main(rt: HostRuntime) -> Result<()> {
-    let alloc = rt.alloc();
-    let words: Vec<String> = env::args(&rt)?.collect(alloc)?;
+/// The numbers among the arguments: how many cores it may have, and how often it looks at the load.
+fn arguments(rt: &HostRuntime) -> Result<(Option<u64>, Option<u64>)> {
+    let words: Vec<String> = env::args(rt)?.collect(rt.alloc())?;
     let mut numbers = words
         .iter()
         .skip(1)
         .map(|word| word.as_str().parse::<u64>().ok());
-    let cores = numbers.next().flatten();
-    let interval = numbers.next().flatten();
-    let mut text = String::new(alloc);
+    Ok((numbers.next().flatten(), numbers.next().flatten()))
+}
+
+/// The list of requests, which is the input.
+fn list(rt: &HostRuntime) -> Result<Vec<Due>> {
+    let mut text = String::new(rt.alloc());
     rt.reader().read_to_string(&mut text)?;
-    let Some(list) = requests(alloc, text.as_str())? else {
-        bail!("a line of the input is no request");
-    };
+    match requests(rt.alloc(), text.as_str())? {
+        Some(list) => Ok(list),
+        None => bail!("a line of the input is no request"),
+    }
+}
+
+fn main(rt: HostRuntime) -> Result<()> {
+    let (cores, interval) = arguments(&rt)?;
+    let list = list(&rt)?;
     let most = cores.unwrap_or(2).clamp(1, u64::from(Keeper::MOST)) as u8;
     let interval = interval.unwrap_or(1000).saturating_mul(1000);
-    let keeper = Keeper::new(alloc, most, interval);
+    let keeper = Keeper::new(rt.alloc(), most, interval);
     let template = Request {
         clock: rt,
         number: 0,
         work: 0,
         class: Class::Normal,
     };
-    let (report, keeper) = run(&rt, alloc, list.as_slice(), keeper, template)?;
-    print::served(&rt, &report, list.len())?;
-    if cores.is_some() {
-        print::times(&rt, alloc, &report)?;
-        print::cores(&rt, &keeper)?;
-    }
+    let (report, keeper) = run(&rt, rt.alloc(), list.as_slice(), keeper, template)?;
+    print::all(
+        &rt,
+        rt.alloc(),
+        &report,
+        &keeper,
+        list.len(),
+        cores.is_some(),
+    )?;
     Ok(())
 }

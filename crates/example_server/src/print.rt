@@ -5,8 +5,24 @@ use crate::requests::Class;
 use std::alloc::Global;
 use std::io;
 
-/// What does not depend on time.
-pub fn served(rt: &impl Print, report: &Report, requests: usize) -> io::Result<()> {
+/// What does not depend on time, and the rest where it is asked for.
+pub fn all(
+    rt: &impl Print,
+    alloc: Global,
+    report: &Report,
+    keeper: &Keeper,
+    requests: usize,
+    is_asked: bool,
+) -> io::Result<()> {
+    served(rt, report, requests)?;
+    if is_asked {
+        times(rt, alloc, report)?;
+        cores(rt, keeper)?;
+    }
+    Ok(())
+}
+
+fn served(rt: &impl Print, report: &Report, requests: usize) -> io::Result<()> {
     println!(rt;
         "{} of {requests} requests served; the sum of their answers is {}",
         report.served(),

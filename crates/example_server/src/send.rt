@@ -3,6 +3,7 @@ ghost use Rattle.std.specs.Prelude.{◌≡◌, ◌+◌, IfSome, OnSome, length, 
 ghost use Rattle.std.specs.VecDeque.{deque_len};
 ghost use Rattle.arachne_pool.specs.Workers.{IsWorkerOf};
 
+use crate::crew::Sending;
 use crate::job::{Request, now};
 use crate::keeper::Keeper;
 use crate::report::{Answered, Report};
@@ -10,7 +11,6 @@ use crate::requests::Due;
 use crate::serve::Server;
 use arachne_pool::{Handle, Spawned, Worker};
 use arachne_table::Contexts;
-use std::alloc::Global;
 use std::collections::VecDeque;
 use std::rt::Clock;
 use std::sync::Wait;
@@ -33,24 +33,66 @@ pub struct Done<W> {
     pub report: Report,
 }
 
-/// Sends each request once its time has come and a place may be free, and takes the answers, until all are answered.
+/// Sends each request once its time has come and a place may be free, and takes the answers. Then the server is over.
 pub fn send<R: Clock + Wait, C: Contexts<Spawned<Request>>>(
     rt: &R,
-    alloc: Global,
     server: &Server<C>,
-    mut worker: Worker<C::Seat, Request>,
-    mut keeper: Keeper,
-    requests: &[Due],
-    mut report: Report,
-    template: Request,
+    worker: Worker<C::Seat, Request>,
+    sending: Sending<'_>,
 ) -> Option<Done<Worker<C::Seat, Request>>>
     requires worker { IsWorkerOf C.sits C.idle server.now.pool.table server.now.pool.cores worker }
-    requires cores { keeper.most + 1 ≡ server.now.pool.cores }
-    requires none { vec_len report.answers ≡ 0 }
+    requires cores { sending.keeper.most + 1 ≡ server.now.pool.cores }
+    requires none { vec_len sending.report.answers ≡ 0 }
     ensures worker { IfSome result (λ done. IsWorkerOf C.sits C.idle server.now.pool.table server.now.pool.cores done.worker) }
-    ensures all { IfSome result (λ done. vec_len done.report.answers ≡ length requests.now) }
+    ensures all { IfSome result (λ done. vec_len done.report.answers ≡ length sending.entry.requests.now) }
 {
+    let Sending {
+        alloc,
+        mut keeper,
+        requests,
+        mut report,
+        template,
+    } = sending;
+    let mut worker = worker;
     let mut sent: VecDeque<Sent> = VecDeque::new(alloc);
+    let done = send_all::<R, C>(
+        rt,
+        server,
+        &mut worker,
+        &mut keeper,
+        requests,
+        &mut report,
+        template,
+        &mut sent,
+    );
+    server.end();
+    match done {
+        Some(()) => Some(Done {
+            worker,
+            keeper,
+            report,
+        }),
+        None => None,
+    }
+}
+
+/// The same until all are answered. None where memory is refused.
+fn send_all<R: Clock + Wait, C: Contexts<Spawned<Request>>>(
+    rt: &R,
+    server: &Server<C>,
+    worker: &mut Worker<C::Seat, Request>,
+    keeper: &mut Keeper,
+    requests: &[Due],
+    report: &mut Report,
+    template: Request,
+    sent: &mut VecDeque<Sent>,
+) -> Option<()>
+    requires worker { IsWorkerOf C.sits C.idle server.now.pool.table server.now.pool.cores worker.old }
+    requires cores { keeper.old.most + 1 ≡ server.now.pool.cores }
+    requires none { (vec_len report.old.answers ≡ 0) × (deque_len sent.old ≡ 0) }
+    ensures worker { IsWorkerOf C.sits C.idle server.now.pool.table server.now.pool.cores worker.new }
+    ensures all { OnSome result (vec_len report.new.answers ≡ length requests.now) }
+{
     let begin = now(rt);
     let mut next: usize = 0;
     for _ in rt.forever() {
@@ -61,31 +103,24 @@ pub fn send<R: Clock + Wait, C: Contexts<Spawned<Request>>>(
         {
             report.late.push(at - due.at).ok()?;
             let number = next as u64;
-            let request = template.next(number, *due);
-            let Ok(handle) = server.pool.spawn(rt, &mut worker, request) else {
+            let Ok(handle) = server.pool.spawn(rt, worker, template.next(number, *due)) else {
                 return None;
             };
+            let due = *due;
             sent.push_back(Sent {
                 number,
-                due: *due,
+                due,
                 handle,
             })
             .ok()?;
             next += 1;
             continue;
         }
-        server.pool.turn(rt, &mut worker, keeper.most).ok()?;
-        keep_cores(rt, alloc, server, &mut worker, &mut keeper, at)?;
-        if !take_answer(&mut sent, begin, &mut report)?
-            && next == requests.len()
-            && sent.is_empty()
-        {
+        server.pool.turn(rt, worker, keeper.most).ok()?;
+        keep_cores(rt, server, worker, keeper, at)?;
+        if !take_answer(sent, begin, report)? && next == requests.len() && sent.is_empty() {
             report.nanos = at;
-            return Some(Done {
-                worker,
-                keeper,
-                report,
-            });
+            return Some(());
         }
     }
     unreachable!()
@@ -94,7 +129,6 @@ pub fn send<R: Clock + Wait, C: Contexts<Spawned<Request>>>(
 /// Looks at the load, and orders a core or gives one back where that is due.
 fn keep_cores<R: Clock + Wait, C: Contexts<Spawned<Request>>>(
     rt: &R,
-    alloc: Global,
     server: &Server<C>,
     worker: &mut Worker<C::Seat, Request>,
     keeper: &mut Keeper,
@@ -109,7 +143,7 @@ fn keep_cores<R: Clock + Wait, C: Contexts<Spawned<Request>>>(
     let stations = server.stations.as_slice();
     let advice = keeper.judge(at, stations);
     if let Some(order) = keeper.follow(advice, stations) {
-        let orders = keeper.listed(alloc, order).ok()?;
+        let orders = keeper.listed(*keeper.judged.allocator(), order).ok()?;
         server.pool.order(rt, worker, orders).ok()?;
     }
     Some(())

@@ -44,7 +44,8 @@ impl<C: Seats> Server<C> {
     }
 }
 
-/// Serves on a core until the server is over. It spins while the server has the core, and sleeps while it has not.
+/// Serves on a core until the server is over. It spins while the server has the core, and sleeps while it has not. At once
+/// over for a core that is none of the server's.
 pub fn serve<R: Clock + Wait, J: PoolJob, C: Contexts<Spawned<J>>>(
     rt: &R,
     server: &Server<C>,
@@ -52,10 +53,14 @@ pub fn serve<R: Clock + Wait, J: PoolJob, C: Contexts<Spawned<J>>>(
     core: u8,
 ) -> Option<Worker<C::Seat, J>>
     requires worker { IsWorkerOf C.sits C.idle server.now.pool.table server.now.pool.cores worker }
-    requires core { core < server.now.pool.cores }
     ensures { IfSome result (IsWorkerOf C.sits C.idle server.now.pool.table server.now.pool.cores) }
 {
-    let station = server.stations.get(usize::from(core))?;
+    let Some(station) = server.stations.get(usize::from(core)) else {
+        return Some(worker);
+    };
+    if core >= server.pool.cores {
+        return Some(worker);
+    }
     let mut before = now(rt);
     for _ in rt.forever() {
         if server.is_over() {

@@ -6,11 +6,8 @@ use Rattle.example_server.proofs.job.Answer.TheSendSync as answer
 use Rattle.example_server.proofs.start.run.Goals as goal
 
 -- a seat of this table may cross threads
-pub new-requires-2-send-C-Seat : goal.new-requires-2-send-C-Seat
-new-requires-2-send-C-Seat g c κs = search (sendable, seat.the_send, spawned_send, request.the_send, answer.the_send) depth 20
+pub begin-requires-send-C-Seat : goal.begin-requires-send-C-Seat
+begin-requires-send-C-Seat g c κs = search (sendable, seat.the_send, spawned_send, request.the_send, answer.the_send) depth 20
 
-pub new-server-requires-send-C-Seat : goal.new-server-requires-send-C-Seat
-new-server-requires-send-C-Seat g c κs = search (sendable, seat.the_send, spawned_send, request.the_send, answer.the_send) depth 20
-
-pub close-requires-send-C-Seat : goal.close-requires-send-C-Seat
-close-requires-send-C-Seat g c κs within = search (sendable, seat.the_send, spawned_send, request.the_send, answer.the_send) depth 20
+pub end-requires-send-C-Seat : goal.end-requires-send-C-Seat
+end-requires-send-C-Seat g c κs within = search (sendable, seat.the_send, spawned_send, request.the_send, answer.the_send) depth 20

@@ -2,4 +2,4 @@ use Rattle.arachne_pool.proofs.pool.Pool.close.Goals as goal
 
 -- the worker's counts are those that were looked at
 pub returns-then-is_over-clause-each_once : goal.returns-then-is_over-clause-each_once
-returns-then-is_over-clause-each_once g c = rw (← c.worker.view_is) (c.is_over.ensures c.if-is_over.true)
+returns-then-is_over-clause-each_once g c = rw (← c.worker.view_is) (c.is_over.ensures.0 c.if-is_over.true)

@@ -1,0 +1,15 @@
+use denote.Param.Send.{sendable}
+use Rattle.std.proofs.Crossing as std
+use Rattle.arachne_words.proofs.seat.WordSeat.TheSendSync as seat
+use Rattle.arachne_words.proofs.table.WordContexts.TheSendSync as table
+use Rattle.arachne_pool.proofs.Crossing.{spawned_send, worker_send}
+use Rattle.arachne_pool.proofs.pool.Pool.TheSendSync as pool
+use Rattle.arachne_pool_tests.proofs.crew.have_two_work.Goals as goal
+
+-- what a kernel thread takes with it may cross, and what it gives back
+pub two-requires-send-T : goal.two-requires-send-T
+two-requires-send-T g c κs within =
+    search (sendable, std.crosses, worker_send, seat.the_send, spawned_send, pool.the_sync, table.the_sync) depth 40
+
+pub two-requires-send-A : goal.two-requires-send-A
+two-requires-send-A g c κs within = search (sendable, std.crosses, worker_send, seat.the_send, spawned_send) depth 40

@@ -1,6 +1,0 @@
-use Rattle.arachne_pool.specs.Workers.{IsWorkerOf}
-use Rattle.arachne_pool_tests.proofs.rounds.failed_act.Given as goal
-
--- between two acts the worker is the pool's
-abbrev pub invariant-loop-nth : goal.invariant-loop-nth
-invariant-loop-nth g l = IsWorkerOf g.C.Seats.sits g.C.Seats.idle l.pool.table l.pool.cores l.worker

@@ -1,0 +1,12 @@
+use Rattle.std.proofs.Common.{◌≡◌, ◌+◌, ◌≤◌, length, vec_len}
+use Rattle.std.specs.VecDeque.{deque_len}
+use Rattle.arachne_pool.specs.Workers.{IsWorkerOf}
+use Rattle.example_server.proofs.send.send_all.Given as goal
+
+-- between two rounds the worker is the pool's, and what was sent was answered or waits to be
+abbrev pub invariant-loop : goal.invariant-loop
+invariant-loop g l =
+    IsWorkerOf g.C.Seats.sits g.C.Seats.idle l.server.pool.table l.server.pool.cores l.worker
+    × (l.keeper.most + 1 ≡ l.server.pool.cores)
+    × (vec_len l.report.answers + deque_len l.sent ≡ l.next)
+    × (l.next ≤ length l.requests)
