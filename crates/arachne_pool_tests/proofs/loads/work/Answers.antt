@@ -6,13 +6,6 @@ use Rattle.arachne_pool.proofs.Crossing.{spawned_send, worker_send}
 use Rattle.arachne_pool.proofs.pool.Pool.TheSendSync as pool
 use Rattle.arachne_pool_tests.proofs.loads.work.Goals as goal
 
--- a seat of this table may cross
-pub quarters-first-requires-send-C-Seat : goal.quarters-first-requires-send-C-Seat
-quarters-first-requires-send-C-Seat g c κs within = search (sendable, std.crosses, seat.the_send, spawned_send) depth 40
-
-pub together-requires-send-C-Seat : goal.together-requires-send-C-Seat
-together-requires-send-C-Seat g c κs within = search (sendable, std.crosses, seat.the_send, spawned_send) depth 40
-
 -- what a kernel thread takes with it may, and what it gives back
 pub four-workers-requires-send-T : goal.four-workers-requires-send-T
 four-workers-requires-send-T g c κs within =

@@ -8,19 +8,6 @@ use Rattle.arachne_words.proofs.table.WordContexts.TheSendSync as table
 use Rattle.example_server.proofs.serve.Server.TheSendSync as server
 use Rattle.example_server.proofs.start.work.Goals as goal
 
--- a seat of this table may cross threads
-pub split-worker-requires-send-C-Seat : goal.split-worker-requires-send-C-Seat
-split-worker-requires-send-C-Seat g c κs within = search (sendable, seat.the_send, spawned_send, request.the_send, answer.the_send) depth 20
-
-pub split-worker-requires-2-send-C-Seat : goal.split-worker-requires-2-send-C-Seat
-split-worker-requires-2-send-C-Seat g c κs within = search (sendable, seat.the_send, spawned_send, request.the_send, answer.the_send) depth 20
-
-pub split-worker-requires-3-send-C-Seat : goal.split-worker-requires-3-send-C-Seat
-split-worker-requires-3-send-C-Seat g c κs within = search (sendable, seat.the_send, spawned_send, request.the_send, answer.the_send) depth 20
-
-pub split-worker-requires-4-send-C-Seat : goal.split-worker-requires-4-send-C-Seat
-split-worker-requires-4-send-C-Seat g c κs within = search (sendable, seat.the_send, spawned_send, request.the_send, answer.the_send) depth 20
-
 -- what a kernel thread takes with it may, and what it gives back
 pub five-first-requires-send-T : goal.five-first-requires-send-T
 five-first-requires-send-T g c κs within =
