@@ -1,6 +1,6 @@
 -- What is pure, and what it is worth.
 use Rattle.std.proofs.Common.{◌≡◌, ℕ, suc, ◌+◌, List, [], ◌∷◌, ◌++◌, length, Bool, true, false, refl, ap, sym, ◌∙◌, subst, arith}
-use Rattle.std.specs.Prelude.{◌==◌, if◌then◌else◌, slice_index}
+use Rattle.std.specs.Prelude.{◌==◌, if◌then◌else◌, slice_index, Option, None, Some, IfSome}
 use Rattle.arachne_lang.specs.declared.program.Operation.{Operation}
 use Rattle.arachne_lang.specs.Tree.{Tree, Number, Variable, Length, Item, Binary, Choose, Bind, Source}
 use Rattle.arachne_lang.specs.Value.{apply, array_at, value_of, with_newest}
@@ -117,3 +117,7 @@ worth_binding source env env' t bound body x value had rest mid left is_tree two
       value_is = w.value_is;
       steps = omega (arith, v.steps, w.steps, two);
     })
+
+pub some_then : {X : Type 0} (r : Option X) (P Q : X → Type 0) → IfSome r P → ((x : X) → P x → Q x) → IfSome r Q
+some_then None P Q h f = tt
+some_then (Some x) P Q h f = f x h

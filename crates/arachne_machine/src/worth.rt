@@ -73,11 +73,9 @@ fn value_at_once(
             *left -= 2;
             let choice = value_at_once(program, environment, condition, left)?;
             if choice == 0 {
-                let value = value_at_once(program, environment, second, left)?;
-                return Some(value);
+                return value_at_once(program, environment, second, left);
             }
-            let value = value_at_once(program, environment, first, left)?;
-            Some(value)
+            value_at_once(program, environment, first, left)
         }
         Expr::Let(bound, body) => {
             if *left < 2 {
@@ -85,8 +83,7 @@ fn value_at_once(
             }
             *left -= 2;
             let newest = value_at_once(program, environment, bound, left)?;
-            let value = bound_at_once(program, environment, newest, body, left)?;
-            Some(value)
+            bound_at_once(program, environment, newest, body, left)
         }
         _ => None,
     }
