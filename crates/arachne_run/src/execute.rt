@@ -55,8 +55,8 @@ impl<'a, H: Wait, D: Desk, G: Gate> Worker<'a, H, D, G> {
         Ok(rest == Rest::Blocked)
     }
 
-    /// Whether the thread in hand has another slice at once: no other is known to be ready, no ticket could be taken,
-    /// and the workers go on.
+    /// Whether the thread in hand has another slice at once: no other is known to be ready, no ticket could be taken
+    /// in the round that found this one, and the workers go on.
     fn goes_on(&mut self) -> bool
         ensures { (self.new.desk ≡ self.old.desk) × (self.new.access ≡ self.old.access) }
     {
@@ -71,7 +71,7 @@ impl<'a, H: Wait, D: Desk, G: Gate> Worker<'a, H, D, G> {
             return false;
         }
         !self.shared.room().is_any_waiting()
-            || !policy::may_take_ticket(now, self.desk.kept(), self.slots)
+            || !policy::may_take_ticket(now, self.desk.kept(), self.slots, 0)
     }
 
     /// One slice of the thread in hand: it goes on for at most a quantum of steps, and what it asks for meanwhile is

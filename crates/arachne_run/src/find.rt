@@ -26,7 +26,7 @@ impl<'a, H: Wait, D: Desk, G: Gate> Worker<'a, H, D, G> {
                 return give_all_back(&mut self.desk);
             }
             let looks = idle == 0 || idle > policy::LAST_YIELD;
-            if self.scan()? || looks && self.scan_all(idle)? {
+            if self.scan(idle)? || looks && self.scan_all(idle)? {
                 idle = 0;
             } else {
                 self.tend();
@@ -38,9 +38,9 @@ impl<'a, H: Wait, D: Desk, G: Gate> Worker<'a, H, D, G> {
         unreachable!()
     }
 
-    /// Runs each thread that may be ready as far as is known, once, and then takes a ticket. Whether there was
-    /// anything.
-    fn scan(&mut self) -> Result<bool, WorkerFault>
+    /// Runs each thread that may be ready as far as is known, once, and then takes a ticket, if so many rounds before
+    /// that found nothing are enough. Whether there was anything.
+    fn scan(&mut self, idle: u32) -> Result<bool, WorkerFault>
         ensures { (self.new.desk ≡ self.old.desk) × (self.new.access ≡ self.old.access) }
     {
         thin_out(&mut self.desk, self.slots)?;
@@ -50,7 +50,8 @@ impl<'a, H: Wait, D: Desk, G: Gate> Worker<'a, H, D, G> {
         }
         self.agenda.begin_scan(indexes);
         let found = self.run_each()?;
-        Ok(self.take_ticket()? || found)
+        let idle = if found { 0 } else { idle.saturating_add(1) };
+        Ok(self.take_ticket(idle)? || found)
     }
 
     /// The same for all that is occupied, and parks where the core is closed and nothing is on it. Before it sleeps the
@@ -127,15 +128,16 @@ impl<'a, H: Wait, D: Desk, G: Gate> Worker<'a, H, D, G> {
         Ok(found)
     }
 
-    /// Takes a ticket, if a place of the core is free or kept for its child. Whether there was one.
-    fn take_ticket(&mut self) -> Result<bool, WorkerFault>
+    /// Takes a ticket, if a place of the core is free or kept for its child, and so many rounds in turn that found nothing
+    /// are enough. Whether there was one.
+    fn take_ticket(&mut self, idle: u32) -> Result<bool, WorkerFault>
         ensures { (self.new.desk ≡ self.old.desk) × (self.new.access ≡ self.old.access) }
     {
         if !self.shared.room().is_any_waiting() {
             return Ok(false);
         }
         let now = self.desk.look();
-        if !policy::may_take_ticket(now, self.desk.kept(), self.slots) {
+        if !policy::may_take_ticket(now, self.desk.kept(), self.slots, idle) {
             return Ok(false);
         }
         let (found, index) = self.desk.take_ticket()?;

@@ -4,7 +4,7 @@
 //! contract of each says its exact answer, so no test of its own is needed.
 ghost use Rattle.std.specs.Prelude.{◌≡◌, ◌≤◌, ◌<◌, ◌+◌, ◌-◌, ◌*◌, ◌^◌, ◌↔◌, ◌⊎◌, false, if◌then◌else◌, min, IsTrue};
 ghost use Rattle.arachne_core.specs.Occupancy.{count_of};
-ghost use Rattle.arachne_run.specs.declared.policy.TheConstants.{TOLD_AT_ONCE, LAST_YIELD, FIRST_SLEEP, MOST_DOUBLINGS, SHORT_SLEEP, LONG_SLEEP};
+ghost use Rattle.arachne_run.specs.declared.policy.TheConstants.{TOLD_AT_ONCE, ROUNDS_BEFORE_TICKET, LAST_YIELD, FIRST_SLEEP, MOST_DOUBLINGS, SHORT_SLEEP, LONG_SLEEP};
 
 use arachne_core::OccWord;
 
@@ -60,12 +60,18 @@ pub(crate) fn gives_back(now: OccWord, kept: usize, slots: u8) -> bool
     threads * 2 <= usize::from(slots)
 }
 
-/// Whether a ticket may be taken on a core that looks so: it is open, no thread has it alone, and a place is free or
-/// kept.
-pub(crate) fn may_take_ticket(now: OccWord, kept: usize, slots: u8) -> bool
-    ensures { IsTrue result ↔ (now.closed ≡ false) × (now.exclusive ≡ false) × ((0 < kept) ⊎ (count_of now.occupied < slots)) }
+/// How many rounds in turn have to find nothing before a worker takes a ticket. None: it takes one after each round.
+pub(crate) const ROUNDS_BEFORE_TICKET: u32 = 0;
+
+/// Whether a ticket may be taken on a core that looks so, after so many rounds in turn that found nothing: these are
+/// enough, the core is open, no thread has it alone, and a place is free or kept.
+pub(crate) fn may_take_ticket(now: OccWord, kept: usize, slots: u8, idle: u32) -> bool
+    ensures { IsTrue result ↔ (ROUNDS_BEFORE_TICKET ≤ idle) × (now.closed ≡ false) × (now.exclusive ≡ false) × ((0 < kept) ⊎ (count_of now.occupied < slots)) }
 {
-    !now.is_closed() && !now.is_exclusive() && (kept > 0 || now.count() < slots)
+    idle >= ROUNDS_BEFORE_TICKET
+        && !now.is_closed()
+        && !now.is_exclusive()
+        && (kept > 0 || now.count() < slots)
 }
 
 /// Up to this round a worker that finds nothing spins.

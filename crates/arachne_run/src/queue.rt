@@ -115,8 +115,9 @@ impl Agenda {
 
     /// A thread was posted on another core. What is to be told of at once: it, or the oldest that was kept back.
     pub(crate) fn keep_back(&mut self, post: Post) -> Option<Post> {
-        self.posted = self.posted.saturating_add(1);
-        if !policy::keeps_back(self.posted) {
+        let before = self.posted;
+        self.posted = before.saturating_add(1);
+        if !policy::keeps_back(before) {
             return Some(post);
         }
         if self.posts.len() < policy::MOST_KEPT_BACK && self.posts.try_reserve(1).is_ok() {
