@@ -56,18 +56,20 @@ pub(crate) fn go_on<H: Wait, T: RunJob, C: Contexts<T>, R: Rng>(
         .slice(left, &mut forks.spares, room, &mut forks.openings)?;
     draw(&mut forks.chooser, forks.openings.draws);
     forks.openings.draws = 0;
-    match slice {
-        Slice::Goes => Ok(Stop::Goes),
+    Ok(match slice {
+        Slice::Goes => Stop::Goes,
         Slice::Forks(class, child) => {
-            answer_fork::<H, T, C, R>(rt, alloc, machine, seat, pass, held, class, child, forks)
+            return answer_fork::<H, T, C, R>(
+                rt, alloc, machine, seat, pass, held, class, child, forks,
+            );
         }
-        Slice::Blocks => Ok(Stop::Blocks),
-        Slice::Asks(lock) => Ok(Stop::Asks(lock)),
-        Slice::Awaits(lock) => Ok(Stop::Awaits(lock)),
-        Slice::Frees(lock) => Ok(Stop::Frees(lock)),
-        Slice::Tallies(ledger, amount) => Ok(Stop::Tallies(ledger, amount)),
-        Slice::Ends => Ok(Stop::Ends),
-    }
+        Slice::Blocks => Stop::Blocks,
+        Slice::Asks(lock) => Stop::Asks(lock),
+        Slice::Awaits(lock) => Stop::Awaits(lock),
+        Slice::Frees(lock) => Stop::Frees(lock),
+        Slice::Tallies(ledger, amount) => Stop::Tallies(ledger, amount),
+        Slice::Ends => Stop::Ends,
+    })
 }
 
 /// Draws so many words from the chooser.

@@ -85,12 +85,11 @@ impl<C: Seats + Drop, K: Tagged + Drop> Machine<C, K> {
         let count = orders.len();
         let exclusive = has_exclusive(&program.root);
         let arbiter = Arbiter::new(alloc, orders, cores)?;
-        let shared = Shared::new(alloc, cores, u64::from(cores) * u64::from(slots))?;
         let (resources, holdings) = Resources::new(alloc, program.ledgers, program.locks)?;
         let (tickets, pass) = SpillQueue::new(alloc)?;
         let (table, seat) = C::new(alloc, cores, slots, 0)?;
         let machine = Machine {
-            shared,
+            shared: Shared::new(alloc, cores, u64::from(cores) * u64::from(slots))?,
             resources,
             tickets,
             table,
@@ -127,26 +126,32 @@ impl<C: Seats + Drop, K: Tagged + Drop> Machine<C, K> {
         ensures sound { IfOk result (λ closed. All (λ history. IsSound history.items) closed.0.histories.items) }
         ensures one_holder { IfOk result (λ closed. All (λ history. HasOneHolderAtATime history.items) closed.0.histories.items) }
     {
-        if let Some(fault) = self.shared.first_fault(rt) {
+        let Machine {
+            shared,
+            resources,
+            tickets,
+            table,
+            ..
+        } = self;
+        if let Some(fault) = shared.into_first_fault() {
             return Err(fault);
         }
         let Some(tokens) = tokens else {
             return Err(WorkerFault::Token);
         };
-        let Some(arbiter) = &tokens.arbiter else {
+        let Tokens {
+            seat,
+            pass,
+            holdings,
+            arbiter,
+        } = tokens;
+        let closed = close_table(rt, alloc, table, tickets, seat, pass);
+        let remains = resources.close(alloc, holdings)?;
+        closed?;
+        let Some(arbiter) = arbiter else {
             return Err(WorkerFault::Token);
         };
         let applied = arbiter.applied();
-        let closed = close_table(
-            rt,
-            alloc,
-            self.table,
-            self.tickets,
-            tokens.seat,
-            tokens.pass,
-        );
-        let remains = self.resources.close(alloc, tokens.holdings)?;
-        closed?;
         Ok((remains, applied))
     }
 }

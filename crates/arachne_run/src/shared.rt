@@ -84,7 +84,7 @@ impl Shared {
     }
 
     /// The fault for which all workers were stopped first.
-    pub(crate) fn first_fault<H: Wait>(&self, rt: &H) -> Option<WorkerFault> {
-        *self.first_fault.lock(rt)
+    pub(crate) fn into_first_fault(self) -> Option<WorkerFault> {
+        self.first_fault.into_inner()
     }
 }
