@@ -112,21 +112,10 @@ impl Lines {
         if below.last.len() >= MOST - self.len() {
             return Err((own, below));
         }
-        if self.last.is_empty() && !below.last.is_empty() {
-            return match below.last.insert(0, own) {
-                Ok(()) => {
-                    swap(&mut self.last, &mut below.last);
-                    Ok(())
-                }
-                Err(refused) => Err((refused.value, below)),
-            };
+        match append_list(&mut self.last, own, &mut below.last) {
+            Ok(()) => Ok(()),
+            Err(own) => Err((own, below)),
         }
-        if self.last.try_reserve(below.last.len() + 1).is_err() {
-            return Err((own, below));
-        }
-        self.last.push_reserved(own);
-        let _ = self.last.append(&mut below.last);
-        Ok(())
     }
 
     /// The same, with no line moved but the first.
@@ -174,6 +163,35 @@ impl Lines {
         let _ = all.append(&mut last);
         Ok(all)
     }
+}
+
+/// This line, and behind it the others, come behind a list. Where memory is refused nothing has changed but room.
+#[inline(always)]
+fn append_list(
+    list: &mut Vec<ThreadLine>,
+    own: ThreadLine,
+    others: &mut Vec<ThreadLine>,
+) -> Result<(), ThreadLine>
+    requires { vec_len list.old + vec_len others.old + 1 < 2 ^ 63 }
+    ensures ok { OnOk result (list.new.items ≡ list.old.items ++ own ∷ others.old.items) }
+    ensures err { OnErr result ((list.new.items ≡ list.old.items) × (others.new.items ≡ others.old.items)) }
+    ensures handed_back { IfErr result (λ back. back ≡ own) }
+{
+    if list.is_empty() && !others.is_empty() {
+        return match others.insert(0, own) {
+            Ok(()) => {
+                swap(list, others);
+                Ok(())
+            }
+            Err(refused) => Err(refused.value),
+        };
+    }
+    if list.try_reserve(others.len() + 1).is_err() {
+        return Err(own);
+    }
+    list.push_reserved(own);
+    let _ = list.append(others);
+    Ok(())
 }
 
 /// The line at this place in these lists.
