@@ -1,4 +1,5 @@
-//! How a fork is answered: its child is posted at a place, waits for one, or runs in its parent's.
+//! How threads get their places: the child of a fork is posted at one, waits for one, or runs in its parent's; the root
+//! is posted.
 //!
 //! It may touch the table through the seat that it is given, and the queue of those that wait.
 ghost use Rattle.std.specs.Prelude.{◌≡◌, ◌<◌, ◌≤◌, [], ◌∷◌, IfOk, MatchOption, OnOk, map};
@@ -182,5 +183,32 @@ pub(crate) fn post_waiting<H: Wait, T: RunJob, C: Contexts<T>>(
             }
             Err(_) => Err(WorkerFault::Token),
         },
+    }
+}
+
+/// Posts the root, if there is one here, on core 0, where a table on which nothing runs has a place. Its index.
+pub(crate) fn post_root<H: Wait, T: RunJob, C: Contexts<T>>(
+    rt: &H,
+    machine: &Machine<C, T::Ticket>,
+    seat: &mut C::Seat,
+    root: Option<T>,
+) -> Result<Option<u8>, WorkerFault>
+    requires seat { C.sits machine.now.table seat.old }
+    requires out { C.has machine.now.table seat.old [] }
+    requires set_up { IsSetUp C.core_count C.slot_count machine.now }
+    ensures seat { C.sits machine.now.table seat.new }
+    ensures out { OnOk result (C.has machine.now.table seat.new []) }
+{
+    let Some(root) = root else {
+        return Ok(None);
+    };
+    let Some(claim) = machine.cores::<H, T>(rt).claim_on(seat, 0)? else {
+        return Err(WorkerFault::Token);
+    };
+    machine.shared.room().place_was_claimed();
+    let index = claim.place().index;
+    match machine.table.post(rt, seat, claim, root) {
+        Ok(_) => Ok(Some(index)),
+        Err(_) => Err(WorkerFault::Token),
     }
 }

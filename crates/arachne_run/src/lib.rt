@@ -15,7 +15,6 @@ mod policy;
 mod queue;
 mod report;
 mod resources;
-mod rooting;
 mod running;
 mod seat;
 mod setup;

@@ -18,8 +18,7 @@ use std::alloc::Global;
 use std::marker::PhantomData;
 use std::snapshot::Snapshot;
 use std::sync::Wait;
-use std::thread;
-use std::thread::{Promise, PromisedHandle, Threads};
+use std::thread::{self, Promise, PromisedHandle, Threads};
 
 /// The tokens that a worker gives back are of this machine.
 #[derive(Drop)]
