@@ -59,8 +59,8 @@ impl Arbiter {
     }
 
     /// Applies the orders that are due, and moves threads away from one closed core. To be called before each slice of
-    /// the kernel thread, and while it finds nothing to run. The counts are read only while an order is left. Answers the
-    /// cores to which threads were moved, a bit for each.
+    /// the kernel thread, and while it finds nothing to run. The counts are read only while an order is left. Answers
+    /// the cores to which threads were moved, a bit for each.
     pub fn tend<H: Wait, T: Tagged, C: Contexts<T>>(
         &mut self,
         cores: &Cores<'_, H, T, C>,
@@ -82,8 +82,9 @@ impl Arbiter {
         self.drain(cores, seat)
     }
 
-    /// Applies the orders that are due once so many slices have ended: a release closes its core, a grant opens its core
-    /// and unparks its kernel thread. A release of a closed core and a grant of an open one count, and change nothing.
+    /// Applies the orders that are due once so many slices have ended: a release closes its core, a grant opens its
+    /// core and unparks its kernel thread. A release of a closed core and a grant of an open one count, and change
+    /// nothing.
     pub fn apply_due<H: Wait, T: Tagged, C: Contexts<T>>(
         &mut self,
         cores: &Cores<'_, H, T, C>,
@@ -139,7 +140,8 @@ impl Arbiter {
 
     /// Moves threads away from one of the cores that orders have closed, each core in its turn: what is at rest goes to
     /// the first other core in ascending order that has room. What is held, not posted yet or alone on its core stays.
-    /// Looks at nothing once all closed cores are drained. Answers the cores to which threads were moved, a bit for each.
+    /// Looks at nothing once all closed cores are drained. Answers the cores to which threads were moved, a bit for
+    /// each.
     pub fn drain<H: Wait, T: Tagged, C: Contexts<T>>(
         &mut self,
         cores: &Cores<'_, H, T, C>,

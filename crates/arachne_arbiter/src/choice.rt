@@ -12,8 +12,8 @@ fn is_candidate(occupancy: OccWord) -> bool
     !occupancy.is_closed() && !occupancy.is_exclusive()
 }
 
-/// Whether the core, which has so many places, has one for a thread that shares it: it is open, no thread has it alone, and a
-/// place is free.
+/// Whether the core, which has so many places, has one for a thread that shares it: it is open, no thread has it alone,
+/// and a place is free.
 pub fn has_place(occupancy: OccWord, slots: u8) -> bool
     requires { slots ≤ SLOTS }
     ensures { IsTrue result ↔ HasPlace slots occupancy }

@@ -48,8 +48,8 @@ impl Draining {
         self.waiting[usize::from(core)] = false;
     }
 
-    /// Moves threads away from one of the cores that are to be drained, each in its turn, and adds the cores that they were
-    /// moved to. Looks at nothing where there is none.
+    /// Moves threads away from one of the cores that are to be drained, each in its turn, and adds the cores that they
+    /// were moved to. Looks at nothing where there is none.
     pub(crate) fn round<H: Wait, T: Tagged, C: Contexts<T>>(
         &mut self,
         cores: &Cores<'_, H, T, C>,

@@ -79,8 +79,8 @@ impl Orders {
         self.closed[usize::from(core)]
     }
 
-    /// Takes the next order, if it is due once so many slices have ended, and counts it as applied. None where it is not
-    /// due, or where all were applied; then nothing has changed.
+    /// Takes the next order, if it is due once so many slices have ended, and counts it as applied. None where it is
+    /// not due, or where all were applied; then nothing has changed.
     pub fn next_due(&mut self, ended: u64) -> Option<Effect>
         ensures due { MatchOption result (IsNoneDue self.old ended) (λ _. IsDue self.old ended) }
         ensures effect { IfSome result (λ effect. (effect ≡ next_effect self.old) × IsWithin self.old.cores effect) }

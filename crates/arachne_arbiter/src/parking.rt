@@ -10,9 +10,9 @@ use std::alloc::{AllocError, Global};
 use std::sync::Wait;
 use std::thread::Parker;
 
-/// One parker for each core, on which the core's kernel thread sleeps and uses no processor. An unpark before the park is
-/// kept, and the park then returns at once; so a kernel thread that looks why it should park and then parks misses no
-/// unpark that came in between.
+/// One parker for each core, on which the core's kernel thread sleeps and uses no processor. An unpark before the park
+/// is kept, and the park then returns at once; so a kernel thread that looks why it should park and then parks misses
+/// no unpark that came in between.
 #[derive(Drop)]
 pub struct Parking {
     parkers: Vec<CachePadded<Parker>>,
@@ -53,8 +53,8 @@ impl Parking {
 }
 
 impl<'a, H: Wait, T: Tagged, C: Contexts<T>> Cores<'a, H, T, C> {
-    /// Parks a core's kernel thread if the core is closed and nothing is left on it. Whether it was; then the kernel thread
-    /// was unparked since, and looks again why. Called by the core's kernel thread alone.
+    /// Parks a core's kernel thread if the core is closed and nothing is left on it. Whether it was; then the kernel
+    /// thread was unparked since, and looks again why. Called by the core's kernel thread alone.
     pub fn park_if_drained(&self, seat: &mut C::Seat, parking: &Parking, core: u8) -> bool
         requires seat { C.sits self.now.table.now seat.old }
         requires core { core < self.now.count }

@@ -75,8 +75,8 @@ impl<'a, H: Wait, T: Tagged, C: Contexts<T>> Cores<'a, H, T, C> {
         Ok(None)
     }
 
-    /// Whether a core seems to have a place for a thread that shares it. The first that has one is the last that is looked at, and
-    /// with no seat: the claim decides.
+    /// Whether a core seems to have a place for a thread that shares it. The first that has one is the last that is
+    /// looked at, and with no seat: the claim decides.
     pub(crate) fn is_any_free(&self) -> bool {
         for core in 0..self.count {
             let seen = OccWord::from_word(self.table.glance(self.rt, core));

@@ -1,4 +1,5 @@
--- What the definitions say of words that were worked out by hand: what they ask for, and whether the program takes them.
+-- What the definitions say of words that were worked out by hand: what they ask for, and whether the program takes
+-- them.
 use Rattle.std.proofs.Common.{◌≡◌, List, [], ◌∷◌, Bool, true, false, Option, Some, None, refl}
 use Rattle.std.specs.Prelude.{codes}
 use Rattle.clap.specs.Words.{Text}

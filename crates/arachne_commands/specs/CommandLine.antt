@@ -164,8 +164,9 @@ IsNoOrderAmong words = IsNoOrderAt (result_err (orders_of words))
 abbrev pub IsNoOrderMet : Option (Text × List Row) → NotAsked → Type 0
 IsNoOrderMet met = IsNoOrderAt (no_order_met met)
 
--- Why words are refused: one of them is to be an order, and is none; or the parser of command lines refuses them. If the program takes the words,
--- and they ask for something or have a word that is no order, then it refuses them for want of memory alone.
+-- Why words are refused: one of them is to be an order, and is none; or the parser of command lines refuses them. If
+-- the program takes the words, and they ask for something or have a word that is no order, then it refuses them for
+-- want of memory alone.
 abbrev pub IsUnasked : List Text → NotAsked → Type 0
 IsUnasked words (NoOrder index) = no_order_in words ≡ Some index
 IsUnasked words (Refused error) = is_taken words ≡ true → IsSome (asked_by words) ⊎ IsSome (no_order_in words) → kind_of error ≡ OutOfMemory

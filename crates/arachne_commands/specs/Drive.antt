@@ -52,7 +52,8 @@ pub record AreSamplesOf (input : List ℕ) (settings : Settings) (judged : List 
 abbrev pub IsPrintedMeaning : Bool → List ℕ → List ℕ → Type 0
 IsPrintedMeaning names input output = (source : Source) × IsProgramOf input source × (output ≡ output_of names (meaning_of source))
 
--- What is to be written where this is asked and this is the input. A run writes what an evaluation writes, whatever its settings.
+-- What is to be written where this is asked and this is the input. A run writes what an evaluation writes, whatever its
+-- settings.
 abbrev pub IsAnswer : Request → List ℕ → List ℕ → Type 0
 IsAnswer (Run settings) input output = IsPrintedMeaning settings.names input output
 IsAnswer (Eval names) input output = IsPrintedMeaning names input output
@@ -121,8 +122,8 @@ abbrev pub IsCutShort : List (List ℕ) → Option (List ℕ) → Option (List �
 IsCutShort words input before after =
     IfSome input (λ known. (request : Request) × (asked_by words ≡ Some request) × (text : List ℕ) × IsAnswer request known text × AppendsFront before after text)
 
--- There is this fault, and it has a cause. Only where writing failed is there something on the output, and that is a front of what
--- was to be written.
+-- There is this fault, and it has a cause. Only where writing failed is there something on the output, and that is a
+-- front of what was to be written.
 abbrev pub IsAtFault : List (List ℕ) → Option (List ℕ) → Option (List ℕ) → Option (List ℕ) → Fault → Type 0
 IsAtFault words input before after fault =
     IfSome input (λ known. IsCauseFor (asked_by words) known fault)
@@ -130,8 +131,8 @@ IsAtFault words input before after fault =
     × (fault ≡ Write → IsCutShort words input before after)
     × ((fault ≢ Memory) → IsSome (asked_by words))
 
--- Why words are refused with status 2, and what is on the faults stream then: a word that is no order, with its line; of the parser of command
--- lines only that it did not want for memory.
+-- Why words are refused with status 2, and what is on the faults stream then: a word that is no order, with its line;
+-- of the parser of command lines only that it did not want for memory.
 abbrev pub IsTold : NotAsked → Option (List ℕ) → Option (List ℕ) → Type 0
 IsTold (NoOrderAt index) before after = AppendsFront before after (fault_line (NoOrder index))
 IsTold (Refused error) before after = kind_of error ≢ OutOfMemory

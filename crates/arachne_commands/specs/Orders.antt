@@ -19,7 +19,8 @@ pub record FitsWords (order : CoreOrder) : Type 0 where
   pub after : order.after < 2 ^ 64
   pub core : order.core < 2 ^ 64
 
--- ---- the order that a word spells; `order_of word ≡ Some order` exactly where `order_word order ≡ word`, and both numbers fit
+-- ---- the order that a word spells; `order_of word ≡ Some order` exactly where `order_word order ≡ word`, and both
+-- numbers fit
 
 -- a kind and its colon, and what is behind
 abbrev pub release_at : Result (List ℕ) Halt → Option (OrderKind × List ℕ)

@@ -9,8 +9,9 @@ use Rattle.arachne_run.specs.declared.fault.RunFault.{RunFault}
 use Rattle.arachne_run.specs.declared.fault.RunFault.TheVariants.{Memory}
 use Rattle.arachne_commands.specs.declared.command_line.RunSettings.{RunSettings}
 
--- Settings that are refused are refused for the first fault that they have, and for their orders' first fault where they have no other; or for want of
--- memory. A fault of settings is told of no others than those that have it. Of what a run meets on its way nothing is said.
+-- Settings that are refused are refused for the first fault that they have, and for their orders' first fault where
+-- they have no other; or for want of memory. A fault of settings is told of no others than those that have it. Of what
+-- a run meets on its way nothing is said.
 pub record IsRefusal (settings : RunSettings) (fault : RunFault) : Type 0 where
   pub of_settings : (first : RunFault) → refusal_of settings.cores settings.quantum settings.slots settings.cores ≡ Some first → (fault ≡ first) ⊎ (fault ≡ Memory)
   pub of_orders : refusal_of settings.cores settings.quantum settings.slots settings.cores ≡ None → (AreInOrder settings.cores settings.orders → ⊥)

@@ -12,7 +12,8 @@ use arachne_policy::{Estimator, Sample};
 use std::alloc::Global;
 use std::fmt::Write;
 
-/// By what samples are judged: the load over which a core is asked for, the hysteresis of giving one back, and the most cores.
+/// By what samples are judged: the load over which a core is asked for, the hysteresis of giving one back, and the most
+/// cores.
 #[derive(Clone, Copy, Debug, PartialEq, Eq)]
 pub struct Settings {
     pub up: u64,

@@ -47,7 +47,8 @@ impl PrintedThread for ThreadLine {
     }
 }
 
-/// What is printed of a value, the totals of the ledgers and the threads, with a line for each thread where the names are wanted.
+/// What is printed of a value, the totals of the ledgers and the threads, with a line for each thread where the names
+/// are wanted.
 pub fn render<T: PrintedThread>(
     alloc: Global,
     value: u64,

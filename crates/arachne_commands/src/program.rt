@@ -150,7 +150,8 @@ pub fn refuse<W: Write>(faults: &mut W, fault: Fault) -> u8
     FAULT
 }
 
-/// Says why the words of the command line could not be had, and answers the status: that of a fault where memory was refused.
+/// Says why the words of the command line could not be had, and answers the status: that of a fault where memory was
+/// refused.
 pub fn refuse_words<W: Write>(faults: &mut W, error: &io::Error) -> u8
     ensures memory { error_kind error.now ≡ StreamFault.OutOfMemory
         → (result ≡ 1) × AppendsFront (W.contents faults.old) (W.contents faults.new) (fault_line Fault.Memory) }
@@ -185,10 +186,10 @@ fn refuse_request<W: Write>(faults: &mut W, why: &NotAsked) -> u8
     }
 }
 
-/// Runs the program on the words of the command line, the first being its own name, and on these streams. The answer is the status:
-/// 0 where all went well; 1 where there was a fault, whose line goes to the faults stream; and 2 where a word of a run is no order, with the
-/// fault's line, or the words were not understood, which `clap`'s text on the faults stream explains. Nothing is on the output before all is
-/// known. A run may wait, and starts threads.
+/// Runs the program on the words of the command line, the first being its own name, and on these streams. The answer is
+/// the status: 0 where all went well; 1 where there was a fault, whose line goes to the faults stream; and 2 where a
+/// word of a run is no order, with the fault's line, or the words were not understood, which `clap`'s text on the
+/// faults stream explains. Nothing is on the output before all is known. A run may wait, and starts threads.
 pub fn drive<R: Threads + Wait + Sync, S: AsStr, I: Read, W: Write, E: Write>(
     rt: &R,
     alloc: Global,

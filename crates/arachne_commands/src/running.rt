@@ -49,7 +49,8 @@ pub fn run_program<'p, R: Threads + Wait + Sync>(
     )
 }
 
-/// How many cores get a chooser: each, and of too many none, since the run refuses them before it looks at its choosers.
+/// How many cores get a chooser: each, and of too many none, since the run refuses them before it looks at its
+/// choosers.
 fn served(cores: u64) -> u64
     ensures { cores ≤ CORES → result ≡ cores }
 {

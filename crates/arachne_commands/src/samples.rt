@@ -11,8 +11,8 @@ use arachne_lang::TextFault;
 use arachne_policy::Sample;
 use std::alloc::Global;
 
-/// The samples that the text spells, all of the text: a line of five numbers each. Linear in the bytes; memory is taken for
-/// the samples alone.
+/// The samples that the text spells, all of the text: a line of five numbers each. Linear in the bytes; memory is taken
+/// for the samples alone.
 pub fn read_samples(alloc: Global, text: &[u8]) -> Result<Vec<Sample>, TextFault>
     // The text is the spelling of what is read, whose numbers are in range.
     ensures accepted { IfOk result (λ samples. AreInRange samples.items × (samples_text samples.items ≡ text.now)) }

@@ -48,8 +48,8 @@ pub trait Contexts<T: Tagged>: Seats {
         ensures out { KeepsOut (has self.now) seat.old seat.new }
         ensures word { IsMarkWord CORE_BITS result };
 
-    /// Claims the lowest free index of a core, by one try. The error is want of memory for what is posted there, and leaves
-    /// all as it was.
+    /// Claims the lowest free index of a core, by one try. The error is want of memory for what is posted there, and
+    /// leaves all as it was.
     fn claim<R: Wait>(
         &self,
         rt: &R,
@@ -63,8 +63,8 @@ pub trait Contexts<T: Tagged>: Seats {
         ensures out { GetsClaim (has self.now) seat.old seat.new result }
         ensures answer { IfOk result (ClaimsOn (Self.slot_count self.now) Self.Claim.place_of core) };
 
-    /// Claims an empty core for one thread, at index 0. The error is want of memory for what is posted there, and leaves all
-    /// as it was.
+    /// Claims an empty core for one thread, at index 0. The error is want of memory for what is posted there, and
+    /// leaves all as it was.
     fn claim_alone<R: Wait>(
         &self,
         rt: &R,
@@ -92,8 +92,8 @@ pub trait Contexts<T: Tagged>: Seats {
         ensures out { Spends (has self.now) (a_claim claim) seat.old seat.new result }
         ensures handed_back { IfErr result (λ back. back ≡ claim) };
 
-    /// Posts a thread at a claimed place. It is ready, also where its core was closed since. Where the table doesn't know
-    /// the claim, both come back.
+    /// Posts a thread at a claimed place. It is ready, also where its core was closed since. Where the table doesn't
+    /// know the claim, both come back.
     fn post<R: Wait>(
         &self,
         rt: &R,
@@ -140,8 +140,8 @@ pub trait Contexts<T: Tagged>: Seats {
         ensures answer { IfOk result (RestsAs rest) }
         ensures handed_back { IfErr result (λ back. back ≡ held) };
 
-    /// Ends a thread, and frees its place unless its context has had its last generation. A thread that the table doesn't
-    /// know, or whose tag has changed, comes back.
+    /// Ends a thread, and frees its place unless its context has had its last generation. A thread that the table
+    /// doesn't know, or whose tag has changed, comes back.
     fn finish<R: Wait>(
         &self,
         rt: &R,
@@ -202,8 +202,8 @@ pub trait Contexts<T: Tagged>: Seats {
         ensures out { KeepsOut (has self.now) seat.old seat.new }
         ensures answer { MovesAs (Self.slot_count self.now) result };
 
-    /// What was posted and not finished, by context. The seat is whole, and nothing claimed or taken is out. Table and seat
-    /// come back where memory is refused.
+    /// What was posted and not finished, by context. The seat is whole, and nothing claimed or taken is out. Table and
+    /// seat come back where memory is refused.
     fn close<R: Wait>(
         self,
         rt: &R,

@@ -23,7 +23,8 @@ pub trait Identified: Placed {
         ensures { result ≡ id_of self.now };
 }
 
-/// A thread that a seat has taken: its value, and what the table knows it by. The value may be changed, but not its tag.
+/// A thread that a seat has taken: its value, and what the table knows it by. The value may be changed, but not its
+/// tag.
 #[derive(Drop)]
 pub struct Held<T, H> {
     pub value: T,

@@ -6,8 +6,8 @@ use arachne_core::{CORES, LAST_GENERATION, SLOTS};
 use std::alloc::{AllocError, Global};
 use std::sync::Wait;
 
-/// A table's seats, with which its threads step. Each has a part of the whole weight, so whoever has all of it knows that
-/// no other seat is in use. A seat is used with the table that it came from.
+/// A table's seats, with which its threads step. Each has a part of the whole weight, so whoever has all of it knows
+/// that no other seat is in use. A seat is used with the table that it came from.
 pub trait Seats {
     type Seat: Drop;
 
@@ -44,8 +44,8 @@ pub trait Seats {
         ensures idle { IfOk result (λ made. Self.idle made.0 made.1) }
         ensures weight { IfOk result (λ made. Self.weight made.1 ≡ whole) };
 
-    /// Halves the weight, rounded up for the first seat. At weight 1 or 0 neither gets any. Whatever was claimed or taken
-    /// through the seat must be spent before.
+    /// Halves the weight, rounded up for the first seat. At weight 1 or 0 neither gets any. Whatever was claimed or
+    /// taken through the seat must be spent before.
     fn split<R: Wait>(&self, rt: &R, seat: Self::Seat) -> (Self::Seat, Self::Seat)
         requires seat { Self.sits self.now seat }
         requires idle { Self.idle self.now seat }
@@ -56,7 +56,8 @@ pub trait Seats {
         ensures first_weight { Self.weight result.0 ≡ first_part (Self.weight seat) }
         ensures second_weight { Self.weight result.1 ≡ second_part (Self.weight seat) };
 
-    /// Adds up the weights, to at most the whole. Whatever was claimed or taken through either seat must be spent before.
+    /// Adds up the weights, to at most the whole. Whatever was claimed or taken through either seat must be spent
+    /// before.
     fn join_seats<R: Wait>(&self, rt: &R, seat: Self::Seat, other: Self::Seat) -> Self::Seat
         requires seat { Self.sits self.now seat }
         requires other { Self.sits self.now other }

@@ -35,7 +35,8 @@ last_core_wide = refl
 codes : (mark_code Free ≡ 0) × (mark_code Ready ≡ 1) × (mark_code Blocked ≡ 2) × (mark_code Held ≡ 3) × (mark_code Woken ≡ 4) × (mark_code Spent ≡ 5)
 codes = (refl, refl, refl, refl, refl, refl)
 
--- each field at its greatest: 0xffffffffffffff7d, of which all bits are set but those of a mark above 5 and an index above 55
+-- each field at its greatest: 0xffffffffffffff7d, of which all bits are set but those of a mark above 5 and an index
+-- above 55
 greatest : mark_word 4 (marked_at Spent true corner (2 ^ 50 - 1)) ≡ 2 ^ 64 - 131
 greatest = refl
 

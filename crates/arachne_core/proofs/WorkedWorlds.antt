@@ -1,5 +1,5 @@
--- The definitions of the World on small worlds: what must be allowed is, with its effect, what must not be is not, and each fact of
--- being owned once refuses a world that breaks it. No other proof rests on these.
+-- The definitions of the World on small worlds: what must be allowed is, with its effect, what must not be is not, and
+-- each fact of being owned once refuses a world that breaks it. No other proof rests on these.
 use Rattle.std.proofs.Common.{◌≡◌, ℕ, zero, suc, ◌+◌, ◌*◌, ◌<◌, Bool, true, false, eqb, inl, inr, List, [], ◌∷◌, refl, sym, ap, ◌∙◌, arith}
 use Rattle.std.proofs.lemmas.Bool.{true≢false}
 use Rattle.arachne_core.specs.declared.place.Place.{Place}

@@ -76,8 +76,8 @@ LacksRoom k (event.Post h x tag) = k.posts ≡ 0
 LacksRoom k (event.Retire h x) = k.retires ≡ 0
 LacksRoom k e = ⊥
 
--- The answer to an event, with the table before and after: the event is made exactly where it is allowed, unless memory for
--- it is refused; else nothing changes.
+-- The answer to an event, with the table before and after: the event is made exactly where it is allowed, unless memory
+-- for it is refused; else nothing changes.
 abbrev pub Answers : Event → ContextTable → ContextTable → Result (Unit {0}) NotApplied → Type 0
 Answers e old new (Ok done) = Allowed (world_of old) e × (world_of new ≡ after (world_of old) e)
     × (old.posts ≤ new.posts + posts_of e) × (old.retires ≤ new.retires + retires_of e)

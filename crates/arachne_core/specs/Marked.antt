@@ -26,7 +26,8 @@ mark_code Spent = 5
 abbrev pub mark_named : ℕ → Mark
 mark_named n = if n == 0 then Free else if n == 1 then Ready else if n == 2 then Blocked else if n == 3 then Held else if n == 4 then Woken else Spent
 
--- The word: the mark from bit 0, alone at bit 3, the index from bit 4, the core from bit 10, the generation from bit 10 + b.
+-- The word: the mark from bit 0, alone at bit 3, the index from bit 4, the core from bit 10, the generation from bit 10
+-- + b.
 abbrev pub mark_word : ℕ → Marked → ℕ
 mark_word b m = mark_code m.mark + 2 ^ 3 * bit m.alone + 2 ^ 4 * m.place.index + 2 ^ 10 * m.place.core + 2 ^ (10 + b) * m.generation
 

@@ -7,7 +7,8 @@ use Rattle.arachne_core.specs.declared.state.State.TheVariants.{Free, Held}
 use Rattle.arachne_core.specs.Place.{first_place}
 use Rattle.arachne_core.specs.World.{World, Thread, IsContext, IsPlace, Allowed, after, IsEmptyCore}
 
--- the World at first: each context at the place of its number, free and of one generation, each core open, nothing given
+-- the World at first: each context at the place of its number, free and of one generation, each core open, nothing
+-- given
 pub record IsOpening (w : World) (first : ℕ) : Type 0 where
   pub within : first ≤ w.last
   pub at : (x : ℕ) → IsContext w x → w.at x ≡ first_place w.slots x

@@ -41,8 +41,8 @@ HasPlace k p = (p.core < length k.cores) × (p.index < length (core k p.core).oc
 abbrev pub first_context : ℕ → ℕ → ℕ → Context
 first_context slots generation x = record { place = first_place slots x; generation = generation; state = Free }
 
--- The lists are as long as there are contexts and cores, each place and generation is in range, and `residents` has the context
--- at each place.
+-- The lists are as long as there are contexts and cores, each place and generation is in range, and `residents` has the
+-- context at each place.
 pub record IsTable (slots : ℕ) (cs : List Context) (os : List Occupancy) (rs : List ℕ) : Type 0 where
   pub few : length os ≤ CORES
   pub some_slots : 1 ≤ slots

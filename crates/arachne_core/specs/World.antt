@@ -1,5 +1,6 @@
--- The World of a context table: who stands where, what each context is at, and each event's guard and effect. No packed words and no
--- order of steps: sets are tests, maps are functions, and a collection says how often each of its members is in it.
+-- The World of a context table: who stands where, what each context is at, and each event's guard and effect. No packed
+-- words and no order of steps: sets are tests, maps are functions, and a collection says how often each of its members
+-- is in it.
 use Rattle.std.specs.Prelude.{◌≡◌, ◌≢◌, ℕ, ◌+◌, ◌*◌, ◌<◌, Bool, true, false, ◌&&◌, if◌then◌else◌, ◌==◌, nat_lt}
 use Rattle.arachne_core.specs.declared.place.Place.{Place}
 use Rattle.arachne_core.specs.declared.thread_id.ThreadId.{ThreadId}
@@ -224,8 +225,8 @@ rule w (event.Release h x) = record {
 -- CloseCore, OpenCore: a core of the table is closed, or not.
 rule w (event.CloseCore c) = record { allowed = c < w.cores; after = record w { closed = with_at w.closed c true } }
 rule w (event.OpenCore c) = record { allowed = c < w.cores; after = record w { closed = with_at w.closed c false } }
--- Move: a thread at rest goes to the place of a context that h has claimed on another core, neither core being alone. The two
--- contexts swap places.
+-- Move: a thread at rest goes to the place of a context that h has claimed on another core, neither core being alone.
+-- The two contexts swap places.
 rule w (event.Move h x y) = record {
   allowed = MayMove w h x y;
   after = record w { at = with_at (with_at w.at x (w.at y)) y (w.at x) };

@@ -75,8 +75,8 @@ impl MarkWord {
         }
     }
 
-    /// Reads a word of the first layout, in which the core had 4 bits and the generation 50: the word with the same fields,
-    /// unless the mark is none of the six, the index none of a core's, or the generation past the last.
+    /// Reads a word of the first layout, in which the core had 4 bits and the generation 50: the word with the same
+    /// fields, unless the mark is none of the six, the index none of a core's, or the generation past the last.
     pub fn from_first(word: u64) -> Option<Self>
         ensures some { IsSome result ↔ (IsMarkWord FIRST_CORE_BITS word × ((marked_of FIRST_CORE_BITS word).generation ≤ LAST_GENERATION)) }
         ensures value { IfSome result (λ mark. mark ≡ marked_of FIRST_CORE_BITS word) }

@@ -10,8 +10,8 @@ use std::alloc::Global;
 use std::marker::Model;
 use std::ptr::null_mut;
 
-/// The pointer of a box, or null, which holds nothing. A clause reads what it holds as `value`. It can't be dropped, since
-/// what it is made from takes it apart: `into_box` ends it.
+/// The pointer of a box, or null, which holds nothing. A clause reads what it holds as `value`. It can't be dropped,
+/// since what it is made from takes it apart: `into_box` ends it.
 pub struct Handle<T> {
     pub at: *mut T,
     pub alloc: Global,

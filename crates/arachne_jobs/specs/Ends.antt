@@ -10,7 +10,8 @@ use Rattle.arachne_jobs.specs.declared.ends.Link.TheVariants as link
 abbrev pub IsNamed : Program → List ℕ → Wanted → Type 0
 IsNamed program name wanted = (wanted.program.value ≡ program) × (wanted.name.value ≡ name)
 
--- The thread of this name leaves its own outcome at this end of a cell, or the outcome of a thread of its program comes to it.
+-- The thread of this name leaves its own outcome at this end of a cell, or the outcome of a thread of its program comes
+-- to it.
 abbrev pub IsLinked : Program → List ℕ → Link → Type 0
 IsLinked program name (link.Leaves sender) = IsNamed program name sender.key
 IsLinked program name (link.Awaits receiver) = IsOf program receiver.opening.key

@@ -11,7 +11,7 @@ pub enum Link<'p> {
     Leaves(OutcomeSender),
     /// Here the outcome of a child comes.
     Awaits(OutcomeReceiver),
-    /// The cell in which a child waits or has waited. The parent, which awaits its outcome, has no sending end; the child
-    /// has one once it was taken out of the cell.
+    /// The cell in which a child waits or has waited. The parent, which awaits its outcome, has no sending end; the
+    /// child has one once it was taken out of the cell.
     Waits(WaitCell<'p>, Option<SendingEnd<Left<'p>, Wanted>>),
 }

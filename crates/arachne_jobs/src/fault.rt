@@ -8,8 +8,8 @@ pub enum JobFault {
     /// A growth was refused.
     #[error("out of memory")]
     Memory,
-    /// It got the outcome of another thread than the child that it awaits, or one that its program can't have; or it was
-    /// asked for what it doesn't wait for.
+    /// It got the outcome of another thread than the child that it awaits, or one that its program can't have; or it
+    /// was asked for what it doesn't wait for.
     #[error("the outcome of another thread")]
     Foreign,
 }

@@ -28,9 +28,9 @@ use std::alloc::{AllocError, Global};
 use std::marker::Model;
 use std::snapshot::Snapshot;
 
-/// A thread of the program, with its links to the cells of outcomes: the first is the one at which it leaves its own, and
-/// the others await those of the children that it has forked and not joined, the newest last. The id is that under which
-/// its parent runs.
+/// A thread of the program, with its links to the cells of outcomes: the first is the one at which it leaves its own,
+/// and the others await those of the children that it has forked and not joined, the newest last. The id is that under
+/// which its parent runs.
 ///
 /// Contracts see the thread and that id.
 #[derive(Drop)]

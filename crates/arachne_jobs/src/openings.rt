@@ -4,8 +4,8 @@ use crate::tags::Tags;
 use arachne_lang::Class;
 use arachne_machine::Placing;
 
-/// What a worker has for the forks of its threads: its tags, and for how many forks that were no pause the chooser's word
-/// is still to be drawn.
+/// What a worker has for the forks of its threads: its tags, and for how many forks that were no pause the chooser's
+/// word is still to be drawn.
 #[derive(Drop)]
 pub struct Openings {
     pub tags: Tags,

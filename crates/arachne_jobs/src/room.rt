@@ -2,9 +2,9 @@
 use crossbeam_utils::CachePadded;
 use std::sync::atomic::{AtomicU64, Ordering};
 
-/// How many places of a machine are free and how many children wait for one, or a little more or less, and the first tag
-/// that is not drawn. They say whether a fork is worth a look: what is claimed, and which child goes on, is decided by
-/// the table and by the child's cell. Each number has a cache line of its own.
+/// How many places of a machine are free and how many children wait for one, or a little more or less, and the first
+/// tag that is not drawn. They say whether a fork is worth a look: what is claimed, and which child goes on, is decided
+/// by the table and by the child's cell. Each number has a cache line of its own.
 #[derive(Drop)]
 pub struct Room {
     free: CachePadded<AtomicU64>,

@@ -147,8 +147,8 @@ pub trait RunJob: RunThread {
         ensures answered { OnOk result (Self.pause_of self.new ≡ None) }
         ensures ticket { IfOk result (λ made. IfSome made (λ ticket. Self.Ticket.tag_of ticket ≡ tag)) };
 
-    /// The job of a ticket's child, if that waits still. Where memory is refused there is none, and the child waits on for
-    /// its parent.
+    /// The job of a ticket's child, if that waits still. Where memory is refused there is none, and the child waits on
+    /// for its parent.
     fn of_ticket(alloc: Global, ticket: Self::Ticket, spares: &mut Self::Spares) -> Option<Self>;
 
     /// Leaves the outcome for its parent, which is to be woken; the root has none. `Foreign` where it has not ended.

@@ -5,8 +5,8 @@ use arachne_join::SpareCells;
 use arachne_machine::{DetachedOutcome, Spares as SpareThreads};
 use std::alloc::Global;
 
-/// The memory of threads that have ended, and the join cells that nobody uses. Each worker has its own, so that most forks
-/// take memory for a name and a list of links alone.
+/// The memory of threads that have ended, and the join cells that nobody uses. Each worker has its own, so that most
+/// forks take memory for a name and a list of links alone.
 #[derive(Drop)]
 pub struct Spares<'p> {
     pub(crate) threads: SpareThreads<'p>,

@@ -92,7 +92,8 @@ module _ {T K : Type 0} where
   abbrev pub Opens : Me (Content T K) (PartView K) → Me (Content T K) (PartView K) → Type 0
   Opens m w = (asked : Snapshot K) → m ≡ with_slot m.0 (For asked) → w ≡ with_slot (as_part m.0 (Opened asked.value)) (For asked)
 
-  -- Where the word is what it is after one more value, the seat has the whole cell, with a value that fits its key. Else it has missed once more
+  -- Where the word is what it is after one more value, the seat has the whole cell, with a value that fits its key.
+  -- Else it has missed once more
   abbrev pub Fetches : (K → T → Type 0) → Me (Content T K) (PartView K) → ℕ → Me (Content T K) (PartView K) → Type 0
   Fetches fits m found w = (key : K) → IsReceivingFor key m.0.part
       → (found ≡ word_after (m.0.passed + 1) → (value : T) × (w ≡ with_slot (emptied m.0) (Value value)) × fits key value)

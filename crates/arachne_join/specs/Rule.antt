@@ -45,7 +45,8 @@ module _ {T : Type 0} where
 
 module _ {T K : Type 0} (fits may_wait : T → Type 0) where
   -- Where the word is 1 the slot is at home with a value that fits, where it is 3 with one that may wait.
-  -- Some seat made the word what it is: the sending end 0, one that left the value 1, one that fetched it 2, one that put a value back 3
+  -- Some seat made the word what it is: the sending end 0, one that left the value 1, one that fetched it 2, one that
+  -- put a value back 3
   pub record IsLawful (word : ℕ) (homes : List (maybe.Option (Option T))) (views : List (View K)) : Type 0 where
     pub full : word ≡ 1 → IsHome fits homes
     pub waiting : word ≡ 3 → IsHome may_wait homes

@@ -29,7 +29,8 @@ module _ {T K : Type 0} where
   abbrev pub Looks : Me (Option T) (View K) → ℕ → Me (Option T) (View K) → Type 0
   Looks m found w = (found ≤ 3) × (w ≡ (view m.0.key (Saw (state_of found)), []))
 
-  -- where the word was the one expected, the seat has this role and the slot, with a value of which P holds by the seat's key. Else it looked
+  -- where the word was the one expected, the seat has this role and the slot, with a value of which P holds by the
+  -- seat's key. Else it looked
   abbrev pub Takes : (K → T → Type 0) → ℕ → Role → Me (Option T) (View K) → ℕ → Me (Option T) (View K) → Type 0
   Takes P expected p m found w =
       (found ≡ expected → (value : T) × (w ≡ (view m.0.key p, (0, Some value) ∷ [])) × ((key : K) → m.0.key ≡ Some key → P key value))

@@ -111,7 +111,8 @@ impl<T: Fits<K>, K> CellBlock<T, K> {
         shared.store::<LeaveThere>(&mut seat, index, full);
     }
 
-    /// The value that was left at the receiving end's cell, if it is there now. Then the seat has the whole cell, unused.
+    /// The value that was left at the receiving end's cell, if it is there now. Then the seat has the whole cell,
+    /// unused.
     pub(crate) fn fetch(&self, seat: &mut BlockSeat<T, K>, index: usize, full: u64) -> Option<T>
         requires own { seat.old.table_id ≡ self.now }
         requires inside { index < self.now.slots }

@@ -104,7 +104,8 @@ impl<T: Fits<K> + Drop, K> UnusedCell<T, K> {
         }
     }
 
-    /// Opens the cell for one value that fits the key. It takes no memory. Where its block can't have one more owner, the cell comes back.
+    /// Opens the cell for one value that fits the key. It takes no memory. Where its block can't have one more owner,
+    /// the cell comes back.
     pub fn open(self, key: &K) -> Result<(Receiver<T, K>, Sender<T, K>), UnusedCell<T, K>>
         ensures receiver { IfOk result (λ ends. ends.0 ≡ awaited (opening self key.now)) }
         ensures sender { IfOk result (λ ends. ends.1 ≡ opening self key.now) }

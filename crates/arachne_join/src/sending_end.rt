@@ -13,7 +13,8 @@ use crate::view::View;
 use atomic_table::Seat;
 use std::marker::Model;
 
-/// The one sending end of a cell, with the cell's slot. It has no bytes, and leaving a value uses it up. Where it is dropped, the cell stays empty.
+/// The one sending end of a cell, with the cell's slot. It has no bytes, and leaving a value uses it up. Where it is
+/// dropped, the cell stays empty.
 ///
 /// Contracts see which table it belongs to.
 #[derive(Drop)]

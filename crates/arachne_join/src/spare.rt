@@ -8,7 +8,8 @@ use crate::fits::Fits;
 use std::alloc::{AllocError, Global};
 use std::sync::Arc;
 
-/// How many unused cells are kept. Others are given up, so that one thread doesn't collect those that other threads make.
+/// How many unused cells are kept. Others are given up, so that one thread doesn't collect those that other threads
+/// make.
 const MOST: usize = 4 * CELLS;
 
 /// Unused cells. One thread has them, and makes a new block of them where it has none.

@@ -35,7 +35,8 @@ levels_between (Some j) f m e = (j, refl, e)
 
 -- ---- languages
 
--- Values, and the texts that spell them: those of the shape, and among them those whose numbers are in range. No text of the shape begins another.
+-- Values, and the texts that spell them: those of the shape, and among them those whose numbers are in range. No text
+-- of the shape begins another.
 pub record Language (A : Type 0) : Type 1 where
   pub shape : A → List ℕ → Type 0
   pub range : A → List ℕ → Type 0
@@ -53,7 +54,8 @@ abbrev pub first : List ℕ → Option ℕ
 first [] = None
 first (byte ∷ bytes) = Some byte
 
--- No text lies at the front of these bytes and the next, or goes on from there, if it is to agree with the next byte or the end.
+-- No text lies at the front of these bytes and the next, or goes on from there, if it is to agree with the next byte or
+-- the end.
 abbrev pub Dead : {A : Type 0} → (A → List ℕ → Type 0) → List ℕ → List ℕ → Type 0
 Dead {A} P front rest = (a : A) (x t y : List ℕ) → first x ≡ first rest → P a t → front ++ x ≡ t ++ y → ⊥
 
@@ -416,7 +418,8 @@ first_agrees (byte ∷ front) x rest e = refl
 begins_alike : (front rest bytes x t y : List ℕ) → bytes ≡ front ++ rest → first x ≡ first rest → front ++ x ≡ t ++ y → first (t ++ y) ≡ first bytes
 begins_alike front rest bytes x t y split agrees e = sym (ap first e) ∙ first_agrees front x rest agrees ∙ sym (ap first split)
 
--- Where the second language has the texts of the first, and others only that do not begin as these bytes do, both are read alike.
+-- Where the second language has the texts of the first, and others only that do not begin as these bytes do, both are
+-- read alike.
 pub Exact-among : {A : Type 0} (L M : Language A) (n k : ℕ) (bytes : List ℕ)
     → ((a : A) (t : List ℕ) → L.shape a t → M.shape a t) → ((a : A) (t : List ℕ) → L.range a t → M.range a t)
     → ((a : A) (t y : List ℕ) → M.shape a t → first (t ++ y) ≡ first bytes → L.shape a t)

@@ -1,4 +1,5 @@
--- No name stands twice in a meaning: the threads that are forked below a thread have names that go on from its own, by a number of one of its forks.
+-- No name stands twice in a meaning: the threads that are forked below a thread have names that go on from its own, by
+-- a number of one of its forks.
 use Rattle.std.proofs.Common.{◌≡◌, ◌≢◌, ℕ, zero, suc, ◌+◌, ◌-◌, ◌/◌, ◌<◌, ◌≤◌, List, [], ◌∷◌, ◌++◌, length, refl, ap, sym, ◌∙◌, subst, arith, append_assoc, length-append, Bool, true, false, ◌⊎◌, inl, inr}
 use Rattle.std.specs.Prelude.{map, max, nat_le, ◌==◌, if◌then◌else◌, slice_index_or}
 use Rattle.std.specs.List.{AllByRecursion, AllPairs}

@@ -18,8 +18,9 @@ abbrev pub or_else : Option NodeFault → Option NodeFault → Option NodeFault
 or_else None other = other
 or_else (Some fault) other = Some fault
 
--- For each node of an expression in the text's order, a node before its parts, its first fault if it has one. The program says which arrays, ledgers and
--- locks there are; so many variables are bound; and the expression stands within a hold or does not.
+-- For each node of an expression in the text's order, a node before its parts, its first fault if it has one. The
+-- program says which arrays, ledgers and locks there are; so many variables are bound; and the expression stands within
+-- a hold or does not.
 abbrev pub node_faults : Source → Bool → ℕ → Tree → List (Option NodeFault)
 node_faults program within bound (Number n) = None ∷ []
 node_faults program within bound (Variable k) = unless (nat_lt k bound) fault.Unbound ∷ []

@@ -57,8 +57,8 @@ tallied ledger amount = record nothing { sums = λ other. if other == ledger the
 abbrev pub held : ℕ → Effects
 held lock = record nothing { holds = λ other. if other == lock then 1 else 0 }
 
--- A child is forked, which has these effects, this is done during its life, and the child is joined. The fork comes before those of during,
--- and the lines of during stand before the child's own, which stands before those below it.
+-- A child is forked, which has these effects, this is done during its life, and the child is joined. The fork comes
+-- before those of during, and the lines of during stand before the child's own, which stands before those below it.
 abbrev pub forked : ℕ → Child → Effects → Effects → Effects
 forked locks child effects during = record {
   sums = λ ledger. effects.sums ledger + during.sums ledger;
@@ -79,8 +79,8 @@ abbrev pub turns_effects : (ℕ → Effects) → ℕ → Effects
 turns_effects turn zero = nothing
 turns_effects turn (suc j) = turns_effects turn j ⨾ turn j
 
--- The effects of a range of n numbers from a first one on. Of one that is longer than the grain the left half is forked, and the right half is done during its
--- life. A fuel of n is enough.
+-- The effects of a range of n numbers from a first one on. Of one that is longer than the grain the left half is
+-- forked, and the right half is done during its life. A fuel of n is enough.
 abbrev pub halves : ℕ → (ℕ → ℕ → Child) → (ℕ → Effects) → ℕ → ℕ → ℕ → ℕ → Effects
 halves locks child turn grain fuel first n =
     by_halves (λ from k. turns_effects (λ j. turn (from + j)) k) (λ from k left right. forked locks (child from (k / 2)) left right) grain fuel first n

@@ -96,8 +96,9 @@ pub record IsHalfRun (program : Source) (reduction : Reduction) (grain : ℕ) (b
   pub ended : (fuel : ℕ) → n ≤ fuel → HasEnded program.locks (halved_effects program reduction grain body shared.environment.items fuel first n)
       name shared.sums.items shared.lines.items shared'.sums.items shared'.lines.items
 
--- The number of the next fork stays in range: each thread that was forked has a line or is still to come. For each level of an expression at most 65 are still
--- to come, since a range of less than 2 ^ 64 numbers is halved 64 times at most.
+-- The number of the next fork stays in range: each thread that was forked has a line or is still to come. For each
+-- level of an expression at most 65 are still to come, since a range of less than 2 ^ 64 numbers is halved 64 times at
+-- most.
 abbrev pub MayFork : Tree → ℕ → List Line → Type 0
 MayFork tree forks lines = (nesting tree ≤ 64) × (forks + 65 * nesting tree ≤ length lines + 65 * 64)
 

@@ -1,4 +1,5 @@
--- What is read at the front of a text, as functions on its bytes: a value and the bytes behind it, or why reading stops there.
+-- What is read at the front of a text, as functions on its bytes: a value and the bytes behind it, or why reading stops
+-- there.
 use Rattle.std.specs.Prelude.{ℕ, zero, suc, ◌≡◌, ◌+◌, ◌-◌, ◌*◌, ◌^◌, nat_lt, nat_le, ◌==◌, ◌&&◌, if◌then◌else◌, List, [], ◌∷◌, ◌++◌, length, Result, Ok, Err, codes}
 use Rattle.arachne_lang.specs.declared.reading.stop.Stop.{Stop}
 use Rattle.arachne_lang.specs.declared.reading.stop.Stop.TheVariants as stop
@@ -82,8 +83,8 @@ part_at tree_at end bytes = do
 
 -- ---- the words of the forms
 
--- Words by their letters, each with its value: the end of one; those that go on with these letters; or those that go on with this letter,
--- behind it, and the others.
+-- Words by their letters, each with its value: the end of one; those that go on with these letters; or those that go on
+-- with this letter, behind it, and the others.
 pub data Words (A : Type 0) : Type 0 where
   End : A → Words A
   Behind : List ℕ → Words A → Words A

@@ -126,7 +126,8 @@ impl Evaluator<'_> {
         }
     }
 
-    /// Evaluates an expression in a thread of its own: its line is the next one, and those of the threads below it follow.
+    /// Evaluates an expression in a thread of its own: its line is the next one, and those of the threads below it
+    /// follow.
     #[cycle(evaluation)]
     fn run(&self, shared: &mut Shared, name: Name, expr: &Expr) -> Result<u64, AllocError>
         requires { MayFork (tree_of expr.now) 0 shared.old.lines.items }

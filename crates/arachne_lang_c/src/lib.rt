@@ -16,8 +16,8 @@ use std::alloc::Global;
 
 /// Reads a task text, checks its program and evaluates it on one thread.
 ///
-/// The total of each ledger goes to `totals`, and each thread in numbers to `words`, as many as fit; the answer says how
-/// many there are, so that a caller whose room was too small may call again. After a fault both are as before.
+/// The total of each ledger goes to `totals`, and each thread in numbers to `words`, as many as fit; the answer says
+/// how many there are, so that a caller whose room was too small may call again. After a fault both are as before.
 #[unsafe(no_mangle)]
 pub extern "C" fn arachne_eval(
     alloc: Global,

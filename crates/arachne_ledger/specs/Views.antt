@@ -11,8 +11,8 @@ pub record LedgersView : Type 0 where
   pub table : TableId
   pub count : ℕ
 
--- the table that it came from, its part of the whole weight, for each ledger the sum of what was added through it, and the
--- number that it found last in a ledger's word
+-- the table that it came from, its part of the whole weight, for each ledger the sum of what was added through it, and
+-- the number that it found last in a ledger's word
 pub record ShareView : Type 0 where
   pub table : TableId
   pub weight : ℕ

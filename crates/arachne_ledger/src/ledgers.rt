@@ -87,7 +87,8 @@ impl Ledgers {
         shared.fetch_add::<Add>(&mut share.seat, ledger_word(ledger), amount);
     }
 
-    /// The ledger's word, which at each moment is the sum of all shares then, modulo 2^64. A whole share finds its own sum.
+    /// The ledger's word, which at each moment is the sum of all shares then, modulo 2^64. A whole share finds its own
+    /// sum.
     pub fn read(&self, share: &mut Share, ledger: usize) -> u64
         requires own { IsShareOf self.now share.old }
         requires ledger { ledger < self.now.count }

@@ -74,8 +74,8 @@ IsMade count (Some old) new answer = (answer ≡ refused) × (new ≡ Some old)
 IsMade count None None answer = answer ≡ no_memory
 IsMade count None (Some new) answer = (answer ≡ done) × IsNew count new
 
--- The first handle's share is cut in two, of which the second handle gets the second, where the first holds a share and the
--- second nothing. Want of memory changes nothing.
+-- The first handle's share is cut in two, of which the second handle gets the second, where the first holds a share and
+-- the second nothing. Want of memory changes nothing.
 abbrev pub IsSplit : Option Adder → Option Adder → Option Adder → Option Adder → ℕ → Type 0
 IsSplit None other new other_new answer = (answer ≡ refused) × (new ≡ None) × (other_new ≡ other)
 IsSplit (Some old) (Some other) new other_new answer = (answer ≡ refused) × (new ≡ Some old) × (other_new ≡ Some other)

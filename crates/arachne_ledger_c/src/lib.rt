@@ -1,6 +1,7 @@
 //! Ledgers for C and Rust, as a static library. `examples/c/arachne_ledger.h` declares what it exports.
 //!
-//! A handle holds a share of some ledgers, or nothing. One that holds nothing is one null pointer, so C begins with that.
+//! A handle holds a share of some ledgers, or nothing. One that holds nothing is one null pointer, so C begins with
+//! that.
 #![tactic(auto)]
 
 ghost use Rattle.std.specs.Prelude.{◌≡◌, ◌↔◌, IsTrue, MatchBool};
@@ -22,8 +23,8 @@ const REFUSED: u8 = 1;
 
 const NO_MEMORY: u8 = 2;
 
-/// Makes so many ledgers, each 0, and gives a handle that holds nothing their whole share. 0 where this is done, 1 where the
-/// handle is in use, 2 where memory is refused. After 1 and 2 nothing has changed.
+/// Makes so many ledgers, each 0, and gives a handle that holds nothing their whole share. 0 where this is done, 1
+/// where the handle is in use, 2 where memory is refused. After 1 and 2 nothing has changed.
 #[unsafe(no_mangle)]
 pub extern "C" fn arachne_ledgers_new(alloc: Global, adder: &mut ArachneAdder, count: usize) -> u8
     ensures { IsMade count (held adder.old) (held adder.new) result }
@@ -66,8 +67,8 @@ pub extern "C" fn arachne_ledger_add(
     known
 }
 
-/// The total of a ledger, modulo 2^64, where all other handles are back. False, with nothing changed, where one is not, where
-/// the handle holds nothing, or there is no such ledger.
+/// The total of a ledger, modulo 2^64, where all other handles are back. False, with nothing changed, where one is not,
+/// where the handle holds nothing, or there is no such ledger.
 #[unsafe(no_mangle)]
 pub extern "C" fn arachne_ledger_total(
     alloc: Global,
@@ -97,8 +98,8 @@ pub extern "C" fn arachne_ledger_total(
     }
 }
 
-/// Cuts the share in two, as for another thread. 0 where the second handle has the second part, 1 where the first handle holds
-/// nothing or the second is in use, 2 where memory is refused. After 1 and 2 nothing has changed.
+/// Cuts the share in two, as for another thread. 0 where the second handle has the second part, 1 where the first
+/// handle holds nothing or the second is in use, 2 where memory is refused. After 1 and 2 nothing has changed.
 #[unsafe(no_mangle)]
 #[tactic(auto, using(crate::proofs::Cut::is_split))]
 pub extern "C" fn arachne_ledger_split(
@@ -127,8 +128,8 @@ pub extern "C" fn arachne_ledger_split(
     DONE
 }
 
-/// Joins the second handle's share into the first's, so that the second holds nothing then. False, with nothing changed, where
-/// one of them holds nothing. Both have to be of the same ledgers.
+/// Joins the second handle's share into the first's, so that the second holds nothing then. False, with nothing
+/// changed, where one of them holds nothing. Both have to be of the same ledgers.
 #[unsafe(no_mangle)]
 pub extern "C" fn arachne_ledger_join(
     alloc: Global,
@@ -153,8 +154,8 @@ pub extern "C" fn arachne_ledger_join(
     is_joined
 }
 
-/// Frees what a handle holds. The weight of its share is lost, so that no total can be told any more; the ledgers are freed
-/// with the last of their handles.
+/// Frees what a handle holds. The weight of its share is lost, so that no total can be told any more; the ledgers are
+/// freed with the last of their handles.
 #[unsafe(no_mangle)]
 pub extern "C" fn arachne_ledger_close(alloc: Global, adder: &mut ArachneAdder)
     ensures { held adder.new ≡ None }

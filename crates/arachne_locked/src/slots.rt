@@ -4,8 +4,8 @@ ghost use Rattle.std.specs.Prelude.{◌≡◌, ◌≤◌};
 use arachne_core::SLOTS;
 use std::marker::Model;
 
-/// How many places each core of a table has, as whoever has the table knows it outside the lock. A contract sees it as a
-/// number.
+/// How many places each core of a table has, as whoever has the table knows it outside the lock. A contract sees it as
+/// a number.
 #[derive(Clone, Copy, Debug)]
 pub struct Slots {
     count: u8,

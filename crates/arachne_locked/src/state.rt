@@ -71,8 +71,8 @@ impl<T: Tagged + Drop> TableState<T> {
         Ok(TableState { homes })
     }
 
-    /// Tells whoever has a table that its World is owned once, and that a value is at home exactly where its context is at
-    /// rest. Nothing is done.
+    /// Tells whoever has a table that its World is owned once, and that a value is at home exactly where its context is
+    /// at rest. Nothing is done.
     pub fn is_owned_once(&self)
         ensures owned_once { OwnedOnce (world_of self.now.table) }
         ensures home { IsHome T.tag_of (world_of self.now.table) self.now.values }
@@ -214,7 +214,8 @@ impl<T: Tagged + Drop> TableState<T> {
 
     // ---- threads
 
-    /// Posts a thread at a claimed place, which wants no memory. Where the table doesn't know the claim, both come back.
+    /// Posts a thread at a claimed place, which wants no memory. Where the table doesn't know the claim, both come
+    /// back.
     pub fn post(
         &mut self,
         carrier: u32,

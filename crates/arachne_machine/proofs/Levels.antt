@@ -41,7 +41,8 @@ use Rattle.arachne_machine.proofs.Renewing.{begins_new, begins_faultless}
 use Rattle.arachne_machine.specs.Faultless.{IsFaultlessNext, IsWithoutFault}
 use Rattle.arachne_machine.specs.Work.{task_work}
 
--- The threads that wait depend on the frames below those of the one that they wait for, and on the lines before its own.
+-- The threads that wait depend on the frames below those of the one that they wait for, and on the lines before its
+-- own.
 pub waiting_frames : (program : Bor Program) (own : Own) (parents : List Parent) (lines : List ThreadLine) (frames frames' : List Frame) (start place : ℕ) (env : Environment) →
     take start frames' ≡ take start frames → waiting program own parents lines frames' start place env ≡ waiting program own parents lines frames start place env
 waiting_frames program own [] lines frames frames' start place env e = refl
@@ -316,7 +317,8 @@ fits_begun before old new number awaits begins l le b h =
     (subst (λ v. Fits (q ∷ reverse old.parents.items) v.start v.place (length new.frames.items) (length new.lines)) (sym b.level)
     (omega (arith, ap length b.frames), omega (arith, ap length b.lines, length-append old.lines (b.line ∷ [])), below))
 
--- A child that is to run here begins, and the thread that it was forked by awaits it. It was the newest frame of that one.
+-- A child that is to run here begins, and the thread that it was forked by awaits it. It was the newest frame of that
+-- one.
 pub runs_begins : (before old new : State) (f : Frame) (number handed : ℕ) (awaits begins : Control) → IsSoundState before → old.level.start ≤ length old.frames.items →
     Changes old before old.environment.items (old.frames.items ++ f ∷ []) old.control → (b : BeginsHere old new number awaits begins) → IsBeginning begins →
     AwaitsHere number handed (top before) (awaiting_in old awaits) → handed ≡ task_work (source_of old.program.now).arrays (task_begun begins old.environment.items) →

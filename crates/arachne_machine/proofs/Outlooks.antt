@@ -19,8 +19,8 @@ use Rattle.arachne_machine.specs.Steps.{Becomes, Goes, AfterSteps, pending_of, b
 use Rattle.arachne_machine.proofs.Faultlessness.{faultless_above}
 use Rattle.arachne_machine.proofs.Frames.{resume-append, resume_account-append, resume_work-append, resume_trace-append, with_steps-append, forks_of-append, forks_here-append, releases-append}
 
--- From what comes next, the newest frames and the environment to the new ones the end is the same, if the accounts that fit are taken like this, and these
--- pauses are answered. So many of the steps that were left are handed to a child.
+-- From what comes next, the newest frames and the environment to the new ones the end is the same, if the accounts that
+-- fit are taken like this, and these pauses are answered. So many of the steps that were left are handed to a child.
 pub record SameOutlook (steps handed : ℕ) (answered : List Event) (fits : Account → Type 0) (taken : Account → Account) (source : Source) (name : List ℕ) (k : Control) (gs : List Frame) (env : List ℕ) (k' : Control) (gs' : List Frame) (env' : List ℕ) : Type 0 where
   pub ending : resume source name gs' (begun source name k' env') ≡ resume source name gs (begun source name k env)
   pub account : (a : Account) → fits a →

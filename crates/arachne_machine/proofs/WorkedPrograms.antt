@@ -20,7 +20,8 @@ sum_has_no_pause = refl
 split : work_of [] (Sweep Sum 2 (Number 0) (Number 8) (Variable 0)) [] ≡ 25
 split = refl
 
--- Its thread splits it twice, since the right half is its own. Each part begins with a step, and hands its value on in another.
+-- Its thread splits it twice, since the right half is its own. Each part begins with a step, and hands its value on in
+-- another.
 splits_twice : trace_of [] (Sweep Sum 2 (Number 0) (Number 8) (Variable 0)) []
     ≡ with_steps 4 (At Forks ∷ with_steps 1 (At Forks ∷ with_steps 4 (At Joins ∷ with_steps 1 (At Joins ∷ Step ∷ []))))
 splits_twice = refl
@@ -51,7 +52,8 @@ hold_under_a_binding : trace_of [] (Bind (Number 4) (Hold 0 (Bind (Tally 0 (Vari
     ≡ with_steps 3 (At (Asks 0) ∷ with_steps 3 (At (Tallies 0 4) ∷ with_steps 3 (At (Tallies 1 7) ∷ Step ∷ At (Frees 0) ∷ Step ∷ [])))
 hold_under_a_binding = refl
 
--- The child's tally is the child's; what is done meanwhile comes before the join, and what knows the child's value after it.
+-- The child's tally is the child's; what is done meanwhile comes before the join, and what knows the child's value
+-- after it.
 meanwhile : trace_of [] (Fork Exclusive (Tally 0 (Number 1) (Number 4)) (Tally 1 (Number 2) (Number 0)) (Tally 2 (Variable 0) (Number 0))) []
     ≡ Step ∷ At Forks ∷ with_steps 2 (At (Tallies 1 2) ∷ Step ∷ At Joins ∷ with_steps 2 (At (Tallies 2 4) ∷ Step ∷ []))
 meanwhile = refl

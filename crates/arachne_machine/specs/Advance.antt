@@ -77,7 +77,8 @@ Moves budget old (pauses.Tallies ledger amount) new = Stops budget old new (paus
 Moves budget old pauses.Ended new =
     Stops budget old new pause.Ended × (new.parents ≡ []) × (new.running.locks ≡ []) × (new.running.unjoined ≡ []) × (new.running.work ≡ 0)
 
--- Callers are asked for an outcome only of a child at a place of its own: one that was placed here runs as soon as it is awaited.
+-- Callers are asked for an outcome only of a child at a place of its own: one that was placed here runs as soon as it
+-- is awaited.
 abbrev pub AwaitsAt : Pause → Nested → Type 0
 AwaitsAt pauses.Joins thread = AwaitsElsewhere thread.running thread.placed
 AwaitsAt _ thread = Unit {0}

@@ -23,7 +23,8 @@ pub record IsNewest (program : Program) (keys : List (Program × List ℕ)) (thr
   pub rest : List (Program × List ℕ)
   pub brought : keys ≡ childs_keys program thread.running.name thread.running.unjoined ++ rest
 
--- The thread has forked the one of this name as its newest child that is not joined. The others that are not joined have brought the first outcomes.
+-- The thread has forked the one of this name as its newest child that is not joined. The others that are not joined
+-- have brought the first outcomes.
 pub record IsParent (program : Program) (child : List ℕ) (keys : List (Program × List ℕ)) (thread : Nested) : Type 0 where
   pub alone : IsAlone thread
   pub same_program : thread.running.program ≡ program
@@ -35,7 +36,8 @@ pub record IsParent (program : Program) (child : List ℕ) (keys : List (Program
   pub rest : List (Program × List ℕ)
   pub brought : keys ≡ childs_keys program thread.running.name others ++ rest
 
--- each of the threads is the parent of the one before it, the first one that of the thread of this name, and the last one is the root
+-- each of the threads is the parent of the one before it, the first one that of the thread of this name, and the last
+-- one is the root
 abbrev pub Waits : Program → List ℕ → List Nested → List (Program × List ℕ) → Type 0
 Waits program name [] keys = (name ≡ []) × (keys ≡ [])
 Waits program name (thread ∷ threads) keys = (parent : IsParent program name keys thread) × Waits program thread.running.name threads parent.rest

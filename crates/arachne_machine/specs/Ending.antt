@@ -266,7 +266,8 @@ pub record IsForkedIn (source : Source) (name : List ℕ) (number : ℕ) (env : 
   pub has_task : task_of source (name ++ number ∷ []) ≡ Some task
   pub environment : environment_of task ≡ env
 
--- The child that a frame joins was forked in the environment that the frame is left with, and one that is to run here has its task.
+-- The child that a frame joins was forked in the environment that the frame is left with, and one that is to run here
+-- has its task.
 abbrev pub KeepsFork : Source → List ℕ → Frame → Status → Type 0
 KeepsFork source name (Join number next) s = IsForkedIn source name number s.env
 KeepsFork source name (Merge number reduction) s = IsForkedIn source name number s.env

@@ -1,4 +1,5 @@
--- What is so of the threads of a checked program: nothing that they will begin has a fault, and they hold at most one lock.
+-- What is so of the threads of a checked program: nothing that they will begin has a fault, and they hold at most one
+-- lock.
 use Rattle.std.specs.Prelude.{◌≡◌, ◌≤◌, ◌<◌, ℕ, Bool, true, false, List, [], ◌∷◌, length, Option, None, Some}
 use Rattle.arachne_lang.specs.Tree.{Tree, Source}
 use Rattle.arachne_lang.specs.Program.{source_of, tree_of}

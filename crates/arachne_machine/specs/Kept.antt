@@ -44,7 +44,8 @@ pub record IsKept (t : State) (placed : List (Box State)) : Type 0 where
 abbrev pub seen_children : List (Box State) → List Placed
 seen_children placed = map seen_child (reverse placed)
 
--- So many steps were left and so many are, and no thread pauses. Where no child was handed back it is so of the state by itself.
+-- So many steps were left and so many are, and no thread pauses. Where no child was handed back it is so of the state
+-- by itself.
 pub record Went (Q : Type 0) (had left : ℕ) (old : State) (ps : List (Box State)) (new : State) (qs : List (Box State)) : Type 0 where
   pub made : ℕ
   pub fewer : left ≤ had
@@ -103,7 +104,8 @@ pub record StandsBack (old : State) (ps : List (Box State)) (new : State) (qs : 
   pub same : IsSame old mid
   pub stands : StandsBefore mid.control mid new
 
--- A child that comes back waits at its fork behind those that were handed back to it; or, where it is awaited, it goes on, and those are the newest.
+-- A child that comes back waits at its fork behind those that were handed back to it; or, where it is awaited, it goes
+-- on, and those are the newest.
 pub record IsTakenBack (old : State) (ps : List (Box State)) (child : State) (cps : List (Box State)) (new : State) (qs : List (Box State)) : Type 0 where
   pub of_child : awaited (suspended (top old)) ≡ Some child.own.name
   pub at_fork : pending_of old.control ≡ Some pause.Forks →

@@ -13,7 +13,8 @@ use Rattle.arachne_machine.specs.Trace.{At, task_trace}
 use Rattle.arachne_machine.specs.Work.{task_work}
 use Rattle.arachne_machine.specs.Suspended.{Suspended, IsAnswered, IsFresh, SameThread, added, awaited}
 
--- a child that was handed back to run in its parent's place and is not awaited yet, with the threads that run in its own
+-- a child that was handed back to run in its parent's place and is not awaited yet, with the threads that run in its
+-- own
 pub record Placed : Type 0 where
   pub running : Suspended
   pub parents : List Suspended
@@ -21,11 +22,13 @@ pub record Placed : Type 0 where
 pub record Nested : Type 0 where
   -- the innermost thread, which goes on next
   pub running : Suspended
-  -- Each of these awaits the one before it, and the first the innermost thread. The last is the one in whose place all the others run.
+  -- Each of these awaits the one before it, and the first the innermost thread. The last is the one in whose place all
+  -- the others run.
   pub parents : List Suspended
   -- the children that were handed back to run here and are not awaited yet, the newest first
   pub placed : List Placed
-  -- for each ledger, what all that have begun here and the threads that they have joined have added to it, modulo 2 ^ 64
+  -- for each ledger, what all that have begun here and the threads that they have joined have added to it, modulo 2 ^
+  -- 64
   pub sums : List ℕ
 
 -- a thread in whose place no other is
@@ -133,7 +136,8 @@ pub record SameWhole (old new : Nested) : Type 0 where
   pub name : (whole new).name ≡ (whole old).name
   pub label : (whole new).label ≡ (whole old).label
 
--- The child is the one that the innermost thread has just forked, of an equal program, has no pause that is not answered, and no other thread is in its place.
+-- The child is the one that the innermost thread has just forked, of an equal program, has no pause that is not
+-- answered, and no other thread is in its place.
 pub record IsChildOf (t child : Nested) : Type 0 where
   pub awaits : awaited t.running ≡ Some (whole child).name
   pub same_source : source_of (whole child).program ≡ source_of (whole t).program
@@ -155,7 +159,8 @@ IsPlacing _ = ⊥
 abbrev pub placed_of : Nested → Placed
 placed_of child = record { running = marked child.running child.parents; parents = marked_parents child.parents }
 
--- The innermost thread goes on with what is done meanwhile, and the child is placed. Those that were placed in the child come behind it.
+-- The innermost thread goes on with what is done meanwhile, and the child is placed. Those that were placed in the
+-- child come behind it.
 pub record PlacesAtFork (old child new : Nested) : Type 0 where
   pub same : SameThread old.running new.running
   pub sums : new.sums ≡ old.sums
@@ -165,8 +170,8 @@ pub record PlacesAtFork (old child new : Nested) : Type 0 where
   pub placed : new.placed ≡ placed_of child ∷ (child.placed ++ old.placed)
   pub trace : IsAnswered old.running new.running
 
--- The child goes on in the place of the innermost thread, which awaits it, with those in its own place, as threads of its program. Those that were placed in the
--- child are the newest.
+-- The child goes on in the place of the innermost thread, which awaits it, with those in its own place, as threads of
+-- its program. Those that were placed in the child are the newest.
 abbrev pub begun_in : Nested → Nested → Nested
 begun_in t child = record {
   running = of_program t.running.program (marked child.running child.parents);

@@ -9,7 +9,8 @@ use Rattle.arachne_lang.specs.Effects.{Task, task_value, task_effects, line_of, 
 use Rattle.arachne_lang.specs.Meaning.{task_of}
 use Rattle.arachne_machine.specs.declared.line.ThreadLine.{ThreadLine}
 
--- What a task means as the task of the thread of this name: its value, its sum for each ledger, and the thread's line before the lines of the threads below it.
+-- What a task means as the task of the thread of this name: its value, its sum for each ledger, and the thread's line
+-- before the lines of the threads below it.
 abbrev pub meaning_as : Source → List ℕ → Task → Meaning
 meaning_as program name task =
     let effects = task_effects program.arrays program.locks task in

@@ -83,7 +83,8 @@ pub record BeginsHere (old new : State) (number : ℕ) (awaits begins : Control)
   pub few : length new.lines < 2 ^ 63
   pub control_is : new.control ≡ begins
 
--- The child that ran here has ended: the innermost of those that wait goes on, with these newest variables, these frames and this to do next.
+-- The child that ran here has ended: the innermost of those that wait goes on, with these newest variables, these
+-- frames and this to do next.
 pub record JoinsHere (old new : State) (variables : List ℕ) (frames : List Frame) (control : Control) : Type 0 where
   pub program : new.program ≡ old.program
   pub own : new.own ≡ old.own
@@ -116,8 +117,8 @@ pub record HasParent (t : State) : Type 0 where
   pub number : ℕ
   pub awaits : fork_awaited parent.control ≡ number ∷ []
 
--- A child that ran here ended with this value, and its parent goes on: by what comes after the join, or with what the halves come to, which takes a step of its
--- own.
+-- A child that ran here ended with this value, and its parent goes on: by what comes after the join, or with what the
+-- halves come to, which takes a step of its own.
 abbrev pub ResumesParent : State → ℕ → ℕ → Progress → ℕ → State → Type 0
 ResumesParent old value had (progress.Begin next) left new =
     (number during : ℕ) × (j : JoinsHere old new (value ∷ during ∷ []) (Restore (length old.environment.items) ∷ []) old.control)
@@ -213,8 +214,8 @@ pub record SweepsOn (old new : State) (reduction : Reduction) (next end : ℕ) (
       Changes old new (with_newest old.environment.items next) (old.frames.items ++ SweepTurn reduction (next + 1) end so_far body ∷ []) (Begin body)
   pub done : end ≤ next → Turns old new (Give so_far)
 
--- The steps that were made by the threads of a state are those that are not left any more, and so many beside them; none pauses.
--- Where Q is so, no child was placed.
+-- The steps that were made by the threads of a state are those that are not left any more, and so many beside them;
+-- none pauses. Where Q is so, no child was placed.
 pub record RunsOn (Q : Type 0) (had left beside : ℕ) (old new : State) : Type 0 where
   pub made : ℕ
   pub fewer : left ≤ had
@@ -243,7 +244,8 @@ pub record RunsToFork (Q : Type 0) (had left : ℕ) (old : State) (class : Class
   pub alone : child.parents.items ≡ []
   pub sums : child.sums.items ≡ tabulated last.program.now.ledgers (λ ledger. 0)
 
--- What comes of a step, with those that were left beside it before and after: a value that is to be handed on in the step, or what is next once it is made.
+-- What comes of a step, with those that were left beside it before and after: a value that is to be handed on in the
+-- step, or what is next once it is made.
 abbrev pub Comes : Type 0 → ℕ → ℕ → State → Progress → State → Type 0
 Comes Q had left old (progress.Value value) new = RunsOn Q had left 0 old (giving_in new value)
 Comes Q had left old (progress.Begin expr) new = RunsOn Q had left 1 old (beginning_in new expr)
@@ -251,7 +253,8 @@ Comes Q had left old progress.Goes new = RunsOn Q had left 1 old new × IsLeftOv
 Comes Q had left old progress.Stops new = (next : Pending) × RunsToPause Q had left old next new
 Comes Q had left old (progress.Forks class child) new = RunsToFork Q had left old class child.value new
 
--- What comes of an advance, by the child that it gives and the pause that is not answered: all steps are made, or one at least.
+-- What comes of an advance, by the child that it gives and the pause that is not answered: all steps are made, or one
+-- at least.
 abbrev pub Advances : Type 0 → ℕ → ℕ → State → Option (Class × Box State) → Option Pending → State → Type 0
 Advances Q had left old None None new = RunsOn Q had left 0 old new × (left ≡ 0)
 Advances Q had left old None (Some next) new = (beside : ℕ) × (had ≡ beside + 1) × RunsToPause Q beside left old next new

@@ -13,8 +13,8 @@ use Rattle.arachne_machine.specs.Faultless.{IsWithoutFault}
 use Rattle.arachne_machine.specs.Strands.{Strand, Fits}
 use Rattle.arachne_machine.specs.Steps.{IsNumbered, top, waiting_in}
 
--- With what it has done so far it comes to its task: the children made so far, then those still to come, are the task's children, and so it is with sums, holds
--- and lines.
+-- With what it has done so far it comes to its task: the children made so far, then those still to come, are the task's
+-- children, and so it is with sums, holds and lines.
 pub record IsSound (t : Strand) (account : Account) : Type 0 where
   pub task : Task
   pub has_task : task_of (source_of t.program.now) t.own.name ≡ Some task
@@ -46,7 +46,8 @@ AreSound [] sums = (ledger : ℕ) → sums ledger ≡ 0
 AreSound (t ∷ ts) sums =
     (account : Account) × (others : ℕ → ℕ) × IsSound t account × AreSound ts others × ((ledger : ℕ) → sums ledger ≡ account.sums ledger + others ledger)
 
--- A state is sound if all its threads are, each but the innermost awaits the one that runs in its place, and the sums are theirs.
+-- A state is sound if all its threads are, each but the innermost awaits the one that runs in its place, and the sums
+-- are theirs.
 pub record IsSoundState (t : State) : Type 0 where
   pub sums_of : ℕ → ℕ
   pub sums : t.sums.items ≡ tabulated (source_of t.program.now).ledgers sums_of

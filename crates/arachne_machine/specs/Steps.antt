@@ -85,8 +85,8 @@ task_begun _ env = Evaluate (Number 0) env
 abbrev pub top : State → Strand
 top t = strand_at t.program t.own (reverse t.parents.items) t.lines t.level t.environment.items t.frames.items t.control
 
--- Those that wait, the innermost first, where the frames and the lines of the one that they wait for begin there, and it leaves this environment: each goes on
--- in what the one that runs in its place leaves.
+-- Those that wait, the innermost first, where the frames and the lines of the one that they wait for begin there, and
+-- it leaves this environment: each goes on in what the one that runs in its place leaves.
 abbrev pub waiting : Bor Program → Own → List Parent → List ThreadLine → List Frame → ℕ → ℕ → Environment → List Strand
 waiting program own [] lines frames start place env = []
 waiting program own (parent ∷ parents) lines frames start place env =
@@ -187,7 +187,8 @@ pub record TurnsSweep (old new : Strand) (reduction : Reduction) (next end : ℕ
       Becomes old new (with_newest old.environment next) (old.frames ++ SweepTurn reduction (next + 1) end so_far body ∷ []) (Begin body)
   pub done : end ≤ next → Becomes old new old.environment old.frames (Give so_far)
 
--- So many steps made neither forks nor joins, and what the thread comes to is the same. Behind them these pauses were answered.
+-- So many steps made neither forks nor joins, and what the thread comes to is the same. Behind them these pauses were
+-- answered.
 pub record Goes (steps : ℕ) (answered : List Event) (old new : Strand) : Type 0 where
   pub program : new.program ≡ old.program
   pub own : new.own ≡ old.own
@@ -267,8 +268,8 @@ pub record IsNew (program : Program) (name : List ℕ) (label : Label) (task : T
   pub keeps : KeepsForks t
   pub account : account_at_end t untouched ≡ after name (task_effects (source_of program).arrays program.locks task) untouched
 
--- The thread comes to the same, if the child is counted with it until the join, at least one step and at most so many having been made. So many of its steps
--- are another state's.
+-- The thread comes to the same, if the child is counted with it until the join, at least one step and at most so many
+-- having been made. So many of its steps are another state's.
 pub record KeepsOverFork (steps handed : ℕ) (answered : List Event) (old new : Strand) (made : Child) : Type 0 where
   pub ending : ending new ≡ ending old
   pub account : (account : Account) → length account.children ≡ old.forks → account_at_end new (with_fork made account) ≡ account_at_end old account
@@ -280,8 +281,9 @@ pub record KeepsOverFork (steps handed : ℕ) (answered : List Event) (old new :
   pub faultless : IsWithoutFault old → IsWithoutFault new
   pub keeps : KeepsForks old → KeepsForks new
 
--- At most so many steps were made, the last of which made a fork. What the thread comes to is the same, if the child is the one of the fork's number, and the
--- fork is one of those that were still to come. The child is to run here, or it is not.
+-- At most so many steps were made, the last of which made a fork. What the thread comes to is the same, if the child is
+-- the one of the fork's number, and the fork is one of those that were still to come. The child is to run here, or it
+-- is not.
 pub record GoesToFork (steps handed : ℕ) (answered : List Event) (here : List ℕ) (old new : Strand) (made : Child) : Type 0 where
   pub program : new.program ≡ old.program
   pub own : new.own ≡ old.own
@@ -342,7 +344,8 @@ pub record Makes (had left beside : ℕ) (old new : Strand) : Type 0 where
   pub counted : left + made ≡ had + beside
   pub goes : AfterSteps made old None new
 
--- The first comes to where a fold of the second goes on from this number with this value so far, and so many steps are left then.
+-- The first comes to where a fold of the second goes on from this number with this value so far, and so many steps are
+-- left then.
 abbrev pub ComesToFold : Strand → Strand → ℕ → ℕ → ℕ → ℕ → Bor Expr → ℕ → Type 0
 ComesToFold before t had left next end body so_far = (on : Strand) → TurnsFold t on next end body so_far → Makes had left 1 before on
 
@@ -355,8 +358,8 @@ abbrev pub IsNotEnd : Pending → Type 0
 IsNotEnd pause.Ended = ⊥
 IsNotEnd _ = Unit {0}
 
--- What comes of a step of a thread by itself, with those that were left beside it before and after: a value that is to be handed on in the step, or what is
--- next once it is made.
+-- What comes of a step of a thread by itself, with those that were left beside it before and after: a value that is to
+-- be handed on in the step, or what is next once it is made.
 abbrev pub Reaches : ℕ → ℕ → Strand → Progress → Strand → Type 0
 Reaches had left old (part.Value value) new = Makes had left 0 old (giving new value)
 Reaches had left old (part.Begin expr) new = Makes had left 1 old (beginning new expr)
@@ -393,7 +396,8 @@ pub record SpawnsChild (old new child : Strand) (begins : Control) (frame : Fram
   pub begun : task_begun child.control child.environment ≡ task_begun begins old.environment
   pub faultless : IsFaultlessNext (source_of old.program.now) false begins → IsWithoutFault child
 
--- A value was handed to the frame of a child that is to run here: it is awaited now, and its steps are its own from now on.
+-- A value was handed to the frame of a child that is to run here: it is awaited now, and its steps are its own from now
+-- on.
 pub record AwaitsHere (number handed : ℕ) (old new : Strand) : Type 0 where
   pub program : new.program ≡ old.program
   pub own : new.own ≡ old.own
@@ -434,7 +438,8 @@ pub record Joins (old : Strand) (outcome : Finished) (new : Strand) : Type 0 whe
   pub below : Gains old.below outcome.lines new.below
   pub keeps : outcome.value ≡ task_value (source_of old.program.now).arrays (child_task (source_of old.program.now) old.own.name number) → KeepsOverJoin old new number
 
--- This pause was answered: the thread has counted these effects of its own, which are neither forks nor lines, and goes on.
+-- This pause was answered: the thread has counted these effects of its own, which are neither forks nor lines, and goes
+-- on.
 pub record Counts (answered : Pending) (effects : Effects) (old new : Strand) : Type 0 where
   pub program : new.program ≡ old.program
   pub name : new.own.name ≡ old.own.name

@@ -43,7 +43,8 @@ own_line own = record { name = own.name; tag = own.label.tag; holds = own.holds.
 abbrev pub line_at : List ThreadLine → ℕ → ThreadLine
 line_at lines place = get_or lines place (record { name = []; tag = 0; holds = []; ran = Slot })
 
--- The outermost thread, which has no parents, has its line apart; another one's is at its place, and the lines below it behind that.
+-- The outermost thread, which has no parents, has its line apart; another one's is at its place, and the lines below it
+-- behind that.
 abbrev pub owned_at : Own → List Parent → List ThreadLine → ℕ → Owned
 owned_at own [] lines place = record { name = own.name; label = own.label; holds = own.holds.items }
 owned_at own (parent ∷ parents) lines place = owned_of (line_at lines place)
@@ -70,8 +71,8 @@ Fits [] start place frames lines = start ≡ 0
 Fits (parent ∷ parents) start place frames lines =
     (start ≤ frames) × (place < lines) × Fits parents parent.level.start parent.level.place start place
 
--- Where these come behind so many frames and lines of another state: the line of the outermost, which lay apart, is the first behind those lines, and the
--- others' are behind it.
+-- Where these come behind so many frames and lines of another state: the line of the outermost, which lay apart, is the
+-- first behind those lines, and the others' are behind it.
 abbrev pub moved_place : ℕ → List Parent → ℕ → ℕ
 moved_place lines [] place = lines
 moved_place lines (parent ∷ parents) place = lines + 1 + place

@@ -36,7 +36,8 @@ pub record Suspended : Type 0 where
   pub below : List ThreadLine
   -- the steps that it and the threads that it will fork have left
   pub work : ℕ
-  -- its steps and pauses from now on, in order: the first is the pause that is not answered or, where there is none, a step, and the last is its end
+  -- its steps and pauses from now on, in order: the first is the pause that is not answered or, where there is none, a
+  -- step, and the last is its end
   pub trace : List Event
 
 -- the name of the child that a join awaits: that of the newest fork that is not joined
@@ -108,8 +109,8 @@ pub record IsFresh (program : Program) (name : List ℕ) (tag : ℕ) (thread : S
   pub none_below : thread.below ≡ []
   pub not_paused : thread.pending ≡ None
 
--- In at most so many steps it has forked this child, whose name is its own followed by the number of the fork, and whose class and task are those that the
--- program gives to that fork. The child's steps were among its own.
+-- In at most so many steps it has forked this child, whose name is its own followed by the number of the fork, and
+-- whose class and task are those that the program gives to that fork. The child's steps were among its own.
 pub record Forked (budget : ℕ) (class : Class) (old new child : Suspended) : Type 0 where
   pub program : new.program ≡ old.program
   pub name : new.name ≡ old.name

@@ -22,14 +22,16 @@ abbrev pub in_turn : (ℕ → List Event) → ℕ → List Event
 in_turn events zero = []
 in_turn events (suc j) = in_turn events j ++ events j
 
--- The trace of n numbers of a sweep from a first one on, with that of each number. Where it is split, the left half is another thread's.
+-- The trace of n numbers of a sweep from a first one on, with that of each number. Where it is split, the left half is
+-- another thread's.
 abbrev pub trace_of_part : (ℕ → List Event) → ℕ → ℕ → ℕ → List Event
 trace_of_part turn grain first n =
     by_halves (λ from k. Step ∷ (in_turn (λ j. turn (from + j)) k ++ Step ∷ []))
     (λ from k left right. Step ∷ At Forks ∷ (right ++ At Joins ∷ Step ∷ [])) grain n first n
 
--- The trace of the thread that evaluates an expression. A step begins a node, or a part of a sweep, and hands on the value that is known then. What a fold or
--- a part of a sweep comes to, the value of a hold's body, and what two halves make is handed on in a step of its own.
+-- The trace of the thread that evaluates an expression. A step begins a node, or a part of a sweep, and hands on the
+-- value that is known then. What a fold or a part of a sweep comes to, the value of a hold's body, and what two halves
+-- make is handed on in a step of its own.
 abbrev pub trace_of : List (List ℕ) → Tree → Environment → List Event
 trace_of arrays (Number n) env = Step ∷ []
 trace_of arrays (Variable k) env = Step ∷ []

@@ -10,13 +10,13 @@ abbrev pub total : (ℕ → ℕ) → ℕ → ℕ
 total f zero = 0
 total f (suc j) = total f j + f j
 
--- The steps of n numbers of a sweep from a first one on, with those of each number. A part that is not split is begun, and hands its value on; each split is
--- made, and hands on what its halves come to.
+-- The steps of n numbers of a sweep from a first one on, with those of each number. A part that is not split is begun,
+-- and hands its value on; each split is made, and hands on what its halves come to.
 abbrev pub work_of_part : (ℕ → ℕ) → ℕ → ℕ → ℕ → ℕ
 work_of_part turn grain first n = by_halves (λ from k. total (λ j. turn (from + j)) k + 2) (λ from k left right. left + right + 2) grain n first n
 
--- A step begins a node, or a part of a sweep, and hands on the value that is known then. What a fold or a part of a sweep comes to, the value of a hold's body,
--- and what two halves make is handed on in a step of its own.
+-- A step begins a node, or a part of a sweep, and hands on the value that is known then. What a fold or a part of a
+-- sweep comes to, the value of a hold's body, and what two halves make is handed on in a step of its own.
 abbrev pub work_of : List (List ℕ) → Tree → Environment → ℕ
 work_of arrays (Number n) env = 1
 work_of arrays (Variable k) env = 1

@@ -80,8 +80,8 @@ removed settings of_cores s h = grind (arith, common_steps, h)
 cores-good : (max : ℕ) (s : Sample) → is_good max s ≡ true → s.cores ≤ max
 cores-good max s h = grind (arith, common_steps, h)
 
--- while a record stands, a sample of one core more is not answered Remove, unless the utilisation has fallen by more than
--- the hysteresis
+-- while a record stands, a sample of one core more is not answered Remove, unless the utilisation has fallen by more
+-- than the hysteresis
 pub keeps-added : (state : State) (past : List Sample) (added s : Sample) → state.settings.max ≤ most_cores → is_good state.settings.max s ≡ true
     → StandsFor state past → RecordStands state.settings past added → s.cores ≡ added.cores + 1
     → utilisation_of added - state.settings.hysteresis ≤ utilisation_of s

@@ -29,8 +29,8 @@ advice_text Add = codes "add"
 advice_text Stay = codes "stay"
 advice_text Remove = codes "remove"
 
--- the threshold of n cores after these samples: the utilisation of the last one of n - 1 cores that was answered Add, and
--- where there is none, n - 1 busy cores
+-- the threshold of n cores after these samples: the utilisation of the last one of n - 1 cores that was answered Add,
+-- and where there is none, n - 1 busy cores
 abbrev pub threshold : Settings → List Sample → ℕ → ℕ
 threshold settings [] n = 1000 * (n - 1)
 threshold settings (s ∷ past) n =

@@ -11,8 +11,8 @@ abbrev pub is_release : OrderKind → Bool
 is_release Grant = false
 is_release Release = true
 
--- what is wrong with an order on so many cores, after one that is due after `previous` slices: the first of these faults
--- that it has
+-- what is wrong with an order on so many cores, after one that is due after `previous` slices: the first of these
+-- faults that it has
 abbrev pub order_fault : ℕ → ℕ → CoreOrder → Option OrderFaultKind
 order_fault cores previous order =
     if nat_le cores order.core then Some NoSuchCore

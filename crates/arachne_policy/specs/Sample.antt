@@ -14,8 +14,8 @@ utilisation_of s = 1000 * s.busy / s.elapsed
 abbrev pub most_counted : ℕ
 most_counted = 2 ^ 48
 
--- a sample that can have been measured on 1 to `max` cores: some time went by, the cores were busy for no more than that
--- time each, and no count is over the limit
+-- a sample that can have been measured on 1 to `max` cores: some time went by, the cores were busy for no more than
+-- that time each, and no count is over the limit
 abbrev pub is_good : ℕ → Sample → Bool
 is_good max s =
     nat_le 1 s.cores && nat_le s.cores max

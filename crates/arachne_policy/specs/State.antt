@@ -19,7 +19,8 @@ pub record State : Type 0 where
 abbrev pub threshold_at : State → ℕ → ℕ
 threshold_at state n = slice_index state.thresholds (n - 1)
 
--- the state once this advice was given on a sample: an Add makes the sample's utilisation the threshold of one core more
+-- the state once this advice was given on a sample: an Add makes the sample's utilisation the threshold of one core
+-- more
 abbrev pub after : State → Sample → Advice → State
 after state s Add = record state { thresholds = slice_set state.thresholds s.cores (utilisation_of s) }
 after state s Stay = state

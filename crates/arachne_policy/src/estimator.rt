@@ -35,8 +35,8 @@ impl Model for Estimator {
 }
 
 impl Estimator {
-    /// An estimator that has seen no sample. A load over `up` thousandths of a thread a scan asks for a core, up to `max`
-    /// cores; a utilisation under the threshold by more than `hysteresis` thousandths of a core gives one back.
+    /// An estimator that has seen no sample. A load over `up` thousandths of a thread a scan asks for a core, up to
+    /// `max` cores; a utilisation under the threshold by more than `hysteresis` thousandths of a core gives one back.
     pub fn new(up: u64, hysteresis: u64, max: u8) -> Self
         requires { max ≤ most_cores }
         ensures settings { result.settings ≡ record { up = up; hysteresis = hysteresis; max = max } }

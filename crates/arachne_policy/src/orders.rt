@@ -57,9 +57,9 @@ impl CoreOrder {
     }
 }
 
-/// Whether the orders are in order on a machine of `cores` cores: each names one of its cores, none releases core 0, and
-/// none is due before the one that precedes it. The first order at fault is answered; of several faults of one order the
-/// first in the order of `OrderFaultKind`.
+/// Whether the orders are in order on a machine of `cores` cores: each names one of its cores, none releases core 0,
+/// and none is due before the one that precedes it. The first order at fault is answered; of several faults of one
+/// order the first in the order of `OrderFaultKind`.
 pub fn check_orders(orders: &[CoreOrder], cores: u64) -> Result<(), OrderFault>
     ensures accepts { IsOk result ↔ AreInOrder cores orders.now }
     ensures first { IfErr result (IsFirstFault cores orders.now) }

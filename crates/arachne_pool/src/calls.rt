@@ -60,8 +60,8 @@ impl<C: Seats> Pool<C> {
         }
     }
 
-    /// One round on a core: orders that are due are applied, each job that is ready there has a slice, and then the newest
-    /// of the worker's jobs without a place that can go on. Whether there was any.
+    /// One round on a core: orders that are due are applied, each job that is ready there has a slice, and then the
+    /// newest of the worker's jobs without a place that can go on. Whether there was any.
     pub fn turn<H: Wait, J: PoolJob>(
         &self,
         rt: &H,
@@ -90,8 +90,9 @@ impl<C: Seats> Pool<C> {
         Ok(found)
     }
 
-    /// A round on a core, and a wait where it found nothing, which is the more often in turn counted. A worker that others
-    /// may wait for isn't parked: one with orders, or with jobs that have no place. With a fault the other workers stop too.
+    /// A round on a core, and a wait where it found nothing, which is the more often in turn counted. A worker that
+    /// others may wait for isn't parked: one with orders, or with jobs that have no place. With a fault the other
+    /// workers stop too.
     fn go_on<H: Wait, J: PoolJob>(
         &self,
         rt: &H,
@@ -123,8 +124,8 @@ impl<C: Seats> Pool<C> {
         }
     }
 
-    /// Works on a core until all jobs of the pool have ended, or its workers are to stop. With a fault the other workers
-    /// stop too.
+    /// Works on a core until all jobs of the pool have ended, or its workers are to stop. With a fault the other
+    /// workers stop too.
     pub fn work<H: Wait, J: PoolJob>(
         &self,
         rt: &H,
@@ -147,8 +148,8 @@ impl<C: Seats> Pool<C> {
         unreachable!()
     }
 
-    /// Works on a core until the job of this handle has ended. Its result. Where the workers are to stop before, the handle
-    /// comes back; with another fault the other workers stop too.
+    /// Works on a core until the job of this handle has ended. Its result. Where the workers are to stop before, the
+    /// handle comes back; with another fault the other workers stop too.
     pub fn join<H: Wait, J: PoolJob>(
         &self,
         rt: &H,

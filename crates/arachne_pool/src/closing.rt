@@ -78,8 +78,8 @@ impl<C: Seats> Pool<C> {
     ghost use Rattle.arachne_pool.specs.Workers.{ComeLast};
 
     /// From now on these orders, as by a policy of the caller's between two rounds; what is left of those before is
-    /// forgotten. A core that those have closed stays closed until one of these grants it. One and the same worker is given
-    /// all orders of a pool. Where memory is refused the worker has the orders that it had.
+    /// forgotten. A core that those have closed stays closed until one of these grants it. One and the same worker is
+    /// given all orders of a pool. Where memory is refused the worker has the orders that it had.
     pub fn order<H: Wait, J: PoolJob>(
         &self,
         rt: &H,

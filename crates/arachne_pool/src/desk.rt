@@ -299,8 +299,8 @@ fn offer_if_alone<H: Wait, J: PoolJob, C: Contexts<Spawned<J>>>(
     offer::<H, J, C>(rt, pool, seat, &mut desk.chooser, job)
 }
 
-/// The child that a job with no place has forked is parted off, and gets a place, or none; the job is kept. Where memory
-/// is refused that is noted. Whether there was memory.
+/// The child that a job with no place has forked is parted off, and gets a place, or none; the job is kept. Where
+/// memory is refused that is noted. Whether there was memory.
 fn fork_near<H: Wait, J: PoolJob, C: Contexts<Spawned<J>>>(
     rt: &H,
     pool: &Pool<C>,

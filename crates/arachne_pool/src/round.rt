@@ -1,4 +1,5 @@
-//! A round of a worker: it applies orders, gives each job that is ready on its core a slice, and then one without a place.
+//! A round of a worker: it applies orders, gives each job that is ready on its core a slice, and then one without a
+//! place.
 ghost use Rattle.std.specs.Prelude.{◌≡◌, ◌<◌, [], OnOk};
 ghost use Rattle.arachne_contexts.specs.Out.{KeepsOut};
 ghost use Rattle.arachne_pool.specs.Workers.{IsArbiterFor};
@@ -19,8 +20,8 @@ const LAST_YIELD: u32 = 40;
 /// How many microseconds it sleeps.
 const SPELL: u64 = 100;
 
-/// One slice of each job that is ready on a core, and of the newest job without a place that can go on. Whether there was
-/// any.
+/// One slice of each job that is ready on a core, and of the newest job without a place that can go on. Whether there
+/// was any.
 pub(crate) fn round<H: Wait, J: PoolJob, C: Contexts<Spawned<J>>>(
     rt: &H,
     pool: &Pool<C>,
@@ -120,7 +121,8 @@ pub(crate) fn tend<H: Wait, J: PoolJob, C: Contexts<Spawned<J>>>(
 }
 
 /// Waits, longer the more rounds have found nothing: it yields the processor, then sleeps. Where the core is closed and
-/// nothing is on it, one that may parks until the core is granted again, all jobs have ended, or the workers are to stop.
+/// nothing is on it, one that may parks until the core is granted again, all jobs have ended, or the workers are to
+/// stop.
 pub(crate) fn wait<H: Wait, J: PoolJob, C: Contexts<Spawned<J>>>(
     rt: &H,
     pool: &Pool<C>,

@@ -33,8 +33,8 @@ pub enum PoolFault {
 
 /// A worker: what a kernel thread has of a pool. One thread at a time has it, for one core.
 ///
-/// Contracts see its seat, which it has unless the table has disowned it; how many jobs it has that have no place; what it
-/// has counted; and for one of the workers the orders by which cores come and go.
+/// Contracts see its seat, which it has unless the table has disowned it; how many jobs it has that have no place; what
+/// it has counted; and for one of the workers the orders by which cores come and go.
 #[derive(Drop)]
 pub struct Worker<S, J: PoolJob> {
     pub(crate) seat: Option<S>,
@@ -92,7 +92,8 @@ impl<C: Seats> Pool<C> {
     ghost use Rattle.std.specs.Prelude.{IfSome};
     ghost use Rattle.arachne_pool.specs.Workers.{IsIdleAt, IsWorkerOf};
 
-    /// Two workers of one, which keeps its jobs, its counts and its orders. The other has half of the weight of its seat.
+    /// Two workers of one, which keeps its jobs, its counts and its orders. The other has half of the weight of its
+    /// seat.
     pub fn split<H: Wait, J: PoolJob>(
         &self,
         rt: &H,
@@ -123,8 +124,8 @@ impl<C: Seats> Pool<C> {
         (own, others)
     }
 
-    /// One worker of two, with the orders of the first, or of the other where that has none. Where memory is refused to put
-    /// their jobs together both come back.
+    /// One worker of two, with the orders of the first, or of the other where that has none. Where memory is refused to
+    /// put their jobs together both come back.
     pub fn join_workers<H: Wait, J: PoolJob>(
         &self,
         rt: &H,

@@ -53,8 +53,8 @@ pub(crate) enum Is {
     Alone,
 }
 
-/// A row: a pool, what its worker does, how long two kernel threads work then, for core 0 and core 1, how many of them end
-/// a job at least, what one does after that, and how many jobs are left with a place and without.
+/// A row: a pool, what its worker does, how long two kernel threads work then, for core 0 and core 1, how many of them
+/// end a job at least, what one does after that, and how many jobs are left with a place and without.
 pub(crate) struct Row {
     pub(crate) shows: &'static str,
     pub(crate) cores: u8,
@@ -67,8 +67,8 @@ pub(crate) struct Row {
     pub(crate) left: (usize, usize),
 }
 
-/// A row's pool and two workers of it, one of which has done the row's first acts. None where one doesn't come out as it
-/// says.
+/// A row's pool and two workers of it, one of which has done the row's first acts. None where one doesn't come out as
+/// it says.
 pub(crate) fn begin<C: Contexts<Spawned<Task>> + Drop, R: Wait>(
     rt: &R,
     alloc: Global,
@@ -200,8 +200,8 @@ fn joins<C: Contexts<Spawned<Task>>, R: Wait>(
     }
 }
 
-/// Spawns a job where memory is used up, and works on core 0 until all have ended. What is refused is tried again with a
-/// little more. Whether a spawn was refused, and more than 20 rounds were.
+/// Spawns a job where memory is used up, and works on core 0 until all have ended. What is refused is tried again with
+/// a little more. Whether a spawn was refused, and more than 20 rounds were.
 fn ends_in_need<C: Contexts<Spawned<Task>>, R: Wait>(
     rt: &R,
     alloc: Global,

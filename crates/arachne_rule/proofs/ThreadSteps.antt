@@ -1,4 +1,5 @@
--- What the table asks of the steps by which threads come and go: a post, a take, the name that is kept after it, and the end of a thread.
+-- What the table asks of the steps by which threads come and go: a post, a take, the name that is kept after it, and
+-- the end of a thread.
 use Rattle.std.proofs.Common.{Some, None, ◌≡◌, ℕ, ◌*◌, ◌<◌, true, false, List, [], ◌∷◌, length-set, refl, sym, ap, ◌∙◌, subst, arith, inl, inr, set, get_or, Option, eqb}
 use Rattle.std.proofs.lemmas.Bool.{cases_eq}
 use mathlib.Core.Option.{some, none}

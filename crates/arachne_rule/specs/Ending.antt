@@ -5,7 +5,8 @@ use Rattle.arachne_core.specs.Marked.{marked_of}
 use Rattle.arachne_core.specs.World.{Thread, same_thread}
 use Rattle.arachne_rule.specs.declared.view.Known.{Known}
 
--- the threads whose values lie in the slots of the contexts from x on, in order: the generation is that of the mark word
+-- the threads whose values lie in the slots of the contexts from x on, in order: the generation is that of the mark
+-- word
 abbrev pub left_from : {T : Type 0} → ℕ → ℕ → List ℕ → List (Option T) → List (ThreadId × T)
 left_from bits x words [] = []
 left_from bits x words (None ∷ slots) = left_from bits (suc x) words slots

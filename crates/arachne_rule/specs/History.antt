@@ -39,7 +39,8 @@ IsExchange k = ⊥
 abbrev pub IsMarkOf : ℕ → World → ℕ → ℕ → Type 0
 IsMarkOf bits w x word = word ≡ mark_word bits (marked w x)
 
--- The event of a step of seat h on word i, which was b and is a: at the place, core or context whose word it is. The World is the one before.
+-- The event of a step of seat h on word i, which was b and is a: at the place, core or context whose word it is. The
+-- World is the one before.
 abbrev pub EventOf : ℕ → World → ℕ → Kind → ℕ → ℕ → ℕ → Event → Type 0
 EventOf bits w h kind.Look i b a e = (a ≡ b) × (e ≡ event.Still)
 EventOf bits w h kind.Learn i b a e = (a ≡ b) × (e ≡ event.Still)

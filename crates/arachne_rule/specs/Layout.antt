@@ -1,5 +1,6 @@
--- Where the words lie: the mark word of context x is word x. Behind the n mark words each core has a block, with its occupancy word and,
--- further on, the place words of its indexes. No other word is within two cache lines of an occupancy word.
+-- Where the words lie: the mark word of context x is word x. Behind the n mark words each core has a block, with its
+-- occupancy word and, further on, the place words of its indexes. No other word is within two cache lines of an
+-- occupancy word.
 use Rattle.std.specs.Prelude.{◌≡◌, ℕ, ◌+◌, ◌-◌, ◌*◌, ◌^◌, ◌<◌, ◌≤◌, false, List, length, slice_index, Option}
 use lib.ListN.{get_elem?}
 use Rattle.atomic_table.specs.Seated.{TableId}

@@ -1,5 +1,5 @@
--- What each kind of step tells the seat that makes it: of the step, the seat before, the number found (by a store, the number stored) and
--- the seat after.
+-- What each kind of step tells the seat that makes it: of the step, the seat before, the number found (by a store, the
+-- number stored) and the seat after.
 use Rattle.std.specs.Prelude.{◌≡◌, ◌≢◌, ℕ, ◌+◌, ◌-◌, ◌<◌, ◌⊎◌, true, false, if◌then◌else◌, ◌==◌, [], ◌∷◌, count_by, bit_and, bit_or, Option, Some, None}
 use Rattle.atomic_table.specs.Table.{Step, rest}
 use Rattle.arachne_core.specs.declared.place.Place.{Place}
@@ -89,7 +89,8 @@ module _ {T : Type 0} where
 
   -- ---- claims
 
-  -- where the word was the one expected, the seat has claimed the context that stands at that place, which it didn't carry before
+  -- where the word was the one expected, the seat has claimed the context that stands at that place, which it didn't
+  -- carry before
   abbrev pub Claims : Step (Option T) → Mine T → ℕ → Mine T → Type 0
   Claims step before found after = (p : Place) → step.word ≡ occ_index step.slots p.core → step.second ≡ step.first + index_sum p.index
       → (found ≡ step.first → (x generation : ℕ) × (x < step.slots) × (carried_at x before.0.known.carried ≡ []) × (after ≡ knowing before (noted kind.Claim step.word found step.second (with_context before.0.known (claimed_context x p generation)))))
@@ -113,7 +114,8 @@ module _ {T : Type 0} where
   Posts tag_in step before found after = (c : Carried) (value : T) → c.context ≡ step.word → Carries before.0.known c → before.1 ≡ (c.context, Some value) ∷ rest before.1
       → (was : ℕ) × (after ≡ knowing_home before (noted kind.Post step.word was step.first (posted before.0.known c (tag_in value))))
 
-  -- where the word was the one expected, the seat has taken the thread that it spoke of, with its value; it didn't carry the context before
+  -- where the word was the one expected, the seat has taken the thread that it spoke of, with its value; it didn't
+  -- carry the context before
   abbrev pub Takes : (T → ℕ) → ℕ → Step (Option T) → Mine T → ℕ → Mine T → Type 0
   Takes tag_in bits step before found after =
       (found ≡ step.first → (value : T) × (carried_at step.word before.0.known.carried ≡ []) × (after ≡ (held before.0.weight (noted kind.Take step.word found step.second (with_context before.0.known (taken_context step.word (marked_of bits step.first) (tag_in value)))), (step.word, Some value) ∷ before.1)))
@@ -139,7 +141,8 @@ module _ {T : Type 0} where
   RestsReady step before found after = (c : Carried) → c.context ≡ step.word → Carries before.0.known c
       → (was : ℕ) × (after ≡ knowing_home before (noted kind.RestReady step.word was step.first (without_context before.0.known c)))
 
-  -- where the word was the one expected, the thread is blocked, and its value at home; else the word found is the seat's own thread's
+  -- where the word was the one expected, the thread is blocked, and its value at home; else the word found is the
+  -- seat's own thread's
   abbrev pub RestsBlocked : ℕ → Step (Option T) → Mine T → ℕ → Mine T → Type 0
   RestsBlocked bits step before found after = (c : Carried) → c.context ≡ step.word → Carries before.0.known c
       → (found ≡ step.first → after ≡ knowing_home before (noted kind.RestBlocked step.word found step.second (without_context before.0.known c)))
@@ -161,7 +164,8 @@ module _ {T : Type 0} where
 
   -- ---- a move
 
-  -- where the word was the one expected, its context has gone to the place of c, which stands now where that context was
+  -- where the word was the one expected, its context has gone to the place of c, which stands now where that context
+  -- was
   abbrev pub Moves : ℕ → Step (Option T) → Mine T → ℕ → Mine T → Type 0
   Moves bits step before found after = (c : Carried) → c.context < step.slots → Carries before.0.known c → (marked_of bits step.second).place ≡ c.place
       → (found ≡ step.first → after ≡ knowing before (noted kind.Move step.word found step.second (with_context before.0.known (left_context c (marked_of bits step.first).place))))

@@ -19,8 +19,8 @@ use Rattle.arachne_rule.specs.declared.view.Carried.{Carried}
 use Rattle.arachne_rule.specs.declared.view.Known.{Known}
 use Rattle.arachne_rule.specs.Views.{blank, known_at, carried_at, given_in, ended_in}
 
--- The words and slots as maps: occupancy words by core, mark words by context, place words by place, slots by context. A slot is out
--- (none), or at home with a value or empty.
+-- The words and slots as maps: occupancy words by core, mark words by context, place words by place, slots by context.
+-- A slot is out (none), or at home with a value or empty.
 pub record Board (T : Type 0) : Type 0 where
   pub occ : ℕ → ℕ
   pub mark : ℕ → ℕ
@@ -37,8 +37,8 @@ module _ {T : Type 0} where
   abbrev pub views_with : Board T → ℕ → ℕ → Known → List (Token Known)
   views_with b h weight k = slice_set b.views h (held weight k)
 
--- Where the steps of a call stand with a context: whether its slot is out with its carrier, whether the place word of its place
--- names it, and the place in its mark word.
+-- Where the steps of a call stand with a context: whether its slot is out with its carrier, whether the place word of
+-- its place names it, and the place in its mark word.
 pub record Phase : Type 0 where
   pub away : Bool
   pub named : Bool
@@ -48,9 +48,10 @@ pub record Phase : Type 0 where
 abbrev pub settled : Place → Phase
 settled p = record { away = false; named = true; shown = p }
 
--- What may be under way, by the state of a context that stands at p. The slot of a context is out with the seat that has claimed or
--- holds it. Between the exchange that moves a thread and the store of the mark word of the context whose place it took, that one has
--- another place in its mark word than it stands at, and until its place word names it again it is claimed.
+-- What may be under way, by the state of a context that stands at p. The slot of a context is out with the seat that
+-- has claimed or holds it. Between the exchange that moves a thread and the store of the mark word of the context whose
+-- place it took, that one has another place in its mark word than it stands at, and until its place word names it again
+-- it is claimed.
 abbrev pub Coherent : State → Place → Phase → Type 0
 Coherent Free p f = (f.away ≡ false) × (f.named ≡ true) × (f.shown ≡ p)
 Coherent (Claimed h) p f = f.named ≡ true → f.shown ≡ p
@@ -61,7 +62,8 @@ Coherent Spent p f = (f.away ≡ false) × (f.shown ≡ p)
 
 -- ---- what seats know of the contexts
 
--- what seat h has of a context in this state: nothing, or what is said of a claimed context or of a held one with its tag
+-- what seat h has of a context in this state: nothing, or what is said of a claimed context or of a held one with its
+-- tag
 abbrev pub carried_if : State → ℕ → (Bool → ℕ → Carried) → List Carried
 carried_if (Claimed k) h says = if k == h then says false 0 ∷ [] else []
 carried_if (Held k woken tag) h says = if k == h then says true tag ∷ [] else []
@@ -119,8 +121,8 @@ module _ {T : Type 0} (tag_in : T → ℕ) where
     pub named : (d x).named ≡ true → b.name (w.at x) ≡ x
     pub value : (d x).away ≡ false → HasValue (w.state x) (b.home x)
 
-  -- The core's number has so many bits in a mark word. Every place word names a context; and what each seat says that it carries,
-  -- has posted and has ended is its share of the World.
+  -- The core's number has so many bits in a mark word. Every place word names a context; and what each seat says that
+  -- it carries, has posted and has ended is its share of the World.
   pub record Shows (bits : ℕ) (w : World) (d : ℕ → Phase) (b : Board T) : Type 0 where
     pub owned : OwnedOnce w
     pub fits : (w.cores ≤ 2 ^ bits) × (w.slots ≤ SLOTS) × (w.last < 2 ^ (54 - bits))

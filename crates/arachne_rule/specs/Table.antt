@@ -29,8 +29,8 @@ pub record Fits {T : Type 0} (shape : Shape) (w : World) (s : Table T) : Type 0 
   pub words : length s.words ≡ words_in shape
   pub homes : length s.homes ≡ contexts_in shape
 
--- The history tells all steps from the first words on: it replays to the words as they are, its events make the World that is shown, and
--- what a seat in use has noted are exactly its own steps.
+-- The history tells all steps from the first words on: it replays to the words as they are, its events make the World
+-- that is shown, and what a seat in use has noted are exactly its own steps.
 pub record Tells {T : Type 0} (bits : ℕ) (shape : Shape) (w : World) (first : List ℕ) (history : List Entry) (s : Table T) : Type 0 where
   pub first_words : AreFirstWords bits shape first
   pub lawful : IsHistory bits (opening_world shape) first history

@@ -1,4 +1,5 @@
--- What seats know: the contexts that they carry, the threads that they have posted and ended, and the steps that they have made.
+-- What seats know: the contexts that they carry, the threads that they have posted and ended, and the steps that they
+-- have made.
 use Rattle.std.specs.Prelude.{ℕ, if◌then◌else◌, ◌==◌, List, [], ◌∷◌, ◌++◌, slice_index_or, count_by}
 use Rattle.std.specs.List.{sum_by}
 use Rattle.arachne_core.specs.World.{Thread, same_thread}

@@ -1,7 +1,8 @@
 //! The laws of the steps, one for each kind. Each is a function with an empty body, whose contract is the law.
 //!
-//! A law speaks of a board that shows a World, and of the seat that makes the step. It says that the step's event is allowed there, and
-//! that the board with the one word changed shows the World after that event. So between any two steps the World is owned once.
+//! A law speaks of a board that shows a World, and of the seat that makes the step. It says that the step's event is
+//! allowed there, and that the board with the one word changed shows the World after that event. So between any two
+//! steps the World is owned once.
 ghost use Rattle.std.specs.Prelude.{◌≡◌, ◌≢◌, ℕ, ◌+◌, ◌-◌, ◌*◌, ◌^◌, ◌<◌, ◌≤◌, ◌⊎◌, Some, None, true, bit_and, bit_or, Option, List, [], ◌∷◌, ◌++◌, length, replicate, slice_set, false};
 ghost use mathlib.Core.Option as slot;
 ghost use lib.ListN.{get_elem?};
@@ -41,7 +42,8 @@ pub fn a_look_is_still<T>()
         → Allowed w event.Still × Shows tag_in bits (after w event.Still) d (record b { views = views_with b h weight noting }) }
 {}
 
-/// A load of the word of a place at which the seat carries a context: the word names the context, whose empty slot comes to the seat.
+/// A load of the word of a place at which the seat carries a context: the word names the context, whose empty slot
+/// comes to the seat.
 pub fn learning_is_still<T>()
     ensures { (tag_in : T → ℕ) (bits : ℕ) (w : World) (d : ℕ → Phase) (b : Board T) → Shows tag_in bits w d b → (h weight : ℕ) (k : Known) → Knows b h weight k
         → (c : Carried) → IsContext w c.context → Carries k c → c.named ≡ true → c.away ≡ false
@@ -117,7 +119,8 @@ pub fn keeping_the_name_is_still<T>()
         }) }
 {}
 
-/// A swap of a held context's mark word to FREE of the next generation is Retire, below the last one. The place stays claimed.
+/// A swap of a held context's mark word to FREE of the next generation is Retire, below the last one. The place stays
+/// claimed.
 pub fn a_retire_is_retire<T>()
     ensures { (tag_in : T → ℕ) (bits : ℕ) (w : World) (d : ℕ → Phase) (b : Board T) → Shows tag_in bits w d b → (h weight : ℕ) (k : Known) → Knows b h weight k
         → (c : Carried) → IsContext w c.context → Carries k c → c.held ≡ true → c.named ≡ true → c.generation < w.last
@@ -205,8 +208,8 @@ pub fn an_open_is_open_core<T>()
 
 // ---- a move
 
-/// A won exchange that gives the mark word of a resting thread the place of a context that the seat has claimed on another core, neither
-/// core being alone, is Move. The value stays at home, and the word differs in its place alone.
+/// A won exchange that gives the mark word of a resting thread the place of a context that the seat has claimed on
+/// another core, neither core being alone, is Move. The value stays at home, and the word differs in its place alone.
 pub fn a_move_is_move<T>()
     ensures { (tag_in : T → ℕ) (bits : ℕ) (w : World) (d : ℕ → Phase) (b : Board T) → Shows tag_in bits w d b → (h weight : ℕ) (k : Known) → Knows b h weight k
         → (x : ℕ) (c : Carried) → IsContext w x → IsContext w c.context → IsRestMark (marked_of bits (b.mark x)).mark → (marked_of bits (b.mark x)).alone ≡ false
@@ -218,7 +221,8 @@ pub fn a_move_is_move<T>()
         }) }
 {}
 
-/// A won exchange of any place word from a context that the seat's move has left unnamed, to any other context, changes nothing in the World.
+/// A won exchange of any place word from a context that the seat's move has left unnamed, to any other context, changes
+/// nothing in the World.
 pub fn naming_the_target_is_still<T>()
     ensures { (tag_in : T → ℕ) (bits : ℕ) (w : World) (d : ℕ → Phase) (b : Board T) → Shows tag_in bits w d b → (h weight : ℕ) (k : Known) → Knows b h weight k
         → (p : Place) (x : ℕ) (c : Carried) → IsContext w x → IsContext w c.context → b.name p ≡ c.context → Carries k c → c.held ≡ false → c.named ≡ false
@@ -235,7 +239,8 @@ pub fn replacing_is_still<T>()
         }) }
 {}
 
-/// A store of a claimed context, whose mark word shows where it stands, to the word of its place changes nothing in the World.
+/// A store of a claimed context, whose mark word shows where it stands, to the word of its place changes nothing in the
+/// World.
 pub fn naming_the_source_is_still<T>()
     ensures { (tag_in : T → ℕ) (bits : ℕ) (w : World) (d : ℕ → Phase) (b : Board T) → Shows tag_in bits w d b → (h weight : ℕ) (k : Known) → Knows b h weight k
         → (c : Carried) → IsContext w c.context → Carries k c → c.held ≡ false → c.shown ≡ c.place
@@ -270,8 +275,8 @@ pub fn the_rule_holds_at_first<T>()
         → Holds tag_in bits shape (opening words (replicate (contexts_in shape) None) (held whole blank)) }
 {}
 
-/// Where the rule holds, the World that is shown is owned once, and is what a run of its events has made of the World at first; and the words
-/// are what the steps of the history have made of the first words.
+/// Where the rule holds, the World that is shown is owned once, and is what a run of its events has made of the World
+/// at first; and the words are what the steps of the history have made of the first words.
 pub fn a_table_shows_a_run<T>()
     ensures { (tag_in : T → ℕ) (bits : ℕ) (shape : Shape) (s : Table T) → (rule : Holds tag_in bits shape s)
         → OwnedOnce rule.world
@@ -279,8 +284,8 @@ pub fn a_table_shows_a_run<T>()
         × (s.words ≡ words_after rule.first rule.history) }
 {}
 
-/// A step that may come next, and after which the World of its event is shown, keeps the rule, whatever its kind. It is the newest of the
-/// history then.
+/// A step that may come next, and after which the World of its event is shown, keeps the rule, whatever its kind. It is
+/// the newest of the history then.
 pub fn a_step_keeps_the_rule<T>()
     ensures { (tag_in : T → ℕ) (bits : ℕ) (shape : Shape) (s : Table T) → (rule : Holds tag_in bits shape s) → (weight : ℕ) (k known : Known) (e : Entry)
         → (slots : List (ℕ × Option T)) (act : Act (Option T)) (d : ℕ → Phase)
@@ -298,8 +303,8 @@ pub fn an_occupancy_word_stands_apart()
         → (name_index n p + SPACING ≤ occ_index n core) ⊎ (occ_index n core + SPACING ≤ name_index n p) }
 {}
 
-/// What a seat in use has noted are exactly its own steps. Each of them is in the history at its place: it found what stood in its word, and
-/// was an event that was allowed.
+/// What a seat in use has noted are exactly its own steps. Each of them is in the history at its place: it found what
+/// stood in its word, and was an event that was allowed.
 pub fn a_record_is_a_step<T>()
     ensures all { (tag_in : T → ℕ) (bits : ℕ) (shape : Shape) (s : Table T) → (rule : Holds tag_in bits shape s)
         → (h weight : ℕ) (k : Known) → get_elem? s.views h ≡ slot.some (held weight k) → k.records ≡ records_of h rule.history }

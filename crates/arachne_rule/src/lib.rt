@@ -1,7 +1,7 @@
 //! The rule of the context table on atomic words.
 //!
-//! Words, slots and views of seats show a World that is owned once, between any two steps. Each kind of step is one event
-//! of that World. The steps on the words themselves are made by the crate above.
+//! Words, slots and views of seats show a World that is owned once, between any two steps. Each kind of step is one
+//! event of that World. The steps on the words themselves are made by the crate above.
 #![tactic(auto)]
 
 pub mod laws;

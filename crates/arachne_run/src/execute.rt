@@ -87,8 +87,8 @@ impl<'a, H: Wait, D: Desk, G: Gate> Worker<'a, H, D, G> {
         Ok(end)
     }
 
-    /// The steps of a slice, how many they are, and how it ends. Where the quantum is used up, all that the worker posted
-    /// is told of.
+    /// The steps of a slice, how many they are, and how it ends. Where the quantum is used up, all that the worker
+    /// posted is told of.
     fn spend_quantum(&mut self) -> Result<(u32, SliceEnd), WorkerFault>
         ensures { (self.new.desk ≡ self.old.desk) × (self.new.access ≡ self.old.access) }
     {

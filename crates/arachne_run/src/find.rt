@@ -128,8 +128,8 @@ impl<'a, H: Wait, D: Desk, G: Gate> Worker<'a, H, D, G> {
         Ok(found)
     }
 
-    /// Takes a ticket, if a place of the core is free or kept for its child, and so many rounds in turn that found nothing
-    /// are enough. Whether there was one.
+    /// Takes a ticket, if a place of the core is free or kept for its child, and so many rounds in turn that found
+    /// nothing are enough. Whether there was one.
     fn take_ticket(&mut self, idle: u32) -> Result<bool, WorkerFault>
         ensures { (self.new.desk ≡ self.old.desk) × (self.new.access ≡ self.old.access) }
     {
@@ -152,8 +152,8 @@ impl<'a, H: Wait, D: Desk, G: Gate> Worker<'a, H, D, G> {
 }
 
 /// The worker of a core waits, longer the more rounds have found nothing: it spins, then yields the processor, then
-/// sleeps, for a shorter time where it is to apply orders. Each of these ends once a thread of the core may be ready, and
-/// a sleep once all workers stop too.
+/// sleeps, for a shorter time where it is to apply orders. Each of these ends once a thread of the core may be ready,
+/// and a sleep once all workers stop too.
 fn wait<H: Wait>(rt: &H, shared: &Shared, core: u8, round: u32, is_arbiter: bool) {
     if round <= policy::LAST_SPIN {
         for _ in 0..1u32 << round {

@@ -39,8 +39,8 @@ pub(crate) struct Machine<C, K: Tagged + Drop> {
     pub(crate) orders: usize,
     /// Whether workers may keep places.
     pub(crate) may_keep: bool,
-    /// Whether workers may move threads to their own cores: not where a thread may want a whole core, since a move takes
-    /// a place there while it is made.
+    /// Whether workers may move threads to their own cores: not where a thread may want a whole core, since a move
+    /// takes a place there while it is made.
     pub(crate) may_pull: bool,
 }
 

@@ -1,7 +1,8 @@
 //! A worker's seats at the table, and what is out with them.
 //!
-//! With `forking`, for its forks, it alone calls the table while threads run. Its type keeps the bookkeeping: the thread
-//! in hand is out with one seat, the places that are kept with the other, and nothing else is out between two calls.
+//! With `forking`, for its forks, it alone calls the table while threads run. Its type keeps the bookkeeping: the
+//! thread in hand is out with one seat, the places that are kept with the other, and nothing else is out between two
+//! calls.
 ghost use Rattle.std.specs.Prelude.{◌≡◌, ◌<◌, ◌≤◌, IfOk};
 ghost use Rattle.arachne_run.specs.Tokens.{IsArbiterOf, IsSetUp, ground_of};
 ghost use Rattle.arachne_spill.specs.Views.{IsPassOf};

@@ -11,8 +11,8 @@ use std::sync::atomic::{AtomicU64, Ordering};
 use std::sync::{Mutex, Wait};
 use std::time::Duration;
 
-/// The word that stops all workers, what is looked at before each fork, the first fault, and what kernel threads tell one
-/// another.
+/// The word that stops all workers, what is looked at before each fork, the first fault, and what kernel threads tell
+/// one another.
 #[derive(Drop)]
 pub(crate) struct Shared {
     stop: AtomicU64,

@@ -24,11 +24,11 @@ pub enum Watching {
     Nothing,
     /// It notes which cores have entered a slice, and how many slices were entered.
     Cores,
-    /// It holds core 1's slice 0 until core 0 has entered the slice of the first number, and that until core 1 has entered that of
-    /// the second.
+    /// It holds core 1's slice 0 until core 0 has entered the slice of the first number, and that until core 1 has
+    /// entered that of the second.
     Meeting(u64, u64),
-    /// It holds core 0's slice before this one until core 1 has entered slice 0, and lets core 1 end that once core 0 has entered
-    /// this slice. No order may be applied before.
+    /// It holds core 0's slice before this one until core 1 has entered slice 0, and lets core 1 end that once core 0
+    /// has entered this slice. No order may be applied before.
     Holding(u64),
     /// It holds core 1's slice 0 until core 0 has entered so many slices.
     Lead(u64),
@@ -36,12 +36,12 @@ pub enum Watching {
     First,
     /// It holds core 1's slice of this number until orders were applied.
     Applying(u64),
-    /// It gives core 1 time to park before core 0's slice of the first number, and holds that of the second until core 1 has entered
-    /// slice 0.
+    /// It gives core 1 time to park before core 0's slice of the first number, and holds that of the second until core
+    /// 1 has entered slice 0.
     Granting(u64, u64),
-    /// It gives a core time to park before core 0's slice 0. It holds core 2's slice 0 until core 1 has entered this slice, and
-    /// that until the run is stopped, which the parked core tells. Then core 1 may enter no slice. Slices of core 1 before it
-    /// are held until core 0's slice 0 has ended.
+    /// It gives a core time to park before core 0's slice 0. It holds core 2's slice 0 until core 1 has entered this
+    /// slice, and that until the run is stopped, which the parked core tells. Then core 1 may enter no slice. Slices of
+    /// core 1 before it are held until core 0's slice 0 has ended.
     Stopping(u64),
 }
 

@@ -1,5 +1,5 @@
-//! Tests of whole runs: what a report says of a program, and that a run goes through its table, its choosers and its gate.
-//! What they test is proved without them.
+//! Tests of whole runs: what a report says of a program, and that a run goes through its table, its choosers and its
+//! gate. What they test is proved without them.
 #![tactic(auto)]
 
 #[cfg(test)]

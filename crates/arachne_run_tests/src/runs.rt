@@ -49,8 +49,8 @@ const LOCKED: &[Form] = &[Form::Locked];
 /// How many cores a machine has, its quantum, and how many choosers. A run wants one for each core.
 type Machine = (u64, u64, u64);
 
-/// A program: how many ledgers and locks it has, and so many forks within one another, of which the innermost one's child
-/// is the expression.
+/// A program: how many ledgers and locks it has, and so many forks within one another, of which the innermost one's
+/// child is the expression.
 #[derive(Clone, Copy)]
 struct Source {
     ledgers: u8,

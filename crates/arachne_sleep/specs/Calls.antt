@@ -22,7 +22,8 @@ use Rattle.arachne_sleep.specs.Logs.{contended_log, answered_log}
 use Rattle.arachne_sleep.specs.Views.{SeatView, with_log}
 
 -- A call on the state of the lock with this number, from `before` to `after`, by a seat that got this pass. The history
--- before the call is sound and begins with each one that the seat had seen, and the seat's log tells what the call added.
+-- before the call is sound and begins with each one that the seat had seen, and the seat's log tells what the call
+-- added.
 pub record IsCallOn (number : ℕ) (old new : SeatView) (pass : Option Pass) (before after : Lock) : Type 0 where
   pub numbered : before.number ≡ number
   pub sound : IsSound before.history

@@ -16,8 +16,8 @@ use Rattle.arachne_sleep_c.specs.Told.{told_asked, told_freed, told_checked, no_
 use Rattle.arachne_sleep_c.specs.declared.told.ArachneAsked.{ArachneAsked}
 use Rattle.arachne_sleep_c.specs.declared.told.ArachneFreed.{ArachneFreed}
 
--- The lock gave an answer to the thread's ask, free or check, as `arachne_sleep` defines it, and C is told that answer. A
--- handle that holds no seat is told so.
+-- The lock gave an answer to the thread's ask, free or check, as `arachne_sleep` defines it, and C is told that answer.
+-- A handle that holds no seat is told so.
 abbrev pub IsAskTold : Who → Option Seating → Option Seating → ArachneAsked → Type 0
 IsAskTold who None new told = (new ≡ None) × (told ≡ no_seat)
 IsAskTold who (Some old) new told = (after : Seating) × (answer : Tried (Result Asked AskFault)) × (new ≡ Some after) × StaysAt old after

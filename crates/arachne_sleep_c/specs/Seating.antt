@@ -45,8 +45,8 @@ IsMade number (Some old) new answer = (answer ≡ refused) × (new ≡ Some old)
 IsMade number None None answer = answer ≡ no_memory
 IsMade number None (Some new) answer = (answer ≡ done) × IsNew number new
 
--- The first handle's seat is cut in two, of which the second handle gets the second, where the first holds a seat and the
--- second nothing. Want of memory changes nothing.
+-- The first handle's seat is cut in two, of which the second handle gets the second, where the first holds a seat and
+-- the second nothing. Want of memory changes nothing.
 abbrev pub IsSplit : Option Seating → Option Seating → Option Seating → Option Seating → ℕ → Type 0
 IsSplit None other new other_new answer = (answer ≡ refused) × (new ≡ None) × (other_new ≡ other)
 IsSplit (Some old) (Some other) new other_new answer = (answer ≡ refused) × (new ≡ Some old) × (other_new ≡ Some other)

@@ -25,8 +25,8 @@ const REFUSED: u8 = 1;
 
 const NO_MEMORY: u8 = 2;
 
-/// Makes a lock with this number, and gives a handle that holds nothing its whole seat. 0 where this is done, 1 where the handle
-/// is in use, 2 where memory is refused. After 1 and 2 nothing has changed.
+/// Makes a lock with this number, and gives a handle that holds nothing its whole seat. 0 where this is done, 1 where
+/// the handle is in use, 2 where memory is refused. After 1 and 2 nothing has changed.
 #[unsafe(no_mangle)]
 pub extern "C" fn arachne_lock_new(alloc: Global, seat: &mut ArachneLockSeat, number: u8) -> u8
     ensures { IsMade number (held seat.old) (held seat.new) result }
@@ -95,8 +95,8 @@ pub extern "C" fn arachne_lock_check(
     told
 }
 
-/// Cuts the seat in two, as for another thread. 0 where the second handle has the second part, 1 where the first handle holds
-/// nothing or the second is in use, 2 where memory is refused. After 1 and 2 nothing has changed.
+/// Cuts the seat in two, as for another thread. 0 where the second handle has the second part, 1 where the first handle
+/// holds nothing or the second is in use, 2 where memory is refused. After 1 and 2 nothing has changed.
 #[unsafe(no_mangle)]
 #[tactic(auto, using(crate::proofs::Cut::is_split))]
 pub extern "C" fn arachne_lock_split(
@@ -125,8 +125,8 @@ pub extern "C" fn arachne_lock_split(
     DONE
 }
 
-/// Joins the second handle's seat into the first's, so that the second holds nothing then. False, with nothing changed, where
-/// one of them holds nothing. Both have to be of the same lock.
+/// Joins the second handle's seat into the first's, so that the second holds nothing then. False, with nothing changed,
+/// where one of them holds nothing. Both have to be of the same lock.
 #[unsafe(no_mangle)]
 pub extern "C" fn arachne_lock_join(
     alloc: Global,

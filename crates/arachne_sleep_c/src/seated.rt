@@ -95,7 +95,8 @@ impl Seated {
     }
 }
 
-/// Cuts in two what the first holds, and gives the second the second part. False where there is no room for an owner more.
+/// Cuts in two what the first holds, and gives the second the second part. False where there is no room for an owner
+/// more.
 pub(crate) fn cut(mine: &mut Option<Seated>, theirs: &mut Option<Seated>) -> bool
     requires { theirs.old ≡ None }
     ensures cut { ForSome mine.old (λ old. MatchBool result

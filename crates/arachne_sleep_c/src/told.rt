@@ -15,7 +15,8 @@ pub struct ArachneWho {
     pub context: u32,
 }
 
-/// The answer to an ask or a check, and the place in the lock's history of the thread's grant, or of its ask where it waits.
+/// The answer to an ask or a check, and the place in the lock's history of the thread's grant, or of its ask where it
+/// waits.
 #[repr(C)]
 #[derive(Clone, Copy)]
 pub struct ArachneAsked {

@@ -16,7 +16,8 @@ impl Fits<Wanted> for u64 {
     ghost may_wait = { λ wanted value. value < wanted.0 };
 }
 
-// Under `rt try --test --fail-alloc N` the Nth allocation is refused: the first call answers it, and the second makes the cell.
+// Under `rt try --test --fail-alloc N` the Nth allocation is refused: the first call answers it, and the second makes
+// the cell.
 fn make_cell(
     alloc: Global,
     number: u64,
@@ -37,8 +38,8 @@ fn missed_at(cell: &JoinCell<u64, Wanted>) -> Option<CellState> {
     }
 }
 
-/// How a cell misses a value each time: before one is put back, while it waits, once it is taken back, and once another was
-/// left and fetched.
+/// How a cell misses a value each time: before one is put back, while it waits, once it is taken back, and once another
+/// was left and fetched.
 #[test]
 fn a_value_is_put_back_and_another_is_fetched_once(rt: HostRuntime) -> Result<(), Fail> {
     let (cell, end) = make_cell(rt.alloc(), 7)?;

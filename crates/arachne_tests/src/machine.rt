@@ -51,7 +51,8 @@ fn start<'p>(
     Err(NEVER)?
 }
 
-/// What was heard of threads in one place: their pauses, the sum of the tags that asked for a lock, and the tag of the next child.
+/// What was heard of threads in one place: their pauses, the sum of the tags that asked for a lock, and the tag of the
+/// next child.
 #[derive(Clone, Copy)]
 struct Heard {
     pauses: u64,
@@ -59,8 +60,8 @@ struct Heard {
     next: u64,
 }
 
-/// A pause as decimal digits: 1 for a used budget, 2 for a fork, 3 and the lock that is asked for, 4 and the lock that is freed, 5 with the
-/// ledger and the amount of a tally, 6 for the end.
+/// A pause as decimal digits: 1 for a used budget, 2 for a fork, 3 and the lock that is asked for, 4 and the lock that
+/// is freed, 5 with the ledger and the amount of a tally, 6 for the end.
 fn digits(pause: &Pause) -> (u64, u64) {
     match pause {
         Pause::Budget => (10, 1),
@@ -150,8 +151,8 @@ fn turn(
     Ok(false)
 }
 
-/// What a program's threads bring that all run in the root's place, whose tag is 9, and what was heard of them. The first
-/// call has one budget, and all others have another.
+/// What a program's threads bring that all run in the root's place, whose tag is 9, and what was heard of them. The
+/// first call has one budget, and all others have another.
 fn all_in_place(
     alloc: Global,
     program: &Program,
@@ -277,8 +278,9 @@ fn expect_in_place(
     Ok(())
 }
 
-/// The threads with the tags 9 to 16 of the last program but one hold the lock once each, and are told as the ones that ask for it, and
-/// those with the tags 10 to 17 of the last. Run with each allocation refused in turn (`rt try --test --fail-alloc N`) this gives the same.
+/// The threads with the tags 9 to 16 of the last program but one hold the lock once each, and are told as the ones that
+/// ask for it, and those with the tags 10 to 17 of the last. Run with each allocation refused in turn (`rt try --test
+/// --fail-alloc N`) this gives the same.
 #[test]
 fn children_run_in_place(rt: HostRuntime) -> Result<(), Fail> {
     for &(count, expression, asked, expected) in IN_PLACE {
@@ -291,8 +293,8 @@ fn children_run_in_place(rt: HostRuntime) -> Result<(), Fail> {
 const FOLD: &str = "(fold (num 0) (num 5000) (num 0) (add (var 0) (var 1)))";
 
 /// Expressions, the budgets of the first call and of the others, the pauses, and the value.
-/// A sum and its two numbers are begun by three steps; the last adds the numbers and ends. A fold takes two steps beside those of its
-/// bounds, of its start and of its 5,000 turns, each a sum of two variables: 15,005 in all.
+/// A sum and its two numbers are begun by three steps; the last adds the numbers and ends. A fold takes two steps
+/// beside those of its bounds, of its start and of its 5,000 turns, each a sum of two variables: 15,005 in all.
 const BUDGETS: &[(&str, u32, u32, u64, u64)] = &[
     ("(add (num 1) (num 2))", 1, 1, 116, 3),
     ("(add (num 1) (num 2))", 2, 1, 16, 3),
@@ -499,8 +501,8 @@ impl Placing for Exclusives {
     }
 }
 
-/// The child of a thread's first fork for which there is a place, which is given away. Those of the forks before it are to run in
-/// the thread's place.
+/// The child of a thread's first fork for which there is a place, which is given away. Those of the forks before it are
+/// to run in the thread's place.
 fn first_with_place<'p>(alloc: Global, thread: &mut Thread<'p>) -> Result<Thread<'p>, Fail>
     ensures { IfOk result IsAlone }
 {

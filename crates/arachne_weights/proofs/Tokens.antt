@@ -59,7 +59,8 @@ module _ {K : Type 0} (nothing : K) where
   abbrev IsSpentOrLive : Token K → Type 0
   IsSpentOrLive t = t.live ≡ false → t ≡ spent nothing
 
-  -- there is no more than the whole weight; where none of it was lost each live token has some; and what isn't live is spent
+  -- there is no more than the whole weight; where none of it was lost each live token has some; and what isn't live is
+  -- spent
   record IsSound (tokens : List (Token K)) : Type 0 where
     pub within : total_weight tokens ≤ whole
     pub weighted : total_weight tokens ≡ whole → EachAt HasWeight tokens

@@ -1,4 +1,5 @@
--- What the calls of a table answer, by the steps that they made: each step is noted with its word, and what stood there before and after it.
+-- What the calls of a table answer, by the steps that they made: each step is noted with its word, and what stood there
+-- before and after it.
 use Rattle.std.specs.Prelude.{◌≡◌, ◌≢◌, ◌↔◌, IsTrue, EachIndex, ℕ, ◌+◌, ◌-◌, ◌<◌, ◌≤◌, ◌^◌, ◌⊎◌, Bool, true, false, if◌then◌else◌, [], slice_index_or}
 use Rattle.arachne_core.specs.declared.place.Place.{Place}
 use Rattle.arachne_core.specs.declared.layout.TheConstants.{CORE_BITS}
@@ -136,7 +137,8 @@ TakeAnswer tag_of c p k (taken.Lost word) after = (x seen : ℕ) × (word ≢ se
 
 -- ---- ends
 
--- The thread has ended: its context is claimed for the next generation, and then its place is free; or it is spent, and its place stays occupied
+-- The thread has ended: its context is claimed for the next generation, and then its place is free; or it is spent, and
+-- its place stays occupied
 pub record HasFinished (c : Contexts) (k : Known) (hold : HoldView) (tag : ℕ) (after : Known) : Type 0 where
   pub before : ℕ
   pub ends : hold.id.generation ≢ c.shape.last → (found : ℕ) × (after ≡ noted kind.Release (occ_index c.table.slots hold.place.core) found (found - release_sum (held_by hold tag))
@@ -160,7 +162,8 @@ WakeAnswer c id k (woken.Lost word) after = (seen : ℕ) × (word ≢ seen)
 
 -- ---- threads that are put back
 
--- what was asked, what is answered, and the steps: a thread that is to be blocked, and was woken while it was held, is ready
+-- what was asked, what is answered, and the steps: a thread that is to be blocked, and was woken while it was held, is
+-- ready
 abbrev pub RestAnswer : Contexts → HoldView → ℕ → Known → Rest → Rested → Known → Type 0
 RestAnswer c hold tag k rest.Ready rested.AsAsked after = (before : ℕ)
     × (after ≡ noted kind.RestReady hold.id.context before (mark_word CORE_BITS (marked_by mark.Ready hold)) (learned (name_index c.table.slots hold.place) hold.id.context (without_context k (held_by hold tag))))

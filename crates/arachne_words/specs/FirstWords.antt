@@ -6,7 +6,8 @@ use Rattle.arachne_core.specs.Place.{first_place}
 use Rattle.arachne_rule.specs.declared.layout.TheConstants.{BLOCK, NAMES}
 use Rattle.arachne_core.specs.Marked.{mark_word}
 
--- in the block of a core of so many places: its place words name the contexts that stand there at first, and the others are 0
+-- in the block of a core of so many places: its place words name the contexts that stand there at first, and the others
+-- are 0
 abbrev pub block_word : ℕ → ℕ → ℕ → ℕ
 block_word slots core offset = if nat_lt offset NAMES then 0 else if nat_lt (offset - NAMES) slots then core * slots + (offset - NAMES) else 0
 

@@ -24,8 +24,8 @@ shared_claim p = record { place = p; alone = false }
 abbrev pub free_at : Place → ℕ → Marked
 free_at p generation = record { mark = mark.Free; alone = false; place = p; generation = generation }
 
--- The last four steps of a move. The target is named, unless it was named anew; context y, whose place the move took, says where it stands now,
--- and is named there; and that place is free
+-- The last four steps of a move. The target is named, unless it was named anew; context y, whose place the move took,
+-- says where it stands now, and is named there; and that place is free
 abbrev pub moved_off : ℕ → ℕ → ℕ → ℕ → Place → Place → ℕ → ℕ → ℕ → ℕ → Known → Known
 moved_off n moving y generation source target named before replaced found k =
     noted kind.Release (occ_index n source.core) found (found - index_sum source.index)
@@ -33,8 +33,8 @@ moved_off n moving y generation source target named before replaced found k =
     (noted kind.Replace y before (mark_word CORE_BITS (free_at source generation))
     (noted kind.NameTarget (name_index n target) named (if named == y then moving else named) k)))
 
--- What a move answers once the target was claimed, with context y, of this generation, that stood there: the exchange was lost, and the target is
--- free again; or it was won, and all is as after a move
+-- What a move answers once the target was claimed, with context y, of this generation, that stood there: the exchange
+-- was lost, and the target is free again; or it was won, and all is as after a move
 abbrev pub ToAnswer : Contexts → ℕ → Marked → Place → ℕ → ℕ → Known → Moved → Known → Type 0
 ToAnswer c x seen target y generation k moved.Moved after = (named before replaced found : ℕ)
     × (after ≡ moved_off c.table.slots x y generation seen.place target named before replaced found
@@ -59,7 +59,8 @@ abbrev pub HasTried : Contexts → ℕ → Marked → ℕ → Known → Moved �
 HasTried c x seen to k answer after = (room index y generation : ℕ) × (claimed : Known) × HasRoom c to k room index y generation claimed
     × ToAnswer c x seen (record { core = to; index = index }) y generation claimed answer after
 
--- what came of a move of a thread at rest, once the target core was looked at: it has no room, or its word changed, or a place was claimed
+-- what came of a move of a thread at rest, once the target core was looked at: it has no room, or its word changed, or
+-- a place was claimed
 abbrev pub SeenAnswer : Contexts → ℕ → Marked → ℕ → Known → Moved → Known → Type 0
 SeenAnswer c x seen to k (moved.NoRoom word) after = (((occupancy_of word).closed ≡ true) ⊎ HasNoPlace c.shape.places_per_core (occupancy_of word)) × (after ≡ looked (occ_index c.table.slots to) word k)
 SeenAnswer c x seen to k (moved.Lost word) after = ((room : ℕ) × (word ≢ room) × (after ≡ lost_claim (occ_index c.table.slots to) word (looked (occ_index c.table.slots to) room k)))
@@ -73,8 +74,8 @@ IsObstacle seen moved.Alone = (IsRestMark seen.mark ⊎ IsHeldMark seen.mark) ×
 IsObstacle seen moved.Running = IsHeldMark seen.mark × (seen.alone ≡ false)
 IsObstacle seen answer = ⊥
 
--- What a move answers, with the context x that was seen in the place's word, and what its mark word said: it stands elsewhere; or it isn't moved; or it is
--- at rest there, and then the target was tried
+-- What a move answers, with the context x that was seen in the place's word, and what its mark word said: it stands
+-- elsewhere; or it isn't moved; or it is at rest there, and then the target was tried
 abbrev pub MoveAnswer : Contexts → Place → ℕ → Known → Moved → Known → Type 0
 MoveAnswer c p to k answer after = (x : ℕ) × (seen : Marked) × (marked_of CORE_BITS (mark_word CORE_BITS seen) ≡ seen) × (known : Known) × (known ≡ looked x (mark_word CORE_BITS seen) (learned (name_index c.table.slots p) x k))
     × (((answer ≡ moved.Lost (mark_word CORE_BITS seen)) × (seen.place ≢ p) × (after ≡ known))

@@ -19,8 +19,8 @@ use arachne_core::{COUNT_ONE, EXCLUSIVE, OccWord, Place, SLOTS};
 /// The word of a core that was claimed whole.
 const WHOLE_CORE: u64 = EXCLUSIVE + COUNT_ONE + 1;
 
-/// What a claim adds to the word of its core, and its end takes away: the index's bit, one in the count, and the exclusive
-/// bit where the core was claimed whole.
+/// What a claim adds to the word of its core, and its end takes away: the index's bit, one in the count, and the
+/// exclusive bit where the core was claimed whole.
 fn claim_sum(index: u8, alone: bool) -> u64
     requires { index < SLOTS }
     ensures { result ≡ sum_of alone index }

@@ -141,8 +141,8 @@ impl<T: Tagged + Drop> WordContexts<T> {
         self.release(seat, source, false);
     }
 
-    /// Moves a thread at rest to a place that the seat has claimed on another core. Where its mark word changed, the place
-    /// is free again.
+    /// Moves a thread at rest to a place that the seat has claimed on another core. Where its mark word changed, the
+    /// place is free again.
     fn move_to(
         &self,
         seat: &mut CallSeat<T>,

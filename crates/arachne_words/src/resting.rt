@@ -87,8 +87,8 @@ impl<T: Tagged + Drop> WordContexts<T> {
         Rested::AsAsked
     }
 
-    /// Puts a held thread back as ready or as blocked. Where it was to be blocked and a wake came while it was held, it is
-    /// ready.
+    /// Puts a held thread back as ready or as blocked. Where it was to be blocked and a wake came while it was held, it
+    /// is ready.
     pub fn put_back(&self, seat: &mut WordSeat<T>, thread: Held<T, WordHold>, rest: Rest) -> Rested
         requires own { seat.old.table ≡ self.now.table }
         requires thread { HasThread self.now seat.old.known thread.hold (T.tag_of thread.value) }

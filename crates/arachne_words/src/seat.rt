@@ -7,10 +7,11 @@ use arachne_core::{Place, ThreadId};
 use arachne_weights::Weight;
 use std::marker::Model;
 
-/// A seat at a table: a thread steps with it. It has a part of the whole weight, and may have claims and held threads out.
+/// A seat at a table: a thread steps with it. It has a part of the whole weight, and may have claims and held threads
+/// out.
 ///
-/// Contracts see which table it is of, its weight, and what it knows: what it has out, the threads that it has posted and
-/// ended, and the steps that it has made.
+/// Contracts see which table it is of, its weight, and what it knows: what it has out, the threads that it has posted
+/// and ended, and the steps that it has made.
 #[derive(Drop)]
 pub struct WordSeat<T> {
     pub(crate) at: CallSeat<T>,

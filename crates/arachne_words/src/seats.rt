@@ -18,7 +18,8 @@ use atomic_table::Table;
 use std::alloc::{AllocError, Global};
 
 impl<T: Tagged + Drop> WordContexts<T> {
-    /// A table with so many cores, each with so many places, whose contexts are free and have this generation, and the seat with the whole weight.
+    /// A table with so many cores, each with so many places, whose contexts are free and have this generation, and the
+    /// seat with the whole weight.
     pub fn new(
         alloc: Global,
         cores: u8,

@@ -23,7 +23,8 @@ use std::marker::Model;
 /// A context table on atomic words. Whoever has a seat may step on it, without waiting.
 ///
 /// Contracts see which table it is, and its shape.
-// In its methods a line `let _ = &self.places_per_core;` opens the table for the prover, which learns its sizes (`IsSized`) there.
+// In its methods a line `let _ = &self.places_per_core;` opens the table for the prover, which learns its sizes
+// (`IsSized`) there.
 #[derive(Drop)]
 pub struct WordContexts<T: Tagged + Drop> {
     pub(crate) table: Table<Option<T>, View, Shape, ContextRule, Global>,

@@ -59,8 +59,8 @@ impl<T: Tagged + Drop> WordContexts<T> {
         Ok(())
     }
 
-    /// Wakes the thread of an id, which may be any: one try. A blocked thread is ready then, and a held one is marked, so
-    /// that it stays ready when it is put back.
+    /// Wakes the thread of an id, which may be any: one try. A blocked thread is ready then, and a held one is marked,
+    /// so that it stays ready when it is put back.
     pub fn wake(&self, seat: &mut WordSeat<T>, id: ThreadId) -> Woken
         requires own { seat.old.table ≡ self.now.table }
         ensures seat { (seat.new.table ≡ seat.old.table) × (seat.new.weight ≡ seat.old.weight) }

@@ -36,14 +36,15 @@ not_made = 1
 abbrev pub no_memory : ℕ
 no_memory = 2
 
--- A handle that holds nothing gets a new table, of sizes that one may have. Else it is refused, and want of memory changes nothing.
+-- A handle that holds nothing gets a new table, of sizes that one may have. Else it is refused, and want of memory
+-- changes nothing.
 abbrev pub IsMade : ℕ → ℕ → Option Work → Option Work → ℕ → Type 0
 IsMade cores places (Some old) new answer = (answer ≡ not_made) × (new ≡ Some old)
 IsMade cores places None None answer = ((AreSizes cores places → ⊥) × (answer ≡ not_made)) ⊎ (answer ≡ no_memory)
 IsMade cores places None (Some new) answer = (answer ≡ done) × AreSizes cores places × IsNew cores places new
 
--- The first handle's seat is cut in two, of which the second handle gets the second, where the first holds a seat with nothing in
--- hand and the second nothing. Want of memory changes nothing.
+-- The first handle's seat is cut in two, of which the second handle gets the second, where the first holds a seat with
+-- nothing in hand and the second nothing. Want of memory changes nothing.
 abbrev pub IsSplit : Option Work → Option Work → Option Work → Option Work → ℕ → Type 0
 IsSplit None other new other_new answer = (answer ≡ not_made) × (new ≡ None) × (other_new ≡ other)
 IsSplit (Some old) (Some other) new other_new answer = (answer ≡ not_made) × (new ≡ Some old) × (other_new ≡ Some other)

@@ -84,7 +84,8 @@ pub(crate) fn is_idle_held(held: &Option<Working>) -> bool
     }
 }
 
-/// Cuts in two what the first holds, and gives the second the second part. False where there is no room for an owner more.
+/// Cuts in two what the first holds, and gives the second the second part. False where there is no room for an owner
+/// more.
 pub(crate) fn cut(mine: &mut Option<Working>, theirs: &mut Option<Working>) -> bool
     requires idle { IsSomeAnd mine.old IsIdle }
     requires nothing { theirs.old ≡ None }

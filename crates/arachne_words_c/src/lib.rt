@@ -35,8 +35,9 @@ const NOT_MADE: u8 = 1;
 
 const NO_MEMORY: u8 = 2;
 
-/// Makes a table of so many cores with so many places each, and gives a handle that holds nothing its whole seat. 0 where this is
-/// done, 1 where the handle is in use or there are no such tables, 2 where memory is refused. After 1 and 2 nothing has changed.
+/// Makes a table of so many cores with so many places each, and gives a handle that holds nothing its whole seat. 0
+/// where this is done, 1 where the handle is in use or there are no such tables, 2 where memory is refused. After 1 and
+/// 2 nothing has changed.
 #[unsafe(no_mangle)]
 pub extern "C" fn arachne_words_new(
     alloc: Global,
@@ -177,8 +178,9 @@ pub extern "C" fn arachne_words_wake(
     told
 }
 
-/// Cuts the seat in two, as for another thread. 0 where the second handle has the second part, 1 where the first handle holds
-/// nothing or has something in hand, or the second is in use, 2 where memory is refused. After 1 and 2 nothing has changed.
+/// Cuts the seat in two, as for another thread. 0 where the second handle has the second part, 1 where the first handle
+/// holds nothing or has something in hand, or the second is in use, 2 where memory is refused. After 1 and 2 nothing
+/// has changed.
 #[unsafe(no_mangle)]
 #[tactic(auto, using(crate::proofs::Cut::is_split, crate::proofs::Cut::is_refused, crate::proofs::Cut::has_no_room))]
 pub extern "C" fn arachne_words_split(
@@ -211,8 +213,8 @@ pub extern "C" fn arachne_words_split(
     DONE
 }
 
-/// Joins the second handle's seat into the first's, so that the second holds nothing then. False, with nothing changed, where
-/// one of them holds nothing or has something in hand. Both have to be of the same table.
+/// Joins the second handle's seat into the first's, so that the second holds nothing then. False, with nothing changed,
+/// where one of them holds nothing or has something in hand. Both have to be of the same table.
 #[unsafe(no_mangle)]
 pub extern "C" fn arachne_words_join(
     alloc: Global,
@@ -237,7 +239,8 @@ pub extern "C" fn arachne_words_join(
     is_joined
 }
 
-/// Frees what a handle holds. The table is freed with the last of its handles, and with it the jobs that have not ended.
+/// Frees what a handle holds. The table is freed with the last of its handles, and with it the jobs that have not
+/// ended.
 #[unsafe(no_mangle)]
 pub extern "C" fn arachne_words_close(alloc: Global, worker: &mut ArachneWorker)
     ensures { held worker.new ≡ None }

@@ -1,4 +1,5 @@
-//! A fork and its join: a child on another kernel thread leaves its result in a join cell, and the parent fetches it there.
+//! A fork and its join: a child on another kernel thread leaves its result in a join cell, and the parent fetches it
+//! there.
 #![tactic(auto)]
 
 ghost use Rattle.std.specs.Prelude.{◌≡◌, ◌*◌, ◌%◌, ◌^◌, IfOk};

@@ -44,8 +44,8 @@ impl<C: Seats> Server<C> {
     }
 }
 
-/// Serves on a core until the server is over. It spins while the server has the core, and sleeps while it has not. At once
-/// over for a core that is none of the server's.
+/// Serves on a core until the server is over. It spins while the server has the core, and sleeps while it has not. At
+/// once over for a core that is none of the server's.
 pub fn serve<R: Clock + Wait, J: PoolJob, C: Contexts<Spawned<J>>>(
     rt: &R,
     server: &Server<C>,

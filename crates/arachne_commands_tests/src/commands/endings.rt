@@ -47,7 +47,8 @@ pub(super) fn shown(status: u8, faults: &[u8]) -> &[u8] {
     faults
 }
 
-/// The status with which the program ends. It says nothing of what is read and written, which makes the proofs of the tests short.
+/// The status with which the program ends. It says nothing of what is read and written, which makes the proofs of the
+/// tests short.
 pub(super) fn status_of<R: Threads + Wait + Sync>(
     rt: &R,
     alloc: Global,
@@ -59,8 +60,8 @@ pub(super) fn status_of<R: Threads + Wait + Sync>(
     drive(rt, alloc, words, input, output, faults)
 }
 
-/// Runs the program on these words and streams, and answers whether it ends as is told. Where all went well the output is flushed once,
-/// at its end, and where the words are refused nothing is read.
+/// Runs the program on these words and streams, and answers whether it ends as is told. Where all went well the output
+/// is flushed once, at its end, and where the words are refused nothing is read.
 pub(super) fn ends<R: Threads + Wait + Sync>(
     rt: &R,
     alloc: Global,
@@ -141,8 +142,8 @@ fn assert_block<R: Abort + Threads + Wait + Sync>(
     Ok(count)
 }
 
-/// Blocks with an empty line between them: lines of words, and rows of an input, an arrow and how each of the words ends on it. It counts
-/// the runs.
+/// Blocks with an empty line between them: lines of words, and rows of an input, an arrow and how each of the words
+/// ends on it. It counts the runs.
 pub(super) fn all_end<R: Abort + Threads + Wait + Sync>(
     rt: &R,
     alloc: Global,

@@ -2,8 +2,9 @@
 use super::endings::all_end;
 use std::alloc::AllocError;
 
-/// Machines, seeds and orders, which change no output; more threads than a core has places; locks; settings at fault, the first of two
-/// faults each time, and behind the faults of the text; and words that are no orders, or are not understood.
+/// Machines, seeds and orders, which change no output; more threads than a core has places; locks; settings at fault,
+/// the first of two faults each time, and behind the faults of the text; and words that are no orders, or are not
+/// understood.
 const ROWS: &str = "\
 $ arachne run --cores 1 --quantum 1 --names
 $ arachne run --cores 1 --quantum 100 --names

@@ -22,8 +22,8 @@ pub enum Head {
     Sweep(Reduction),
 }
 
-/// The word of a form, with the space behind it, and the text behind that. Words that begin alike are told apart by their
-/// letters; where no other goes on, the text departs from the last.
+/// The word of a form, with the space behind it, and the text behind that. Words that begin alike are told apart by
+/// their letters; where no other goes on, the text departs from the last.
 #[tactic(auto, unfolding(crate::specs::Reading::form_words))]
 pub fn head_word(text: &[u8]) -> Result<(Head, &[u8]), Stop<'_>>
     ensures { Gives (λ read. (read.0, read.1.now)) result (words_at form_words text.now) }

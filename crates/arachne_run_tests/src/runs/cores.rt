@@ -41,9 +41,9 @@ pub(super) const EXCLUSIVE: Source = Source {
     expr: "(fork x (num 1) (num 2) (add (var 0) (var 1)))",
 };
 
-/// Three threads and the root have all places while 301 more are forked, for 45 of which there is no room to wait either. By then
-/// 304 words are drawn, of which each chooses the other core than the one before. The next thread is forked to core 0, and core
-/// 1 is empty for one that is to be alone.
+/// Three threads and the root have all places while 301 more are forked, for 45 of which there is no room to wait
+/// either. By then 304 words are drawn, of which each chooses the other core than the one before. The next thread is
+/// forked to core 0, and core 1 is empty for one that is to be alone.
 const WORD_EACH: Row = Row {
     shows: "each fork draws a word, that of a thread that runs in place at once too",
     source: Source {

@@ -29,8 +29,8 @@ const COUNTING: Source = Source {
     expr: "(fork n (fold (num 0) (num 3000) (num 0) (var 0)) (fork n (fold (num 0) (num 3000) (num 0) (var 0)) (fold (num 0) (num 1000) (num 0) (var 0)) (add (var 0) (var 1))) (add (var 0) (var 1)))",
 };
 
-/// 300 threads, of which the root forks nine and then counts to 3,000. Behind that it forks one that is to be alone, and one
-/// more meanwhile.
+/// 300 threads, of which the root forks nine and then counts to 3,000. Behind that it forks one that is to be alone,
+/// and one more meanwhile.
 const WAITING: Source = Source {
     ledgers: 0,
     locks: 0,
@@ -138,8 +138,8 @@ fn a_thread_alone_gets_a_core_among_the_last(rt: HostRuntime) -> Result<(), Fail
     Ok(())
 }
 
-/// Core 1 is closed at first, and its kernel thread gets time to park. Then it is granted again, and has a thread. Were that not
-/// run there, it would be moved away once core 1 is closed again.
+/// Core 1 is closed at first, and its kernel thread gets time to park. Then it is granted again, and has a thread. Were
+/// that not run there, it would be moved away once core 1 is closed again.
 const GRANTED: Row = Row {
     shows: "a grant has a kernel thread that is parked go on",
     source: Source {
@@ -206,8 +206,8 @@ const GRANTS: &[Row] = &[
     },
 ];
 
-/// The root awaits its child on core 1 while core 0's kernel thread sleeps, so that it goes on there, and core 0 is empty. A slice
-/// of core 1 is held up until the order is applied, which is due by then.
+/// The root awaits its child on core 1 while core 0's kernel thread sleeps, so that it goes on there, and core 0 is
+/// empty. A slice of core 1 is held up until the order is applied, which is due by then.
 const IDLE: Row = Row {
     shows: "orders are applied while core 0 has nothing to run",
     source: Source {
@@ -274,8 +274,8 @@ fn grants_have_cores_go_on(rt: HostRuntime) -> Result<(), Fail> {
 }
 
 const ROWS: &[Row] = &[
-    // The root forks while core 0 is full and the others are closed, so that children wait in its place. Once those are open
-    // it forks one that is to be alone, which gets a core at once, and then another.
+    // The root forks while core 0 is full and the others are closed, so that children wait in its place. Once those are
+    // open it forks one that is to be alone, which gets a core at once, and then another.
     Row {
         shows: "an exclusive child among those that wait is joined in turn",
         source: WAITING,
@@ -418,8 +418,8 @@ const ROWS: &[Row] = &[
         telling: Telling::Nothing,
         told: "",
     },
-    // Both of the root's children are on core 1, whose first slice is held up until core 0 has entered more slices than the
-    // root alone has: the other one comes there once core 1 was closed.
+    // Both of the root's children are on core 1, whose first slice is held up until core 0 has entered more slices than
+    // the root alone has: the other one comes there once core 1 was closed.
     Row {
         shows: "a closed core is drained",
         source: COUNTING,

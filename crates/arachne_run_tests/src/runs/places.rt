@@ -314,8 +314,8 @@ const CROSSWISE: Draws = Draws {
     apart: 0xFFFF_FFFE_FFFF_FFFF,
 };
 
-/// Four threads that each await the next one, of which the innermost counts. Beside them the root counts, forks another, counts
-/// again, and forks one more.
+/// Four threads that each await the next one, of which the innermost counts. Beside them the root counts, forks
+/// another, counts again, and forks one more.
 const SLEEPING: Source = Source {
     ledgers: 0,
     locks: 0,
@@ -323,9 +323,9 @@ const SLEEPING: Source = Source {
     expr: "(fork n (fork n (fork n (fork n (fold (num 0) (num 10000) (num 0) (var 1)) (num 1) (var 0)) (num 1) (var 0)) (num 1) (var 0)) (let (fold (num 0) (num 3000) (num 0) (var 1)) (fork n (num 1) (let (fold (num 0) (num 3000) (num 0) (var 2)) (fork n (num 1) (num 1) (num 0))) (num 0))) (var 0))",
 };
 
-/// Core 0 is full of the root and two of the four, and the two others wait on core 1. The thread that is forked beside them ends
-/// there, so that its place is kept, and core 1's kernel thread has nothing to run. The table lets the last fork go on once a
-/// place was given back.
+/// Core 0 is full of the root and two of the four, and the two others wait on core 1. The thread that is forked beside
+/// them ends there, so that its place is kept, and core 1's kernel thread has nothing to run. The table lets the last
+/// fork go on once a place was given back.
 const GIVEN_BACK: Row = Row {
     shows: "a kernel thread that sleeps keeps no place",
     source: SLEEPING,

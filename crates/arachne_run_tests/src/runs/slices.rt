@@ -164,8 +164,8 @@ fn a_slice_counts_once_it_has_ended(rt: HostRuntime) -> Result<(), Fail> {
     rows_hold(&rt, rt.alloc(), COUNTS)
 }
 
-/// Core 3 is closed, so that its kernel thread parks. Two threads are on core 1, and one that is to be alone on core 2. That
-/// one's end stops the run, as the table hands it back, during core 1's first slice.
+/// Core 3 is closed, so that its kernel thread parks. Two threads are on core 1, and one that is to be alone on core 2.
+/// That one's end stops the run, as the table hands it back, during core 1's first slice.
 const STOPPED: Row = Row {
     shows: "no slice begins once the run is stopped",
     source: Source {
@@ -201,8 +201,8 @@ const STOPS: &[Row] = &[
         },
         ..STOPPED
     },
-    // The first thread on core 1 holds the lock for which the other one waits, and frees it in its third slice, core 1's fourth.
-    // It counts on then.
+    // The first thread on core 1 holds the lock for which the other one waits, and frees it in its third slice, core
+    // 1's fourth. It counts on then.
     Row {
         source: Source {
             ledgers: 0,

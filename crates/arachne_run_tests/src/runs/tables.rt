@@ -67,8 +67,8 @@ const ROWS: &[Row] = &[
         telling: Telling::Nothing,
         told: "",
     },
-    // The first claim that is refused memory is the root's for its child on core 0, or that child's for its own on core 1.
-    // The fault of any core's kernel thread is the run's, not that its tokens are missing then.
+    // The first claim that is refused memory is the root's for its child on core 0, or that child's for its own on core
+    // 1. The fault of any core's kernel thread is the run's, not that its tokens are missing then.
     Row {
         shows: "the first fault is told",
         source: GRANDCHILD,

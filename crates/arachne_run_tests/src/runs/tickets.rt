@@ -6,8 +6,8 @@ use crate::choosers::{CORE_ONE, ZEROS};
 use crate::gates::Watching;
 use std::test::Fail;
 
-/// The root's first child has core 1's only place, and the second one waits for it. Core 1's first slice is held up until the
-/// root has forked both, and then the root until core 1 has gone on to the second.
+/// The root's first child has core 1's only place, and the second one waits for it. Core 1's first slice is held up
+/// until the root has forked both, and then the root until core 1 has gone on to the second.
 const WAITS: Row = Row {
     shows: "a thread that waits gets a place of another core",
     source: Source {
@@ -27,8 +27,8 @@ const WAITS: Row = Row {
     told: "slot spill slot ",
 };
 
-/// The root has four children for the places of its core that are left, and a fifth that waits for one. Where there are five
-/// places two of three claims are lost.
+/// The root has four children for the places of its core that are left, and a fifth that waits for one. Where there are
+/// five places two of three claims are lost.
 const LOST: Row = Row {
     shows: "a claim that is lost is tried again",
     source: Source {
@@ -56,8 +56,8 @@ const TWO: Source = Source {
     expr: "(fork n (let (fork n (num 1) (num 1) (var 0)) (fork n (num 2) (fold (num 0) (num 40) (num 0) (var 2)) (add (var 1) (var 2)))) (num 3) (var 0))",
 };
 
-/// The first one ends while all places are taken, so that its place is kept. The second one waits, and gets that place, though
-/// its parent is alone on the core and could go on.
+/// The first one ends while all places are taken, so that its place is kept. The second one waits, and gets that place,
+/// though its parent is alone on the core and could go on.
 const KEPT: Row = Row {
     shows: "a place that is kept is free for a thread that waits",
     source: TWO,

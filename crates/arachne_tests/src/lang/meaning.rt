@@ -66,7 +66,8 @@ fn is_of_many(meaning: &Meaning, last: &Name) -> bool {
     lines[0].name.len() == 0 && lines[900].name == *last
 }
 
-/// A thread for each of 901 numbers. The child of each fork has the left half, so the last line's name is of the halves 450, 225, 112, 56, 28, 14, 7, 3, 1.
+/// A thread for each of 901 numbers. The child of each fork has the left half, so the last line's name is of the halves
+/// 450, 225, 112, 56, 28, 14, 7, 3, 1.
 #[test]
 fn many_threads_have_a_line_each(rt: HostRuntime) -> Result<(), Fail> {
     let sweep = "1 1 (sweep add 1 (num 0) (num 901) (hold 0 (tally 0 (num 5) (var 0))))";

@@ -63,8 +63,8 @@ fn grow_twice<'p>(alloc: Global, thread: &mut Thread<'p>) -> Result<(), Fail>
     hand_back(thread, child)
 }
 
-/// The child of a thread's next fork goes on until others run in its place and were handed back to it, in the place of one of
-/// which another runs. Then it is handed back at its fork.
+/// The child of a thread's next fork goes on until others run in its place and were handed back to it, in the place of
+/// one of which another runs. Then it is handed back at its fork.
 fn handed_at_fork(alloc: Global, thread: &mut Thread) -> Result<(), Fail>
     requires { pending_in thread.old ≡ None }
     ensures { OnOk result (pending_in thread.new ≡ None) }
@@ -129,8 +129,8 @@ fn is_meant(meaning: &Meaning, parts: &OutcomeParts) -> bool {
     true
 }
 
-/// The child of the first fork forks one that has a place, then one that has none and begins in its place; that one forks one
-/// that has a place, in whose place another begins and forks one that has a place.
+/// The child of the first fork forks one that has a place, then one that has none and begins in its place; that one
+/// forks one that has a place, in whose place another begins and forks one that has a place.
 const TEXT: &str = "arachne 1\nledgers 1\nlocks 1\n\
     (fork x (fork x (tally 0 (num 1) (num 3)) \
     (fork n (fork x (fork n (fork x (hold 0 (num 7)) (num 8) (sub (var 0) (var 1))) (num 11) \

@@ -101,7 +101,8 @@ fn asked(world: &World, step: Step) -> Option<u64> {
     }
 }
 
-/// Makes an event. Where memory is refused for it, it is made once more, and the mark word of context 0 is to be as before.
+/// Makes an event. Where memory is refused for it, it is made once more, and the mark word of context 0 is to be as
+/// before.
 fn make(world: &mut World, event: Event) -> Result<(), NotApplied> {
     let before = asked(world, Step::Mark(0));
     match world.apply(event) {
@@ -122,7 +123,8 @@ fn shown(world: &mut World, step: Step) -> Option<Shown> {
     }
 }
 
-/// The cores of a run's World, the generation that its contexts begin with, for how many posts and retires it has room, and its steps.
+/// The cores of a run's World, the generation that its contexts begin with, for how many posts and retires it has room,
+/// and its steps.
 struct Run {
     cores: u8,
     slots: u8,
@@ -151,7 +153,8 @@ fn begun(alloc: Global, run: &Run) -> Result<World, Fail> {
     Ok(world)
 }
 
-/// A spent context isn't shown alone, though its core stays so. Where no room is reserved a post may be refused for memory, and stays possible.
+/// A spent context isn't shown alone, though its core stays so. Where no room is reserved a post may be refused for
+/// memory, and stays possible.
 const RUNS: &[Run] = &[
     // A closed core keeps its threads.
     Run {

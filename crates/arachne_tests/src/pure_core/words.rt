@@ -1,4 +1,5 @@
-//! Worked values of the words, of the numbers of places, and of a refusal's text: rows of numbers, each with what is read of it.
+//! Worked values of the words, of the numbers of places, and of a refusal's text: rows of numbers, each with what is
+//! read of it.
 
 use arachne_core::{Mark, MarkWord, NotApplied, OccWord, Place};
 use std::alloc::Global;
@@ -96,8 +97,8 @@ fn mark_words(rt: HostRuntime) -> Result<(), Fail> {
     Ok(())
 }
 
-/// Numbers, and what each is as an occupancy word: its mask and its count, whether it is closed, exclusive and empty, and its
-/// lowest free index. In the last three the count isn't that of the mask.
+/// Numbers, and what each is as an occupancy word: its mask and its count, whether it is closed, exclusive and empty,
+/// and its lowest free index. In the last three the count isn't that of the mask.
 const OCCUPANCIES: &[(u64, &str)] = &[
     (0, "0x0 0 false false true Some(0)"),
     (0x0100_0000_0000_0001, "0x1 1 false false false Some(1)"),

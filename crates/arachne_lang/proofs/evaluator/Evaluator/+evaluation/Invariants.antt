@@ -1,4 +1,5 @@
--- An expression is evaluated after the helper that takes it, and its parts after it. A half of a range is shorter than the range, which has less than 2 ^ 64 numbers.
+-- An expression is evaluated after the helper that takes it, and its parts after it. A half of a range is shorter than
+-- the range, which has less than 2 ^ 64 numbers.
 use Rattle.std.proofs.Common.{◌≡◌, ℕ, ◌+◌, ◌*◌, ◌^◌, max, length}
 use Rattle.arachne_lang.specs.Program.{tree_of, source_of}
 use Rattle.arachne_lang.specs.Text.{nesting}
