@@ -48,7 +48,7 @@ fn run_all<'p>(alloc: Global, root: Thread<'p>, budget: u32) -> Result<Outcome<'
 enum Turn<'p> {
     /// The thread goes on.
     Goes,
-    /// It waits for this child.
+    /// It has forked this child, which goes on first.
     Forks(Thread<'p>),
     /// It has ended.
     Ends,
@@ -86,7 +86,7 @@ fn take_turn<'p>(
     }
 }
 
-/// The newest thread goes on for so many steps, and is answered.
+/// The newest thread goes on for so many steps, and is answered, unless it has ended.
 fn go_on<'p>(
     thread: &mut Thread<'p>,
     outcomes: &mut Vec<Outcome<'p>>,

@@ -42,7 +42,6 @@ impl<'p> State<'p> {
         ensures err { OnErr result (Went (P.gives_all ≡ true) left.old left.new self.old placed.old.items self.new placed.new.items) }
         ensures err_left { OnErr result (1 ≤ left.new) }
     {
-        let _had = *left;
         while *left > 0 {
             if let Some(forked) = self.advance(left, spares, places)? {
                 return Ok(Some(forked));
@@ -110,8 +109,8 @@ impl<'p> State<'p> {
         Ok(true)
     }
 
-    /// A child comes back: it waits to run here, behind those that were handed back to it; or, where it is awaited, it
-    /// goes on here, and those are the newest of these. Where it answers an error nothing has changed but room.
+    /// A child comes back: it waits to run here, and begins before those that were handed back to it; or, where it is
+    /// awaited, it goes on here, and those are the newest of these. Where it answers an error nothing has changed but room.
     pub fn place(
         &mut self,
         placed: &mut Vec<Box<State<'p>>>,
@@ -132,7 +131,7 @@ impl<'p> State<'p> {
         }
     }
 
-    /// A child that was forked waits to run here, behind those that were handed back to it.
+    /// A child that was forked waits to run here, and begins before those that were handed back to it.
     fn wait_with(
         &mut self,
         placed: &mut Vec<Box<State<'p>>>,

@@ -1,7 +1,7 @@
 //! What a worker does at the table and with the thread in hand, and what these calls answer.
 //!
 //! The worker's loop stands on this trait, and not on tables and jobs.
-ghost use Rattle.std.specs.Prelude.{◌≡◌, ◌≤◌};
+ghost use Rattle.std.specs.Prelude.{◌≡◌, ◌≤◌, OnOk};
 
 use crate::fault::WorkerFault;
 use crate::policy;
@@ -27,7 +27,8 @@ pub(crate) trait Desk {
     /// The thread in hand goes on for at most as many steps as are left, and its forks are answered.
     fn advance(&mut self, left: &mut u32) -> Result<Stop, WorkerFault>
         requires { 1 ≤ left.old }
-        ensures { self.new ≡ self.old };
+        ensures desk { self.new ≡ self.old }
+        ensures left { OnOk result (left.new ≤ left.old) };
 
     /// What the thread in hand asks for is done.
     fn answer(&mut self) -> Result<(), WorkerFault>

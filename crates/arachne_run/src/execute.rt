@@ -102,7 +102,7 @@ impl<'a, H: Wait, D: Desk, G: Gate> Worker<'a, H, D, G> {
             let most = left.min(self.agenda.most_steps());
             let mut steps = most;
             let stop = self.desk.advance(&mut steps)?;
-            let spent = most.wrapping_sub(steps);
+            let spent = most - steps;
             left = left.saturating_sub(spent);
             made = made.wrapping_add(spent);
             if self.agenda.spend(spent) {

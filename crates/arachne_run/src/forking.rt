@@ -50,6 +50,7 @@ pub(crate) fn go_on<H: Wait, T: RunJob, C: Contexts<T>, R: Rng>(
     ensures seat { C.sits machine.now.table seat.new }
     ensures out { OnOk result (C.has machine.now.table seat.new (thread_in T.tag_of held.new ∷ [])) }
     ensures pass { IsPassOf machine.now.tickets pass.new }
+    ensures left { OnOk result (left.new ≤ left.old) }
 {
     let room = machine.shared.room();
     let slice = held

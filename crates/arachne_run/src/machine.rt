@@ -145,14 +145,18 @@ impl<C: Seats + Drop, K: Tagged + Drop> Machine<C, K> {
             holdings,
             arbiter,
         } = tokens;
+        let remains = resources.close(alloc, holdings);
         let closed = close_table(rt, alloc, table, tickets, seat, pass);
-        let remains = resources.close(alloc, holdings)?;
-        closed?;
         let Some(arbiter) = arbiter else {
             return Err(WorkerFault::Token);
         };
-        let applied = arbiter.applied();
-        Ok((remains, applied))
+        // A token that is missing is told before memory that was refused.
+        match (remains, closed) {
+            (Ok(remains), Ok(())) => Ok((remains, arbiter.applied())),
+            (Err(WorkerFault::Memory), Err(fault)) => Err(fault),
+            (Err(fault), _) => Err(fault),
+            (Ok(_), Err(fault)) => Err(fault),
+        }
     }
 }
 

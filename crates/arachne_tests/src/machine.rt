@@ -497,7 +497,7 @@ impl Placing for Exclusives {
     }
 
     fn tag(&mut self) -> u64 {
-        0
+        7
     }
 }
 
@@ -522,11 +522,26 @@ fn first_with_place<'p>(alloc: Global, thread: &mut Thread<'p>) -> Result<Thread
     Ok(child)
 }
 
+/// Goes on with a place for exclusive children alone.
+fn go_on_there(alloc: Global, thread: &mut Thread) -> Result<(), Fail> {
+    if thread.pending().is_some() {
+        return Err("a pause is not answered")?;
+    }
+    let mut spares = Spares::new(alloc);
+    let mut places = Exclusives;
+    let mut left = 100u32;
+    match thread.advance_within(&mut left, &mut spares, &mut places) {
+        Ok(_) => Ok(()),
+        Err(_) => Err("memory was refused")?,
+    }
+}
+
 /// The same, but the second child is exclusive.
 const TWO_CLASSES: &str =
     "(fork n (num 2) (fork x (num 3) (num 4) (add (var 0) (var 1))) (add (var 0) (var 1)))";
 
-/// What is told of the threads of `TWO_CLASSES`, where there is a place for the second child alone, whose tag is 20.
+/// What is told of the threads of `TWO_CLASSES`, where there is a place for the second child alone, whose tag is 20. The
+/// other begins in its parent's place, with the tag that it gets there.
 fn told_of_one_with_place(alloc: Global, program: &Program) -> Result<String, Fail> {
     let mut memory = Memory::ample();
     let mut thread = start(alloc, program, 9, &mut memory)?;
@@ -535,7 +550,11 @@ fn told_of_one_with_place(alloc: Global, program: &Program) -> Result<String, Fa
     go_on(&mut thread)?;
     let outcome = ended(child)?;
     join_child(&mut thread, outcome);
-    let parts = parts(ended(thread)?.outcome, &mut memory)?;
+    go_on_there(alloc, &mut thread)?;
+    let Some(Pending::Ended) = thread.pending() else {
+        return Err("not ended")?;
+    };
+    let parts = parts(bring(thread).outcome, &mut memory)?;
     told(alloc, &parts)
 }
 
@@ -543,6 +562,6 @@ fn told_of_one_with_place(alloc: Global, program: &Program) -> Result<String, Fa
 fn a_child_without_a_place_waits_for_one_that_has(rt: HostRuntime) -> Result<(), Fail> {
     let program = program(rt.alloc(), 0, TWO_CLASSES)?;
     let told = told_of_one_with_place(rt.alloc(), &program)?;
-    assert!(rt; told.as_str() == "9 [] []9-[] [1]20-[] [0]0+[]", "{told}");
+    assert!(rt; told.as_str() == "9 [] []9-[] [1]20-[] [0]7+[]", "{told}");
     Ok(())
 }

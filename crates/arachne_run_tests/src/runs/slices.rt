@@ -77,6 +77,17 @@ const CHARGES: &[Row] = &[
         facts: &[(Fact::InPlace, 1), (Fact::Slices(4), 1)],
         ..CHARGED
     },
+    // The forks are eight steps of the root, which has nine others, and each child has one.
+    Row {
+        shows: "the steps before a posted fork are charged",
+        source: Source {
+            expr: "(fork n (num 1) (fork n (num 1) (fork n (num 1) (fork n (num 1) (fork n (num 1) (fork n (num 1) (fork n (num 1) (fork n (num 1) (num 1) (var 0)) (var 0)) (var 0)) (var 0)) (var 0)) (var 0)) (var 0)) (var 0))",
+            ..TAKEN_BACK
+        },
+        slots: SLOTS,
+        facts: &[(Fact::Value, 1), (Fact::InPlace, 0), (Fact::Slices(25), 1)],
+        ..CHARGED
+    },
     CHARGED_AT_ONCE,
     Row {
         machines: &[(1, 7, 1)],
@@ -138,8 +149,40 @@ const TOLD_FIRST: Row = Row {
     told: "",
 };
 
+/// All threads are on core 0. The root makes 504 steps, and each of its 100 children one, each in a slice of its own.
+const ENDS_COUNT: Row = Row {
+    shows: "a slice that ends its thread counts",
+    source: Source {
+        ledgers: 0,
+        locks: 0,
+        forks: 0,
+        expr: "(fold (num 0) (num 100) (num 0) (fork n (num 1) (num 0) (add (var 1) (var 2))))",
+    },
+    forms: FORMS,
+    slots: SLOTS,
+    machines: &[(2, 1, 2)],
+    draws: ZEROS,
+    orders: &[
+        CoreOrder {
+            after: 0,
+            kind: OrderKind::Release,
+            core: 1,
+        },
+        CoreOrder {
+            after: 590,
+            kind: OrderKind::Grant,
+            core: 1,
+        },
+    ],
+    watching: Watching::Cores,
+    facts: &[(Fact::Value, 100), (Fact::Applied, 2)],
+    telling: Telling::Nothing,
+    told: "",
+};
+
 const COUNTS: &[Row] = &[
     TOLD_FIRST,
+    ENDS_COUNT,
     HELD_BACK,
     Row {
         source: BESIDE_LONG,
