@@ -77,15 +77,16 @@ const CHARGES: &[Row] = &[
         facts: &[(Fact::InPlace, 1), (Fact::Slices(4), 1)],
         ..CHARGED
     },
-    // The forks are eight steps of the root, which has nine others, and each child has one.
+    // The root makes 777 steps, 95 of them before each of its forks but the first, and each child has a slice of its own.
     Row {
         shows: "the steps before a posted fork are charged",
         source: Source {
-            expr: "(fork n (num 1) (fork n (num 1) (fork n (num 1) (fork n (num 1) (fork n (num 1) (fork n (num 1) (fork n (num 1) (fork n (num 1) (num 1) (var 0)) (var 0)) (var 0)) (var 0)) (var 0)) (var 0)) (var 0)) (var 0))",
+            expr: "(fork n (num 1) (let (fold (num 0) (num 90) (num 0) (num 0)) (fork n (num 1) (let (fold (num 0) (num 90) (num 0) (num 0)) (fork n (num 1) (let (fold (num 0) (num 90) (num 0) (num 0)) (fork n (num 1) (let (fold (num 0) (num 90) (num 0) (num 0)) (fork n (num 1) (let (fold (num 0) (num 90) (num 0) (num 0)) (fork n (num 1) (let (fold (num 0) (num 90) (num 0) (num 0)) (fork n (num 1) (let (fold (num 0) (num 90) (num 0) (num 0)) (fork n (num 1) (let (fold (num 0) (num 90) (num 0) (num 0)) (num 1)) (num 1))) (num 1))) (num 1))) (num 1))) (num 1))) (num 1))) (num 1))) (num 1))",
             ..TAKEN_BACK
         },
         slots: SLOTS,
-        facts: &[(Fact::Value, 1), (Fact::InPlace, 0), (Fact::Slices(25), 1)],
+        machines: &[(1, 100, 1)],
+        facts: &[(Fact::Value, 1), (Fact::InPlace, 0), (Fact::Slices(16), 1)],
         ..CHARGED
     },
     CHARGED_AT_ONCE,
