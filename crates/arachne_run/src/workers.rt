@@ -1,6 +1,5 @@
 //! The kernel threads of a run, one for each core.
-ghost use Rattle.std.specs.Prelude.{◌≡◌, ◌<◌, ◌≤◌, All, IfSome, vec_capacity, vec_len};
-ghost use Rattle.std.specs.Thread.{IsSync};
+ghost use Rattle.std.specs.Prelude.{◌≡◌, ◌<◌, IfSome};
 ghost use Rattle.arachne_run.specs.Tokens.{AreIdle, IsSetUp, ground_of};
 
 use crate::access::Access;
@@ -11,33 +10,113 @@ use crate::machine::Machine;
 use crate::queue::Agenda;
 use crate::seat::Seat;
 use crate::tokens::Tokens;
-use arachne_contexts::{Contexts, Seats, Tagged};
+use arachne_contexts::{Contexts, Seats};
 use arachne_jobs::RunJob;
+use arachne_team::{Team, TeamFault, work_together};
 use rand_core::Rng;
 use std::alloc::Global;
 use std::marker::PhantomData;
-use std::snapshot::Snapshot;
 use std::sync::Wait;
-use std::thread::{self, Promise, PromisedHandle, Threads};
+use std::thread::Threads;
 
-/// The tokens that a worker gives back are of this machine.
+/// What the workers of a run have in common.
 #[derive(Drop)]
-struct Returns<C, K: Tagged + Drop> {
-    machine: Snapshot<Machine<C, K>>,
+struct Workers<'a, H, T: RunJob, C, R, G> {
+    rt: &'a H,
+    alloc: Global,
+    machine: &'a Machine<C, T::Ticket>,
+    gate: &'a G,
+    of: PhantomData<R>,
 }
 
-impl<C, K: Tagged + Drop> Returns<C, K> {
-    fn to(machine: &Machine<C, K>) -> Returns<C, K>
-        ensures { result.machine.value ≡ machine.now }
-    {
-        Returns {
-            machine: Snapshot::of(machine),
-        }
+/// What one of them begins with, and gives back.
+#[derive(Drop)]
+struct Share<S, K, T, R> {
+    tokens: Tokens<S, K>,
+    /// The thread that begins here.
+    root: Option<T>,
+    chooser: Option<R>,
+    /// Those of the workers that are parted off, the next one last.
+    choosers: Vec<R>,
+}
+
+impl<'a, H: Wait, T: RunJob, C: Contexts<T>, R: Rng + Drop, G: Gate> Team
+    for Workers<'a, H, T, C, R, G>
+{
+    type Share = Share<C::Seat, T::Ticket, T, R>;
+
+    ghost has = { λ workers share. AreIdle C.sits C.idle workers.machine.now share.tokens × IsSetUp C.core_count C.slot_count workers.machine.now };
+
+    ghost size = { λ workers. workers.machine.now.cores };
+
+    fn size(&self) -> u8 {
+        self.machine.cores
     }
-}
 
-impl<C: Seats, K: Tagged + Drop> Promise<Option<Tokens<C::Seat, K>>> for Returns<C, K> {
-    ghost kept_by = { λ promise tokens. IfSome tokens (AreIdle C.sits C.idle promise.machine.value) };
+    fn part_off(&self, share: Self::Share) -> (Self::Share, Option<Self::Share>) {
+        let Share {
+            tokens,
+            root,
+            chooser,
+            mut choosers,
+        } = share;
+        let (tokens, others) = match tokens.split::<H, C>(self.rt, self.alloc, self.machine) {
+            Ok((own, others)) => (own, Some(others)),
+            Err(own) => (own, None),
+        };
+        let theirs = match others {
+            Some(tokens) => Some(Share {
+                tokens,
+                root: None,
+                chooser: choosers.pop(),
+                choosers: Vec::new(self.alloc),
+            }),
+            None => None,
+        };
+        let own = Share {
+            tokens,
+            root,
+            chooser,
+            choosers,
+        };
+        (own, theirs)
+    }
+
+    fn work(&self, number: u8, share: Self::Share) -> Option<Self::Share> {
+        let Share {
+            tokens,
+            root,
+            chooser,
+            choosers,
+        } = share;
+        let (rt, alloc, machine, gate) = (self.rt, self.alloc, self.machine, self.gate);
+        let tokens =
+            work_on::<H, T, C, R, G>(rt, alloc, machine, gate, number, chooser, tokens, root)?;
+        Some(Share {
+            tokens,
+            root: None,
+            chooser: None,
+            choosers,
+        })
+    }
+
+    fn join(&self, share: Self::Share, other: Self::Share) -> Option<Self::Share> {
+        let Share { tokens, .. } = share;
+        Some(Share {
+            tokens: tokens.join::<H, C>(self.rt, self.machine, other.tokens),
+            root: None,
+            chooser: None,
+            choosers: Vec::new(self.alloc),
+        })
+    }
+
+    fn fail(&self, fault: TeamFault) {
+        let fault = match fault {
+            TeamFault::Memory => WorkerFault::Memory,
+            TeamFault::KernelThread => WorkerFault::KernelThread,
+        };
+        self.machine.shared.fail(self.rt, fault);
+    }
 }
 
 /// Has all cores work until they are stopped, each with its chooser. The last chooser is that of core 0.
@@ -67,95 +146,22 @@ where
     requires set_up { IsSetUp C.core_count C.slot_count machine.now }
     ensures { IfSome result (AreIdle C.sits C.idle machine.now) }
 {
-    thread::scope(
-        thread::scope_env(),
+    let mut choosers = choosers;
+    let share = Share {
+        tokens,
+        root: Some(root),
+        chooser: choosers.pop(),
+        choosers,
+    };
+    let workers = Workers::<H, T, C, R, G> {
         rt,
-        |scope| -> Option<Tokens<C::Seat, T::Ticket>>
-            requires { IsSync H.row × AreIdle C.sits C.idle machine.now tokens × IsSetUp C.core_count C.slot_count machine.now }
-            ensures { IfSome result (AreIdle C.sits C.idle machine.entry.now) }
-        {
-            let (mut tokens, mut choosers) = (tokens, choosers);
-            let mut others = Vec::new(alloc);
-            let of: PhantomData<(T, R)> = PhantomData;
-            let own = choosers.pop();
-            for core in 1..machine.cores {
-                let chooser = choosers.pop();
-                let (rest, theirs) = part_off(rt, alloc, machine, tokens, &mut others);
-                tokens = rest;
-                let Some(theirs) = theirs else {
-                    break;
-                };
-                let started = scope.spawn_with(
-                    Returns::to(machine),
-                    move || -> Option<Tokens<C::Seat, T::Ticket>>
-                        requires { AreIdle C.sits C.idle machine.now theirs × IsSetUp C.core_count C.slot_count machine.now × (core < machine.now.cores) }
-                        ensures { IfSome result (AreIdle C.sits C.idle machine.entry.now) }
-                    {
-                        work_on::<H, T, C, R, G>(
-                            rt, alloc, machine, gate, core, chooser, theirs, None, of,
-                        )
-                    },
-                );
-                let Ok(other) = started else {
-                    machine.shared.fail(rt, WorkerFault::KernelThread);
-                    break;
-                };
-                others.push_reserved(other);
-            }
-            let root = Some(root);
-            let own = work_on::<H, T, C, R, G>(rt, alloc, machine, gate, 0, own, tokens, root, of);
-            join_all(rt, machine, own, others)
-        },
-    )
-}
-
-/// The tokens of one worker more, for which there is room among the others then. Where they can't be had that is
-/// recorded.
-fn part_off<H: Wait, C: Seats, K: Tagged + Drop, W>(
-    rt: &H,
-    alloc: Global,
-    machine: &Machine<C, K>,
-    tokens: Tokens<C::Seat, K>,
-    others: &mut Vec<W>,
-) -> (Tokens<C::Seat, K>, Option<Tokens<C::Seat, K>>)
-    requires { AreIdle C.sits C.idle machine.now tokens }
-    ensures own { AreIdle C.sits C.idle machine.now result.0 }
-    ensures theirs { IfSome result.1 (AreIdle C.sits C.idle machine.now) }
-    ensures same { others.new.items ≡ others.old.items }
-    ensures room { IfSome result.1 (λ _. vec_len others.new < vec_capacity others.new) }
-{
-    if others.try_reserve(1).is_err() {
-        machine.shared.fail(rt, WorkerFault::Memory);
-        return (tokens, None);
-    }
-    match tokens.split::<H, C>(rt, alloc, machine) {
-        Ok((own, theirs)) => (own, Some(theirs)),
-        Err(own) => {
-            machine.shared.fail(rt, WorkerFault::Memory);
-            (own, None)
-        }
-    }
-}
-
-/// The tokens of all workers together, once the others have ended, if each gave theirs back.
-fn join_all<H: Threads + Wait, C: Seats, K: Tagged + Drop>(
-    rt: &H,
-    machine: &Machine<C, K>,
-    own: Option<Tokens<C::Seat, K>>,
-    others: Vec<PromisedHandle<Option<Tokens<C::Seat, K>>, Returns<C, K>>>,
-) -> Option<Tokens<C::Seat, K>>
-    requires own { IfSome own (AreIdle C.sits C.idle machine.now) }
-    requires others { All (λ other. other.promise.machine.value ≡ machine.now) others.items }
-    ensures { IfSome result (AreIdle C.sits C.idle machine.now) }
-{
-    let mut all = own;
-    for other in others {
-        all = match (all, other.join(rt)) {
-            (Some(own), Some(theirs)) => Some(own.join::<H, C>(rt, machine, theirs)),
-            (_own, _theirs) => None,
-        };
-    }
-    all
+        alloc,
+        machine,
+        gate,
+        of: PhantomData,
+    };
+    let Share { tokens, .. } = work_together(rt, alloc, &workers, share)?;
+    Some(tokens)
 }
 
 /// Works on one core until all stop, where there is a root from it on. The tokens, unless something is out with them
@@ -169,7 +175,6 @@ fn work_on<H: Wait, T: RunJob, C: Contexts<T>, R: Rng + Drop, G: Gate>(
     chooser: Option<R>,
     tokens: Tokens<C::Seat, T::Ticket>,
     root: Option<T>,
-    _of: PhantomData<(T, R)>,
 ) -> Option<Tokens<C::Seat, T::Ticket>>
     requires tokens { AreIdle C.sits C.idle machine.now tokens }
     requires set_up { IsSetUp C.core_count C.slot_count machine.now }

@@ -1,0 +1,8 @@
+//! A team of kernel threads: each works with a share of what all have together, and gives it back at its end.
+#![tactic(auto)]
+
+mod start;
+mod team;
+
+pub use start::work_together;
+pub use team::{Team, TeamFault};

@@ -1,0 +1,120 @@
+//! The kernel threads of a team side by side.
+ghost use Rattle.std.specs.Prelude.{◌≡◌, ◌<◌, ◌≤◌, All, IfSome, vec_capacity, vec_len};
+ghost use Rattle.std.specs.Thread.{IsSync};
+
+use crate::team::{Team, TeamFault};
+use std::alloc::Global;
+use std::snapshot::Snapshot;
+use std::sync::Wait;
+use std::thread::{self, Promise, PromisedHandle, Threads};
+
+/// The share that a kernel thread gives back is one of this team.
+#[derive(Drop)]
+struct Returns<W> {
+    team: Snapshot<W>,
+}
+
+impl<W> Returns<W> {
+    fn to(team: &W) -> Returns<W>
+        ensures { result.team.value ≡ team.now }
+    {
+        Returns {
+            team: Snapshot::of(team),
+        }
+    }
+}
+
+impl<W: Team> Promise<Option<W::Share>> for Returns<W> {
+    ghost kept_by = { λ promise share. IfSome share (W.has promise.team.value) };
+}
+
+/// Has all kernel threads of a team work, each with a part of this share: this one with number 0, and new ones with the
+/// other numbers. Once all have ended, the share of all together, unless some is lost.
+///
+/// Where memory or a kernel thread is refused the team is told so, and those that have begun work without the others.
+/// The idea is that of a team of threads of OpenMP.
+pub fn work_together<H: Threads + Wait + Sync, W: Team + Sync>(
+    rt: &H,
+    alloc: Global,
+    team: &W,
+    share: W::Share,
+) -> Option<W::Share>
+where
+    W::Share: Send,
+    requires share { W.has team.now share }
+    requires some { 1 ≤ W.size team.now }
+    ensures { IfSome result (W.has team.now) }
+{
+    thread::scope(
+        thread::scope_env(),
+        rt,
+        |scope| -> Option<W::Share>
+            requires { IsSync H.row × W.has team.now share × (1 ≤ W.size team.now) }
+            ensures { IfSome result (W.has team.entry.now) }
+        {
+            let mut share = share;
+            let mut others = Vec::new(alloc);
+            for number in 1..team.size() {
+                let (own, theirs) = part_off(team, share, &mut others);
+                share = own;
+                let Some(theirs) = theirs else {
+                    team.fail(TeamFault::Memory);
+                    break;
+                };
+                let started = scope.spawn_with(
+                    Returns::to(team),
+                    move || -> Option<W::Share>
+                        requires { W.has team.now theirs × (number < W.size team.now) }
+                        ensures { IfSome result (W.has team.entry.now) }
+                    { team.work(number, theirs) },
+                );
+                let Ok(other) = started else {
+                    team.fail(TeamFault::KernelThread);
+                    break;
+                };
+                others.push_reserved(other);
+            }
+            let own = team.work(0, share);
+            join_all(rt, team, own, others)
+        },
+    )
+}
+
+/// The share of one kernel thread more, for which there is room among the others then. None where memory is refused.
+fn part_off<W: Team, O>(
+    team: &W,
+    share: W::Share,
+    others: &mut Vec<O>,
+) -> (W::Share, Option<W::Share>)
+    requires { W.has team.now share }
+    ensures own { W.has team.now result.0 }
+    ensures theirs { IfSome result.1 (W.has team.now) }
+    ensures same { others.new.items ≡ others.old.items }
+    ensures room { IfSome result.1 (λ _. vec_len others.new < vec_capacity others.new) }
+{
+    if others.try_reserve(1).is_err() {
+        return (share, None);
+    }
+    team.part_off(share)
+}
+
+/// The share of all kernel threads together, once the others have ended, if each gave its own back.
+fn join_all<H: Threads + Wait, W: Team>(
+    rt: &H,
+    team: &W,
+    own: Option<W::Share>,
+    others: Vec<PromisedHandle<Option<W::Share>, Returns<W>>>,
+) -> Option<W::Share>
+    requires own { IfSome own (W.has team.now) }
+    requires others { All (λ other. other.promise.team.value ≡ team.now) others.items }
+    ensures { IfSome result (W.has team.now) }
+{
+    let mut all = own;
+    for other in others {
+        all = match (all, other.join(rt)) {
+            (Some(own), Some(theirs)) => team.join(own, theirs),
+            (_own, _theirs) => None,
+        };
+    }
+    all
+}
