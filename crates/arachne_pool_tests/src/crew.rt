@@ -1,21 +1,12 @@
-//! Two kernel threads work for a pool, over a trait of what each does, whatever the table is.
-ghost use Rattle.std.specs.Prelude.{◌≡◌, ◌<◌};
+//! Two kernel threads work for a pool, whatever its table is.
+ghost use Rattle.std.specs.Prelude.{◌≡◌, ◌<◌, IfSome};
 ghost use Rattle.arachne_pool.specs.Workers.{IsWorkerOf};
-ghost use Rattle.arachne_pool_tests.specs.Hands.{IsHandOf};
 
 use crate::tasks::Task;
-use arachne_contexts::Contexts;
+use arachne_contexts::{Contexts, Seats};
 use arachne_pool::{Pool, Spawned, Worker};
-use arachne_words::{WordContexts, WordSeat};
+use arachne_team::{Team, TeamFault};
 use std::sync::Wait;
-use std::thread;
-use std::thread::Threads;
-
-/// The pool's table.
-pub(crate) type Table = WordContexts<Spawned<Task>>;
-
-/// What a kernel thread has of the pool.
-type Hand = Worker<WordSeat<Spawned<Task>>, Task>;
 
 /// How long a kernel thread works.
 #[derive(Clone, Copy)]
@@ -28,118 +19,98 @@ pub(crate) enum Spell {
     Rounds(u32),
 }
 
-/// Two kernel threads work, for core 0 and core 1, so long each.
-pub(crate) fn have_two_work<R: Threads + Wait + Sync>(
-    rt: &R,
-    pool: &Pool<Table>,
-    workers: (Hand, Hand),
-    spells: (Spell, Spell),
-) -> (Hand, Hand)
-    requires first { IsHandOf pool.now.table pool.now.cores workers.0 }
-    requires second { IsHandOf pool.now.table pool.now.cores workers.1 }
-    ensures first { IsHandOf pool.now.table pool.now.cores result.0 }
-    ensures second { IsHandOf pool.now.table pool.now.cores result.1 }
-{
-    let first = Post {
-        pool,
-        worker: workers.0,
-        core: 0,
-        spell: spells.0,
-    };
-    let second = Post {
-        pool,
-        worker: workers.1,
-        core: 1,
-        spell: spells.1,
-    };
-    two(rt, first, second)
-}
-
-/// What a kernel thread does.
-trait Part: Drop {
-    /// What it gives back at its end.
-    type Back: Drop;
-
-    /// It may begin.
-    ghost is_ready: { Self → Type 0 };
-
-    /// It may give this back.
-    ghost gives: { Self → Self.Back → Type 0 };
-
-    fn run<R: Wait>(self, rt: &R) -> Self::Back
-        requires { is_ready self }
-        ensures { gives self result };
-}
-
-/// A kernel thread's worker, its core, which may be none of the pool's, and how long it works.
+/// Two kernel threads, for core 0 and core 1, and how long each works.
 #[derive(Drop)]
-struct Post<'p> {
-    pool: &'p Pool<Table>,
-    worker: Hand,
-    core: u8,
-    spell: Spell,
+pub(crate) struct Crew<'p, C: Seats> {
+    pub(crate) pool: &'p Pool<C>,
+    pub(crate) spells: (Spell, Spell),
 }
 
-impl<'p> Part for Post<'p> {
-    type Back = Hand;
+/// A kernel thread's worker, and with how many kernel threads a job has ended so far.
+#[derive(Drop)]
+pub(crate) struct Share<S> {
+    pub(crate) worker: Worker<S, Task>,
+    pub(crate) busy: usize,
+}
 
-    ghost is_ready = { λ post. IsHandOf post.pool.now.table post.pool.now.cores post.worker };
+impl<'p, C: Contexts<Spawned<Task>>> Team<Share<C::Seat>> for Crew<'p, C> {
+    ghost has = { λ crew share. IsWorkerOf C.sits C.idle crew.pool.now.table crew.pool.now.cores share.worker };
 
-    ghost gives = { λ post worker. IsHandOf post.pool.now.table post.pool.now.cores worker };
+    ghost size = { λ crew. 2 };
 
-    fn run<R: Wait>(self, rt: &R) -> Hand {
-        work::<Table, R>(rt, self.pool, self.worker, self.core, self.spell)
+    fn size(&self) -> u8 {
+        2
+    }
+
+    fn part_off<R: Wait>(
+        &self,
+        rt: &R,
+        share: Share<C::Seat>,
+    ) -> (Share<C::Seat>, Option<Share<C::Seat>>) {
+        let (own, theirs) = self.pool.split(rt, share.worker);
+        let own = Share {
+            worker: own,
+            busy: 0,
+        };
+        let theirs = Share {
+            worker: theirs,
+            busy: 0,
+        };
+        (own, Some(theirs))
+    }
+
+    fn work<R: Wait>(&self, rt: &R, number: u8, share: Share<C::Seat>) -> Option<Share<C::Seat>> {
+        let Share { mut worker, .. } = share;
+        let spell = if number == 0 {
+            self.spells.0
+        } else {
+            self.spells.1
+        };
+        work::<C, R>(rt, self.pool, &mut worker, number, spell);
+        let busy = usize::from(worker.tally().ended > 0);
+        Some(Share { worker, busy })
+    }
+
+    fn join<R: Wait>(
+        &self,
+        rt: &R,
+        share: Share<C::Seat>,
+        other: Share<C::Seat>,
+    ) -> Option<Share<C::Seat>> {
+        let worker = self.pool.join_workers(rt, share.worker, other.worker).ok()?;
+        let busy = share.busy.saturating_add(other.busy);
+        Some(Share { worker, busy })
+    }
+
+    fn fail<R: Wait>(&self, _rt: &R, _fault: TeamFault) {
+        self.pool.stop();
     }
 }
 
-/// Works for a core for so long.
+/// Works for a core, which may be none of the pool's, for so long.
 fn work<C: Contexts<Spawned<Task>>, R: Wait>(
     rt: &R,
     pool: &Pool<C>,
-    worker: Worker<C::Seat, Task>,
+    worker: &mut Worker<C::Seat, Task>,
     core: u8,
     spell: Spell,
-) -> Worker<C::Seat, Task>
-    requires { IsWorkerOf C.sits C.idle pool.now.table pool.now.cores worker }
-    ensures { IsWorkerOf C.sits C.idle pool.now.table pool.now.cores result }
+)
+    requires { IsWorkerOf C.sits C.idle pool.now.table pool.now.cores worker.old }
+    ensures { IsWorkerOf C.sits C.idle pool.now.table pool.now.cores worker.new }
 {
-    let mut worker = worker;
     if core >= pool.cores {
-        return worker;
+        return;
     }
     match spell {
         Spell::Not => {}
         Spell::ToTheEnd => {
-            let _ = pool.work(rt, &mut worker, core);
+            let _ = pool.work(rt, worker, core);
         }
         Spell::Rounds(rounds) => {
             for _ in 0..rounds {
-                let _ = pool.turn(rt, &mut worker, core);
+                let _ = pool.turn(rt, worker, core);
             }
             pool.stop();
         }
     }
-    worker
-}
-
-/// Does two parts, each by a kernel thread.
-fn two<R: Threads + Wait + Sync, T: Part<Back = A> + Send, A: Send + Drop>(
-    rt: &R,
-    first: T,
-    second: T,
-) -> (A, A)
-    requires { T.is_ready first × T.is_ready second }
-    ensures { T.gives first result.0 × T.gives second result.1 }
-{
-    thread::join(
-        rt,
-        move || -> A
-            requires { T.is_ready first }
-            ensures { T.gives first result }
-        { first.run(rt) },
-        move || -> A
-            requires { T.is_ready second }
-            ensures { T.gives second result }
-        { second.run(rt) },
-    )
 }

@@ -3,7 +3,7 @@ ghost use Rattle.std.specs.Prelude.{◌≡◌, ◌<◌, ◌≤◌, IfSome};
 ghost use Rattle.arachne_core.specs.declared.layout.TheConstants.{CORES, SLOTS};
 ghost use Rattle.arachne_pool.specs.Workers.{IsWorkerOf};
 
-use crate::crew::Spell;
+use crate::crew::{Share, Spell};
 use crate::orders::{Order, orders_of};
 use crate::tasks::{Sort, Task};
 use arachne_contexts::Contexts;
@@ -67,15 +67,13 @@ pub(crate) struct Row {
     pub(crate) left: (usize, usize),
 }
 
-/// A row's pool and two workers of it, one of which has done the row's first acts. None where one doesn't come out as
-/// it says.
+/// A row's pool and its worker, which has done the row's first acts. None where one doesn't come out as it says.
 pub(crate) fn begin<C: Contexts<Spawned<Task>> + Drop, R: Wait>(
     rt: &R,
     alloc: Global,
     row: &Row,
-) -> Option<(Pool<C>, (Worker<C::Seat, Task>, Worker<C::Seat, Task>))>
-    ensures first { IfSome result (λ made. IsWorkerOf C.sits C.idle made.0.table made.0.cores made.1.0) }
-    ensures second { IfSome result (λ made. IsWorkerOf C.sits C.idle made.0.table made.0.cores made.1.1) }
+) -> Option<(Pool<C>, Worker<C::Seat, Task>)>
+    ensures { IfSome result (λ made. IsWorkerOf C.sits C.idle made.0.table made.0.cores made.1) }
 {
     let Row { cores, slots, .. } = *row;
     if cores < 1 || cores > CORES || slots < 1 || slots > SLOTS {
@@ -84,30 +82,24 @@ pub(crate) fn begin<C: Contexts<Spawned<Task>> + Drop, R: Wait>(
     let orders = orders_of(alloc, row.orders, cores)?;
     let (pool, worker) = Pool::<C>::new::<Task>(alloc, cores, slots, orders).ok()?;
     let mut worker = worker;
-    if !all_hold::<C, R>(rt, alloc, &pool, &mut worker, row.acts) {
-        return None;
+    if all_hold::<C, R>(rt, alloc, &pool, &mut worker, row.acts) {
+        Some((pool, worker))
+    } else {
+        None
     }
-    let workers = pool.split(rt, worker);
-    Some((pool, workers))
 }
 
-/// Whether both workers have done what the row says, the acts that come last do too, and so many jobs are left.
+/// Whether the acts that come last do too once both kernel threads have worked, and so many jobs are left.
 pub(crate) fn end<C: Contexts<Spawned<Task>> + Drop, R: Wait>(
     rt: &R,
     alloc: Global,
     pool: Pool<C>,
-    workers: (Worker<C::Seat, Task>, Worker<C::Seat, Task>),
+    share: Share<C::Seat>,
     row: &Row,
 ) -> bool
-    requires first { IsWorkerOf C.sits C.idle pool.table pool.cores workers.0 }
-    requires second { IsWorkerOf C.sits C.idle pool.table pool.cores workers.1 }
+    requires { IsWorkerOf C.sits C.idle pool.table pool.cores share.worker }
 {
-    let (worker, other) = workers;
-    let busy = usize::from(worker.tally().ended > 0) + usize::from(other.tally().ended > 0);
-    let Ok(worker) = pool.join_workers(rt, worker, other) else {
-        return false;
-    };
-    let mut worker = worker;
+    let Share { mut worker, busy } = share;
     let all = all_hold::<C, R>(rt, alloc, &pool, &mut worker, row.then);
     let Ok(left) = pool.close(rt, alloc, worker) else {
         return false;

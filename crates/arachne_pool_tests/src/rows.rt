@@ -1,12 +1,18 @@
 //! Rows of acts, over the table on words.
-use crate::crew::{Spell, Table, have_two_work};
+use crate::crew::{Crew, Share, Spell};
 use crate::orders::{GRANT, Order, RELEASE};
 use crate::rounds::{Act, Is, Row, begin, end};
-use crate::tasks::{Joins, LEAF, PARENT, Sort};
+use crate::tasks::{Joins, LEAF, PARENT, Sort, Task};
+use arachne_pool::Spawned;
+use arachne_team::work_together;
+use arachne_words::WordContexts;
 use std::alloc::Global;
 use std::sync::Wait;
 use std::test::Fail;
 use std::thread::Threads;
+
+/// The pool's table.
+type Table = WordContexts<Spawned<Task>>;
 
 /// A job that has a core for itself, the first that is empty.
 const ALONE: Sort = Sort {
@@ -435,11 +441,17 @@ const ROWS: &[Row] = &[
 /// The first row that doesn't come out as it says.
 fn failed_row<R: Threads + Wait + Sync>(rt: &R, alloc: Global) -> Option<&'static str> {
     for row in ROWS {
-        let Some((pool, workers)) = begin::<Table, R>(rt, alloc, row) else {
+        let Some((pool, worker)) = begin::<Table, R>(rt, alloc, row) else {
             return Some(row.shows);
         };
-        let workers = have_two_work(rt, &pool, workers, row.spells);
-        if !end::<Table, R>(rt, alloc, pool, workers, row) {
+        let crew = Crew {
+            pool: &pool,
+            spells: row.spells,
+        };
+        let Some(share) = work_together(rt, alloc, &crew, Share { worker, busy: 0 }) else {
+            return Some(row.shows);
+        };
+        if !end::<Table, R>(rt, alloc, pool, share, row) {
             return Some(row.shows);
         }
     }

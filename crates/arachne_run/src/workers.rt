@@ -10,29 +10,26 @@ use crate::machine::Machine;
 use crate::queue::Agenda;
 use crate::seat::Seat;
 use crate::tokens::Tokens;
-use arachne_contexts::{Contexts, Seats};
+use arachne_contexts::{Contexts, Tagged};
 use arachne_jobs::RunJob;
 use arachne_team::{Team, TeamFault, work_together};
 use rand_core::Rng;
 use std::alloc::Global;
-use std::marker::PhantomData;
 use std::sync::Wait;
 use std::thread::Threads;
 
 /// What the workers of a run have in common.
 #[derive(Drop)]
-struct Workers<'a, H, T: RunJob, C, R, G> {
-    rt: &'a H,
+struct Workers<'a, C, K: Tagged + Drop, G> {
     alloc: Global,
-    machine: &'a Machine<C, T::Ticket>,
+    machine: &'a Machine<C, K>,
     gate: &'a G,
-    of: PhantomData<R>,
 }
 
 /// What one of them begins with, and gives back.
 #[derive(Drop)]
-struct Share<S, K, T, R> {
-    tokens: Tokens<S, K>,
+struct Share<S, T: RunJob, R> {
+    tokens: Tokens<S, T::Ticket>,
     /// The thread that begins here.
     root: Option<T>,
     chooser: Option<R>,
@@ -40,11 +37,8 @@ struct Share<S, K, T, R> {
     choosers: Vec<R>,
 }
 
-impl<'a, H: Wait, T: RunJob, C: Contexts<T>, R: Rng + Drop, G: Gate> Team
-    for Workers<'a, H, T, C, R, G>
-{
-    type Share = Share<C::Seat, T::Ticket, T, R>;
-
+impl<'a, T: RunJob, C: Contexts<T>, R: Rng + Drop, G: Gate> Team<Share<C::Seat, T, R>>
+    for Workers<'a, C, T::Ticket, G> {
     ghost has = { λ workers share. AreIdle C.sits C.idle workers.machine.now share.tokens × IsSetUp C.core_count C.slot_count workers.machine.now };
 
     ghost size = { λ workers. workers.machine.now.cores };
@@ -53,14 +47,18 @@ impl<'a, H: Wait, T: RunJob, C: Contexts<T>, R: Rng + Drop, G: Gate> Team
         self.machine.cores
     }
 
-    fn part_off(&self, share: Self::Share) -> (Self::Share, Option<Self::Share>) {
+    fn part_off<H: Wait>(
+        &self,
+        rt: &H,
+        share: Share<C::Seat, T, R>,
+    ) -> (Share<C::Seat, T, R>, Option<Share<C::Seat, T, R>>) {
         let Share {
             tokens,
             root,
             chooser,
             mut choosers,
         } = share;
-        let (tokens, others) = match tokens.split::<H, C>(self.rt, self.alloc, self.machine) {
+        let (tokens, others) = match tokens.split::<H, C>(rt, self.alloc, self.machine) {
             Ok((own, others)) => (own, Some(others)),
             Err(own) => (own, None),
         };
@@ -82,16 +80,22 @@ impl<'a, H: Wait, T: RunJob, C: Contexts<T>, R: Rng + Drop, G: Gate> Team
         (own, theirs)
     }
 
-    fn work(&self, number: u8, share: Self::Share) -> Option<Self::Share> {
+    fn work<H: Wait>(
+        &self,
+        rt: &H,
+        number: u8,
+        share: Share<C::Seat, T, R>,
+    ) -> Option<Share<C::Seat, T, R>> {
         let Share {
             tokens,
             root,
             chooser,
             choosers,
         } = share;
-        let (rt, alloc, machine, gate) = (self.rt, self.alloc, self.machine, self.gate);
-        let tokens =
-            work_on::<H, T, C, R, G>(rt, alloc, machine, gate, number, chooser, tokens, root)?;
+        let (alloc, machine, gate) = (self.alloc, self.machine, self.gate);
+        let tokens = work_on::<H, T, C, R, G>(
+            rt, alloc, machine, gate, number, chooser, tokens, root,
+        )?;
         Some(Share {
             tokens,
             root: None,
@@ -100,22 +104,27 @@ impl<'a, H: Wait, T: RunJob, C: Contexts<T>, R: Rng + Drop, G: Gate> Team
         })
     }
 
-    fn join(&self, share: Self::Share, other: Self::Share) -> Option<Self::Share> {
+    fn join<H: Wait>(
+        &self,
+        rt: &H,
+        share: Share<C::Seat, T, R>,
+        other: Share<C::Seat, T, R>,
+    ) -> Option<Share<C::Seat, T, R>> {
         let Share { tokens, .. } = share;
         Some(Share {
-            tokens: tokens.join::<H, C>(self.rt, self.machine, other.tokens),
+            tokens: tokens.join::<H, C>(rt, self.machine, other.tokens),
             root: None,
             chooser: None,
             choosers: Vec::new(self.alloc),
         })
     }
 
-    fn fail(&self, fault: TeamFault) {
+    fn fail<H: Wait>(&self, rt: &H, fault: TeamFault) {
         let fault = match fault {
             TeamFault::Memory => WorkerFault::Memory,
             TeamFault::KernelThread => WorkerFault::KernelThread,
         };
-        self.machine.shared.fail(self.rt, fault);
+        self.machine.shared.fail(rt, fault);
     }
 }
 
@@ -153,12 +162,10 @@ where
         chooser: choosers.pop(),
         choosers,
     };
-    let workers = Workers::<H, T, C, R, G> {
-        rt,
+    let workers = Workers {
         alloc,
         machine,
         gate,
-        of: PhantomData,
     };
     let Share { tokens, .. } = work_together(rt, alloc, &workers, share)?;
     Some(tokens)

@@ -24,7 +24,7 @@ impl<W> Returns<W> {
     }
 }
 
-impl<W: Team> Promise<Option<W::Share>> for Returns<W> {
+impl<S, W: Team<S>> Promise<Option<S>> for Returns<W> {
     ghost kept_by = { λ promise share. IfSome share (W.has promise.team.value) };
 }
 
@@ -33,14 +33,12 @@ impl<W: Team> Promise<Option<W::Share>> for Returns<W> {
 ///
 /// Where memory or a kernel thread is refused the team is told so, and those that have begun work without the others.
 /// The idea is that of a team of threads of OpenMP.
-pub fn work_together<H: Threads + Wait + Sync, W: Team + Sync>(
+pub fn work_together<H: Threads + Wait + Sync, S: Drop + Send, W: Team<S> + Sync>(
     rt: &H,
     alloc: Global,
     team: &W,
-    share: W::Share,
-) -> Option<W::Share>
-where
-    W::Share: Send,
+    share: S,
+) -> Option<S>
     requires share { W.has team.now share }
     requires some { 1 ≤ W.size team.now }
     ensures { IfSome result (W.has team.now) }
@@ -48,44 +46,45 @@ where
     thread::scope(
         thread::scope_env(),
         rt,
-        |scope| -> Option<W::Share>
+        |scope| -> Option<S>
             requires { IsSync H.row × W.has team.now share × (1 ≤ W.size team.now) }
             ensures { IfSome result (W.has team.entry.now) }
         {
             let mut share = share;
             let mut others = Vec::new(alloc);
             for number in 1..team.size() {
-                let (own, theirs) = part_off(team, share, &mut others);
+                let (own, theirs) = part_off(rt, team, share, &mut others);
                 share = own;
                 let Some(theirs) = theirs else {
-                    team.fail(TeamFault::Memory);
+                    team.fail(rt, TeamFault::Memory);
                     break;
                 };
                 let started = scope.spawn_with(
                     Returns::to(team),
-                    move || -> Option<W::Share>
+                    move || -> Option<S>
                         requires { W.has team.now theirs × (number < W.size team.now) }
                         ensures { IfSome result (W.has team.entry.now) }
-                    { team.work(number, theirs) },
+                    { team.work(rt, number, theirs) },
                 );
                 let Ok(other) = started else {
-                    team.fail(TeamFault::KernelThread);
+                    team.fail(rt, TeamFault::KernelThread);
                     break;
                 };
                 others.push_reserved(other);
             }
-            let own = team.work(0, share);
+            let own = team.work(rt, 0, share);
             join_all(rt, team, own, others)
         },
     )
 }
 
 /// The share of one kernel thread more, for which there is room among the others then. None where memory is refused.
-fn part_off<W: Team, O>(
+fn part_off<H: Wait, S, W: Team<S>, O>(
+    rt: &H,
     team: &W,
-    share: W::Share,
+    share: S,
     others: &mut Vec<O>,
-) -> (W::Share, Option<W::Share>)
+) -> (S, Option<S>)
     requires { W.has team.now share }
     ensures own { W.has team.now result.0 }
     ensures theirs { IfSome result.1 (W.has team.now) }
@@ -95,16 +94,16 @@ fn part_off<W: Team, O>(
     if others.try_reserve(1).is_err() {
         return (share, None);
     }
-    team.part_off(share)
+    team.part_off(rt, share)
 }
 
 /// The share of all kernel threads together, once the others have ended, if each gave its own back.
-fn join_all<H: Threads + Wait, W: Team>(
+fn join_all<H: Threads + Wait, S: Drop, W: Team<S>>(
     rt: &H,
     team: &W,
-    own: Option<W::Share>,
-    others: Vec<PromisedHandle<Option<W::Share>, Returns<W>>>,
-) -> Option<W::Share>
+    own: Option<S>,
+    others: Vec<PromisedHandle<Option<S>, Returns<W>>>,
+) -> Option<S>
     requires own { IfSome own (W.has team.now) }
     requires others { All (λ other. other.promise.team.value ≡ team.now) others.items }
     ensures { IfSome result (W.has team.now) }
@@ -112,7 +111,7 @@ fn join_all<H: Threads + Wait, W: Team>(
     let mut all = own;
     for other in others {
         all = match (all, other.join(rt)) {
-            (Some(own), Some(theirs)) => team.join(own, theirs),
+            (Some(own), Some(theirs)) => team.join(rt, own, theirs),
             (_own, _theirs) => None,
         };
     }

@@ -1,128 +1,134 @@
-//! The kernel threads of the server, over the form of table that it has.
+//! The kernel threads of the server: one sends the requests, and each of the others serves on a core.
 ghost use Rattle.std.specs.Prelude.{◌≡◌, ◌+◌, ◌<◌, IfSome, length, vec_len};
-ghost use Rattle.example_server.specs.Hands.{IsHandOf};
+ghost use Rattle.arachne_pool.specs.Workers.{IsWorkerOf};
 
 use crate::job::Request;
 use crate::keeper::Keeper;
 use crate::report::Report;
 use crate::requests::Due;
-use crate::send::{Done, send};
+use crate::send::send;
 use crate::serve::{Server, serve};
-use crate::task::{Task, five};
 use arachne_pool::{Spawned, Worker};
-use arachne_table::{WordContexts, WordSeat};
+use arachne_table::{Contexts, Seats};
+use arachne_team::{Team, TeamFault};
 use std::alloc::Global;
-use std::rt::Clock;
 use std::sync::Wait;
-use std::thread::Threads;
 
-/// Two pairs.
-pub type Four<W> = ((W, W), (W, W));
-
-/// What the sender has beside its worker.
+/// What the kernel threads have in common. The first one is the sender, and there is one for each of the server's cores.
 #[derive(Drop)]
-pub struct Sending<'r> {
+pub struct Crew<'s, C: Seats> {
     pub alloc: Global,
-    pub keeper: Keeper,
-    pub requests: &'r [Due],
-    pub report: Report,
+    pub server: &'s Server<C>,
+    pub requests: &'s [Due],
     pub template: Request,
 }
 
-/// The pool's table.
-pub type Table = WordContexts<Spawned<Request>>;
-
-/// What a kernel thread has of the pool.
-type Hand = Worker<WordSeat<Spawned<Request>>, Request>;
-
-/// Four serve on cores, and one sends the requests, until all are answered. The four workers, and what the sender has.
-pub fn have_all_work<R: Threads + Wait + Clock + Sync>(
-    rt: &R,
-    server: &Server<Table>,
-    workers: Four<Hand>,
-    worker: Hand,
-    sending: Sending<'_>,
-) -> (Four<Option<Hand>>, Option<Done<Hand>>)
-    requires first { IsHandOf server.now.pool.table server.now.pool.cores workers.0.0 }
-    requires second { IsHandOf server.now.pool.table server.now.pool.cores workers.0.1 }
-    requires third { IsHandOf server.now.pool.table server.now.pool.cores workers.1.0 }
-    requires fourth { IsHandOf server.now.pool.table server.now.pool.cores workers.1.1 }
-    requires worker { IsHandOf server.now.pool.table server.now.pool.cores worker }
-    requires cores { sending.keeper.most + 1 ≡ server.now.pool.cores }
-    requires none { vec_len sending.report.answers ≡ 0 }
-    ensures first { IfSome result.0.0.0 (IsHandOf server.now.pool.table server.now.pool.cores) }
-    ensures second { IfSome result.0.0.1 (IsHandOf server.now.pool.table server.now.pool.cores) }
-    ensures third { IfSome result.0.1.0 (IsHandOf server.now.pool.table server.now.pool.cores) }
-    ensures fourth { IfSome result.0.1.1 (IsHandOf server.now.pool.table server.now.pool.cores) }
-    ensures worker { IfSome result.1 (λ done. IsHandOf server.now.pool.table server.now.pool.cores done.worker) }
-    ensures all { IfSome result.1 (λ done. vec_len done.report.answers ≡ length sending.entry.requests.now) }
-{
-    let ((first, second), (third, fourth)) = workers;
-    let sender = Sender {
-        server,
-        worker,
-        sending,
-    };
-    let ((first, second), ((third, fourth), done)) = five(
-        rt,
-        at_core(server, first, 0),
-        at_core(server, second, 1),
-        at_core(server, third, 2),
-        at_core(server, fourth, 3),
-        sender,
-    );
-    (((first, second), (third, fourth)), done)
-}
-
-/// The kernel thread of a core, which may be none of the server's.
+/// What the sender keeps.
 #[derive(Drop)]
-struct Post<'s> {
-    server: &'s Server<Table>,
-    worker: Hand,
-    core: u8,
+pub struct Books {
+    pub keeper: Keeper,
+    pub report: Report,
 }
 
-impl<'s> Task for Post<'s> {
-    type Back = Option<Hand>;
-
-    ghost is_ready = { λ post. IsHandOf post.server.now.pool.table post.server.now.pool.cores post.worker };
-
-    ghost gives = { λ post back. IfSome back (IsHandOf post.server.now.pool.table post.server.now.pool.cores) };
-
-    fn run<R: Wait + Clock>(self, rt: &R) -> Option<Hand> {
-        serve::<R, Request, Table>(rt, self.server, self.worker, self.core)
-    }
-}
-
-fn at_core(server: &Server<Table>, worker: Hand, core: u8) -> Post<'_>
-    ensures server { result.server.now ≡ server.now }
-    ensures worker { result.worker ≡ worker }
-{
-    Post {
-        server,
-        worker,
-        core,
-    }
-}
-
-/// The kernel thread that sends the requests.
+/// What a kernel thread has: its worker, and the sender its books, before it begins and once all requests are answered.
 #[derive(Drop)]
-struct Sender<'s, 'r> {
-    server: &'s Server<Table>,
-    worker: Hand,
-    sending: Sending<'r>,
+pub struct Share<S> {
+    pub worker: Worker<S, Request>,
+    pub begun: Option<Books>,
+    pub done: Option<Books>,
 }
 
-impl<'s, 'r> Task for Sender<'s, 'r> {
-    type Back = Option<Done<Hand>>;
+impl<'s, C: Contexts<Spawned<Request>>> Team<Share<C::Seat>> for Crew<'s, C> {
+    ghost has = { λ crew share. IsWorkerOf C.sits C.idle crew.server.now.pool.table crew.server.now.pool.cores share.worker
+        × IfSome share.begun (λ books. (books.keeper.most + 1 ≡ crew.server.now.pool.cores) × (vec_len books.report.answers ≡ 0))
+        × IfSome share.done (λ books. vec_len books.report.answers ≡ length crew.requests.now) };
 
-    ghost is_ready = { λ s. IsHandOf s.server.now.pool.table s.server.now.pool.cores s.worker
-        × (s.sending.keeper.most + 1 ≡ s.server.now.pool.cores) × (vec_len s.sending.report.answers ≡ 0) };
+    ghost size = { λ crew. crew.server.now.pool.cores };
 
-    ghost gives = { λ s back. IfSome back (λ done. IsHandOf s.server.now.pool.table s.server.now.pool.cores done.worker
-        × (vec_len done.report.answers ≡ length s.sending.requests.now)) };
+    fn size(&self) -> u8 {
+        self.server.pool.cores
+    }
 
-    fn run<R: Wait + Clock>(self, rt: &R) -> Option<Done<Hand>> {
-        send::<R, Table>(rt, self.server, self.worker, self.sending)
+    fn part_off<R: Wait>(
+        &self,
+        rt: &R,
+        share: Share<C::Seat>,
+    ) -> (Share<C::Seat>, Option<Share<C::Seat>>) {
+        let Share {
+            worker,
+            begun,
+            done,
+        } = share;
+        let (worker, theirs) = self.server.pool.split(rt, worker);
+        let theirs = Share {
+            worker: theirs,
+            begun: None,
+            done: None,
+        };
+        let own = Share {
+            worker,
+            begun,
+            done,
+        };
+        (own, Some(theirs))
+    }
+
+    fn work<R: Wait>(&self, rt: &R, number: u8, share: Share<C::Seat>) -> Option<Share<C::Seat>> {
+        let Share {
+            worker,
+            begun,
+            done,
+        } = share;
+        let (worker, done) = match begun {
+            None => (
+                serve::<R, Request, C>(rt, self.server, worker, number.saturating_sub(1))?,
+                done,
+            ),
+            Some(books) => {
+                let (alloc, requests) = (self.alloc, self.requests);
+                let (worker, books) = send::<R, C>(
+                    rt,
+                    alloc,
+                    self.server,
+                    worker,
+                    requests,
+                    self.template,
+                    books,
+                )?;
+                (worker, Some(books))
+            }
+        };
+        Some(Share {
+            worker,
+            begun: None,
+            done,
+        })
+    }
+
+    fn join<R: Wait>(
+        &self,
+        rt: &R,
+        share: Share<C::Seat>,
+        other: Share<C::Seat>,
+    ) -> Option<Share<C::Seat>> {
+        let Share {
+            worker,
+            begun,
+            done,
+        } = share;
+        let worker = self
+            .server
+            .pool
+            .join_workers(rt, worker, other.worker)
+            .ok()?;
+        Some(Share {
+            worker,
+            begun,
+            done,
+        })
+    }
+
+    fn fail<R: Wait>(&self, _rt: &R, _fault: TeamFault) {
+        self.server.end();
     }
 }

@@ -14,9 +14,9 @@ mod send;
 mod serve;
 mod start;
 mod station;
-mod task;
 
 use anyhow::{Result, bail};
+use crew::Books;
 use job::Request;
 use keeper::Keeper;
 use requests::{Class, Due, requests};
@@ -56,7 +56,11 @@ fn main(rt: HostRuntime) -> Result<()> {
         work: 0,
         class: Class::Normal,
     };
-    let (report, keeper) = run(&rt, rt.alloc(), list.as_slice(), keeper, template)?;
+    let done = run(&rt, rt.alloc(), list.as_slice(), keeper, template);
+    let Books { keeper, report } = match done {
+        Ok(books) => books,
+        Err(why) => bail!("{why}"),
+    };
     print::all(
         &rt,
         rt.alloc(),

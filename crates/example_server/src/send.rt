@@ -3,7 +3,7 @@ ghost use Rattle.std.specs.Prelude.{◌≡◌, ◌+◌, IfSome, OnSome, length, 
 ghost use Rattle.std.specs.VecDeque.{deque_len};
 ghost use Rattle.arachne_pool.specs.Workers.{IsWorkerOf};
 
-use crate::crew::Sending;
+use crate::crew::Books;
 use crate::job::{Request, now};
 use crate::keeper::Keeper;
 use crate::report::{Answered, Report};
@@ -11,8 +11,8 @@ use crate::requests::Due;
 use crate::serve::Server;
 use arachne_pool::{Handle, Spawned, Worker};
 use arachne_table::Contexts;
+use std::alloc::Global;
 use std::collections::VecDeque;
-use std::rt::Clock;
 use std::sync::Wait;
 
 /// A request that was sent and not answered.
@@ -25,59 +25,45 @@ struct Sent {
     ghost work_right: { handle.work ≡ due.work },
 }
 
-/// What there is once all requests are answered.
-#[derive(Drop)]
-pub struct Done<W> {
-    pub worker: W,
-    pub keeper: Keeper,
-    pub report: Report,
-}
-
 /// Sends each request once its time has come and a place may be free, and takes the answers. Then the server is over.
-pub fn send<R: Clock + Wait, C: Contexts<Spawned<Request>>>(
+/// None where memory is refused.
+pub fn send<R: Wait, C: Contexts<Spawned<Request>>>(
     rt: &R,
+    alloc: Global,
     server: &Server<C>,
     worker: Worker<C::Seat, Request>,
-    sending: Sending<'_>,
-) -> Option<Done<Worker<C::Seat, Request>>>
+    requests: &[Due],
+    template: Request,
+    books: Books,
+) -> Option<(Worker<C::Seat, Request>, Books)>
     requires worker { IsWorkerOf C.sits C.idle server.now.pool.table server.now.pool.cores worker }
-    requires cores { sending.keeper.most + 1 ≡ server.now.pool.cores }
-    requires none { vec_len sending.report.answers ≡ 0 }
-    ensures worker { IfSome result (λ done. IsWorkerOf C.sits C.idle server.now.pool.table server.now.pool.cores done.worker) }
-    ensures all { IfSome result (λ done. vec_len done.report.answers ≡ length sending.entry.requests.now) }
+    requires cores { books.keeper.most + 1 ≡ server.now.pool.cores }
+    requires none { vec_len books.report.answers ≡ 0 }
+    ensures worker { IfSome result (λ done. IsWorkerOf C.sits C.idle server.now.pool.table server.now.pool.cores done.0) }
+    ensures all { IfSome result (λ done. vec_len done.1.report.answers ≡ length requests.now) }
 {
-    let Sending {
-        alloc,
-        mut keeper,
-        requests,
-        mut report,
-        template,
-    } = sending;
-    let mut worker = worker;
+    let (mut worker, mut books) = (worker, books);
     let mut sent: VecDeque<Sent> = VecDeque::new(alloc);
+    let Books { keeper, report } = &mut books;
     let done = send_all::<R, C>(
         rt,
         server,
         &mut worker,
-        &mut keeper,
+        keeper,
         requests,
-        &mut report,
+        report,
         template,
         &mut sent,
     );
     server.end();
     match done {
-        Some(()) => Some(Done {
-            worker,
-            keeper,
-            report,
-        }),
+        Some(()) => Some((worker, books)),
         None => None,
     }
 }
 
-/// The same until all are answered. None where memory is refused.
-fn send_all<R: Clock + Wait, C: Contexts<Spawned<Request>>>(
+/// The same until all are answered. None where memory is refused, or the server is over before.
+fn send_all<R: Wait, C: Contexts<Spawned<Request>>>(
     rt: &R,
     server: &Server<C>,
     worker: &mut Worker<C::Seat, Request>,
@@ -93,10 +79,10 @@ fn send_all<R: Clock + Wait, C: Contexts<Spawned<Request>>>(
     ensures worker { IsWorkerOf C.sits C.idle server.now.pool.table server.now.pool.cores worker.new }
     ensures all { OnSome result (vec_len report.new.answers ≡ length requests.now) }
 {
-    let begin = now(rt);
+    let begin = now(&server.clock);
     let mut next: usize = 0;
     for _ in rt.forever() {
-        let at = now(rt).saturating_sub(begin);
+        let at = now(&server.clock).saturating_sub(begin);
         if let Some(due) = requests.get(next)
             && due.at <= at
             && keeper.has_room(server.pool.live())
@@ -116,6 +102,9 @@ fn send_all<R: Clock + Wait, C: Contexts<Spawned<Request>>>(
             next += 1;
             continue;
         }
+        if server.is_over() {
+            return None;
+        }
         server.pool.turn(rt, worker, keeper.most).ok()?;
         keep_cores(rt, server, worker, keeper, at)?;
         if !take_answer(sent, begin, report)? && next == requests.len() && sent.is_empty() {
@@ -127,7 +116,7 @@ fn send_all<R: Clock + Wait, C: Contexts<Spawned<Request>>>(
 }
 
 /// Looks at the load, and orders a core or gives one back where that is due.
-fn keep_cores<R: Clock + Wait, C: Contexts<Spawned<Request>>>(
+fn keep_cores<R: Wait, C: Contexts<Spawned<Request>>>(
     rt: &R,
     server: &Server<C>,
     worker: &mut Worker<C::Seat, Request>,

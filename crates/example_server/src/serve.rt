@@ -6,7 +6,6 @@ use crate::job::now;
 use crate::station::Station;
 use arachne_pool::{Pool, PoolJob, Spawned, Worker};
 use arachne_table::{Contexts, Seats};
-use std::rt::Clock;
 use std::sync::Wait;
 use std::sync::atomic::{AtomicU64, Ordering};
 use std::thread;
@@ -16,22 +15,25 @@ use std::thread;
 pub struct Server<C: Seats> {
     pub pool: Pool<C>,
     pub stations: Vec<Station>,
+    pub clock: HostRuntime,
     /// 1 once all requests are answered.
     over: AtomicU64,
 }
 
 impl<C: Seats> Server<C> {
-    pub fn new(pool: Pool<C>, stations: Vec<Station>) -> Server<C>
+    pub fn new(pool: Pool<C>, stations: Vec<Station>, clock: HostRuntime) -> Server<C>
         ensures { result.pool ≡ pool }
     {
         Server {
             pool,
             stations,
+            clock,
             over: AtomicU64::new(0),
         }
     }
 
-    fn is_over(&self) -> bool {
+    /// Whether all kernel threads are to end.
+    pub fn is_over(&self) -> bool {
         self.over.load(Ordering::SeqCst) == 1
     }
 
@@ -44,9 +46,9 @@ impl<C: Seats> Server<C> {
     }
 }
 
-/// Serves on a core until the server is over. It spins while the server has the core, and sleeps while it has not. At
-/// once over for a core that is none of the server's.
-pub fn serve<R: Clock + Wait, J: PoolJob, C: Contexts<Spawned<J>>>(
+/// Serves as the kernel thread of this number until the server is over. It spins while the server has its core, and
+/// sleeps while it has not. At once over for a core that is none of the server's.
+pub fn serve<R: Wait, J: PoolJob, C: Contexts<Spawned<J>>>(
     rt: &R,
     server: &Server<C>,
     mut worker: Worker<C::Seat, J>,
@@ -61,13 +63,13 @@ pub fn serve<R: Clock + Wait, J: PoolJob, C: Contexts<Spawned<J>>>(
     if core >= server.pool.cores {
         return Some(worker);
     }
-    let mut before = now(rt);
+    let mut before = now(&server.clock);
     for _ in rt.forever() {
         if server.is_over() {
             return Some(worker);
         }
         let found = server.pool.turn(rt, &mut worker, core).ok()?;
-        let after = now(rt);
+        let after = now(&server.clock);
         if found {
             station.add_busy(after.saturating_sub(before));
         } else if station.is_held() {
