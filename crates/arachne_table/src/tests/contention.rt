@@ -11,7 +11,8 @@ use std::test::Fail;
 use std::thread;
 use std::thread::Threads;
 
-const ROUNDS: u64 = 10_000;
+/// How many threads each kernel thread posts.
+const THREADS: u64 = 10_000;
 
 /// What a thread has done: its seat, twice the tag of each thread that it has posted, twice the tag and 1 of each that
 /// it has ended, and how many it has posted and moved.
@@ -23,23 +24,18 @@ struct Work<S> {
     moved: u64,
 }
 
-/// How many threads were posted and have ended or are left, once each, or none if there is one that wasn't; how many
-/// each of two kernel threads has posted, and how many were moved.
+/// How many threads were posted and have ended or are left, once each, or none if there is one that wasn't; and how
+/// many were moved.
 #[derive(Clone, Copy)]
 struct Outcome {
     settled: Option<usize>,
-    posted: (u64, u64),
     moved: u64,
 }
 
 impl Outcome {
-    /// Both kernel threads have posted threads, and each that they have counted is settled.
+    /// Each thread of both kernel threads is settled.
     fn is_settled(&self) -> bool {
-        let (first, second) = self.posted;
-        let Some(settled) = self.settled else {
-            return false;
-        };
-        first > 0 && second > 0 && settled as u64 == first.wrapping_add(second)
+        self.settled == Some(2 * THREADS as usize)
     }
 }
 
@@ -151,7 +147,7 @@ fn move_away<C: Contexts<Job>, R: Wait>(rt: &R, table: &C, work: &mut Work<C::Se
     moved
 }
 
-/// All rounds of a kernel thread. None where memory is refused.
+/// Rounds of a kernel thread until it has posted all of its threads. None where memory is refused.
 fn all_rounds<C: Contexts<Job>, R: Wait>(
     rt: &R,
     table: &C,
@@ -170,8 +166,11 @@ fn all_rounds<C: Contexts<Job>, R: Wait>(
         posted: 0,
         moved: 0,
     };
-    for round in 0..ROUNDS {
-        let tag = part.first_tag.wrapping_add(round);
+    for _ in rt.forever() {
+        if work.posted == THREADS {
+            return Some(work);
+        }
+        let tag = part.first_tag.wrapping_add(work.posted);
         post(rt, table, &mut work, part.cores - 1, tag)?;
         if part.moves && part.cores > 1 {
             work.moved = work.moved.wrapping_add(move_away(rt, table, &mut work));
@@ -180,7 +179,7 @@ fn all_rounds<C: Contexts<Job>, R: Wait>(
             end_all(rt, table, &mut work, core)?;
         }
     }
-    Some(work)
+    unreachable!()
 }
 
 /// The work of two kernel threads, each with a seat of its own.
@@ -277,17 +276,15 @@ fn contend<R: Threads + Wait + Sync>(
         cores,
         moves,
         from: u8::from(moves),
-        first_tag: ROUNDS,
+        first_tag: THREADS,
     };
     let (table, seat) = Words::new(alloc, cores, SLOTS, 0)?;
     let works = work_side_by_side(rt, &table, alloc, seat, own, their);
     let (first, second) = works.ok_or("no memory")?;
-    let posted = (first.posted, second.posted);
     let moved = first.moved.wrapping_add(second.moved);
     let left = left(alloc, table, first.seat, second.seat).ok_or("not closed")?;
     Ok(Outcome {
         settled: settled(first.log, second.log, left)?,
-        posted,
         moved,
     })
 }
