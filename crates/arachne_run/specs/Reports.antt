@@ -1,8 +1,15 @@
 -- What a report says.
-use Rattle.std.specs.Prelude.{ℕ, List, map}
+use Rattle.std.specs.Prelude.{◌≡◌, ◌≤◌, ℕ, List, All, length, map}
+use Rattle.arachne_lang.specs.Meaning.{meaning_of}
+use Rattle.arachne_lang.specs.Program.{source_of}
 use Rattle.arachne_lang.specs.declared.meaning.Meaning.{Meaning}
+use Rattle.arachne_lang.specs.declared.program.Program.{Program}
 use Rattle.arachne_machine.specs.Outcome.{named_holds}
+use Rattle.arachne_sleep.specs.History.{IsSound}
+use Rattle.arachne_sleep.specs.OneHolder.{HasOneHolderAtATime}
 use Rattle.arachne_sleep.specs.declared.event.LockEvent.{LockEvent}
+use Rattle.arachne_run.specs.Distinct.{AreDistinct}
+use Rattle.arachne_run.specs.Histories.{GrantsAreHolds}
 use Rattle.arachne_run.specs.declared.report.Report.{Report}
 
 -- the value and totals, and the names and holds of the threads
@@ -16,3 +23,14 @@ tags_of report = map (λ line. line.tag) report.threads
 -- the history of each lock
 abbrev pub histories_in : Report → List (List LockEvent)
 histories_in report = map (λ history. history.items) report.histories.items
+
+-- It is a report of this program, where there were so many orders: what the program means on one thread; its threads,
+-- each once; and for each lock a lawful history with one holder at a time, whose grants are the holds of the threads.
+pub record IsReportOf (program : Program) (orders : ℕ) (report : Report) : Type 0 where
+  pub meaning : meaning_in report ≡ meaning_of (source_of program)
+  pub tags : AreDistinct (tags_of report)
+  pub histories : length (histories_in report) ≡ program.locks
+  pub sound : All IsSound (histories_in report)
+  pub one_holder : All HasOneHolderAtATime (histories_in report)
+  pub grants : GrantsAreHolds report.threads (histories_in report)
+  pub applied : report.applied ≤ orders

@@ -1,14 +1,9 @@
 //! A run of a program.
-ghost use Rattle.std.specs.Prelude.{◌≡◌, ◌≤◌, [], true, All, IfErr, IfOk, IsOk, None, Some, Err, length, vec_len};
+ghost use Rattle.std.specs.Prelude.{◌≡◌, true, IfErr, IfOk, IsOk, None, Some, Err, length, vec_len};
 ghost use Rattle.arachne_lang.specs.Program.{source_of};
-ghost use Rattle.arachne_lang.specs.Meaning.{meaning_of};
 ghost use Rattle.arachne_lang.specs.Checked.{IsChecked};
 ghost use Rattle.arachne_policy.specs.Orders.{AreInOrder};
-ghost use Rattle.arachne_sleep.specs.History.{IsSound};
-ghost use Rattle.arachne_sleep.specs.OneHolder.{HasOneHolderAtATime};
-ghost use Rattle.arachne_run.specs.Distinct.{AreDistinct};
-ghost use Rattle.arachne_run.specs.Histories.{GrantsAreHolds};
-ghost use Rattle.arachne_run.specs.Reports.{histories_in, meaning_in, tags_of};
+ghost use Rattle.arachne_run.specs.Reports.{IsReportOf};
 ghost use Rattle.arachne_run.specs.Setups.{IsFirstOrderFault, IsSetupFault, is_of_setup, refusal_of};
 ghost use Rattle.arachne_run.specs.declared.fault.RunFault.{RunFault};
 
@@ -54,13 +49,7 @@ where
     C::Hold: Send,
     C::Seat: Send,
     requires { IsChecked (source_of program.now) }
-    ensures meaning { IfOk result (λ report. meaning_in report ≡ meaning_of (source_of program.now)) }
-    ensures tags { IfOk result (λ report. AreDistinct (tags_of report)) }
-    ensures histories { IfOk result (λ report. length (histories_in report) ≡ program.now.locks) }
-    ensures sound { IfOk result (λ report. All IsSound (histories_in report)) }
-    ensures one_holder { IfOk result (λ report. All HasOneHolderAtATime (histories_in report)) }
-    ensures grants { IfOk result (λ report. GrantsAreHolds report.threads (histories_in report)) }
-    ensures applied { IfOk result (λ report. report.applied ≤ length setup.orders.items) }
+    ensures report { IfOk result (IsReportOf program.now (length setup.orders.items)) }
     ensures refused { (fault : RunFault) → refusal_of setup.cores setup.quantum setup.slots (vec_len choosers) ≡ Some fault → result ≡ Err fault }
     ensures of_setup { IfErr result (λ fault. is_of_setup fault ≡ true → IsSetupFault setup.cores setup.quantum setup.slots (vec_len choosers) setup.orders.items fault) }
     ensures in_order { IsOk result → AreInOrder setup.cores setup.orders.items }

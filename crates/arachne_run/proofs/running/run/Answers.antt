@@ -1,16 +1,21 @@
-use Rattle.std.proofs.Common.{All, subst, sym}
+use Rattle.std.proofs.Common.{rules, ◌≤◌, All, ap, length, subst, sym, ◌∙◌}
 use Rattle.std.proofs.lemmas.List.Elements.{All-map}
+use Rattle.std.proofs.lemmas.List.{length-map}
 use Rattle.arachne_sleep.specs.History.{IsSound}
 use Rattle.arachne_sleep.specs.OneHolder.{HasOneHolderAtATime}
 use Rattle.arachne_run.proofs.running.run.Goals as goal
 
 -- the report's histories are those that the locks were closed with
-pub returns-clause-sound : goal.returns-clause-sound
-returns-clause-sound g c =
-    All-map IsSound (λ history. history.items) c.in_ok-report.report.histories.items
-    (subst (λ histories. All (λ history. IsSound history.items) histories.items) (sym c.in_ok-report.ensures.histories) c.in_ok-remains.ensures.sound)
-
-pub returns-clause-one_holder : goal.returns-clause-one_holder
-returns-clause-one_holder g c =
-    All-map HasOneHolderAtATime (λ history. history.items) c.in_ok-report.report.histories.items
-    (subst (λ histories. All (λ history. HasOneHolderAtATime history.items) histories.items) (sym c.in_ok-report.ensures.histories) c.in_ok-remains.ensures.one_holder)
+pub returns-clause-report : goal.returns-clause-report
+returns-clause-report g c = record {
+  meaning = search rules;
+  tags = search rules;
+  histories = length-map c.in_ok-report.report.histories.items (λ history. history.items)
+      ∙ ap (λ histories. length histories.items) c.in_ok-report.ensures.histories ∙ c.in_ok-remains.ensures.histories ∙ c.in_ok-machine.ensures.locks;
+  sound = All-map IsSound (λ history. history.items) c.in_ok-report.report.histories.items
+      (subst (λ histories. All (λ history. IsSound history.items) histories.items) (sym c.in_ok-report.ensures.histories) c.in_ok-remains.ensures.sound);
+  one_holder = All-map HasOneHolderAtATime (λ history. history.items) c.in_ok-report.report.histories.items
+      (subst (λ histories. All (λ history. HasOneHolderAtATime history.items) histories.items) (sym c.in_ok-report.ensures.histories) c.in_ok-remains.ensures.one_holder);
+  grants = search rules;
+  applied = subst (λ applied. applied ≤ length c.args.setup.orders.items) (sym c.in_ok-report.ensures.applied) (subst (λ orders. c.in_ok-remains.applied ≤ orders) c.in_ok-machine.ensures.orders c.in_ok-remains.ensures.applied);
+}
