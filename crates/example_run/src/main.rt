@@ -10,8 +10,8 @@ ghost use Rattle.arachne_lang.specs.Tree.{Source};
 ghost use Rattle.arachne_run.specs.Reports.{histories_in, meaning_in};
 ghost use Rattle.arachne_sleep.specs.OneHolder.{HasOneHolderAtATime};
 
-use anyhow::Result;
-use arachne_lang::{CheckFault, Program, TextFault, check, parse};
+use anyhow::{Result, bail};
+use arachne_lang::{Program, check, parse};
 use arachne_run::{Job, OpenGate, Report, RunFault, Setup, run};
 use arachne_words::WordContexts;
 use rand_core::SeedableRng;
@@ -19,7 +19,6 @@ use rand_xoshiro::Xoshiro256PlusPlus;
 use std::alloc::{AllocError, Global};
 use std::sync::Wait;
 use std::thread::Threads;
-use thiserror::Error;
 
 /// Two threads hold lock 0 in turn, and add to ledger 0.
 const TEXT: &str = "arachne 1
@@ -27,17 +26,6 @@ ledgers 1
 locks 1
 (fork n (hold 0 (tally 0 (num 5) (num 1))) (hold 0 (tally 0 (num 7) (num 2))) (add (var 0) (var 1)))
 ";
-
-/// Why a text has no report.
-#[derive(Debug, Drop, Error)]
-enum Refused {
-    #[error(transparent)]
-    Text(#[from] TextFault),
-    #[error(transparent)]
-    Program(#[from] CheckFault),
-    #[error(transparent)]
-    Run(#[from] RunFault),
-}
 
 /// A source of random numbers for each core, by which it chooses among places.
 fn choosers(alloc: Global, cores: u64) -> Result<Vec<Xoshiro256PlusPlus>, AllocError> {
@@ -71,26 +59,40 @@ fn run_on<'p, R: Threads + Wait + Sync>(
     )
 }
 
-/// What a run of a text's program brings: what the program means on one thread, and a history of each lock.
-fn report<R: Threads + Wait + Sync>(rt: &R, alloc: Global, text: &[u8]) -> Result<Report, Refused>
+/// What a run of a text's program brings, or why it brings nothing: what the program means on one thread, and a history
+/// of each lock.
+fn report<R: Threads + Wait + Sync>(
+    rt: &R,
+    alloc: Global,
+    text: &[u8],
+) -> Result<Report, &'static str>
     ensures { IfOk result (λ report. (program : Source) × (text_of program ≡ text.now) × (meaning_in report ≡ meaning_of program)
         × All HasOneHolderAtATime (histories_in report)) }
 {
-    let program = parse(alloc, text)?;
-    check(&program)?;
-    let report = run_on(rt, alloc, &program, 4)?;
-    Ok(report)
+    let Ok(program) = parse(alloc, text) else {
+        return Err("the text is no program");
+    };
+    if check(&program).is_err() {
+        return Err("the program is not accepted");
+    }
+    match run_on(rt, alloc, &program, 4) {
+        Ok(report) => Ok(report),
+        Err(_) => Err("memory or a kernel thread was refused"),
+    }
 }
 
 fn main(rt: HostRuntime) -> Result<()> {
-    let report = report(&rt, rt.alloc(), TEXT.as_bytes())?;
+    let report = match report(&rt, rt.alloc(), TEXT.as_bytes()) {
+        Ok(report) => report,
+        Err(why) => bail!("{why}"),
+    };
     println!(rt; "value {}", report.value)?;
-    for (ledger, total) in report.totals.as_slice().iter().enumerate() {
-        println!(rt; "ledger {ledger} {total}")?;
+    for total in report.totals.as_slice() {
+        println!(rt; "a ledger's total {total}")?;
     }
     println!(rt; "{} threads", report.threads.as_slice().len())?;
-    for (lock, history) in report.histories.as_slice().iter().enumerate() {
-        println!(rt; "lock {lock} has {} events", history.as_slice().len())?;
+    for history in report.histories.as_slice() {
+        println!(rt; "{} events of a lock", history.as_slice().len())?;
     }
     Ok(())
 }

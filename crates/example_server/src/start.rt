@@ -1,5 +1,5 @@
 //! Starts the server, and ends it.
-ghost use Rattle.std.specs.Prelude.{◌≡◌, ◌+◌, ◌≤◌, IfOk, IfSome, length, vec_len};
+ghost use Rattle.std.specs.Prelude.{◌≡◌, ◌+◌, ◌≤◌, IfOk, IfSome, Some, length, vec_len};
 ghost use Rattle.arachne_pool.specs.Workers.{IsWorkerOf};
 
 use crate::crew::{Books, Crew, Share};
@@ -9,7 +9,7 @@ use crate::report::Report;
 use crate::requests::Due;
 use crate::serve::Server;
 use crate::station::stations;
-use arachne_pool::{Pool, Spawned, Worker};
+use arachne_pool::{Pool, Spawned};
 use arachne_table::{Contexts, WordContexts};
 use arachne_team::work_together;
 use std::alloc::{AllocError, Global};
@@ -39,17 +39,9 @@ pub fn run<R: Threads + Wait + Sync>(
         requests,
         template,
     };
-    let Some(share) = work_together(rt, alloc, &crew, share) else {
-        return Err("memory was refused");
-    };
-    let Share { worker, done, .. } = share;
-    let Some(books) = done else {
-        return Err("memory was refused");
-    };
-    if is_over::<Table, R>(rt, alloc, server.pool, worker) {
-        Ok(books)
-    } else {
-        Err("requests are left")
+    match work_together(rt, alloc, &crew, share) {
+        Some(share) => end::<Table, R>(rt, alloc, server.pool, share),
+        None => Err("memory was refused"),
     }
 }
 
@@ -78,17 +70,26 @@ fn begin<C: Contexts<Spawned<Request>> + Drop>(
     Ok((Server::new(pool, stations, clock), share))
 }
 
-/// Closes the pool. Whether that is done, and all jobs have ended.
-fn is_over<C: Contexts<Spawned<Request>> + Drop, R: Wait>(
+/// Closes the pool of a server that is over. What it has done, or why that can't be told.
+fn end<C: Contexts<Spawned<Request>> + Drop, R: Wait>(
     rt: &R,
     alloc: Global,
     pool: Pool<C>,
-    worker: Worker<C::Seat, Request>,
-) -> bool
-    requires { IsWorkerOf C.sits C.idle pool.table pool.cores worker }
+    share: Share<C::Seat>,
+) -> Result<Books, &'static str>
+    requires { IsWorkerOf C.sits C.idle pool.table pool.cores share.worker }
+    ensures { IfOk result (λ books. share.done ≡ Some books) }
 {
-    match pool.close(rt, alloc, worker) {
-        Ok(left) => left.placed.len() == 0 && left.near.len() == 0,
-        Err(_) => false,
+    let Share { worker, done, .. } = share;
+    let Some(books) = done else {
+        return Err("memory was refused");
+    };
+    let Ok(left) = pool.close(rt, alloc, worker) else {
+        return Err("the pool was not closed");
+    };
+    if left.placed.is_empty() && left.near.is_empty() {
+        Ok(books)
+    } else {
+        Err("requests are left")
     }
 }
