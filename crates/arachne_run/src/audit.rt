@@ -1,20 +1,37 @@
 //! What is looked at once a run is over.
-ghost use Rattle.std.specs.Prelude.{◌≡◌, ℕ, ◌<◌, ◌≤◌, false, true, Contains, IfOk, IfSome, Ok, List, length, map, slice_index, slice_index_or};
+ghost use Rattle.std.specs.Prelude.{◌≡◌, ℕ, ◌<◌, ◌≤◌, false, true, Contains, IfOk, IfSome, Ok, OnOk, List, length, map, slice_index, slice_index_or};
 ghost use Rattle.arachne_sleep.specs.declared.event.LockEvent.TheVariants.{Grant};
 ghost use Rattle.arachne_sleep.specs.declared.who.Who.{Who};
 ghost use Rattle.arachne_run.specs.Distinct.{AreDistinct, AreMarksOf};
 ghost use Rattle.arachne_run.specs.Histories.{GrantsAreHolds, IsGrantedAsHeld, grants_to};
 
+use crate::fault::WorkerFault;
 use arachne_machine::ThreadLine;
 use arachne_sleep::LockEvent;
 use std::alloc::{AllocError, Global};
 
-/// The marks of the threads' tags, each below 2^64 - 1, if no two are the same. They take a byte for each tag up to the
-/// greatest, and for each thread at least.
-pub(crate) fn marks_of(
+/// Looks whether no two threads have one tag, and each lock was granted to each thread as often as that held it.
+pub(crate) fn audit(
     alloc: Global,
     threads: &[ThreadLine],
-) -> Result<Option<Vec<bool>>, AllocError>
+    histories: &[Vec<LockEvent>],
+) -> Result<(), WorkerFault>
+    ensures distinct { OnOk result (AreDistinct (map (λ line. line.tag) threads.now)) }
+    ensures grants { OnOk result (GrantsAreHolds threads.now (map (λ history. history.items) histories.now)) }
+{
+    let Some(marks) = marks_of(alloc, threads)? else {
+        return Err(WorkerFault::Threads);
+    };
+    if are_grants_holds(alloc, threads, marks.as_slice(), histories)? {
+        Ok(())
+    } else {
+        Err(WorkerFault::Threads)
+    }
+}
+
+/// The marks of the threads' tags, each below 2^64 - 1, if no two are the same. They take a byte for each tag up to the
+/// greatest, and for each thread at least.
+fn marks_of(alloc: Global, threads: &[ThreadLine]) -> Result<Option<Vec<bool>>, AllocError>
     ensures distinct { IfOk result (λ found. IfSome found (λ marks. AreDistinct (map (λ line. line.tag) threads.now))) }
     ensures marks { IfOk result (λ found. IfSome found (λ marks. AreMarksOf (map (λ line. line.tag) threads.now) marks.items)) }
 {
@@ -38,7 +55,7 @@ pub(crate) fn marks_of(
 
 /// Whether each lock was granted to each thread as often as that held it, and to no other. The marks are those of the
 /// threads' tags.
-pub(crate) fn are_grants_holds(
+fn are_grants_holds(
     alloc: Global,
     threads: &[ThreadLine],
     marks: &[bool],

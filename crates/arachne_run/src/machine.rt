@@ -77,10 +77,8 @@ impl<C: Seats + Drop, K: Tagged + Drop> Machine<C, K> {
         requires most_slots { slots ≤ SLOTS }
         requires some_steps { 1 ≤ quantum }
         requires orders { AreInOrder cores orders.items }
-        ensures tokens { IfOk result (λ made. AreIdle C.sits C.idle made.0 made.1) }
-        ensures set_up { IfOk result (λ made. IsSetUp C.core_count C.slot_count made.0) }
-        ensures orders { IfOk result (λ made. made.0.orders ≡ length orders.items) }
-        ensures locks { IfOk result (λ made. length made.0.resources.locks ≡ program.now.locks) }
+        ensures { IfOk result (λ made. AreIdle C.sits C.idle made.0 made.1 × IsSetUp C.core_count C.slot_count made.0
+            × (made.0.orders ≡ length orders.items) × (length made.0.resources.locks ≡ program.now.locks)) }
     {
         let count = orders.len();
         let exclusive = has_exclusive(&program.root);
@@ -121,10 +119,8 @@ impl<C: Seats + Drop, K: Tagged + Drop> Machine<C, K> {
         T: Tagged + Drop,
         C: Contexts<T>,
         requires { IfSome tokens (AreIdle C.sits C.idle self) }
-        ensures applied { IfOk result (λ closed. closed.1 ≤ self.orders) }
-        ensures histories { IfOk result (λ closed. length closed.0.histories.items ≡ length self.resources.locks) }
-        ensures sound { IfOk result (λ closed. All (λ history. IsSound history.items) closed.0.histories.items) }
-        ensures one_holder { IfOk result (λ closed. All (λ history. HasOneHolderAtATime history.items) closed.0.histories.items) }
+        ensures { IfOk result (λ closed. (closed.1 ≤ self.orders) × (length closed.0.histories.items ≡ length self.resources.locks)
+            × All (λ history. IsSound history.items) closed.0.histories.items × All (λ history. HasOneHolderAtATime history.items) closed.0.histories.items) }
     {
         let Machine {
             shared,

@@ -6,7 +6,7 @@ ghost use Rattle.arachne_run.specs.Distinct.{AreDistinct};
 ghost use Rattle.arachne_run.specs.Histories.{GrantsAreHolds};
 ghost use Rattle.arachne_run.specs.Reports.{histories_in, meaning_in, tags_of};
 
-use crate::audit::{are_grants_holds, marks_of};
+use crate::audit::audit;
 use crate::fault::WorkerFault;
 use crate::resources::Remains;
 use arachne_lang::Sequence;
@@ -52,13 +52,7 @@ impl Report {
         if parts.sums.as_slice() != words.as_slice() {
             return Err(WorkerFault::Ledgers);
         }
-        let lines = parts.lines.as_slice();
-        let Some(marks) = marks_of(alloc, lines)? else {
-            return Err(WorkerFault::Threads);
-        };
-        if !are_grants_holds(alloc, lines, marks.as_slice(), histories.as_slice())? {
-            return Err(WorkerFault::Threads);
-        }
+        audit(alloc, parts.lines.as_slice(), histories.as_slice())?;
         Ok(Report {
             value: parts.value,
             totals: Sequence::from(words),

@@ -11,11 +11,11 @@ returns-clause-report g c = record {
   meaning = search rules;
   tags = search rules;
   histories = length-map c.in_ok-report.report.histories.items (λ history. history.items)
-      ∙ ap (λ histories. length histories.items) c.in_ok-report.ensures.histories ∙ c.in_ok-remains.ensures.histories ∙ c.in_ok-machine.ensures.locks;
+      ∙ ap (λ histories. length histories.items) c.in_ok-report.ensures.histories ∙ c.in_ok-remains.ensures.1 ∙ c.in_ok-machine.ensures.3;
   sound = All-map IsSound (λ history. history.items) c.in_ok-report.report.histories.items
-      (subst (λ histories. All (λ history. IsSound history.items) histories.items) (sym c.in_ok-report.ensures.histories) c.in_ok-remains.ensures.sound);
+      (subst (λ histories. All (λ history. IsSound history.items) histories.items) (sym c.in_ok-report.ensures.histories) c.in_ok-remains.ensures.2);
   one_holder = All-map HasOneHolderAtATime (λ history. history.items) c.in_ok-report.report.histories.items
-      (subst (λ histories. All (λ history. HasOneHolderAtATime history.items) histories.items) (sym c.in_ok-report.ensures.histories) c.in_ok-remains.ensures.one_holder);
+      (subst (λ histories. All (λ history. HasOneHolderAtATime history.items) histories.items) (sym c.in_ok-report.ensures.histories) c.in_ok-remains.ensures.3);
   grants = search rules;
-  applied = subst (λ applied. applied ≤ length c.args.setup.orders.items) (sym c.in_ok-report.ensures.applied) (subst (λ orders. c.in_ok-remains.applied ≤ orders) c.in_ok-machine.ensures.orders c.in_ok-remains.ensures.applied);
+  applied = subst (λ applied. applied ≤ length c.args.setup.orders.items) (sym c.in_ok-report.ensures.applied) (subst (λ orders. c.in_ok-remains.applied ≤ orders) c.in_ok-machine.ensures.2 c.in_ok-remains.ensures.0);
 }
