@@ -10,3 +10,7 @@ thread_in tag held = Thread held.hold (tag held.value)
 -- it is known what is out with the seat
 abbrev pub IsKnown : {Seat C H : Type 0} → (Seat → List (Out C H) → Type 0) → Seat → Type 0
 IsKnown {Seat} {C} {H} has seat = (outs : List (Out C H)) × has seat outs
+
+-- it is out beside what was
+abbrev pub AddsOut : {Seat C H : Type 0} → (Seat → List (Out C H) → Type 0) → Out C H → Seat → Seat → Type 0
+AddsOut {Seat} {C} {H} has out old new = (outs : List (Out C H)) → has old outs → has new (out ∷ outs)

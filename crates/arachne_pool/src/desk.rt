@@ -1,8 +1,7 @@
 //! What a worker has beside its seat, and what it does with a job in hand.
-ghost use Rattle.std.specs.Prelude.{◌≡◌, ◌<◌, ◌≤◌, [], ◌∷◌, IfOk, IfSome, OnOk, vec_len, vec_capacity};
-ghost use Rattle.arachne_arbiter.specs.Placed.{GetsPlace};
-ghost use Rattle.arachne_contexts.specs.Out.{KeepsOut};
-ghost use Rattle.arachne_pool.specs.Grounds.{IsKnown, thread_in};
+ghost use Rattle.std.specs.Prelude.{◌≡◌, ◌+◌, ◌<◌, ◌≤◌, [], ◌∷◌, IfOk, IfSome, MatchOption, OnOk, vec_len, vec_capacity};
+ghost use Rattle.arachne_contexts.specs.Out.{Claim, KeepsOut};
+ghost use Rattle.arachne_pool.specs.Grounds.{AddsOut, IsKnown, thread_in};
 ghost use Rattle.arachne_pool.specs.Stops.{EndsAs};
 
 use crate::job::PoolJob;
@@ -14,7 +13,7 @@ use crate::tally::Tally;
 use arachne_contexts::{Contexts, Held, Woken};
 use arachne_core::{Rest, ThreadId};
 use rand_xoshiro::Xoshiro256PlusPlus;
-use std::alloc::{AllocError, Global};
+use std::alloc::Global;
 use std::sync::Wait;
 
 /// The table didn't know a place or a thread that a worker had of it.
@@ -148,8 +147,8 @@ fn wake<H: Wait, J: PoolJob, C: Contexts<Spawned<J>>>(
     unreachable!()
 }
 
-/// The child that a job has forked is parted off, and gets a place, or none. Where memory is refused that is noted,
-/// and it is as before.
+/// The child that a job has forked is parted off, and gets a place, or none. The job's own id, if it has a place. Room
+/// for one job more without a place is kept. Where memory is refused that is noted, and all is as before.
 fn fork_off<H: Wait, J: PoolJob, C: Contexts<Spawned<J>>>(
     rt: &H,
     pool: &Pool<C>,
@@ -163,8 +162,9 @@ fn fork_off<H: Wait, J: PoolJob, C: Contexts<Spawned<J>>>(
     ensures seat { C.sits pool.now.table seat.new }
     ensures out { OnOk result (KeepsOut (C.has pool.now.table) seat.old seat.new) }
     ensures parent { parent.new ≡ parent.old }
+    ensures room { vec_len desk.old.near < vec_capacity desk.old.near → vec_len desk.new.near < vec_capacity desk.new.near }
 {
-    if desk.near.try_reserve(1).is_err() {
+    if desk.near.try_reserve(2).is_err() {
         desk.is_short = true;
         return Ok(());
     }
@@ -195,6 +195,7 @@ pub(crate) fn place<H: Wait, J: PoolJob, C: Contexts<Spawned<J>>>(
     ensures seat { C.sits pool.now.table seat.new }
     ensures out { OnOk result (KeepsOut (C.has pool.now.table) seat.old seat.new) }
     ensures tally { desk.new.tally ≡ desk.old.tally }
+    ensures near { (vec_len desk.new.near ≤ vec_len desk.old.near + 1) × (vec_capacity desk.new.near ≡ vec_capacity desk.old.near) }
 {
     if let Some(job) = offer::<H, J, C>(rt, pool, seat, &mut desk.chooser, job)? {
         desk.near.push_reserved(job);
@@ -216,7 +217,7 @@ fn offer<H: Wait, J: PoolJob, C: Contexts<Spawned<J>>>(
     ensures out { OnOk result (KeepsOut (C.has pool.now.table) seat.old seat.new) }
     ensures same { IfOk result (λ back. IfSome back (λ same. same ≡ job)) }
 {
-    let Ok(Some(claim)) = claim::<H, J, C>(rt, pool, seat, chooser, job.is_exclusive()) else {
+    let Some(claim) = claim::<H, J, C>(rt, pool, seat, chooser, job.is_exclusive()) else {
         return Ok(Some(job));
     };
     match pool.table.post(rt, seat, claim, job) {
@@ -226,24 +227,25 @@ fn offer<H: Wait, J: PoolJob, C: Contexts<Spawned<J>>>(
 }
 
 /// A place for a job: on the core with fewer jobs of two that are drawn, else on another one that has a place; for an
-/// exclusive one an empty core.
+/// exclusive one an empty core. None too where memory is refused.
 fn claim<H: Wait, J: PoolJob, C: Contexts<Spawned<J>>>(
     rt: &H,
     pool: &Pool<C>,
     seat: &mut C::Seat,
     chooser: &mut Xoshiro256PlusPlus,
     is_exclusive: bool,
-) -> Result<Option<C::Claim>, AllocError>
+) -> Option<C::Claim>
     requires seat { C.sits pool.now.table seat.old }
     ensures seat { C.sits pool.now.table seat.new }
-    ensures out { GetsPlace (C.has pool.now.table) seat.old seat.new result }
+    ensures out { MatchOption result (KeepsOut (C.has pool.now.table) seat.old seat.new) (λ claim. AddsOut (C.has pool.now.table) (Claim claim) seat.old seat.new) }
 {
     let cores = pool.cores::<H, Spawned<J>>(rt);
-    if is_exclusive {
+    let place = if is_exclusive {
         cores.claim_exclusive(seat)
     } else {
         cores.claim_normal(seat, chooser)
-    }
+    };
+    place.ok()?
 }
 
 /// A slice of the job at this index of those that have no place: first it gets one, if it awaits nobody and a core has
@@ -267,16 +269,24 @@ pub(crate) fn have_near_slice<H: Wait, J: PoolJob, C: Contexts<Spawned<J>>>(
     let Some(mut job) = offer_if_alone::<H, J, C>(rt, pool, seat, desk, job)? else {
         return Ok(true);
     };
-    match job.slice(&mut desk.cells) {
-        Stop::Goes => desk.near.push_reserved(job),
-        Stop::Waits => {
-            desk.near.push_reserved(job);
-            return Ok(false);
+    let mut forked = Ok(());
+    let found = match job.slice(&mut desk.cells) {
+        Stop::Goes => true,
+        Stop::Waits => false,
+        Stop::Forks => {
+            forked = fork_off::<H, J, C>(rt, pool, seat, desk, &mut job, None);
+            !desk.is_short
         }
-        Stop::Forks => return fork_near::<H, J, C>(rt, pool, seat, desk, job),
-        Stop::Ends(output) => leave::<H, J, C>(rt, pool, seat, desk, job, output),
+        Stop::Ends(output) => {
+            leave::<H, J, C>(rt, pool, seat, desk, job, output);
+            return Ok(true);
+        }
+    };
+    desk.near.push_reserved(job);
+    match forked {
+        Ok(()) => Ok(found),
+        Err(fault) => Err(fault),
     }
-    Ok(true)
 }
 
 /// A job that awaits nobody gets a place. It comes back where it awaits some child, or no core has a place.
@@ -297,38 +307,4 @@ fn offer_if_alone<H: Wait, J: PoolJob, C: Contexts<Spawned<J>>>(
         return Ok(Some(job));
     }
     offer::<H, J, C>(rt, pool, seat, &mut desk.chooser, job)
-}
-
-/// The child that a job with no place has forked is parted off, and gets a place, or none; the job is kept. Where
-/// memory is refused that is noted. Whether there was memory.
-fn fork_near<H: Wait, J: PoolJob, C: Contexts<Spawned<J>>>(
-    rt: &H,
-    pool: &Pool<C>,
-    seat: &mut C::Seat,
-    desk: &mut Desk<J>,
-    job: Spawned<J>,
-) -> Result<bool, Disowned>
-    requires seat { C.sits pool.now.table seat.old }
-    requires known { IsKnown (C.has pool.now.table) seat.old }
-    requires room { vec_len desk.old.near < vec_capacity desk.old.near }
-    ensures seat { C.sits pool.now.table seat.new }
-    ensures out { OnOk result (KeepsOut (C.has pool.now.table) seat.old seat.new) }
-{
-    let mut job = job;
-    let has_room = desk.near.try_reserve(2).is_ok();
-    let parted = if has_room {
-        job.part_child(desk.alloc, &mut desk.cells, &mut desk.tally, None)
-    } else {
-        Err(AllocError)
-    };
-    desk.near.push_reserved(job);
-    match parted {
-        Ok(Some(child)) => {
-            pool.job_begins();
-            place::<H, J, C>(rt, pool, seat, desk, child)?;
-        }
-        Ok(None) => {}
-        Err(_) => desk.is_short = true,
-    }
-    Ok(!desk.is_short)
 }
