@@ -13,7 +13,7 @@ use crate::tally::Tally;
 use arachne_contexts::{Contexts, Held, Woken};
 use arachne_core::{Rest, ThreadId};
 use rand_xoshiro::Xoshiro256PlusPlus;
-use std::alloc::Global;
+use std::alloc::{AllocError, Global};
 use std::sync::Wait;
 
 /// The table didn't know a place or a thread that a worker had of it.
@@ -75,7 +75,10 @@ fn advance<H: Wait, J: PoolJob, C: Contexts<Spawned<J>>>(
     let stop = held.value.slice(&mut desk.cells);
     if let Stop::Forks = stop {
         let me = held.id();
-        fork_off::<H, J, C>(rt, pool, seat, desk, &mut held.value, Some(me))?;
+        if let Some(child) = part_off(desk, &mut held.value, Some(me)) {
+            pool.job_begins();
+            place::<H, J, C>(rt, pool, seat, desk, child)?;
+        }
     }
     Ok(stop)
 }
@@ -147,36 +150,26 @@ fn wake<H: Wait, J: PoolJob, C: Contexts<Spawned<J>>>(
     unreachable!()
 }
 
-/// The child that a job has forked is parted off, and gets a place, or none. The job's own id, if it has a place. Room
-/// for one job more without a place is kept. Where memory is refused that is noted, and all is as before.
-fn fork_off<H: Wait, J: PoolJob, C: Contexts<Spawned<J>>>(
-    rt: &H,
-    pool: &Pool<C>,
-    seat: &mut C::Seat,
+/// The child that a job has forked, parted off; the job's own id, if it has a place. There is room for it and for one job
+/// more then among those that have none. Where memory is refused that is noted, and the child is not parted off.
+fn part_off<J: PoolJob>(
     desk: &mut Desk<J>,
     parent: &mut Spawned<J>,
     me: Option<ThreadId>,
-) -> Result<(), Disowned>
-    requires seat { C.sits pool.now.table seat.old }
-    requires known { IsKnown (C.has pool.now.table) seat.old }
-    ensures seat { C.sits pool.now.table seat.new }
-    ensures out { OnOk result (KeepsOut (C.has pool.now.table) seat.old seat.new) }
+) -> Option<Spawned<J>>
     ensures parent { parent.new ≡ parent.old }
-    ensures room { vec_len desk.old.near < vec_capacity desk.old.near → vec_len desk.new.near < vec_capacity desk.new.near }
+    ensures room { IfSome result (λ _. vec_len desk.new.near + 1 < vec_capacity desk.new.near) }
+    ensures kept { vec_len desk.old.near < vec_capacity desk.old.near → vec_len desk.new.near < vec_capacity desk.new.near }
 {
-    if desk.near.try_reserve(2).is_err() {
-        desk.is_short = true;
-        return Ok(());
-    }
-    match parent.part_child(desk.alloc, &mut desk.cells, &mut desk.tally, me) {
-        Ok(Some(child)) => {
-            pool.job_begins();
-            place::<H, J, C>(rt, pool, seat, desk, child)
-        }
-        Ok(None) => Ok(()),
+    let parted = match desk.near.try_reserve(2) {
+        Ok(()) => parent.part_child(desk.alloc, &mut desk.cells, &mut desk.tally, me),
+        Err(_) => Err(AllocError),
+    };
+    match parted {
+        Ok(child) => child,
         Err(_) => {
             desk.is_short = true;
-            Ok(())
+            None
         }
     }
 }
@@ -195,7 +188,6 @@ pub(crate) fn place<H: Wait, J: PoolJob, C: Contexts<Spawned<J>>>(
     ensures seat { C.sits pool.now.table seat.new }
     ensures out { OnOk result (KeepsOut (C.has pool.now.table) seat.old seat.new) }
     ensures tally { desk.new.tally ≡ desk.old.tally }
-    ensures near { (vec_len desk.new.near ≤ vec_len desk.old.near + 1) × (vec_capacity desk.new.near ≡ vec_capacity desk.old.near) }
 {
     if let Some(job) = offer::<H, J, C>(rt, pool, seat, &mut desk.chooser, job)? {
         desk.near.push_reserved(job);
@@ -269,13 +261,12 @@ pub(crate) fn have_near_slice<H: Wait, J: PoolJob, C: Contexts<Spawned<J>>>(
     let Some(mut job) = offer_if_alone::<H, J, C>(rt, pool, seat, desk, job)? else {
         return Ok(true);
     };
-    let mut forked = Ok(());
-    let found = match job.slice(&mut desk.cells) {
-        Stop::Goes => true,
-        Stop::Waits => false,
+    let (found, child) = match job.slice(&mut desk.cells) {
+        Stop::Goes => (true, None),
+        Stop::Waits => (false, None),
         Stop::Forks => {
-            forked = fork_off::<H, J, C>(rt, pool, seat, desk, &mut job, None);
-            !desk.is_short
+            let child = part_off(desk, &mut job, None);
+            (!desk.is_short, child)
         }
         Stop::Ends(output) => {
             leave::<H, J, C>(rt, pool, seat, desk, job, output);
@@ -283,10 +274,11 @@ pub(crate) fn have_near_slice<H: Wait, J: PoolJob, C: Contexts<Spawned<J>>>(
         }
     };
     desk.near.push_reserved(job);
-    match forked {
-        Ok(()) => Ok(found),
-        Err(fault) => Err(fault),
+    if let Some(child) = child {
+        pool.job_begins();
+        place::<H, J, C>(rt, pool, seat, desk, child)?;
     }
+    Ok(found)
 }
 
 /// A job that awaits nobody gets a place. It comes back where it awaits some child, or no core has a place.

@@ -8,14 +8,14 @@ use Rattle.arachne_run.proofs.running.run.Goals as goal
 -- the report's histories are those that the locks were closed with
 pub returns-clause-report : goal.returns-clause-report
 returns-clause-report g c = record {
-  meaning = search rules;
-  tags = search rules;
+  meaning = c.in_ok-report.ensures.meaning ∙ ?;
+  tags = c.in_ok-report.ensures.tags;
   histories = length-map c.in_ok-report.report.histories.items (λ history. history.items)
       ∙ ap (λ histories. length histories.items) c.in_ok-report.ensures.histories ∙ c.in_ok-remains.ensures.1 ∙ c.in_ok-machine.ensures.3;
   sound = All-map IsSound (λ history. history.items) c.in_ok-report.report.histories.items
       (subst (λ histories. All (λ history. IsSound history.items) histories.items) (sym c.in_ok-report.ensures.histories) c.in_ok-remains.ensures.2);
   one_holder = All-map HasOneHolderAtATime (λ history. history.items) c.in_ok-report.report.histories.items
       (subst (λ histories. All (λ history. HasOneHolderAtATime history.items) histories.items) (sym c.in_ok-report.ensures.histories) c.in_ok-remains.ensures.3);
-  grants = search rules;
+  grants = c.in_ok-report.ensures.grants;
   applied = subst (λ applied. applied ≤ length c.args.setup.orders.items) (sym c.in_ok-report.ensures.applied) (subst (λ orders. c.in_ok-remains.applied ≤ orders) c.in_ok-machine.ensures.2 c.in_ok-remains.ensures.0);
 }

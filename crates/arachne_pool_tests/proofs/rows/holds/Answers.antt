@@ -5,7 +5,7 @@ use Rattle.arachne_words.proofs.table.WordContexts.TheSendSync as table
 use Rattle.arachne_pool.proofs.Crossing.{spawned_send, worker_send}
 use Rattle.arachne_pool.proofs.pool.Pool.TheSendSync as pool
 use Rattle.arachne_pool_tests.proofs.crew.Crew.TheSendSync as crew
-use Rattle.arachne_pool_tests.proofs.rows.failed_row.Goals as goal
+use Rattle.arachne_pool_tests.proofs.rows.holds.Goals as goal
 
 -- what a kernel thread has may cross, and it may look at what all have in common
 pub work_together-requires-send-S : goal.work_together-requires-send-S
