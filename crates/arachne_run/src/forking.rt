@@ -47,10 +47,8 @@ pub(crate) fn go_on<H: Wait, T: RunJob, C: Contexts<T>, R: Rng>(
     requires pass { IsPassOf machine.now.tickets pass.old }
     requires set_up { IsSetUp C.core_count C.slot_count machine.now }
     requires some { 1 ≤ left.old }
-    ensures seat { C.sits machine.now.table seat.new }
-    ensures out { OnOk result (C.has machine.now.table seat.new (thread_in T.tag_of held.new ∷ [])) }
-    ensures pass { IsPassOf machine.now.tickets pass.new }
-    ensures left { OnOk result (left.new ≤ left.old) }
+    ensures { C.sits machine.now.table seat.new × IsPassOf machine.now.tickets pass.new
+        × OnOk result (C.has machine.now.table seat.new (thread_in T.tag_of held.new ∷ []) × (left.new ≤ left.old)) }
 {
     let room = machine.shared.room();
     let slice = held
@@ -100,9 +98,8 @@ fn answer_fork<H: Wait, T: RunJob, C: Contexts<T>, R: Rng>(
     requires pass { IsPassOf machine.now.tickets pass.old }
     requires set_up { IsSetUp C.core_count C.slot_count machine.now }
     requires forks { T.forks held.old.value child }
-    ensures seat { C.sits machine.now.table seat.new }
-    ensures out { OnOk result (C.has machine.now.table seat.new (thread_in T.tag_of held.new ∷ [])) }
-    ensures pass { IsPassOf machine.now.tickets pass.new }
+    ensures { C.sits machine.now.table seat.new × IsPassOf machine.now.tickets pass.new
+        × OnOk result (C.has machine.now.table seat.new (thread_in T.tag_of held.new ∷ [])) }
 {
     let (me, room) = (held.id(), machine.shared.room());
     let tag = forks.openings.tags.take(room);

@@ -1,6 +1,8 @@
-use Rattle.std.proofs.Common.{rules, ◌≤◌, All, ap, length, subst, sym, ◌∙◌}
+use Rattle.std.proofs.Common.{◌≤◌, All, ap, length, subst, sym, ◌∙◌}
 use Rattle.std.proofs.lemmas.List.Elements.{All-map}
 use Rattle.std.proofs.lemmas.List.{length-map}
+use Rattle.arachne_lang.specs.Meaning.{meaning_of}
+use Rattle.arachne_lang.specs.Program.{source_of}
 use Rattle.arachne_sleep.specs.History.{IsSound}
 use Rattle.arachne_sleep.specs.OneHolder.{HasOneHolderAtATime}
 use Rattle.arachne_run.proofs.running.run.Goals as goal
@@ -8,7 +10,7 @@ use Rattle.arachne_run.proofs.running.run.Goals as goal
 -- the report's histories are those that the locks were closed with
 pub returns-clause-report : goal.returns-clause-report
 returns-clause-report g c = record {
-  meaning = c.in_ok-report.ensures.meaning ∙ ?;
+  meaning = c.in_ok-report.ensures.meaning ∙ ap (λ p. meaning_of (source_of p)) (c.in-Ok.ensures.value.0 ∙ c.in_ok-root.ensures.program);
   tags = c.in_ok-report.ensures.tags;
   histories = length-map c.in_ok-report.report.histories.items (λ history. history.items)
       ∙ ap (λ histories. length histories.items) c.in_ok-report.ensures.histories ∙ c.in_ok-remains.ensures.1 ∙ c.in_ok-machine.ensures.3;
