@@ -3,7 +3,6 @@ ghost use Rattle.std.specs.Prelude.{◌≡◌, ◌<◌, IfOk};
 
 use arachne_join::{CellState, Fits, JoinCell, SendingEnd};
 use std::alloc::{AllocError, Global};
-use std::test::Fail;
 
 // What a cell is for: a number.
 #[derive(Drop)]
@@ -31,6 +30,17 @@ fn make_cell(
     }
 }
 
+type Passed = (
+    u64,
+    u64,
+    Option<CellState>,
+    Option<CellState>,
+    Option<CellState>,
+    Option<CellState>,
+);
+
+const EMPTY: Option<CellState> = Some(CellState::Empty);
+
 fn missed_at(cell: &JoinCell<u64, Wanted>) -> Option<CellState> {
     match cell.fetch() {
         Ok(_) => None,
@@ -38,31 +48,34 @@ fn missed_at(cell: &JoinCell<u64, Wanted>) -> Option<CellState> {
     }
 }
 
-/// How a cell misses a value each time: before one is put back, while it waits, once it is taken back, and once another
-/// was left and fetched.
-#[test]
-fn a_value_is_put_back_and_another_is_fetched_once(rt: HostRuntime) -> Result<(), Fail> {
-    let (cell, end) = make_cell(rt.alloc(), 7)?;
-    let before = missed_at(&cell);
-    end.put_back(&cell, 3);
-    let waiting = missed_at(&cell);
+/// What is taken back and what is fetched, and how a cell misses a value each time: before one is put back, while it
+/// waits, once it is taken back, and once another was left and fetched.
+fn passed(cell: &JoinCell<u64, Wanted>, end: SendingEnd<u64, Wanted>) -> Option<Passed>
+    requires number { cell.now.key.0 ≡ 7 }
+    requires end { end ≡ cell.now.table }
+{
+    let before = missed_at(cell);
+    end.put_back(cell, 3);
+    let waiting = missed_at(cell);
     let Ok((back, end)) = cell.take_back() else {
-        panic!(rt; "a value waits")
+        return None;
     };
-    assert!(rt; back == 3 && missed_at(&cell) == before && cell.take_back().is_err());
-    let left = end.leave(&cell, 7);
+    let taken_back = missed_at(cell);
+    if cell.take_back().is_ok() {
+        return None;
+    }
+    let left = end.leave(cell, 7);
     let Ok((value, fetched)) = cell.fetch() else {
-        panic!(rt; "a value was left")
+        return None;
     };
     cell.fetched_once(fetched, left);
-    assert!(rt;
-        (value, before, waiting, missed_at(&cell))
-            == (
-                7,
-                Some(CellState::Empty),
-                Some(CellState::Waiting),
-                Some(CellState::Taken)
-            )
-    );
+    Some((back, value, before, waiting, taken_back, missed_at(cell)))
+}
+
+#[test]
+fn a_value_is_put_back_and_another_is_fetched_once(rt: HostRuntime) -> Result<(), AllocError> {
+    let (cell, end) = make_cell(rt.alloc(), 7)?;
+    let expected = (3, 7, EMPTY, Some(CellState::Waiting), EMPTY, Some(CellState::Taken));
+    assert!(rt; passed(&cell, end) == Some(expected));
     Ok(())
 }

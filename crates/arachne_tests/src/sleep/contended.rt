@@ -1,12 +1,10 @@
-//! Two kernel threads that contend for a lock, and for two locks. That the closed histories are lawful is proved.
+//! Two kernel threads that contend for two locks. That the closed histories are lawful is proved.
 ghost use Rattle.std.specs.Prelude.{◌<◌, length};
 ghost use Rattle.arachne_sleep.specs.SleepLocks.{AreSeatsOf};
-ghost use Rattle.arachne_sleep.specs.Views.{IsSeatOf};
 
-use super::{A, B, several, shared};
-use arachne_sleep::{AskFault, LockEvent, LockSeat, LockSeats, SleepLock, SleepLocks, Tried, Who};
+use super::{A, B, several};
+use arachne_sleep::{AskFault, LockEvent, LockSeats, SleepLocks, Tried, Who};
 use std::alloc::{AllocError, Global};
-use std::test::Fail;
 use std::thread;
 use std::thread::Threads;
 
@@ -41,98 +39,6 @@ fn are_grants_in_order(history: &[LockEvent], who: Who, places: &[usize]) -> boo
         least = at.wrapping_add(1);
     }
     true
-}
-
-/// Asks for the lock, and looks until the thread holds it. The place of its grant.
-fn enter(lock: &SleepLock, seat: &mut LockSeat, who: Who, polls_left: &mut u64) -> Option<usize>
-    requires { IsSeatOf lock.now seat.old }
-    ensures { IsSeatOf lock.now seat.new }
-{
-    for _ in 0..MOST_POLLS {
-        match lock.ask(seat, who) {
-            Tried::Answered(Ok(_)) => break,
-            Tried::Answered(Err(AskFault::AlreadyIn)) => return None,
-            Tried::Answered(Err(AskFault::Memory)) | Tried::Contended => poll(polls_left)?,
-        }
-    }
-    for _ in 0..MOST_POLLS {
-        if let Tried::Answered(Some(pass)) = lock.check(seat, who) {
-            return Some(pass.at);
-        }
-        poll(polls_left)?;
-    }
-    None
-}
-
-/// Frees the lock. None where the thread didn't hold it.
-fn leave(lock: &SleepLock, seat: &mut LockSeat, who: Who, polls_left: &mut u64) -> Option<()>
-    requires { IsSeatOf lock.now seat.old }
-    ensures { IsSeatOf lock.now seat.new }
-{
-    for _ in 0..MOST_POLLS {
-        if let Tried::Answered(freed) = lock.free(seat, who) {
-            return freed.ok().map(|_| ());
-        }
-        poll(polls_left)?;
-    }
-    None
-}
-
-/// Holds the lock so many times as there are rounds. The places of the grants.
-fn hold(alloc: Global, lock: &SleepLock, seat: &mut LockSeat, who: Who) -> Option<Vec<usize>>
-    requires { IsSeatOf lock.now seat.old }
-    ensures { IsSeatOf lock.now seat.new }
-{
-    let mut polls_left = MOST_POLLS;
-    let mut places = room(alloc).ok()?;
-    for _ in 0..ROUNDS {
-        places.push(enter(lock, seat, who, &mut polls_left)?).ok()?;
-        leave(lock, seat, who, &mut polls_left)?;
-    }
-    Some(places)
-}
-
-/// The seat of a thread that is done, and the places of its grants.
-type Done = (LockSeat, Option<Vec<usize>>);
-
-fn work(alloc: Global, lock: &SleepLock, mut seat: LockSeat, who: Who) -> Done
-    requires { IsSeatOf lock.now seat }
-    ensures { IsSeatOf lock.now result.0 }
-{
-    let places = hold(alloc, lock, &mut seat, who);
-    (seat, places)
-}
-
-/// A and B contend for the lock, and the places of the grants of each.
-fn contend<R: Threads + Sync>(
-    rt: &R,
-    alloc: Global,
-    lock: &SleepLock,
-    seat: LockSeat,
-) -> (LockSeat, Option<(Vec<usize>, Vec<usize>)>)
-    requires { IsSeatOf lock.now seat }
-    ensures { IsSeatOf lock.now result.0 }
-{
-    let (own, theirs) = lock.split(seat);
-    let ((own, of_a), (theirs, of_b)) = thread::join(
-        rt,
-        move || work(alloc, lock, own, A),
-        move || work(alloc, lock, theirs, B),
-    );
-    (lock.join_seats(own, theirs), of_a.zip(of_b))
-}
-
-#[test]
-fn two_kernel_threads_contend_for_a_lock(rt: HostRuntime) -> Result<(), Fail> {
-    let (lock, seat) = shared::make(rt.alloc(), 5)?;
-    let (seat, places) = contend(&rt, rt.alloc(), &lock, seat);
-    let (of_a, of_b) = places.ok_or("a thread gave up")?;
-    assert!(rt; lock.is_whole(&seat));
-    let history = shared::closed(lock, seat)?;
-    assert!(rt; history.len() == 60_000 && of_a.len() == 10_000 && of_b.len() == 10_000);
-    assert!(rt; are_grants_in_order(&history, A, &of_a));
-    assert!(rt; are_grants_in_order(&history, B, &of_b));
-    Ok(())
 }
 
 /// Asks for a lock of several, and looks until the thread holds it. The place of its grant.
@@ -255,13 +161,17 @@ fn tell_of(histories: &[Vec<LockEvent>], who: Who, places: Places) -> bool {
         && are_grants_in_order(two, who, &second)
 }
 
+/// Whether A and B have held each lock so many times as there are rounds, as the histories tell.
+fn each_had_its_turns<R: Threads + Sync>(rt: &R, alloc: Global) -> Option<bool> {
+    let (locks, seats) = several::make(alloc, 2).ok()?;
+    let (own, theirs) = several::parted(alloc, &locks, seats)?;
+    let (seats, of_a, of_b) = contend_for_each(rt, alloc, &locks, own, theirs);
+    let histories = several::closed(alloc, locks, seats)?;
+    let are_whole = histories.iter().all(|history| history.len() == 60_000);
+    Some(are_whole && tell_of(&histories, A, of_a) && tell_of(&histories, B, of_b))
+}
+
 #[test]
-fn two_kernel_threads_contend_for_two_locks(rt: HostRuntime) -> Result<(), Fail> {
-    let (locks, seats) = several::make(rt.alloc(), 2)?;
-    let (own, theirs) = several::parted(rt.alloc(), &locks, seats).ok_or("no memory")?;
-    let (seats, of_a, of_b) = contend_for_each(&rt, rt.alloc(), &locks, own, theirs);
-    let histories = several::closed(rt.alloc(), locks, seats).ok_or("not closed")?;
-    assert!(rt; histories.iter().all(|history| history.len() == 60_000));
-    assert!(rt; tell_of(&histories, A, of_a) && tell_of(&histories, B, of_b));
-    Ok(())
+fn two_kernel_threads_contend_for_two_locks(rt: HostRuntime) {
+    assert!(rt; each_had_its_turns(&rt, rt.alloc()) == Some(true));
 }
