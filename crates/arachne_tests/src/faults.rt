@@ -33,7 +33,11 @@ fn faults_are_written(rt: HostRuntime) -> Result<(), AllocError> {
         kind: OrderFaultKind::ReleasesCoreZero,
     };
     let order = is_written(rt.alloc(), &fault, "order 3: core 0 is never released")?;
-    let sample = is_written(rt.alloc(), &BadSample, "the sample cannot have been measured")?;
+    let sample = is_written(
+        rt.alloc(),
+        &BadSample,
+        "the sample cannot have been measured",
+    )?;
     assert!(rt; order && sample);
     Ok(())
 }

@@ -75,7 +75,14 @@ fn passed(cell: &JoinCell<u64, Wanted>, end: SendingEnd<u64, Wanted>) -> Option<
 #[test]
 fn a_value_is_put_back_and_another_is_fetched_once(rt: HostRuntime) -> Result<(), AllocError> {
     let (cell, end) = make_cell(rt.alloc(), 7)?;
-    let expected = (3, 7, EMPTY, Some(CellState::Waiting), EMPTY, Some(CellState::Taken));
+    let expected = (
+        3,
+        7,
+        EMPTY,
+        Some(CellState::Waiting),
+        EMPTY,
+        Some(CellState::Taken),
+    );
     assert!(rt; passed(&cell, end) == Some(expected));
     Ok(())
 }

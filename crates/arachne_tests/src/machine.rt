@@ -18,7 +18,8 @@ fn program(alloc: Global, count: u8, expression: &str) -> Option<Program> {
 const COUNTING: &str = "(sweep add 1 (num 0) (num 8) (hold 0 (tally 0 (num 5) (num 1))))";
 
 /// A child whose own child adds to a ledger and forks a third.
-const GROWING: &str = "(fork x (fork x (tally 0 (num 3) (fork x (num 20) (num 5) (sub (var 0) (var 1)))) (num 7) (sub (var 0) (var 1))) (num 2) (sub (var 0) (var 1)))";
+const GROWING: &str =
+    "(fork x (fork x (tally 0 (num 3) (fork x (num 20) (num 5) (sub (var 0) (var 1)))) (num 7) (sub (var 0) (var 1))) (num 2) (sub (var 0) (var 1)))";
 
 /// A program: how many ledgers and locks it has, its expression, how the children run of its threads, the sum of the
 /// tags that ask for a lock, and what is told of its threads.
@@ -88,12 +89,7 @@ const ROWS: &[Row] = &[
 ];
 
 /// What is told of a program's threads, with no memory where that is short.
-fn told_of(
-    alloc: Global,
-    program: &Program,
-    round: &mut Round,
-    is_short: bool,
-) -> Option<String> {
+fn told_of(alloc: Global, program: &Program, round: &mut Round, is_short: bool) -> Option<String> {
     let parts = parts_of(alloc, program, round, is_short)?;
     told(alloc, &parts)
 }
@@ -110,17 +106,26 @@ fn is_right_with(alloc: Global, row: &Row, budget: u32, is_short: bool) -> Optio
     Some(text.as_str() == expected && round.heard.asked == asked && is_refused == is_short)
 }
 
-/// Run with each allocation refused in turn.
-#[test]
-fn threads_are_told_with_memory_and_without(rt: HostRuntime) {
-    for row in ROWS {
-        for budget in [1, 7, 1000] {
-            for is_short in [false, true] {
-                let is_right = is_right_with(rt.alloc(), row, budget, is_short);
-                assert!(rt; is_right == Some(true), "{} {:?} {budget} {is_short}", row.1, row.2);
+/// The number of the first row that is told otherwise, from 0, and its budget.
+fn first_wrong(alloc: Global, is_short: bool) -> Option<(usize, u32)> {
+    for (k, row) in ROWS.iter().enumerate() {
+        for budget in [1, 2, 7, 1000] {
+            if is_right_with(alloc, row, budget, is_short) != Some(true) {
+                return Some((k, budget));
             }
         }
     }
+    None
+}
+
+#[test]
+fn threads_are_told(rt: HostRuntime) {
+    assert!(rt; first_wrong(rt.alloc(), false) == None);
+}
+
+#[test]
+fn refused_calls_are_made_again(rt: HostRuntime) {
+    assert!(rt; first_wrong(rt.alloc(), true) == None);
 }
 
 const FOLD: &str = "(fold (num 0) (num 5000) (num 0) (add (var 0) (var 1)))";
@@ -173,7 +178,8 @@ fn chain(alloc: Global) -> Option<(String, u64)> {
 /// Whether sixty threads, each forked by the one before it, are told in turn, the last with a name of sixty numbers.
 fn is_chain(chain: &(String, u64)) -> bool {
     let (text, next) = chain;
-    text.as_str().starts_with("61 [] []9-[] [0]10+[] [0, 0]11+[]")
+    text.as_str()
+        .starts_with("61 [] []9-[] [0]10+[] [0, 0]11+[]")
         && text.as_str().ends_with(", 0, 0]69+[]")
         && *next == 70
 }

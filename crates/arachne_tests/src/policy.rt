@@ -67,7 +67,10 @@ const FAULT: OrderFault = OrderFault {
 /// The first word picks entries 2 and 1, of which the second has fewer threads, and the second word entry 0 twice.
 #[test]
 fn cores_are_chosen_and_ordered(rt: HostRuntime) {
-    let chosen = (two_choices(0x0000_0001_0000_0002, LOADS), two_choices(u64::MAX, LOADS));
+    let chosen = (
+        two_choices(0x0000_0001_0000_0002, LOADS),
+        two_choices(u64::MAX, LOADS),
+    );
     assert!(rt; chosen == (5, 2));
     assert!(rt; (check_orders(ORDERS, 4), check_orders(ORDERS, 2)) == (Ok(()), Err(FAULT)));
 }

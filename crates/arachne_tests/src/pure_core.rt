@@ -243,18 +243,27 @@ const OCCUPANCIES: &[(u64, Option<Occupied>)] = &[
 fn occupied(number: u64) -> Option<Occupied> {
     let occ = OccWord::from_word(number)?;
     let (closed, exclusive, empty) = (occ.is_closed(), occ.is_exclusive(), occ.is_empty());
-    Some((occ.mask(), occ.count(), closed, exclusive, empty, occ.lowest_free()))
+    Some((
+        occ.mask(),
+        occ.count(),
+        closed,
+        exclusive,
+        empty,
+        occ.lowest_free(),
+    ))
 }
 
 /// The word with index 2 and without it, whether that is occupied, and the closed and exclusive word without index 0.
 fn with_and_without(number: u64) -> Option<(u64, u64, bool, u64)> {
     let occ = OccWord::from_word(number)?;
     let (with, without) = (occ.with_bit(2), occ.without_bit(2));
-    let flagged = occ
-        .without_bit(0)
-        .with_closed(true)
-        .with_exclusive(true);
-    Some((with.word(), without.word(), occ.is_occupied(2), flagged.word()))
+    let flagged = occ.without_bit(0).with_closed(true).with_exclusive(true);
+    Some((
+        with.word(),
+        without.word(),
+        occ.is_occupied(2),
+        flagged.word(),
+    ))
 }
 
 #[test]

@@ -131,7 +131,7 @@ struct Family<'p> {
     outcomes: Vec<Outcome<'p>>,
 }
 
-fn family<'p>(alloc: Global) -> Option<Family<'p>> {
+fn make_family<'p>(alloc: Global) -> Option<Family<'p>> {
     Some(Family {
         threads: Vec::with_capacity(alloc, 20).ok()?,
         children: Vec::with_capacity(alloc, 20).ok()?,
@@ -215,15 +215,18 @@ fn answer(thread: &mut Thread) {
     }
 }
 
-/// Goes on with a child that is to be handed back, so that others run in its place.
+/// Goes on with a child until two threads were handed back to it, in the place of one of which the other is to run.
 fn grow(child: &mut Thread, round: &mut Round) -> bool {
-    for _ in 0..4 {
+    for _ in 0..MOST {
+        if round.heard.next == 12 {
+            return true;
+        }
         if !go_on_in_place(child, round) {
             return false;
         }
         answer(child);
     }
-    true
+    false
 }
 
 /// Hands a child to a thread that awaits it, to go on in its place. Where memory is refused it comes back.
@@ -284,7 +287,9 @@ fn await_child(family: &mut Family, round: &mut Round) -> bool {
         return false;
     }
     let Family {
-        threads, children, ..
+        threads,
+        children,
+        ..
     } = family;
     match threads.last_mut() {
         Some(thread) => begin(thread, child, children, round),
@@ -389,7 +394,7 @@ pub(super) fn parts_of(
     round: &mut Round,
     is_short: bool,
 ) -> Option<OutcomeParts> {
-    let mut family = family(alloc)?;
+    let mut family = make_family(alloc)?;
     if is_short {
         round.memory.use_up(alloc)?;
     }

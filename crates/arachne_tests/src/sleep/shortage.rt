@@ -31,7 +31,11 @@ fn asks_at_last(lock: &mut LockState, tag: u64, hoard: &mut Hoard) -> Option<u64
             Ok(asked) => {
                 let is_first = matches!(asked, Asked::Granted(_));
                 let is_in = (lock.holds(who), lock.waits(who)) == (is_first, !is_first);
-                return if is_in && is_first == (tag == 0) { Some(refused) } else { None };
+                return if is_in && is_first == (tag == 0) {
+                    Some(refused)
+                } else {
+                    None
+                };
             }
             Err(AskFault::AlreadyIn) => return None,
             Err(AskFault::Memory) => hoard.give_back(FEW),
