@@ -30,59 +30,42 @@ fn make_cell(
     }
 }
 
-type Passed = (
-    u64,
-    u64,
-    Option<CellState>,
-    Option<CellState>,
-    Option<CellState>,
-    Option<CellState>,
-);
-
-const EMPTY: Option<CellState> = Some(CellState::Empty);
-
-fn missed_at(cell: &JoinCell<u64, Wanted>) -> Option<CellState> {
+fn is_missed(cell: &JoinCell<u64, Wanted>, state: CellState) -> bool {
     match cell.fetch() {
-        Ok(_) => None,
-        Err(missed) => Some(missed.state),
+        Ok(_) => false,
+        Err(missed) => missed.state == state,
     }
 }
 
-/// What is taken back and what is fetched, and how a cell misses a value each time: before one is put back, while it
-/// waits, once it is taken back, and once another was left and fetched.
-fn passed(cell: &JoinCell<u64, Wanted>, end: SendingEnd<u64, Wanted>) -> Option<Passed>
+fn gives_nothing_back(cell: &JoinCell<u64, Wanted>) -> bool {
+    cell.take_back().is_err()
+}
+
+/// Whether what was put back is taken back, what was left is fetched, and a cell misses a value as it is to: before one
+/// is put back, while it waits, once it is taken back, and once another was left and fetched.
+fn passes(cell: &JoinCell<u64, Wanted>, end: SendingEnd<u64, Wanted>) -> bool
     requires number { cell.now.key.0 ≡ 7 }
     requires end { end ≡ cell.now.table }
 {
-    let before = missed_at(cell);
+    let empty = is_missed(cell, CellState::Empty);
     end.put_back(cell, 3);
-    let waiting = missed_at(cell);
+    let waiting = is_missed(cell, CellState::Waiting);
     let Ok((back, end)) = cell.take_back() else {
-        return None;
+        return false;
     };
-    let taken_back = missed_at(cell);
-    if cell.take_back().is_ok() {
-        return None;
-    }
+    let emptied = is_missed(cell, CellState::Empty) && gives_nothing_back(cell);
     let left = end.leave(cell, 7);
     let Ok((value, fetched)) = cell.fetch() else {
-        return None;
+        return false;
     };
     cell.fetched_once(fetched, left);
-    Some((back, value, before, waiting, taken_back, missed_at(cell)))
+    let taken = is_missed(cell, CellState::Taken);
+    empty && waiting && emptied && taken && back == 3 && value == 7
 }
 
 #[test]
 fn a_value_is_put_back_and_another_is_fetched_once(rt: HostRuntime) -> Result<(), AllocError> {
     let (cell, end) = make_cell(rt.alloc(), 7)?;
-    let expected = (
-        3,
-        7,
-        EMPTY,
-        Some(CellState::Waiting),
-        EMPTY,
-        Some(CellState::Taken),
-    );
-    assert!(rt; passed(&cell, end) == Some(expected));
+    assert!(rt; passes(&cell, end));
     Ok(())
 }

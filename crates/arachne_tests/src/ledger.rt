@@ -7,13 +7,14 @@ use std::alloc::{AllocError, Global};
 use std::thread;
 use std::thread::Threads;
 
+/// Adds 3 and half of 2^64, a thousand times.
 fn add_threes(ledgers: &Ledgers, mut share: Share) -> Share
     requires share { IsShareOf ledgers.now share }
     requires some_ledger { 0 < ledgers.now.count }
     ensures { IsShareOf ledgers.now result }
 {
     for _ in 0..1000 {
-        ledgers.add(&mut share, 0, 3);
+        ledgers.add(&mut share, 0, (1 << 63) + 3);
     }
     share
 }

@@ -149,7 +149,17 @@ fn is_right(world: &mut World, event: Event, words: Option<(u64, u64)>) -> bool 
     }
 }
 
-/// Whether each event of a World with so many cores shows its words.
+/// Whether each event shows its words.
+fn are_right(world: &mut World, rows: &[Row]) -> bool {
+    for &(event, words) in rows {
+        if !is_right(world, event, words) {
+            return false;
+        }
+    }
+    true
+}
+
+/// The same of a World with so many cores.
 fn is_right_run(alloc: Global, run: &(u8, usize, usize, &[Row])) -> Result<bool, AllocError> {
     let &(cores, posts, retires, rows) = run;
     if cores == 0 || cores > 64 {
@@ -157,12 +167,7 @@ fn is_right_run(alloc: Global, run: &(u8, usize, usize, &[Row])) -> Result<bool,
     }
     let mut world = World::new(alloc, cores, 56, 0)?;
     world.reserve(posts, retires)?;
-    for &(event, words) in rows {
-        if !is_right(&mut world, event, words) {
-            return Ok(false);
-        }
-    }
-    Ok(true)
+    Ok(are_right(&mut world, rows))
 }
 
 #[test]

@@ -1,16 +1,21 @@
 //! What programs mean, and which of them may not run.
-use arachne_lang::{CheckFault, Expr, Meaning, Name, Operation, Program, check, eval, parse};
+use arachne_lang::{CheckFault, Expr, Line, Meaning, Name, Operation, Program, check, eval, parse};
 use std::alloc::{AllocError, Global};
 
-/// The meaning of a text's program, if it may run and there is memory.
-fn meaning_of(alloc: Global, text: &[u8]) -> Option<Meaning> {
-    let Ok(program) = parse(alloc, text) else {
-        return None;
-    };
-    if check(&program).is_err() {
+/// The meaning of a program, if it may run and there is memory.
+fn meaning_in(alloc: Global, program: &Program) -> Option<Meaning> {
+    if check(program).is_err() {
         return None;
     }
-    eval(alloc, &program).ok()
+    eval(alloc, program).ok()
+}
+
+/// The meaning of a text's program.
+fn meaning_of(alloc: Global, text: &[u8]) -> Option<Meaning> {
+    match parse(alloc, text) {
+        Ok(program) => meaning_in(alloc, &program),
+        Err(_) => None,
+    }
 }
 
 /// The name of a thread whose forebears were each forked first, so many of them.
@@ -23,8 +28,7 @@ fn first_of(alloc: Global, forks: usize) -> Option<Name> {
 }
 
 /// Whether each of 901 threads has held a lock once, the first being the root, and the last having this name.
-fn is_of_many(meaning: &Meaning, last: &Name) -> bool {
-    let lines = meaning.threads.as_slice();
+fn are_many(lines: &[Line], last: &Name) -> bool {
     if lines.len() != 901 {
         return false;
     }
@@ -36,21 +40,25 @@ fn is_of_many(meaning: &Meaning, last: &Name) -> bool {
     lines[0].name.len() == 0 && lines[900].name == *last
 }
 
+/// Whether there is a thread for each of 901 numbers. The child of each fork has the left half, so the last line's name
+/// is of the halves 450, 225, 112, 56, 28, 14, 7, 3, 1.
+fn is_of_many(alloc: Global, meaning: &Meaning) -> bool {
+    if meaning.value != 405_450 || meaning.totals.as_slice() != [4505].as_slice() {
+        return false;
+    }
+    match first_of(alloc, 9) {
+        Some(last) => are_many(meaning.threads.as_slice(), &last),
+        None => false,
+    }
+}
+
 const MANY: &[u8] = b"arachne 1\nledgers 1\nlocks 1\n\
 (sweep add 1 (num 0) (num 901) (hold 0 (tally 0 (num 5) (var 0))))\n";
 
-/// A thread for each of 901 numbers. The child of each fork has the left half, so the last line's name is of the halves
-/// 450, 225, 112, 56, 28, 14, 7, 3, 1.
-fn is_meant_by_many(alloc: Global) -> Option<bool> {
-    let last = first_of(alloc, 9)?;
-    let meaning = meaning_of(alloc, MANY)?;
-    let totals = meaning.totals.as_slice() == [4505].as_slice();
-    Some(meaning.value == 405_450 && totals && is_of_many(&meaning, &last))
-}
-
 #[test]
 fn many_threads_have_a_line_each(rt: HostRuntime) {
-    assert!(rt; is_meant_by_many(rt.alloc()) == Some(true));
+    let meaning = meaning_of(rt.alloc(), MANY);
+    assert!(rt; meaning.is_some_and(|meaning| is_of_many(rt.alloc(), &meaning)));
 }
 
 /// A number at the end of so many sums, at each of which a number is added to it.

@@ -229,6 +229,16 @@ fn grow(child: &mut Thread, round: &mut Round) -> bool {
     false
 }
 
+// What is let go at an error is dropped in a function of its own, and not at each exit.
+
+fn lose_thread(_thread: Thread) -> bool {
+    false
+}
+
+fn lose_outcome(_outcome: Outcome) -> bool {
+    false
+}
+
 /// Hands a child to a thread that awaits it, to go on in its place. Where memory is refused it comes back.
 fn begin<'p>(
     thread: &mut Thread<'p>,
@@ -237,10 +247,10 @@ fn begin<'p>(
     round: &mut Round,
 ) -> bool {
     let Some(Pending::Joins) = thread.pending() else {
-        return false;
+        return lose_thread(child);
     };
     if child.pending().is_some() || !are_same(child.program(), thread.program()) {
-        return false;
+        return lose_thread(child);
     }
     match thread.in_place(child) {
         Ok(()) => true,
@@ -248,7 +258,7 @@ fn begin<'p>(
             round.memory.spare();
             children.push(child).is_ok()
         }
-        Err(NotPlaced::Foreign(_)) => false,
+        Err(NotPlaced::Foreign(child)) => lose_thread(child),
     }
 }
 
@@ -260,10 +270,10 @@ fn join<'p>(
     round: &mut Round,
 ) -> bool {
     let Some(Pending::Joins) = thread.pending() else {
-        return false;
+        return lose_outcome(outcome);
     };
     if !are_same(outcome.program(), thread.program()) {
-        return false;
+        return lose_outcome(outcome);
     }
     match thread.joined(outcome) {
         Ok(()) => true,
@@ -271,7 +281,7 @@ fn join<'p>(
             round.memory.spare();
             outcomes.push(outcome).is_ok()
         }
-        Err(NotJoined::Foreign(_)) => false,
+        Err(NotJoined::Foreign(outcome)) => lose_outcome(outcome),
     }
 }
 
@@ -303,7 +313,7 @@ fn end(family: &mut Family) -> bool {
         return false;
     };
     let Some(Pending::Ended) = thread.pending() else {
-        return false;
+        return lose_thread(thread);
     };
     family.outcomes.push(thread.finish()).is_ok()
 }
@@ -360,6 +370,22 @@ fn start<'p>(alloc: Global, program: &'p Program, round: &mut Round) -> Option<T
     None
 }
 
+/// Begins with the root thread, and hands its first child back if that is to have grown.
+fn set_off<'p>(
+    alloc: Global,
+    program: &'p Program,
+    threads: &mut Vec<Thread<'p>>,
+    round: &mut Round,
+) -> bool {
+    let Some(mut root) = start(alloc, program, round) else {
+        return false;
+    };
+    if round.way == Way::GrownAtFork && !hand_grown(&mut root) {
+        return lose_thread(root);
+    }
+    threads.push(root).is_ok()
+}
+
 /// An outcome taken apart. A call that is refused memory is made again, with a little more each time.
 fn parts(outcome: Outcome, round: &mut Round) -> Option<OutcomeParts> {
     let mut outcome = outcome;
@@ -398,11 +424,9 @@ pub(super) fn parts_of(
     if is_short {
         round.memory.use_up(alloc)?;
     }
-    let mut root = start(alloc, program, round)?;
-    if round.way == Way::GrownAtFork && !hand_grown(&mut root) {
+    if !set_off(alloc, program, &mut family.threads, round) {
         return None;
     }
-    family.threads.push(root).ok()?;
     let parts = run(alloc, &mut family, round);
     round.memory.give_all_back();
     parts

@@ -1,4 +1,5 @@
 //! The memory of a run: ample, or none at each call, which is then made again with a little more each time.
+use super::first_wrong;
 use arachne_shortage::Hoard;
 use std::alloc::Global;
 
@@ -77,4 +78,9 @@ impl Memory {
     pub(super) fn refused(&self) -> u64 {
         self.refused
     }
+}
+
+#[test]
+fn refused_calls_are_made_again(rt: HostRuntime) {
+    assert!(rt; first_wrong(rt.alloc(), true) == None);
 }

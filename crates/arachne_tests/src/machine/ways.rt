@@ -1,5 +1,5 @@
 //! Programs that run by steps as they are evaluated.
-use arachne_lang::{check, eval, parse};
+use arachne_lang::{Meaning, Program, check, eval, parse};
 use arachne_machine::run_alone;
 use std::alloc::Global;
 
@@ -15,25 +15,36 @@ const TEXTS: &[&[u8]] = &[
     b"arachne 1\nledgers 1\nlocks 1\n(fork n (sweep add 1 (num 0) (num 8) (hold 0 (tally 0 (num 5) (num 1)))) (num 3) (add (var 0) (var 1)))\n",
 ];
 
-/// Whether a text's program runs by steps as it is evaluated, whatever the steps. None where memory is refused.
-fn runs_as_evaluated(alloc: Global, text: &[u8]) -> Option<bool> {
-    let Ok(program) = parse(alloc, text) else {
-        return None;
-    };
-    if check(&program).is_err() {
-        return Some(false);
-    }
-    let Ok(meaning) = eval(alloc, &program) else {
-        return None;
-    };
+/// Whether a program runs by steps to this meaning, whatever the steps. None where memory is refused.
+fn runs_to(alloc: Global, program: &Program, meaning: &Meaning) -> Option<bool> {
     for budget in [0, 1, 7, 100, 10_000, u32::MAX] {
-        match run_alone(alloc, &program, budget) {
-            Ok(other) if other == meaning => {}
-            Ok(_) => return Some(false),
-            Err(_) => return None,
+        let Ok(found) = run_alone(alloc, program, budget) else {
+            return None;
+        };
+        if found != *meaning {
+            return Some(false);
         }
     }
     Some(true)
+}
+
+/// The same of a program that may run and its own meaning.
+fn runs_as_evaluated(alloc: Global, program: &Program) -> Option<bool> {
+    if check(program).is_err() {
+        return Some(false);
+    }
+    match eval(alloc, program) {
+        Ok(meaning) => runs_to(alloc, program, &meaning),
+        Err(_) => None,
+    }
+}
+
+/// The same of a text.
+fn is_run_as_evaluated(alloc: Global, text: &[u8]) -> Option<bool> {
+    match parse(alloc, text) {
+        Ok(program) => runs_as_evaluated(alloc, &program),
+        Err(_) => None,
+    }
 }
 
 /// Run with each allocation refused in turn this gives the same: no answer changes but to want of memory, and at the
@@ -41,9 +52,9 @@ fn runs_as_evaluated(alloc: Global, text: &[u8]) -> Option<bool> {
 #[test]
 fn every_way_means_the_same(rt: HostRuntime) {
     for &text in TEXTS {
-        let first = runs_as_evaluated(rt.alloc(), text);
+        let first = is_run_as_evaluated(rt.alloc(), text);
         let answer = match first {
-            None => runs_as_evaluated(rt.alloc(), text),
+            None => is_run_as_evaluated(rt.alloc(), text),
             first => first,
         };
         assert!(rt; answer == Some(true));

@@ -1,5 +1,5 @@
 //! Two kernel threads that contend for two locks. That the closed histories are lawful is proved.
-ghost use Rattle.std.specs.Prelude.{◌<◌, length};
+ghost use Rattle.std.specs.Prelude.{◌<◌, IfSome, length};
 ghost use Rattle.arachne_sleep.specs.SleepLocks.{AreSeatsOf};
 
 use super::{A, B, several};
@@ -134,20 +134,19 @@ fn contend_for_each<R: Threads + Sync>(
     rt: &R,
     alloc: Global,
     locks: &SleepLocks,
-    own: LockSeats,
-    theirs: LockSeats,
-) -> (LockSeats, Places, Places)
-    requires own { AreSeatsOf locks.now own }
-    requires theirs { AreSeatsOf locks.now theirs }
+    seats: LockSeats,
+) -> Option<(LockSeats, Places, Places)>
+    requires own { AreSeatsOf locks.now seats }
     requires two { 1 < length locks.now }
-    ensures { AreSeatsOf locks.now result.0 }
+    ensures { IfSome result (λ r. AreSeatsOf locks.now r.0) }
 {
+    let (own, theirs) = several::parted(alloc, locks, seats)?;
     let ((own, of_a), (theirs, of_b)) = thread::join(
         rt,
         move || work_on_each(alloc, locks, own, A),
         move || work_on_each(alloc, locks, theirs, B),
     );
-    (locks.join_seats(own, theirs), of_a, of_b)
+    Some((locks.join_seats(own, theirs), of_a, of_b))
 }
 
 /// Whether the histories of two locks tell of these grants to the thread at each, and of as many as there are rounds.
@@ -164,8 +163,7 @@ fn tell_of(histories: &[Vec<LockEvent>], who: Who, places: Places) -> bool {
 /// Whether A and B have held each lock so many times as there are rounds, as the histories tell.
 fn each_had_its_turns<R: Threads + Sync>(rt: &R, alloc: Global) -> Option<bool> {
     let (locks, seats) = several::make(alloc, 2).ok()?;
-    let (own, theirs) = several::parted(alloc, &locks, seats)?;
-    let (seats, of_a, of_b) = contend_for_each(rt, alloc, &locks, own, theirs);
+    let (seats, of_a, of_b) = contend_for_each(rt, alloc, &locks, seats)?;
     let histories = several::closed(alloc, locks, seats)?;
     let are_whole = histories.iter().all(|history| history.len() == 60_000);
     Some(are_whole && tell_of(&histories, A, of_a) && tell_of(&histories, B, of_b))

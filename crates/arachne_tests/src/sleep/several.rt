@@ -93,7 +93,7 @@ fn is_of_the_last(histories: &[Vec<LockEvent>]) -> bool {
 /// The histories of three locks, on one of which each call was made.
 fn histories(alloc: Global) -> Option<Vec<Vec<LockEvent>>> {
     let (locks, mut seats) = make(alloc, 3).ok()?;
-    if first_wrong(&locks, &mut seats).is_some() {
+    if locks.count() != 3 || first_wrong(&locks, &mut seats).is_some() {
         return None;
     }
     let seats = parted_and_joined(alloc, &locks, seats)?;
