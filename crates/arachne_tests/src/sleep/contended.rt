@@ -4,7 +4,7 @@ ghost use Rattle.arachne_sleep.specs.SleepLocks.{AreSeatsOf};
 
 use super::{A, B, several};
 use arachne_sleep::{AskFault, LockEvent, LockSeats, SleepLocks, Tried, Who};
-use std::alloc::{AllocError, Global};
+use std::alloc::Global;
 use std::thread;
 use std::thread::Threads;
 
@@ -21,18 +21,21 @@ fn poll(polls_left: &mut u64) -> Option<()> {
     Some(())
 }
 
+/// The places of a thread's grants, at the first lock and at the second in turn.
+type Places = Option<Vec<usize>>;
+
 /// Room for the places of a thread's grants. Where memory is refused it is asked for once more.
-fn room(alloc: Global) -> Result<Vec<usize>, AllocError> {
-    match Vec::with_capacity(alloc, ROUNDS) {
-        Ok(places) => Ok(places),
-        Err(_) => Vec::with_capacity(alloc, ROUNDS),
+fn room(alloc: Global) -> Places {
+    match Vec::with_capacity(alloc, 2 * ROUNDS) {
+        Ok(places) => Some(places),
+        Err(_) => Vec::with_capacity(alloc, 2 * ROUNDS).ok(),
     }
 }
 
-/// Whether the places are those of grants to the thread, and no two are the same.
+/// Whether each second place, from the front on, is that of a grant to the thread, and no two are the same.
 fn are_grants_in_order(history: &[LockEvent], who: Who, places: &[usize]) -> bool {
     let mut least = 0usize;
-    for &at in places {
+    for &at in places.iter().step_by(2) {
         if at < least || history.get(at) != Some(&LockEvent::Grant(who)) {
             return false;
         }
@@ -90,29 +93,22 @@ fn leave_one(
     None
 }
 
-/// The places of a thread's grants at each of two locks.
-type Places = Option<(Vec<usize>, Vec<usize>)>;
-
-/// Holds each of two locks in turn, so many times as there are rounds. The places of the grants at each.
+/// Holds each of two locks in turn, so many times as there are rounds. The places of the grants.
 fn hold_each(alloc: Global, locks: &SleepLocks, seats: &mut LockSeats, who: Who) -> Places
     requires own { AreSeatsOf locks.now seats.old }
     requires two { 1 < length locks.now }
     ensures { AreSeatsOf locks.now seats.new }
 {
     let mut polls_left = MOST_POLLS;
-    let mut first = room(alloc).ok()?;
-    let mut second = room(alloc).ok()?;
-    for _ in 0..ROUNDS {
-        first
-            .push(enter_one(locks, seats, 0, who, &mut polls_left)?)
+    let mut places = room(alloc)?;
+    for k in 0..2 * ROUNDS {
+        let lock = if k % 2 == 0 { 0 } else { 1 };
+        places
+            .push(enter_one(locks, seats, lock, who, &mut polls_left)?)
             .ok()?;
-        leave_one(locks, seats, 0, who, &mut polls_left)?;
-        second
-            .push(enter_one(locks, seats, 1, who, &mut polls_left)?)
-            .ok()?;
-        leave_one(locks, seats, 1, who, &mut polls_left)?;
+        leave_one(locks, seats, lock, who, &mut polls_left)?;
     }
-    Some((first, second))
+    Some(places)
 }
 
 fn work_on_each(
@@ -150,14 +146,19 @@ fn contend_for_each<R: Threads + Sync>(
 }
 
 /// Whether the histories of two locks tell of these grants to the thread at each, and of as many as there are rounds.
-fn tell_of(histories: &[Vec<LockEvent>], who: Who, places: Places) -> bool {
-    let (Some((first, second)), [one, two]) = (places, histories) else {
+fn tell_of(histories: &[Vec<LockEvent>], who: Who, places: &[usize]) -> bool {
+    if histories.len() != 2 || places.len() != 2 * ROUNDS {
         return false;
-    };
-    first.len() == ROUNDS
-        && second.len() == ROUNDS
-        && are_grants_in_order(one, who, &first)
-        && are_grants_in_order(two, who, &second)
+    }
+    are_grants_in_order(&histories[0], who, places)
+        && are_grants_in_order(&histories[1], who, &places[1..])
+}
+
+/// Whether the histories of two locks tell of all grants to A and to B, and of nothing else.
+fn tell_all(histories: &[Vec<LockEvent>], of_a: &[usize], of_b: &[usize]) -> bool {
+    histories.iter().all(|history| history.len() == 60_000)
+        && tell_of(histories, A, of_a)
+        && tell_of(histories, B, of_b)
 }
 
 /// Whether A and B have held each lock so many times as there are rounds, as the histories tell.
@@ -165,8 +166,7 @@ fn each_had_its_turns<R: Threads + Sync>(rt: &R, alloc: Global) -> Option<bool> 
     let (locks, seats) = several::make(alloc, 2).ok()?;
     let (seats, of_a, of_b) = contend_for_each(rt, alloc, &locks, seats)?;
     let histories = several::closed(alloc, locks, seats)?;
-    let are_whole = histories.iter().all(|history| history.len() == 60_000);
-    Some(are_whole && tell_of(&histories, A, of_a) && tell_of(&histories, B, of_b))
+    Some(tell_all(&histories, &of_a?, &of_b?))
 }
 
 #[test]

@@ -153,15 +153,24 @@ fn closed(lock: SleepLock, seat: LockSeat) -> Option<Vec<LockEvent>>
     lock.close(seat).ok()
 }
 
-/// How often there was no memory for the crowd, and how long the history is that it leaves.
-fn wanted(alloc: Global) -> Option<(u64, usize)> {
-    let (lock, mut seat) = make(alloc).ok()?;
+/// How often there was no memory for the crowd, of which the first thread then leaves.
+fn refusals(alloc: Global, lock: &SleepLock, seat: &mut LockSeat) -> Option<u64>
+    requires { IsSeatOf lock.now seat.old }
+    ensures { IsSeatOf lock.now seat.new }
+{
     let mut hoard = Hoard::take(alloc).ok()?;
-    let refused = all_ask(&lock, &mut seat, &mut hoard)?;
+    let refused = all_ask(lock, seat, &mut hoard);
     drop(hoard);
-    if !first_leaves(&lock, &mut seat) {
+    if !first_leaves(lock, seat) {
         return None;
     }
+    refused
+}
+
+/// The same, and how long the history is that the crowd leaves.
+fn wanted(alloc: Global) -> Option<(u64, usize)> {
+    let (lock, mut seat) = make(alloc).ok()?;
+    let refused = refusals(alloc, &lock, &mut seat)?;
     Some((refused, closed(lock, seat)?.len()))
 }
 
