@@ -56,13 +56,20 @@ fn sums(alloc: Global, ledgers: Ledgers, share: Share) -> Option<Vec<u64>>
     }
 }
 
+/// Whether these sums came out.
+fn are_sums(sums: Option<Vec<u64>>, expected: &[u64]) -> bool {
+    match sums {
+        Some(sums) => sums.as_slice() == expected,
+        None => false,
+    }
+}
+
 #[test]
 fn two_threads_add_up(rt: HostRuntime) -> Result<(), AllocError> {
     let (ledgers, share) = make_ledgers(rt.alloc(), 1)?;
     let share = add_in_two_threads(&rt, &ledgers, share);
     assert!(rt; share.is_whole());
-    let sums = sums(rt.alloc(), ledgers, share);
-    assert!(rt; sums.is_some_and(|sums| sums.as_slice() == [6000].as_slice()));
+    assert!(rt; are_sums(sums(rt.alloc(), ledgers, share), &[6000]));
     Ok(())
 }
 
@@ -108,7 +115,7 @@ fn come_to(alloc: Global, count: usize, expected: &[u64]) -> Result<bool, AllocE
     if !share.is_whole() {
         return Ok(false);
     }
-    Ok(sums(alloc, ledgers, share).is_some_and(|sums| sums.as_slice() == expected))
+    Ok(are_sums(sums(alloc, ledgers, share), expected))
 }
 
 #[test]

@@ -1,10 +1,10 @@
-//! One run of asks, looks and frees, by a lock's state and by one of several locks, a call a row with its answer.
+//! One run of asks, looks and frees, a call a row with its answer.
 mod contended;
 mod several;
 mod shortage;
 
 use arachne_core::ThreadId;
-use arachne_sleep::{AskFault, Asked, Freed, LockEvent, LockState, NotHolder, Pass, Who};
+use arachne_sleep::{AskFault, Asked, Freed, LockEvent, NotHolder, Pass, Who};
 use std::test::Fail;
 
 /// A thread of the context and the generation 7, by its tag.
@@ -86,16 +86,6 @@ const WHOLE: &[LockEvent] = &[
     LockEvent::Free(C),
 ];
 
-// Each use of a constant table is proved anew, so each has one.
-
-fn rows() -> Rows {
-    ROWS
-}
-
-fn whole_history() -> &'static [LockEvent] {
-    WHOLE
-}
-
 /// A pass of this lock for this thread.
 fn told_pass(told: &'static str, lock: u8, who: Who, pass: Pass) -> Answer {
     if pass.lock == lock && pass.who == who {
@@ -125,41 +115,4 @@ fn told_free(freed: Result<Freed, NotHolder>) -> Answer {
         Ok(Freed { next, at }) => ("freed", at, next),
         Err(NotHolder) => ("not its holder", 0, None),
     }
-}
-
-/// Asks, and where memory is refused and nothing changed asks again.
-fn ask(lock: &mut LockState, who: Who) -> Result<Asked, AskFault> {
-    let before = lock.history().len();
-    let answer = lock.ask(who);
-    let changed = lock.history().len() != before || lock.holds(who) || lock.waits(who);
-    match answer {
-        Err(AskFault::Memory) if !changed => lock.ask(who),
-        answer => answer,
-    }
-}
-
-/// What a call on lock 5 answers.
-fn called(lock: &mut LockState, call: Call, who: Who) -> Answer {
-    match call {
-        Call::Ask => told_ask(5, who, ask(lock, who)),
-        Call::Check => told_check(5, who, lock.check(who)),
-        Call::Free => told_free(lock.free(who)),
-    }
-}
-
-/// The number of the first call that answers something else, from 0.
-fn first_wrong(lock: &mut LockState) -> Option<usize> {
-    for (k, &(call, who, answer)) in rows().iter().enumerate() {
-        if called(lock, call, who) != answer {
-            return Some(k);
-        }
-    }
-    None
-}
-
-#[test]
-fn three_threads_in_turn(rt: HostRuntime) {
-    let mut lock = LockState::new(rt.alloc(), 5);
-    assert!(rt; first_wrong(&mut lock) == None);
-    assert!(rt; lock.into_history().as_slice() == whole_history());
 }

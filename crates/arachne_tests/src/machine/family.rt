@@ -239,15 +239,10 @@ fn lose_outcome(_outcome: Outcome) -> bool {
     false
 }
 
-/// Hands a child to a thread that awaits it, to go on in its place. Where memory is refused it comes back.
-fn begin<'p>(
-    thread: &mut Thread<'p>,
-    child: Thread<'p>,
-    children: &mut Vec<Thread<'p>>,
-    round: &mut Round,
-) -> bool {
-    let Some(Pending::Joins) = thread.pending() else {
-        return lose_thread(child);
+/// Hands the newest child to a thread that awaits it, to go on in its place. Where memory is refused it comes back.
+fn begin<'p>(thread: &mut Thread<'p>, children: &mut Vec<Thread<'p>>, round: &mut Round) -> bool {
+    let (Some(Pending::Joins), Some(child)) = (thread.pending(), children.pop()) else {
+        return false;
     };
     if child.pending().is_some() || !are_same(child.program(), thread.program()) {
         return lose_thread(child);
@@ -285,26 +280,31 @@ fn join<'p>(
     }
 }
 
+/// The newest child goes on by itself.
+fn begin_apart(family: &mut Family) -> bool {
+    match family.children.pop() {
+        Some(child) => family.threads.push(child).is_ok(),
+        None => false,
+    }
+}
+
 /// The child that is awaited goes on, by itself or in the place of the thread that awaits it.
 fn await_child(family: &mut Family, round: &mut Round) -> bool {
-    let Some(mut child) = family.children.pop() else {
-        return false;
-    };
     if round.way == Way::Alone || round.way == Way::AloneIfExclusive {
-        return family.threads.push(child).is_ok();
-    }
-    if round.way == Way::GrownAtJoin && !grow(&mut child, round) {
-        return false;
+        return begin_apart(family);
     }
     let Family {
         threads,
         children,
         ..
     } = family;
-    match threads.last_mut() {
-        Some(thread) => begin(thread, child, children, round),
-        None => false,
+    let (Some(thread), Some(child)) = (threads.last_mut(), children.last_mut()) else {
+        return false;
+    };
+    if round.way == Way::GrownAtJoin && !grow(child, round) {
+        return false;
     }
+    begin(thread, children, round)
 }
 
 /// The outcome of the last thread, which has ended.

@@ -146,19 +146,21 @@ fn contend_for_each<R: Threads + Sync>(
 }
 
 /// Whether the histories of two locks tell of these grants to the thread at each, and of as many as there are rounds.
-fn tell_of(histories: &[Vec<LockEvent>], who: Who, places: &[usize]) -> bool {
-    if histories.len() != 2 || places.len() != 2 * ROUNDS {
-        return false;
-    }
-    are_grants_in_order(&histories[0], who, places)
-        && are_grants_in_order(&histories[1], who, &places[1..])
+fn tell_of(first: &[LockEvent], second: &[LockEvent], who: Who, places: &[usize]) -> bool {
+    places.len() == 2 * ROUNDS
+        && are_grants_in_order(first, who, places)
+        && are_grants_in_order(second, who, &places[1..])
 }
 
 /// Whether the histories of two locks tell of all grants to A and to B, and of nothing else.
 fn tell_all(histories: &[Vec<LockEvent>], of_a: &[usize], of_b: &[usize]) -> bool {
-    histories.iter().all(|history| history.len() == 60_000)
-        && tell_of(histories, A, of_a)
-        && tell_of(histories, B, of_b)
+    let [first, second] = histories else {
+        return false;
+    };
+    tell_of(first, second, A, of_a)
+        && tell_of(first, second, B, of_b)
+        && first.len() == 6 * ROUNDS
+        && second.len() == 6 * ROUNDS
 }
 
 /// Whether A and B have held each lock so many times as there are rounds, as the histories tell.

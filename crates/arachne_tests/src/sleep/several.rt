@@ -3,7 +3,7 @@ ghost use Rattle.std.specs.Prelude.{◌≡◌, ◌<◌, All, IfOk, IfSome, lengt
 ghost use Rattle.arachne_sleep.specs.SleepLocks.{AreSeatsOf};
 ghost use Rattle.arachne_sleep.specs.Views.{IsWhole};
 
-use super::{Answer, Call, rows, told_ask, told_check, told_free, whole_history};
+use super::{Answer, Call, ROWS, WHOLE, told_ask, told_check, told_free};
 use arachne_sleep::{AskFault, Asked, LockEvent, LockSeats, SleepLocks, Tried, Who};
 use std::alloc::{AllocError, Global};
 
@@ -72,9 +72,8 @@ fn first_wrong(locks: &SleepLocks, seats: &mut LockSeats) -> Option<usize>
     requires lock { 2 < length locks.now }
     ensures { AreSeatsOf locks.now seats.new }
 {
-    let rows = rows();
-    for k in 0..rows.len() {
-        let (call, who, answer) = rows[k];
+    for k in 0..ROWS.len() {
+        let (call, who, answer) = ROWS[k];
         if called(locks, seats, 2, call, who) != Some(answer) {
             return Some(k);
         }
@@ -87,7 +86,7 @@ fn is_of_the_last(histories: &[Vec<LockEvent>]) -> bool {
     histories.len() == 3
         && histories[0].is_empty()
         && histories[1].is_empty()
-        && histories[2].as_slice() == whole_history()
+        && histories[2].as_slice() == WHOLE
 }
 
 /// The histories of three locks, on one of which each call was made.
@@ -100,10 +99,16 @@ fn histories(alloc: Global) -> Option<Vec<Vec<LockEvent>>> {
     closed(alloc, locks, seats)
 }
 
+fn are_right(alloc: Global) -> bool {
+    match histories(alloc) {
+        Some(histories) => is_of_the_last(histories.as_slice()),
+        None => false,
+    }
+}
+
 #[test]
 fn each_call_on_three_locks(rt: HostRuntime) {
-    let histories = histories(rt.alloc());
-    assert!(rt; histories.is_some_and(|histories| is_of_the_last(histories.as_slice())));
+    assert!(rt; are_right(rt.alloc()));
 }
 
 /// Splits the seats, once more where memory was refused.

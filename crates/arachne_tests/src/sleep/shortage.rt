@@ -82,8 +82,8 @@ fn a_wanted_lock_stays_as_it_was(rt: HostRuntime) -> Result<(), AllocError> {
     let first = comes_and_leaves(&mut lock, &mut hoard);
     let then = comes_and_leaves(&mut lock, &mut hoard);
     drop(hoard);
-    let is_refused = first.is_some_and(|refused| refused > 100);
-    assert!(rt; is_refused && then.is_some() && lock.history().len() == 5400);
+    let is_refused = matches!(first, Some(refused) if refused > 100) && then.is_some();
+    assert!(rt; is_refused && lock.into_history().len() == 5400);
     Ok(())
 }
 
@@ -143,11 +143,9 @@ fn closed(lock: SleepLock, seat: LockSeat) -> Option<Vec<LockEvent>>
     requires own { IsSeatOf lock seat }
 {
     let (seat, other) = lock.split(seat);
-    if lock.is_whole(&seat) || lock.is_whole(&other) || lock.number() != 5 {
-        return None;
-    }
+    let is_apart = !lock.is_whole(&seat) && !lock.is_whole(&other) && lock.number() == 5;
     let seat = lock.join_seats(other, seat);
-    if !lock.is_whole(&seat) {
+    if !is_apart || !lock.is_whole(&seat) {
         return None;
     }
     lock.close(seat).ok()
