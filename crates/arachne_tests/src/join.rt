@@ -3,7 +3,6 @@ ghost use Rattle.std.specs.Prelude.{◌≡◌, ◌<◌, IfOk};
 
 use arachne_join::{CellState, Fits, JoinCell, SendingEnd};
 use std::alloc::{AllocError, Global};
-use std::test::Fail;
 
 // What a cell is for: a number.
 #[derive(Drop)]
@@ -31,38 +30,42 @@ fn make_cell(
     }
 }
 
-fn missed_at(cell: &JoinCell<u64, Wanted>) -> Option<CellState> {
+fn is_missed(cell: &JoinCell<u64, Wanted>, state: CellState) -> bool {
     match cell.fetch() {
-        Ok(_) => None,
-        Err(missed) => Some(missed.state),
+        Ok(_) => false,
+        Err(missed) => missed.state == state,
     }
 }
 
-/// How a cell misses a value each time: before one is put back, while it waits, once it is taken back, and once another
-/// was left and fetched.
-#[test]
-fn a_value_is_put_back_and_another_is_fetched_once(rt: HostRuntime) -> Result<(), Fail> {
-    let (cell, end) = make_cell(rt.alloc(), 7)?;
-    let before = missed_at(&cell);
-    end.put_back(&cell, 3);
-    let waiting = missed_at(&cell);
+fn gives_nothing_back(cell: &JoinCell<u64, Wanted>) -> bool {
+    cell.take_back().is_err()
+}
+
+/// Whether what was put back is taken back, what was left is fetched, and a cell misses a value as it is to: before one
+/// is put back, while it waits, once it is taken back, and once another was left and fetched.
+fn passes(cell: &JoinCell<u64, Wanted>, end: SendingEnd<u64, Wanted>) -> bool
+    requires number { cell.now.key.0 ≡ 7 }
+    requires end { end ≡ cell.now.table }
+{
+    let empty = is_missed(cell, CellState::Empty);
+    end.put_back(cell, 3);
+    let waiting = is_missed(cell, CellState::Waiting);
     let Ok((back, end)) = cell.take_back() else {
-        panic!(rt; "a value waits")
+        return false;
     };
-    assert!(rt; back == 3 && missed_at(&cell) == before && cell.take_back().is_err());
-    let left = end.leave(&cell, 7);
+    let emptied = is_missed(cell, CellState::Empty) && gives_nothing_back(cell);
+    let left = end.leave(cell, 7);
     let Ok((value, fetched)) = cell.fetch() else {
-        panic!(rt; "a value was left")
+        return false;
     };
     cell.fetched_once(fetched, left);
-    assert!(rt;
-        (value, before, waiting, missed_at(&cell))
-            == (
-                7,
-                Some(CellState::Empty),
-                Some(CellState::Waiting),
-                Some(CellState::Taken)
-            )
-    );
+    let taken = is_missed(cell, CellState::Taken);
+    empty && waiting && emptied && taken && back == 3 && value == 7
+}
+
+#[test]
+fn a_value_is_put_back_and_another_is_fetched_once(rt: HostRuntime) -> Result<(), AllocError> {
+    let (cell, end) = make_cell(rt.alloc(), 7)?;
+    assert!(rt; passes(&cell, end));
     Ok(())
 }

@@ -1,20 +1,20 @@
-//! What four threads add together, and each call once.
+//! What two threads add together, each call once, and ledgers of each number.
 ghost use Rattle.std.specs.Prelude.{◌≡◌, ◌<◌, IfOk};
 ghost use Rattle.arachne_ledger.specs.Views.{IsShareOf, IsWhole};
 
 use arachne_ledger::{Ledgers, Share};
 use std::alloc::{AllocError, Global};
-use std::test::Fail;
 use std::thread;
 use std::thread::Threads;
 
+/// Adds 3 and half of 2^64, a thousand times.
 fn add_threes(ledgers: &Ledgers, mut share: Share) -> Share
     requires share { IsShareOf ledgers.now share }
     requires some_ledger { 0 < ledgers.now.count }
     ensures { IsShareOf ledgers.now result }
 {
     for _ in 0..1000 {
-        ledgers.add(&mut share, 0, 3);
+        ledgers.add(&mut share, 0, (1 << 63) + 3);
     }
     share
 }
@@ -29,20 +29,6 @@ fn add_in_two_threads<R: Threads>(rt: &R, ledgers: &Ledgers, share: Share) -> Sh
         rt,
         move || add_threes(ledgers, first),
         move || add_threes(ledgers, second),
-    );
-    ledgers.join_shares(first, second)
-}
-
-fn add_in_four_threads<R: Threads + Sync>(rt: &R, ledgers: &Ledgers, share: Share) -> Share
-    requires share { IsShareOf ledgers.now share }
-    requires some_ledger { 0 < ledgers.now.count }
-    ensures { IsShareOf ledgers.now result }
-{
-    let (first, second) = ledgers.split(share);
-    let (first, second) = thread::join(
-        rt,
-        move || add_in_two_threads(rt, ledgers, first),
-        move || add_in_two_threads(rt, ledgers, second),
     );
     ledgers.join_shares(first, second)
 }
@@ -70,41 +56,42 @@ fn sums(alloc: Global, ledgers: Ledgers, share: Share) -> Option<Vec<u64>>
     }
 }
 
+/// Whether these sums came out.
+fn are_sums(sums: Option<Vec<u64>>, expected: &[u64]) -> bool {
+    match sums {
+        Some(sums) => sums.as_slice() == expected,
+        None => false,
+    }
+}
+
 #[test]
-fn four_threads_add_up(rt: HostRuntime) -> Result<(), Fail> {
+fn two_threads_add_up(rt: HostRuntime) -> Result<(), AllocError> {
     let (ledgers, share) = make_ledgers(rt.alloc(), 1)?;
-    let share = add_in_four_threads(&rt, &ledgers, share);
+    let share = add_in_two_threads(&rt, &ledgers, share);
     assert!(rt; share.is_whole());
-    let sums = sums(rt.alloc(), ledgers, share).ok_or("no memory")?;
-    assert!(rt; sums.as_slice() == [12000].as_slice());
+    assert!(rt; are_sums(sums(rt.alloc(), ledgers, share), &[6000]));
     Ok(())
 }
 
-/// What is read by each of two shares of two ledgers, to both of which they add, with the whole share.
-fn add_apart(ledgers: &Ledgers, share: Share) -> (bool, (u64, u64), Share)
+/// What two shares of two ledgers read after both have added: what the first added to the second ledger is read through
+/// the second share, and the other way round. The whole share.
+fn add_apart(ledgers: &Ledgers, share: Share) -> ((u64, u64), Share)
     requires share { IsShareOf ledgers.now share }
     requires two { ledgers.now.count ≡ 2 }
-    ensures { IsShareOf ledgers.now result.2 }
+    ensures { IsShareOf ledgers.now result.1 }
 {
     let (mut share, mut other) = ledgers.split(share);
-    let is_apart = !share.is_whole() && !other.is_whole();
     ledgers.add(&mut share, 1, 5);
     ledgers.add(&mut other, 0, 3);
     let read = (ledgers.read(&mut share, 0), ledgers.read(&mut other, 1));
-    (is_apart, read, ledgers.join_shares(other, share))
+    (read, ledgers.join_shares(other, share))
 }
 
 #[test]
-fn each_call_on_two_ledgers(rt: HostRuntime) -> Result<(), Fail> {
-    let (ledgers, mut share) = make_ledgers(rt.alloc(), 2)?;
-    assert!(rt; ledgers.count() == 2);
-    ledgers.add(&mut share, 0, u64::MAX);
-    let (is_apart, read, mut share) = add_apart(&ledgers, share);
-    assert!(rt; is_apart && read == (2, 5));
-    let read = (ledgers.read(&mut share, 0), ledgers.read(&mut share, 1));
-    assert!(rt; read == (2, 5) && share.is_whole());
-    let sums = sums(rt.alloc(), ledgers, share).ok_or("no memory")?;
-    assert!(rt; sums.as_slice() == [2, 5].as_slice());
+fn a_part_reads_what_another_added(rt: HostRuntime) -> Result<(), AllocError> {
+    let (ledgers, share) = make_ledgers(rt.alloc(), 2)?;
+    let (read, share) = add_apart(&ledgers, share);
+    assert!(rt; read == (3, 5) && share.is_whole());
     Ok(())
 }
 
@@ -121,28 +108,27 @@ fn add_to_each(ledgers: &Ledgers, mut share: Share) -> Share
     share
 }
 
+/// Whether so many ledgers come to these sums.
+fn come_to(alloc: Global, count: usize, expected: &[u64]) -> Result<bool, AllocError> {
+    let (ledgers, share) = make_ledgers(alloc, count)?;
+    let share = add_to_each(&ledgers, share);
+    if !share.is_whole() {
+        return Ok(false);
+    }
+    Ok(are_sums(sums(alloc, ledgers, share), expected))
+}
+
 #[test]
-fn one_to_sixteen_ledgers(rt: HostRuntime) -> Result<(), Fail> {
-    for count in 1..17 {
-        let (ledgers, share) = make_ledgers(rt.alloc(), count)?;
-        let share = add_to_each(&ledgers, share);
-        assert!(rt; share.is_whole());
-        let sums = sums(rt.alloc(), ledgers, share).ok_or("no memory")?;
-        assert!(rt; sums.as_slice() == &NUMBERS[..count]);
+fn none_to_sixteen_ledgers(rt: HostRuntime) -> Result<(), AllocError> {
+    for count in 0..17 {
+        assert!(rt; come_to(rt.alloc(), count, &NUMBERS[..count])?);
     }
     Ok(())
 }
 
 #[test]
-fn there_may_be_no_ledger(rt: HostRuntime) -> Result<(), Fail> {
-    let (ledgers, share) = make_ledgers(rt.alloc(), 0)?;
-    let sums = sums(rt.alloc(), ledgers, share).ok_or("no memory")?;
-    assert!(rt; sums.is_empty());
-    Ok(())
-}
-
-#[test]
 fn more_ledgers_than_memory_are_refused(rt: HostRuntime) {
-    assert!(rt; Ledgers::new(rt.alloc(), 1 << 59).is_err());
-    assert!(rt; Ledgers::new(rt.alloc(), usize::MAX).is_err());
+    for count in [1 << 59, usize::MAX] {
+        assert!(rt; Ledgers::new(rt.alloc(), count).is_err());
+    }
 }

@@ -1,12 +1,11 @@
 //! A queue that is filled, refuses and is emptied, and tickets that pass between two kernel threads.
 ghost use Rattle.std.specs.Prelude.{IfOk};
-ghost use Rattle.arachne_spill.specs.Views.{IsPassOf, IsWhole};
+ghost use Rattle.arachne_spill.specs.Views.{IsPassOf};
 
 use arachne_contexts::Tagged;
 use arachne_spill::{CAPACITY, SpillPass, SpillQueue};
 use std::alloc::{AllocError, Global};
 use std::sync::Wait;
-use std::test::Fail;
 use std::thread;
 use std::thread::Threads;
 
@@ -67,16 +66,24 @@ fn drain<R: Wait>(rt: &R, queue: &Queue, pass: &mut Pass) -> Option<u64>
     None
 }
 
+/// Whether the queue is empty, and whether it is full.
+fn looks(queue: &Queue, pass: &mut Pass) -> (bool, bool)
+    requires { IsPassOf queue.now pass.old }
+    ensures { IsPassOf queue.now pass.new }
+{
+    (queue.is_empty(pass), queue.is_full(pass))
+}
+
 #[test]
-fn the_257th_ticket_comes_back(rt: HostRuntime) -> Result<(), Fail> {
+fn the_257th_ticket_comes_back(rt: HostRuntime) -> Result<(), AllocError> {
     let (queue, mut pass) = make(rt.alloc())?;
-    assert!(rt; queue.is_empty(&mut pass) && !queue.is_full(&mut pass));
+    let empty = looks(&queue, &mut pass);
     let refused = fill(&rt, &queue, &mut pass);
-    assert!(rt; refused == Some(256) && CAPACITY == 256);
-    assert!(rt; queue.is_full(&mut pass) && !queue.is_empty(&mut pass));
+    let full = looks(&queue, &mut pass);
     let popped = drain(&rt, &queue, &mut pass);
-    assert!(rt; popped == Some(256) && queue.is_whole(&pass));
-    assert!(rt; queue.is_empty(&mut pass) && !queue.is_full(&mut pass));
+    let drained = looks(&queue, &mut pass);
+    assert!(rt; (empty, full, drained) == ((true, false), (false, true), (true, false)));
+    assert!(rt; (refused, popped, CAPACITY) == (Some(256), Some(256), 256));
     Ok(())
 }
 
@@ -147,33 +154,10 @@ fn send_and_receive<R: Threads + Wait + Sync>(rt: &R, queue: &Queue, pass: Pass)
 }
 
 #[test]
-fn two_threads_pass_10_000_tickets(rt: HostRuntime) -> Result<(), Fail> {
+fn two_threads_pass_10_000_tickets(rt: HostRuntime) -> Result<(), AllocError> {
     let (queue, pass) = make(rt.alloc())?;
     let (mut pass, in_order) = send_and_receive(&rt, &queue, pass);
-    assert!(rt; in_order == 10_000 && queue.is_whole(&pass));
-    assert!(rt; queue.pop(&rt, &mut pass).is_none());
-    Ok(())
-}
-
-/// Whether neither of two passes is whole, and what one pushes the other pops.
-fn is_apart<R: Wait>(rt: &R, queue: &Queue, pass: Pass) -> (Pass, bool)
-    requires { IsPassOf queue.now pass }
-    ensures { IsPassOf queue.now result.0 }
-{
-    let (mut mine, mut theirs) = queue.split(rt, pass);
-    let taken = queue.push(rt, &mut mine, Ticket { tag: 7 }).is_ok();
-    let tag = queue.pop(rt, &mut theirs).map(|ticket| ticket.tag());
-    let apart = !queue.is_whole(&mine) && !queue.is_whole(&theirs);
-    (
-        queue.join_passes(rt, mine, theirs),
-        apart && taken && tag == Some(7),
-    )
-}
-
-#[test]
-fn each_call_on_two_passes(rt: HostRuntime) -> Result<(), Fail> {
-    let (queue, pass) = make(rt.alloc())?;
-    let (pass, is_apart) = is_apart(&rt, &queue, pass);
-    assert!(rt; is_apart && queue.is_whole(&pass));
+    let is_whole = queue.is_whole(&pass);
+    assert!(rt; in_order == 10_000 && is_whole && queue.pop(&rt, &mut pass).is_none());
     Ok(())
 }

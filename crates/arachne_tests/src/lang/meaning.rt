@@ -1,60 +1,34 @@
 //! What programs mean, and which of them may not run.
-use arachne_lang::{CheckFault, Expr, Meaning, Name, Operation, Program, check, eval, parse};
+use arachne_lang::{CheckFault, Expr, Line, Meaning, Name, Operation, Program, check, eval, parse};
 use std::alloc::{AllocError, Global};
-use std::string::ToString;
-use std::test::Fail;
 
-/// Faults of programs, and their texts.
-const FAULTS: &[(CheckFault, &str)] = &[
-    (CheckFault::OverLimit, "the program is over a limit"),
-    (CheckFault::NoArray(0), "node 0: there is no such array"),
-    (CheckFault::NoLedger(0), "node 0: there is no such ledger"),
-    (CheckFault::NoLock(0), "node 0: there is no such lock"),
-    (CheckFault::Unbound(5), "node 5: the variable is not bound"),
-    (
-        CheckFault::WithinHold(3),
-        "node 3: a fork, a sweep or a hold within a hold",
-    ),
-    (CheckFault::NoGrain(0), "node 0: the grain is 0"),
-];
-
-#[test]
-fn faults_are_written(rt: HostRuntime) -> Result<(), Fail> {
-    for &(fault, text) in FAULTS {
-        assert!(rt; fault.to_string(rt.alloc())?.as_str() == text);
+/// The meaning of a program, if it may run and there is memory.
+fn meaning_in(alloc: Global, program: &Program) -> Option<Meaning> {
+    if check(program).is_err() {
+        return None;
     }
-    Ok(())
+    eval(alloc, program).ok()
 }
 
-fn program_of(alloc: Global, ledgers: &str, locks: &str, expr: &str) -> Result<Program, Fail> {
-    let text = format!(in alloc;
-        "arachne 1\narray 3 1 4\nledgers {ledgers}\nlocks {locks}\n{expr}\n"
-    )?;
-    Ok(parse(alloc, text.as_bytes())?)
+/// The meaning of a text's program.
+fn meaning_of(alloc: Global, text: &[u8]) -> Option<Meaning> {
+    match parse(alloc, text) {
+        Ok(program) => meaning_in(alloc, &program),
+        Err(_) => None,
+    }
 }
 
-/// The program of a row: its ledgers, its locks and its expression.
-fn row_of(alloc: Global, row: &str) -> Result<Program, Fail> {
-    let (ledgers, rest) = row.split_once(' ').unwrap_or((row, ""));
-    let (locks, expr) = rest.split_once(' ').unwrap_or((rest, ""));
-    program_of(alloc, ledgers, locks, expr)
-}
-
-/// The meaning of a program that is checked.
-fn meaning_of(alloc: Global, program: &Program) -> Result<Meaning, Fail> {
-    check(program)?;
-    Ok(eval(alloc, program)?)
-}
-
-/// The meaning of the program of a row.
-fn meaning_of_row(alloc: Global, row: &str) -> Result<Meaning, Fail> {
-    let program = row_of(alloc, row)?;
-    meaning_of(alloc, &program)
+/// The name of a thread whose forebears were each forked first, so many of them.
+fn first_of(alloc: Global, forks: usize) -> Option<Name> {
+    let mut name = Name::root(alloc);
+    for _ in 0..forks {
+        name = name.child(alloc, 0).ok()?;
+    }
+    Some(name)
 }
 
 /// Whether each of 901 threads has held a lock once, the first being the root, and the last having this name.
-fn is_of_many(meaning: &Meaning, last: &Name) -> bool {
-    let lines = meaning.threads.as_slice();
+fn are_many(lines: &[Line], last: &Name) -> bool {
     if lines.len() != 901 {
         return false;
     }
@@ -66,82 +40,31 @@ fn is_of_many(meaning: &Meaning, last: &Name) -> bool {
     lines[0].name.len() == 0 && lines[900].name == *last
 }
 
-/// A thread for each of 901 numbers. The child of each fork has the left half, so the last line's name is of the halves
-/// 450, 225, 112, 56, 28, 14, 7, 3, 1.
-#[test]
-fn many_threads_have_a_line_each(rt: HostRuntime) -> Result<(), Fail> {
-    let sweep = "1 1 (sweep add 1 (num 0) (num 901) (hold 0 (tally 0 (num 5) (var 0))))";
-    let last = name_of(rt.alloc(), &[0; 9])?;
-    let meaning = meaning_of_row(rt.alloc(), sweep)?;
-    assert!(rt; meaning.value == 405_450 && meaning.totals.as_slice() == [4505].as_slice());
-    assert!(rt; is_of_many(&meaning, &last));
-    Ok(())
-}
-
-/// Puts 63 arrays of 15,625 items, and one more of so many, in place of the first array.
-fn fill(alloc: Global, arrays: &mut Vec<Vec<u64>>, items: usize) -> Result<(), AllocError> {
-    arrays.pop();
-    for nth in 0..64 {
-        let items = if nth == 63 { items } else { 15_625 };
-        arrays.push(vec![in alloc; 1; items]?)?;
+/// Whether there is a thread for each of 901 numbers. The child of each fork has the left half, so the last line's name
+/// is of the halves 450, 225, 112, 56, 28, 14, 7, 3, 1.
+fn is_of_many(alloc: Global, meaning: &Meaning) -> bool {
+    if meaning.value != 405_450 || meaning.totals.as_slice() != [4505].as_slice() {
+        return false;
     }
-    Ok(())
+    match first_of(alloc, 9) {
+        Some(last) => are_many(meaning.threads.as_slice(), &last),
+        None => false,
+    }
 }
 
-/// What is judged of a program with 63 arrays of 15,625 items, and one more of so many.
-fn judged_with_arrays(alloc: Global, items: usize) -> Result<Result<(), CheckFault>, Fail> {
-    let mut program = program_of(alloc, "0", "0", "(num 7)")?;
-    fill(alloc, &mut program.arrays, items)?;
-    Ok(check(&program))
-}
+const MANY: &[u8] = b"arachne 1\nledgers 1\nlocks 1\n\
+(sweep add 1 (num 0) (num 901) (hold 0 (tally 0 (num 5) (var 0))))\n";
 
-const ARRAYS: &[(usize, Result<(), CheckFault>)] = &[
-    (15_625, Ok(())),
-    (15_626, Err(CheckFault::OverLimit)),
-];
+fn mean_many(alloc: Global, text: &[u8]) -> bool {
+    match meaning_of(alloc, text) {
+        Some(meaning) => is_of_many(alloc, &meaning),
+        None => false,
+    }
+}
 
 #[test]
-fn limits_on_arrays(rt: HostRuntime) -> Result<(), Fail> {
-    for &(items, verdict) in ARRAYS {
-        assert!(rt; judged_with_arrays(rt.alloc(), items)? == verdict);
-    }
-    Ok(())
-}
-
-/// 2,048 numbers and the 2,047 sums over them.
-fn sums(alloc: Global) -> Result<String, Fail> {
-    let mut sums = format!(in alloc; "(num 1)")?;
-    for _ in 0..11 {
-        sums = format!(in alloc; "(add {sums} {sums})")?;
-    }
-    Ok(sums)
-}
-
-/// What is judged of a program with so many nodes more.
-fn judged(
-    alloc: Global,
-    front: &str,
-    sums: &str,
-    end: &str,
-) -> Result<Result<(), CheckFault>, Fail> {
-    let expr = format!(in alloc; "{front}{sums}{end}")?;
-    Ok(check(&program_of(alloc, "0", "0", expr.as_str())?))
-}
-
-/// What stands before and behind the sums, and what is judged of the whole.
-const AROUND_SUMS: &[(&str, &str, Result<(), CheckFault>)] = &[
-    ("", "", Ok(())),
-    ("(item 0 ", ")", Ok(())),
-    ("(add (num 0) ", ")", Err(CheckFault::OverLimit)),
-];
-
-#[test]
-fn limits_on_nodes(rt: HostRuntime) -> Result<(), Fail> {
-    let sums = sums(rt.alloc())?;
-    for &(front, end, verdict) in AROUND_SUMS {
-        assert!(rt; judged(rt.alloc(), front, sums.as_str(), end)? == verdict);
-    }
-    Ok(())
+fn many_threads_have_a_line_each(rt: HostRuntime) {
+    assert!(rt; mean_many(rt.alloc(), MANY));
 }
 
 /// A number at the end of so many sums, at each of which a number is added to it.
@@ -167,7 +90,7 @@ fn judged_when_nested(
     alloc: Global,
     ledgers: u8,
     sums: u64,
-) -> Result<Result<(), CheckFault>, Fail> {
+) -> Result<Result<(), CheckFault>, AllocError> {
     let program = Program {
         arrays: Vec::new(alloc),
         ledgers,
@@ -187,33 +110,26 @@ const NESTED: &[(u8, u64, Result<(), CheckFault>)] = &[
 ];
 
 #[test]
-fn nesting_is_judged_before_all_else(rt: HostRuntime) -> Result<(), Fail> {
+fn nesting_is_judged_before_all_else(rt: HostRuntime) -> Result<(), AllocError> {
     for &(ledgers, sums, verdict) in NESTED {
         let judged = judged_when_nested(rt.alloc(), ledgers, sums)?;
-        assert!(rt; judged == verdict, "{sums}");
+        assert!(rt; judged == verdict);
     }
     Ok(())
 }
 
-fn name_of(alloc: Global, forks: &[u64]) -> Result<Name, AllocError> {
-    let mut name = Name::root(alloc);
-    for number in forks {
-        name = name.child(alloc, *number)?;
-    }
-    Ok(name)
-}
+const BY_TWOS: &[u8] = b"arachne 1\nledgers 0\nlocks 0\n(sweep add 2 (num 0) (num 8) (var 0))\n";
 
-const SWEEP: &str = "0 0 (sweep add 2 (num 0) (num 8) (var 0))";
+const BY_ONES: &[u8] = b"arachne 1\nledgers 0\nlocks 0\n(sweep add 1 (num 0) (num 8) (var 0))\n";
 
 /// Whether two programs have the same meaning.
-fn mean_the_same(alloc: Global, some: &str, other: &str) -> Result<bool, Fail> {
-    Ok(meaning_of_row(alloc, some)? == meaning_of_row(alloc, other)?)
+fn mean_the_same(alloc: Global, some: &[u8], other: &[u8]) -> Option<bool> {
+    Some(meaning_of(alloc, some)? == meaning_of(alloc, other)?)
 }
 
 #[test]
-fn meanings_are_compared(rt: HostRuntime) -> Result<(), Fail> {
-    let other = "0 0 (sweep add 1 (num 0) (num 8) (var 0))";
-    assert!(rt; mean_the_same(rt.alloc(), SWEEP, SWEEP)?);
-    assert!(rt; !mean_the_same(rt.alloc(), SWEEP, other)?);
-    Ok(())
+fn meanings_are_compared(rt: HostRuntime) {
+    let of_the_same = mean_the_same(rt.alloc(), BY_TWOS, BY_TWOS);
+    let of_another = mean_the_same(rt.alloc(), BY_TWOS, BY_ONES);
+    assert!(rt; (of_the_same, of_another) == (Some(true), Some(false)));
 }

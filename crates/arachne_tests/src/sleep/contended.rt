@@ -1,12 +1,10 @@
-//! Two kernel threads that contend for a lock, and for two locks. That the closed histories are lawful is proved.
-ghost use Rattle.std.specs.Prelude.{◌<◌, length};
+//! Two kernel threads that contend for two locks. That the closed histories are lawful is proved.
+ghost use Rattle.std.specs.Prelude.{◌<◌, IfSome, length};
 ghost use Rattle.arachne_sleep.specs.SleepLocks.{AreSeatsOf};
-ghost use Rattle.arachne_sleep.specs.Views.{IsSeatOf};
 
-use super::{A, B, several, shared};
-use arachne_sleep::{AskFault, LockEvent, LockSeat, LockSeats, SleepLock, SleepLocks, Tried, Who};
-use std::alloc::{AllocError, Global};
-use std::test::Fail;
+use super::{A, B, several};
+use arachne_sleep::{AskFault, LockEvent, LockSeats, SleepLocks, Tried, Who};
+use std::alloc::Global;
 use std::thread;
 use std::thread::Threads;
 
@@ -23,116 +21,27 @@ fn poll(polls_left: &mut u64) -> Option<()> {
     Some(())
 }
 
+/// The places of a thread's grants, at the first lock and at the second in turn.
+type Places = Option<Vec<usize>>;
+
 /// Room for the places of a thread's grants. Where memory is refused it is asked for once more.
-fn room(alloc: Global) -> Result<Vec<usize>, AllocError> {
-    match Vec::with_capacity(alloc, ROUNDS) {
-        Ok(places) => Ok(places),
-        Err(_) => Vec::with_capacity(alloc, ROUNDS),
+fn room(alloc: Global) -> Places {
+    match Vec::with_capacity(alloc, 2 * ROUNDS) {
+        Ok(places) => Some(places),
+        Err(_) => Vec::with_capacity(alloc, 2 * ROUNDS).ok(),
     }
 }
 
-/// Whether the places are those of grants to the thread, and no two are the same.
+/// Whether each second place, from the front on, is that of a grant to the thread, and no two are the same.
 fn are_grants_in_order(history: &[LockEvent], who: Who, places: &[usize]) -> bool {
     let mut least = 0usize;
-    for &at in places {
+    for &at in places.iter().step_by(2) {
         if at < least || history.get(at) != Some(&LockEvent::Grant(who)) {
             return false;
         }
         least = at.wrapping_add(1);
     }
     true
-}
-
-/// Asks for the lock, and looks until the thread holds it. The place of its grant.
-fn enter(lock: &SleepLock, seat: &mut LockSeat, who: Who, polls_left: &mut u64) -> Option<usize>
-    requires { IsSeatOf lock.now seat.old }
-    ensures { IsSeatOf lock.now seat.new }
-{
-    for _ in 0..MOST_POLLS {
-        match lock.ask(seat, who) {
-            Tried::Answered(Ok(_)) => break,
-            Tried::Answered(Err(AskFault::AlreadyIn)) => return None,
-            Tried::Answered(Err(AskFault::Memory)) | Tried::Contended => poll(polls_left)?,
-        }
-    }
-    for _ in 0..MOST_POLLS {
-        if let Tried::Answered(Some(pass)) = lock.check(seat, who) {
-            return Some(pass.at);
-        }
-        poll(polls_left)?;
-    }
-    None
-}
-
-/// Frees the lock. None where the thread didn't hold it.
-fn leave(lock: &SleepLock, seat: &mut LockSeat, who: Who, polls_left: &mut u64) -> Option<()>
-    requires { IsSeatOf lock.now seat.old }
-    ensures { IsSeatOf lock.now seat.new }
-{
-    for _ in 0..MOST_POLLS {
-        if let Tried::Answered(freed) = lock.free(seat, who) {
-            return freed.ok().map(|_| ());
-        }
-        poll(polls_left)?;
-    }
-    None
-}
-
-/// Holds the lock so many times as there are rounds. The places of the grants.
-fn hold(alloc: Global, lock: &SleepLock, seat: &mut LockSeat, who: Who) -> Option<Vec<usize>>
-    requires { IsSeatOf lock.now seat.old }
-    ensures { IsSeatOf lock.now seat.new }
-{
-    let mut polls_left = MOST_POLLS;
-    let mut places = room(alloc).ok()?;
-    for _ in 0..ROUNDS {
-        places.push(enter(lock, seat, who, &mut polls_left)?).ok()?;
-        leave(lock, seat, who, &mut polls_left)?;
-    }
-    Some(places)
-}
-
-/// The seat of a thread that is done, and the places of its grants.
-type Done = (LockSeat, Option<Vec<usize>>);
-
-fn work(alloc: Global, lock: &SleepLock, mut seat: LockSeat, who: Who) -> Done
-    requires { IsSeatOf lock.now seat }
-    ensures { IsSeatOf lock.now result.0 }
-{
-    let places = hold(alloc, lock, &mut seat, who);
-    (seat, places)
-}
-
-/// A and B contend for the lock, and the places of the grants of each.
-fn contend<R: Threads + Sync>(
-    rt: &R,
-    alloc: Global,
-    lock: &SleepLock,
-    seat: LockSeat,
-) -> (LockSeat, Option<(Vec<usize>, Vec<usize>)>)
-    requires { IsSeatOf lock.now seat }
-    ensures { IsSeatOf lock.now result.0 }
-{
-    let (own, theirs) = lock.split(seat);
-    let ((own, of_a), (theirs, of_b)) = thread::join(
-        rt,
-        move || work(alloc, lock, own, A),
-        move || work(alloc, lock, theirs, B),
-    );
-    (lock.join_seats(own, theirs), of_a.zip(of_b))
-}
-
-#[test]
-fn two_kernel_threads_contend_for_a_lock(rt: HostRuntime) -> Result<(), Fail> {
-    let (lock, seat) = shared::make(rt.alloc(), 5)?;
-    let (seat, places) = contend(&rt, rt.alloc(), &lock, seat);
-    let (of_a, of_b) = places.ok_or("a thread gave up")?;
-    assert!(rt; lock.is_whole(&seat));
-    let history = shared::closed(lock, seat)?;
-    assert!(rt; history.len() == 60_000 && of_a.len() == 10_000 && of_b.len() == 10_000);
-    assert!(rt; are_grants_in_order(&history, A, &of_a));
-    assert!(rt; are_grants_in_order(&history, B, &of_b));
-    Ok(())
 }
 
 /// Asks for a lock of several, and looks until the thread holds it. The place of its grant.
@@ -184,29 +93,22 @@ fn leave_one(
     None
 }
 
-/// The places of a thread's grants at each of two locks.
-type Places = Option<(Vec<usize>, Vec<usize>)>;
-
-/// Holds each of two locks in turn, so many times as there are rounds. The places of the grants at each.
+/// Holds each of two locks in turn, so many times as there are rounds. The places of the grants.
 fn hold_each(alloc: Global, locks: &SleepLocks, seats: &mut LockSeats, who: Who) -> Places
     requires own { AreSeatsOf locks.now seats.old }
     requires two { 1 < length locks.now }
     ensures { AreSeatsOf locks.now seats.new }
 {
     let mut polls_left = MOST_POLLS;
-    let mut first = room(alloc).ok()?;
-    let mut second = room(alloc).ok()?;
-    for _ in 0..ROUNDS {
-        first
-            .push(enter_one(locks, seats, 0, who, &mut polls_left)?)
+    let mut places = room(alloc)?;
+    for k in 0..2 * ROUNDS {
+        let lock = if k % 2 == 0 { 0 } else { 1 };
+        places
+            .push(enter_one(locks, seats, lock, who, &mut polls_left)?)
             .ok()?;
-        leave_one(locks, seats, 0, who, &mut polls_left)?;
-        second
-            .push(enter_one(locks, seats, 1, who, &mut polls_left)?)
-            .ok()?;
-        leave_one(locks, seats, 1, who, &mut polls_left)?;
+        leave_one(locks, seats, lock, who, &mut polls_left)?;
     }
-    Some((first, second))
+    Some(places)
 }
 
 fn work_on_each(
@@ -228,40 +130,48 @@ fn contend_for_each<R: Threads + Sync>(
     rt: &R,
     alloc: Global,
     locks: &SleepLocks,
-    own: LockSeats,
-    theirs: LockSeats,
-) -> (LockSeats, Places, Places)
-    requires own { AreSeatsOf locks.now own }
-    requires theirs { AreSeatsOf locks.now theirs }
+    seats: LockSeats,
+) -> Option<(LockSeats, Places, Places)>
+    requires own { AreSeatsOf locks.now seats }
     requires two { 1 < length locks.now }
-    ensures { AreSeatsOf locks.now result.0 }
+    ensures { IfSome result (λ r. AreSeatsOf locks.now r.0) }
 {
+    let (own, theirs) = several::parted(alloc, locks, seats)?;
     let ((own, of_a), (theirs, of_b)) = thread::join(
         rt,
         move || work_on_each(alloc, locks, own, A),
         move || work_on_each(alloc, locks, theirs, B),
     );
-    (locks.join_seats(own, theirs), of_a, of_b)
+    Some((locks.join_seats(own, theirs), of_a, of_b))
 }
 
 /// Whether the histories of two locks tell of these grants to the thread at each, and of as many as there are rounds.
-fn tell_of(histories: &[Vec<LockEvent>], who: Who, places: Places) -> bool {
-    let (Some((first, second)), [one, two]) = (places, histories) else {
+fn tell_of(first: &[LockEvent], second: &[LockEvent], who: Who, places: &[usize]) -> bool {
+    places.len() == 2 * ROUNDS
+        && are_grants_in_order(first, who, places)
+        && are_grants_in_order(second, who, &places[1..])
+}
+
+/// Whether the histories of two locks tell of all grants to A and to B, and of nothing else.
+fn tell_all(histories: &[Vec<LockEvent>], of_a: &[usize], of_b: &[usize]) -> bool {
+    let [first, second] = histories else {
         return false;
     };
-    first.len() == ROUNDS
-        && second.len() == ROUNDS
-        && are_grants_in_order(one, who, &first)
-        && are_grants_in_order(two, who, &second)
+    tell_of(first, second, A, of_a)
+        && tell_of(first, second, B, of_b)
+        && first.len() == 6 * ROUNDS
+        && second.len() == 6 * ROUNDS
+}
+
+/// Whether A and B have held each lock so many times as there are rounds, as the histories tell.
+fn each_had_its_turns<R: Threads + Sync>(rt: &R, alloc: Global) -> Option<bool> {
+    let (locks, seats) = several::make(alloc, 2).ok()?;
+    let (seats, of_a, of_b) = contend_for_each(rt, alloc, &locks, seats)?;
+    let histories = several::closed(alloc, locks, seats)?;
+    Some(tell_all(&histories, &of_a?, &of_b?))
 }
 
 #[test]
-fn two_kernel_threads_contend_for_two_locks(rt: HostRuntime) -> Result<(), Fail> {
-    let (locks, seats) = several::make(rt.alloc(), 2)?;
-    let (own, theirs) = several::parted(rt.alloc(), &locks, seats).ok_or("no memory")?;
-    let (seats, of_a, of_b) = contend_for_each(&rt, rt.alloc(), &locks, own, theirs);
-    let histories = several::closed(rt.alloc(), locks, seats).ok_or("not closed")?;
-    assert!(rt; histories.iter().all(|history| history.len() == 60_000));
-    assert!(rt; tell_of(&histories, A, of_a) && tell_of(&histories, B, of_b));
-    Ok(())
+fn two_kernel_threads_contend_for_two_locks(rt: HostRuntime) {
+    assert!(rt; each_had_its_turns(&rt, rt.alloc()) == Some(true));
 }

@@ -3,12 +3,9 @@ ghost use Rattle.std.specs.Prelude.{◌≡◌, ◌<◌, All, IfOk, IfSome, lengt
 ghost use Rattle.arachne_sleep.specs.SleepLocks.{AreSeatsOf};
 ghost use Rattle.arachne_sleep.specs.Views.{IsWhole};
 
-use super::{
-    A, Answer, Call, Rows, asked_rows, freed_rows, told_ask, told_check, told_free, whole_history,
-};
+use super::{Answer, Call, ROWS, WHOLE, told_ask, told_check, told_free};
 use arachne_sleep::{AskFault, Asked, LockEvent, LockSeats, SleepLocks, Tried, Who};
 use std::alloc::{AllocError, Global};
-use std::test::Fail;
 
 // Under `rt try --test --fail-alloc N` the Nth allocation is refused. A call that answers so is made once more.
 pub(super) fn make(alloc: Global, count: u8) -> Result<(SleepLocks, LockSeats), AllocError>
@@ -70,13 +67,13 @@ fn called(
 }
 
 /// The number of the first call on lock 2 that answers something else, from 0.
-fn first_wrong(locks: &SleepLocks, seats: &mut LockSeats, rows: Rows) -> Option<usize>
+fn first_wrong(locks: &SleepLocks, seats: &mut LockSeats) -> Option<usize>
     requires own { AreSeatsOf locks.now seats.old }
     requires lock { 2 < length locks.now }
     ensures { AreSeatsOf locks.now seats.new }
 {
-    for k in 0..rows.len() {
-        let (call, who, answer) = rows[k];
+    for k in 0..ROWS.len() {
+        let (call, who, answer) = ROWS[k];
         if called(locks, seats, 2, call, who) != Some(answer) {
             return Some(k);
         }
@@ -84,34 +81,34 @@ fn first_wrong(locks: &SleepLocks, seats: &mut LockSeats, rows: Rows) -> Option<
     None
 }
 
-/// Whether the calls of three threads in turn answer as the rows say, and go by lock 2 alone.
-fn is_in_turn(locks: &SleepLocks, seats: &mut LockSeats) -> bool
-    requires own { AreSeatsOf locks.now seats.old }
-    requires lock { 2 < length locks.now }
-    ensures { AreSeatsOf locks.now seats.new }
-{
-    first_wrong(locks, seats, asked_rows()).is_none()
-        && called(locks, seats, 1, Call::Check, A) == Some(("no pass", 0, None))
-        && first_wrong(locks, seats, freed_rows()).is_none()
-}
-
 /// Whether lock 2 alone of three has a history.
 fn is_of_the_last(histories: &[Vec<LockEvent>]) -> bool {
     histories.len() == 3
         && histories[0].is_empty()
         && histories[1].is_empty()
-        && histories[2].as_slice() == whole_history()
+        && histories[2].as_slice() == WHOLE
+}
+
+/// The histories of three locks, on one of which each call was made.
+fn histories(alloc: Global) -> Option<Vec<Vec<LockEvent>>> {
+    let (locks, mut seats) = make(alloc, 3).ok()?;
+    if locks.count() != 3 || first_wrong(&locks, &mut seats).is_some() {
+        return None;
+    }
+    let seats = parted_and_joined(alloc, &locks, seats)?;
+    closed(alloc, locks, seats)
+}
+
+fn are_right(alloc: Global) -> bool {
+    match histories(alloc) {
+        Some(histories) => is_of_the_last(histories.as_slice()),
+        None => false,
+    }
 }
 
 #[test]
-fn each_call_on_three_locks(rt: HostRuntime) -> Result<(), Fail> {
-    let (locks, mut seats) = make(rt.alloc(), 3)?;
-    assert!(rt; locks.count() == 3 && locks.are_whole(&seats));
-    assert!(rt; is_in_turn(&locks, &mut seats));
-    let seats = parted_and_joined(rt.alloc(), &locks, seats).ok_or("no memory")?;
-    let histories = closed(rt.alloc(), locks, seats).ok_or("not closed")?;
-    assert!(rt; is_of_the_last(histories.as_slice()));
-    Ok(())
+fn each_call_on_three_locks(rt: HostRuntime) {
+    assert!(rt; are_right(rt.alloc()));
 }
 
 /// Splits the seats, once more where memory was refused.

@@ -1,10 +1,11 @@
 //! A lock that is wanted, and no memory for those that ask for it: it stays as it was, and they ask again.
-ghost use Rattle.arachne_sleep.specs.Views.{IsSeatOf};
+ghost use Rattle.std.specs.Prelude.{IfOk};
+ghost use Rattle.arachne_sleep.specs.Views.{IsSeatOf, IsWhole};
 
-use super::{CROWD, leaves, shared, thread};
+use super::thread;
 use arachne_shortage::Hoard;
-use arachne_sleep::{AskFault, LockSeat, LockState, SleepLock, Tried, Who};
-use std::test::Fail;
+use arachne_sleep::{AskFault, Asked, LockEvent, LockSeat, LockState, SleepLock, Tried, Who};
+use std::alloc::{AllocError, Global};
 
 /// How many bytes are given back where a growth was refused: so few that the next growth of the same call is refused
 /// too.
@@ -13,12 +14,29 @@ const FEW: usize = 40;
 /// How often a thread asks at most.
 const TRIES: u64 = 100_000;
 
-/// Asks until there is memory. How often it was refused, if the lock was as before each time.
-fn asks_at_last(lock: &mut LockState, who: Who, hoard: &mut Hoard) -> Option<u64> {
-    let before = lock.history().len();
+/// How many threads are in the crowd.
+const CROWD: u64 = 900;
+
+/// Hands a value on that may cross threads.
+fn carried<T: Send>(value: T) -> T {
+    value
+}
+
+/// Asks until there is memory. How often it was refused, if the lock was as before each time, and only the first thread
+/// of the crowd is let in at once.
+fn asks_at_last(lock: &mut LockState, tag: u64, hoard: &mut Hoard) -> Option<u64> {
+    let (who, before) = (thread(tag, 0), lock.history().len());
     for refused in 0..TRIES {
         match lock.ask(who) {
-            Ok(_) => return Some(refused),
+            Ok(asked) => {
+                let is_first = matches!(asked, Asked::Granted(_));
+                let is_in = (lock.holds(who), lock.waits(who)) == (is_first, !is_first);
+                return if is_in && is_first == (tag == 0) {
+                    Some(refused)
+                } else {
+                    None
+                };
+            }
             Err(AskFault::AlreadyIn) => return None,
             Err(AskFault::Memory) => hoard.give_back(FEW),
         }
@@ -29,60 +47,133 @@ fn asks_at_last(lock: &mut LockState, who: Who, hoard: &mut Hoard) -> Option<u64
     None
 }
 
-/// The crowd asks while there is no memory, and frees the lock in turn, for which none is wanted.
-#[test]
-fn a_wanted_lock_stays_as_it_was(rt: HostRuntime) -> Result<(), Fail> {
-    let mut lock = LockState::new(rt.alloc(), 5);
-    let mut hoard = Hoard::take(rt.alloc())?;
+/// Whether a thread of the crowd has the lock, and frees it for the one that came behind it.
+fn leaves(lock: &mut LockState, tag: u64) -> bool {
+    let due = tag.wrapping_add(1);
+    let next = if due < CROWD {
+        Some(thread(due, 0))
+    } else {
+        None
+    };
+    lock.check(thread(tag, 0)).is_some()
+        && matches!(lock.free(thread(tag, 0)), Ok(freed) if freed.next == next)
+}
+
+/// The crowd asks while there is no memory, and frees the lock in turn, for which none is wanted. How often an ask was
+/// refused.
+fn comes_and_leaves(lock: &mut LockState, hoard: &mut Hoard) -> Option<u64> {
     let mut refused = 0u64;
     for tag in 0..CROWD {
-        let times = asks_at_last(&mut lock, thread(tag, 0), &mut hoard);
-        refused = refused.wrapping_add(times.ok_or("not as before")?);
-        hoard.take_again()?;
+        refused = refused.wrapping_add(asks_at_last(lock, tag, hoard)?);
+        hoard.take_again().ok()?;
     }
     for tag in 0..CROWD {
-        assert!(rt; leaves(&mut lock, tag), "{tag}");
+        if !leaves(lock, tag) {
+            return None;
+        }
     }
+    Some(refused)
+}
+
+#[test]
+fn a_wanted_lock_stays_as_it_was(rt: HostRuntime) -> Result<(), AllocError> {
+    let mut lock = carried(LockState::new(rt.alloc(), 5));
+    let mut hoard = Hoard::take(rt.alloc())?;
+    let first = comes_and_leaves(&mut lock, &mut hoard);
+    let then = comes_and_leaves(&mut lock, &mut hoard);
     drop(hoard);
-    assert!(rt; refused > 100 && lock.history().len() == 2700, "{refused}");
+    let is_refused = matches!(first, Some(refused) if refused > 100) && then.is_some();
+    assert!(rt; is_refused && lock.into_history().len() == 5400);
     Ok(())
 }
 
 /// The crowd asks for a shared lock, each until there is memory for it. How often there was none. No call finds the
 /// lock's guard taken, as each gives it back.
-fn all_ask(lock: &SleepLock, seat: &mut LockSeat, hoard: &mut Hoard) -> Result<u64, Fail>
+fn all_ask(lock: &SleepLock, seat: &mut LockSeat, hoard: &mut Hoard) -> Option<u64>
     requires { IsSeatOf lock.now seat.old }
     ensures { IsSeatOf lock.now seat.new }
 {
     let (mut tag, mut refused) = (0u64, 0u64);
     for _ in 0..TRIES {
         if tag == CROWD {
-            return Ok(refused);
+            return Some(refused);
         }
         match lock.ask(seat, thread(tag, 0)) {
             Tried::Answered(Ok(_)) => {
                 tag = tag.wrapping_add(1);
-                hoard.take_again()?;
+                hoard.take_again().ok()?;
             }
             Tried::Answered(Err(AskFault::Memory)) => {
                 refused = refused.wrapping_add(1);
                 hoard.give_back(FEW);
             }
-            Tried::Answered(Err(AskFault::AlreadyIn)) => return Err("in already")?,
-            Tried::Contended => return Err("the guard was not given back")?,
+            _ => return None,
         }
     }
-    Err("no end")?
+    None
+}
+
+/// Whether the first thread of the crowd has a shared lock, and frees it for the second.
+fn first_leaves(lock: &SleepLock, seat: &mut LockSeat) -> bool
+    requires { IsSeatOf lock.now seat.old }
+    ensures { IsSeatOf lock.now seat.new }
+{
+    let Tried::Answered(Some(_)) = lock.check(seat, thread(0, 0)) else {
+        return false;
+    };
+    match lock.free(seat, thread(0, 0)) {
+        Tried::Answered(Ok(freed)) => freed.next == Some(thread(1, 0)),
+        _ => false,
+    }
+}
+
+// Under `rt try --test --fail-alloc N` the Nth allocation is refused. A call that answers so is made once more.
+fn make(alloc: Global) -> Result<(SleepLock, LockSeat), AllocError>
+    ensures seat { IfOk result (λ made. IsSeatOf made.0 made.1) }
+    ensures whole { IfOk result (λ made. IsWhole made.1) }
+{
+    match SleepLock::new(alloc, 5) {
+        Ok(made) => Ok(made),
+        Err(_) => SleepLock::new(alloc, 5),
+    }
+}
+
+/// Splits a lock's seat and joins it again, and closes the lock. Its history.
+fn closed(lock: SleepLock, seat: LockSeat) -> Option<Vec<LockEvent>>
+    requires own { IsSeatOf lock seat }
+{
+    let (seat, other) = lock.split(seat);
+    let is_apart = !lock.is_whole(&seat) && !lock.is_whole(&other) && lock.number() == 5;
+    let seat = lock.join_seats(other, seat);
+    if !is_apart || !lock.is_whole(&seat) {
+        return None;
+    }
+    lock.close(seat).ok()
+}
+
+/// How often there was no memory for the crowd, of which the first thread then leaves.
+fn refusals(alloc: Global, lock: &SleepLock, seat: &mut LockSeat) -> Option<u64>
+    requires { IsSeatOf lock.now seat.old }
+    ensures { IsSeatOf lock.now seat.new }
+{
+    let mut hoard = Hoard::take(alloc).ok()?;
+    let refused = all_ask(lock, seat, &mut hoard);
+    drop(hoard);
+    if !first_leaves(lock, seat) {
+        return None;
+    }
+    refused
+}
+
+/// The same, and how long the history is that the crowd leaves.
+fn wanted(alloc: Global) -> Option<(u64, usize)> {
+    let (lock, mut seat) = make(alloc).ok()?;
+    let refused = refusals(alloc, &lock, &mut seat)?;
+    Some((refused, closed(lock, seat)?.len()))
 }
 
 #[test]
-fn a_wanted_shared_lock_gives_its_guard_back(rt: HostRuntime) -> Result<(), Fail> {
-    let (lock, mut seat) = shared::make(rt.alloc(), 5)?;
-    let mut hoard = Hoard::take(rt.alloc())?;
-    let refused = all_ask(&lock, &mut seat, &mut hoard)?;
-    drop(hoard);
-    assert!(rt; lock.is_whole(&seat));
-    let history = shared::closed(lock, seat)?;
-    assert!(rt; refused > 100 && history.len() == 901, "{refused}");
-    Ok(())
+fn a_wanted_shared_lock_gives_its_guard_back(rt: HostRuntime) {
+    let wanted = wanted(rt.alloc());
+    assert!(rt; matches!(wanted, Some((refused, 903)) if refused > 100));
 }

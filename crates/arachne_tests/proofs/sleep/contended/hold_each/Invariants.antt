@@ -1,5 +1,5 @@
 use Rattle.arachne_sleep.specs.SleepLocks.{AreSeatsOf}
 use Rattle.arachne_tests.proofs.sleep.contended.hold_each.Given as goal
 
-abbrev pub invariant-loop : goal.invariant-loop
-invariant-loop l = AreSeatsOf l.locks l.seats
+abbrev pub invariant-loop-k : goal.invariant-loop-k
+invariant-loop-k l = AreSeatsOf l.locks l.seats

@@ -1,6 +1,0 @@
-use Rattle.std.proofs.Common.{◌≡◌, None}
-use Rattle.arachne_machine.specs.Nested.{pending_in}
-use Rattle.arachne_tests.proofs.machine.all_in_place.Given as goal
-
-abbrev pub invariant-loop : goal.invariant-loop
-invariant-loop l = pending_in l.thread ≡ None

@@ -1,0 +1,433 @@
+//! Runs all threads of a program, whose children are handed back, or are given away and joined.
+ghost use Rattle.std.specs.Prelude.{◌≡◌, Some, false, IsTrue};
+ghost use Rattle.arachne_lang.specs.Program.{source_of};
+ghost use Rattle.arachne_machine.specs.declared.pause.Pending.TheVariants as pause;
+ghost use Rattle.arachne_machine.specs.Nested.{IsChildOf, pending_in};
+
+use super::shortage::Memory;
+use arachne_lang::{Class, Program};
+use arachne_machine::{
+    NotJoined, NotPlaced, Outcome, OutcomeParts, Pause, Pending, Placing, Spares, Thread,
+};
+use std::alloc::Global;
+
+/// How often a call is made at most, and how many calls there are at most.
+const MOST: u64 = 100_000;
+
+/// How the children run of threads that fork.
+#[derive(Clone, Copy, Debug, PartialEq, Eq)]
+pub(super) enum Way {
+    /// In its parent's place: a child is handed back at its fork.
+    AtFork,
+    /// The same, but the root's first child has then handed one back itself.
+    GrownAtFork,
+    /// In the place of the thread that awaits it: a child is handed back there.
+    AtJoin,
+    /// The same, but it has gone on before, with others in its place.
+    GrownAtJoin,
+    /// By itself. It is joined once it has ended.
+    Alone,
+    /// The same, but there is a place for exclusive children alone: others begin in their parent's place at once.
+    AloneIfExclusive,
+}
+
+impl Way {
+    /// Whether each call is made again where memory is refused.
+    pub(super) fn may_be_short(self) -> bool {
+        self != Way::GrownAtFork && self != Way::GrownAtJoin
+    }
+}
+
+impl Placing for Way {
+    ghost gives_all = { false };
+
+    fn is_any(&mut self, class: Class) -> bool {
+        *self != Way::AloneIfExclusive || class == Class::Exclusive
+    }
+
+    fn tag(&mut self) -> u64 {
+        7
+    }
+}
+
+/// What was heard of threads: their pauses, the sum of the tags that asked for a lock, and the tag of the next child
+/// that is handed back at its fork.
+#[derive(Clone, Copy)]
+pub(super) struct Heard {
+    pub(super) pauses: u64,
+    pub(super) asked: u64,
+    pub(super) next: u64,
+}
+
+/// How a run goes: the way of its children, the budgets of the next call and of those behind it, and what is heard.
+#[derive(Drop)]
+pub(super) struct Round {
+    way: Way,
+    budget: u32,
+    then: u32,
+    pub(super) memory: Memory,
+    pub(super) heard: Heard,
+}
+
+/// A pause as decimal digits: 1 for a used budget, 2 for a fork, 3 and the lock that is asked for, 4 and the lock that
+/// is freed, 5 with the ledger and the amount of a tally, 6 for the end, 7 for a join.
+fn digits(pause: &Pause) -> (u64, u64) {
+    match pause {
+        Pause::Budget => (10, 1),
+        Pause::Forks(_, _) => (10, 2),
+        Pause::Asks(lock) => (100, lock.wrapping_add(30)),
+        Pause::Frees(lock) => (100, lock.wrapping_add(40)),
+        Pause::Tallies(ledger, amount) => (
+            1000,
+            ledger
+                .wrapping_mul(10)
+                .wrapping_add(*amount)
+                .wrapping_add(500),
+        ),
+        Pause::Ended => (10, 6),
+        Pause::Joins => (10, 7),
+    }
+}
+
+impl Round {
+    pub(super) fn new(way: Way, first: u32, then: u32) -> Round {
+        Round {
+            way,
+            budget: first,
+            then,
+            memory: Memory::ample(),
+            heard: Heard {
+                pauses: 0,
+                asked: 0,
+                next: 10,
+            },
+        }
+    }
+
+    /// Writes down a pause of a thread with this tag.
+    fn hear(&mut self, pause: &Pause, tag: u64) {
+        let (places, number) = digits(pause);
+        self.heard.pauses = self.heard.pauses.wrapping_mul(places).wrapping_add(number);
+        if let Pause::Asks(_) = pause {
+            self.heard.asked = self.heard.asked.wrapping_add(tag);
+        }
+        self.budget = self.then;
+    }
+
+    /// The tag of the next child.
+    fn next_tag(&mut self) -> u64 {
+        let next = self.heard.next;
+        self.heard.next = next.wrapping_add(1);
+        next
+    }
+}
+
+/// Threads that wait for a child, the last one being the one that runs; children that were given away and have not
+/// begun; and the outcome that is to be joined. There is room for all.
+#[derive(Drop)]
+struct Family<'p> {
+    threads: Vec<Thread<'p>>,
+    children: Vec<Thread<'p>>,
+    outcomes: Vec<Outcome<'p>>,
+}
+
+fn make_family<'p>(alloc: Global) -> Option<Family<'p>> {
+    Some(Family {
+        threads: Vec::with_capacity(alloc, 20).ok()?,
+        children: Vec::with_capacity(alloc, 20).ok()?,
+        outcomes: Vec::with_capacity(alloc, 1).ok()?,
+    })
+}
+
+/// Whether the two are the same program.
+fn are_same(some: &Program, other: &Program) -> bool
+    ensures { IsTrue result → source_of some.now ≡ source_of other.now }
+{
+    *some == *other
+}
+
+/// Puts a child in its parent's place with the next tag. A call that is refused memory is made once more.
+fn place<'p>(thread: &mut Thread<'p>, child: Thread<'p>, round: &mut Round) -> bool
+    requires forks { pending_in thread.old ≡ Some pause.Forks }
+    requires child { IsChildOf thread.old child }
+{
+    let mut child = child;
+    child.set_tag(round.next_tag());
+    if round.memory.take_again().is_none() {
+        return false;
+    }
+    match thread.in_place(child) {
+        Ok(()) => true,
+        Err(NotPlaced::Memory(child)) => {
+            round.memory.spare_much();
+            thread.in_place(child).is_ok()
+        }
+        Err(NotPlaced::Foreign(_)) => false,
+    }
+}
+
+/// Goes on to the next pause. A child that is forked is handed back at once.
+fn go_on_in_place(thread: &mut Thread, round: &mut Round) -> bool {
+    if round.budget == 0 || thread.pending().is_some() {
+        return false;
+    }
+    let Ok(pause) = thread.advance(round.budget) else {
+        round.memory.spare();
+        return true;
+    };
+    round.hear(&pause, thread.running_tag());
+    match pause {
+        Pause::Forks(_, child) => place(thread, child, round),
+        _ => true,
+    }
+}
+
+/// Goes on to the next pause. A child that is forked is given away.
+fn go_on_apart<'p>(
+    alloc: Global,
+    thread: &mut Thread<'p>,
+    children: &mut Vec<Thread<'p>>,
+    round: &mut Round,
+) -> bool {
+    if round.budget == 0 || thread.pending().is_some() {
+        return false;
+    }
+    let (mut left, mut spares, mut way) = (round.budget, Spares::new(alloc), round.way);
+    let Ok(pause) = thread.advance_within(&mut left, &mut spares, &mut way) else {
+        round.memory.spare();
+        return true;
+    };
+    round.hear(&pause, thread.running_tag());
+    match pause {
+        Pause::Forks(_, child) => children.push(child).is_ok(),
+        _ => true,
+    }
+}
+
+/// Answers a pause that no other thread has a part in.
+fn answer(thread: &mut Thread) {
+    match thread.pending() {
+        Some(Pending::Asks(_)) => thread.granted(),
+        Some(Pending::Frees(_)) => thread.freed(),
+        Some(Pending::Tallies(_, _)) => thread.tallied(),
+        Some(Pending::Forks) => thread.forked(),
+        _ => {}
+    }
+}
+
+/// Goes on with a child until two threads were handed back to it, in the place of one of which the other is to run.
+fn grow(child: &mut Thread, round: &mut Round) -> bool {
+    for _ in 0..MOST {
+        if round.heard.next == 12 {
+            return true;
+        }
+        if !go_on_in_place(child, round) {
+            return false;
+        }
+        answer(child);
+    }
+    false
+}
+
+// What is let go at an error is dropped in a function of its own, and not at each exit.
+
+fn lose_thread(_thread: Thread) -> bool {
+    false
+}
+
+fn lose_outcome(_outcome: Outcome) -> bool {
+    false
+}
+
+/// Hands the newest child to a thread that awaits it, to go on in its place. Where memory is refused it comes back.
+fn begin<'p>(thread: &mut Thread<'p>, children: &mut Vec<Thread<'p>>, round: &mut Round) -> bool {
+    let (Some(Pending::Joins), Some(child)) = (thread.pending(), children.pop()) else {
+        return false;
+    };
+    if child.pending().is_some() || !are_same(child.program(), thread.program()) {
+        return lose_thread(child);
+    }
+    match thread.in_place(child) {
+        Ok(()) => true,
+        Err(NotPlaced::Memory(child)) => {
+            round.memory.spare();
+            children.push(child).is_ok()
+        }
+        Err(NotPlaced::Foreign(child)) => lose_thread(child),
+    }
+}
+
+/// Hands its child's outcome to a thread. Where memory is refused it comes back.
+fn join<'p>(
+    thread: &mut Thread<'p>,
+    outcome: Outcome<'p>,
+    outcomes: &mut Vec<Outcome<'p>>,
+    round: &mut Round,
+) -> bool {
+    let Some(Pending::Joins) = thread.pending() else {
+        return lose_outcome(outcome);
+    };
+    if !are_same(outcome.program(), thread.program()) {
+        return lose_outcome(outcome);
+    }
+    match thread.joined(outcome) {
+        Ok(()) => true,
+        Err(NotJoined::Memory(outcome)) => {
+            round.memory.spare();
+            outcomes.push(outcome).is_ok()
+        }
+        Err(NotJoined::Foreign(outcome)) => lose_outcome(outcome),
+    }
+}
+
+/// The newest child goes on by itself.
+fn begin_apart(family: &mut Family) -> bool {
+    match family.children.pop() {
+        Some(child) => family.threads.push(child).is_ok(),
+        None => false,
+    }
+}
+
+/// The child that is awaited goes on, by itself or in the place of the thread that awaits it.
+fn await_child(family: &mut Family, round: &mut Round) -> bool {
+    if round.way == Way::Alone || round.way == Way::AloneIfExclusive {
+        return begin_apart(family);
+    }
+    let Family {
+        threads,
+        children,
+        ..
+    } = family;
+    let (Some(thread), Some(child)) = (threads.last_mut(), children.last_mut()) else {
+        return false;
+    };
+    if round.way == Way::GrownAtJoin && !grow(child, round) {
+        return false;
+    }
+    begin(thread, children, round)
+}
+
+/// The outcome of the last thread, which has ended.
+fn end(family: &mut Family) -> bool {
+    let Some(thread) = family.threads.pop() else {
+        return false;
+    };
+    let Some(Pending::Ended) = thread.pending() else {
+        return lose_thread(thread);
+    };
+    family.outcomes.push(thread.finish()).is_ok()
+}
+
+/// Makes one call of the last thread.
+fn step(alloc: Global, family: &mut Family, round: &mut Round) -> bool {
+    let Family {
+        threads,
+        children,
+        outcomes,
+    } = family;
+    let Some(thread) = threads.last_mut() else {
+        return false;
+    };
+    if let Some(outcome) = outcomes.pop() {
+        return join(thread, outcome, outcomes, round);
+    }
+    match thread.pending() {
+        None if round.way == Way::AtFork || round.way == Way::GrownAtFork => {
+            go_on_in_place(thread, round)
+        }
+        None => go_on_apart(alloc, thread, children, round),
+        Some(Pending::Joins) => await_child(family, round),
+        Some(Pending::Ended) => end(family),
+        _ => {
+            answer(thread);
+            true
+        }
+    }
+}
+
+/// Hands a thread's first child back at its fork, which has handed one back itself before.
+fn hand_grown(thread: &mut Thread) -> bool {
+    if thread.pending().is_some() {
+        return false;
+    }
+    let Ok(Pause::Forks(_, mut child)) = thread.advance(100) else {
+        return false;
+    };
+    let Ok(Pause::Forks(_, grandchild)) = child.advance(100) else {
+        return false;
+    };
+    child.in_place(grandchild).is_ok() && thread.in_place(child).is_ok()
+}
+
+/// The root thread of a program. Where memory is refused it is asked for again, with a little more each time.
+fn start<'p>(alloc: Global, program: &'p Program, round: &mut Round) -> Option<Thread<'p>> {
+    for _ in 0..MOST {
+        match Thread::start(alloc, program, 9) {
+            Ok(thread) => return Some(thread),
+            Err(_) => round.memory.spare(),
+        }
+    }
+    None
+}
+
+/// Begins with the root thread, and hands its first child back if that is to have grown.
+fn set_off<'p>(
+    alloc: Global,
+    program: &'p Program,
+    threads: &mut Vec<Thread<'p>>,
+    round: &mut Round,
+) -> bool {
+    let Some(mut root) = start(alloc, program, round) else {
+        return false;
+    };
+    if round.way == Way::GrownAtFork && !hand_grown(&mut root) {
+        return lose_thread(root);
+    }
+    threads.push(root).is_ok()
+}
+
+/// An outcome taken apart. A call that is refused memory is made again, with a little more each time.
+fn parts(outcome: Outcome, round: &mut Round) -> Option<OutcomeParts> {
+    let mut outcome = outcome;
+    for _ in 0..MOST {
+        match outcome.into_parts() {
+            Ok(parts) => return Some(parts),
+            Err(back) => outcome = back,
+        }
+        round.memory.spare();
+    }
+    None
+}
+
+/// Goes on until the root has ended, with the outcome that it brings.
+fn run(alloc: Global, family: &mut Family, round: &mut Round) -> Option<OutcomeParts> {
+    for _ in 0..MOST {
+        round.memory.begin_call()?;
+        if family.threads.is_empty() {
+            return parts(family.outcomes.pop()?, round);
+        }
+        if !step(alloc, family, round) {
+            return None;
+        }
+    }
+    None
+}
+
+/// What a program's root, whose tag is 9, brings in the end, with no memory where that is short.
+pub(super) fn parts_of(
+    alloc: Global,
+    program: &Program,
+    round: &mut Round,
+    is_short: bool,
+) -> Option<OutcomeParts> {
+    let mut family = make_family(alloc)?;
+    if is_short {
+        round.memory.use_up(alloc)?;
+    }
+    if !set_off(alloc, program, &mut family.threads, round) {
+        return None;
+    }
+    let parts = run(alloc, &mut family, round);
+    round.memory.give_all_back();
+    parts
+}
