@@ -6,6 +6,7 @@ ghost use Rattle.arachne_lang.specs.Checked.{IsChecked};
 use crate::altered::Altered;
 use crate::choosers::{Draws, Progression};
 use crate::gates::Watch;
+use crate::hasty::Hasty;
 use arachne_core::SLOTS;
 use arachne_lang::{Program, check, parse};
 use arachne_policy::CoreOrder;
@@ -38,6 +39,8 @@ enum Form {
     /// The table behind a lock, which answers one call by itself on machines of 5, 6 and 7 cores.
     Locked,
     Words,
+    /// The table on words, by jobs that end before they await what they have forked.
+    Hasty,
 }
 
 /// Both forms of table.
@@ -87,9 +90,7 @@ fn run_on_words<'p, R: Threads + Wait + Sync>(
 ) -> Result<Report, RunFault>
     requires { IsChecked (source_of program.now) }
 {
-    run::<R, Job<'p>, WordContexts<Job<'p>>, Progression, Watch>(
-        rt, alloc, program, setup, choosers, gate,
-    )
+    run::<R, Job<'p>, WordContexts<Job<'p>>, Progression, Watch>(rt, alloc, program, setup, choosers, gate)
 }
 
 /// Runs a program over a table behind a lock.
@@ -103,9 +104,21 @@ fn run_on_lock<'p, R: Threads + Wait + Sync>(
 ) -> Result<Report, RunFault>
     requires { IsChecked (source_of program.now) }
 {
-    run::<R, Job<'p>, Altered<Job<'p>>, Progression, Watch>(
-        rt, alloc, program, setup, choosers, gate,
-    )
+    run::<R, Job<'p>, Altered<Job<'p>>, Progression, Watch>(rt, alloc, program, setup, choosers, gate)
+}
+
+/// Runs a program's text over the table on words by jobs that end before they await what they have forked.
+fn run_hastily<'p, R: Threads + Wait + Sync>(
+    rt: &R,
+    alloc: Global,
+    program: &'p Program,
+    setup: Setup,
+    choosers: Vec<Progression>,
+    gate: &Watch,
+) -> Result<Report, RunFault>
+    requires { IsChecked (source_of program.now) }
+{
+    run::<R, Hasty, WordContexts<Hasty>, Progression, Watch>(rt, alloc, program, setup, choosers, gate)
 }
 
 /// How a run is set up on a machine, and its choosers.
@@ -145,5 +158,6 @@ fn answer<R: Threads + Wait + Sync>(
     match form {
         Form::Locked => run_on_lock(rt, alloc, program, setup, choosers, gate),
         Form::Words => run_on_words(rt, alloc, program, setup, choosers, gate),
+        Form::Hasty => run_hastily(rt, alloc, program, setup, choosers, gate),
     }
 }
