@@ -7,7 +7,6 @@ use crate::altered::Altered;
 use crate::choosers::{Draws, Progression};
 use crate::gates::Watch;
 use crate::hasty::Hasty;
-use arachne_core::SLOTS;
 use arachne_lang::{Program, check, parse};
 use arachne_policy::CoreOrder;
 use arachne_run::{Job, Report, RunFault, Setup, run};
@@ -71,10 +70,11 @@ fn text_of(alloc: Global, source: &Source) -> Result<String, Fail> {
 }
 
 /// The program of a text, which may run.
-fn checked(alloc: Global, text: &[u8]) -> Result<Program, Fail>
+fn program_of(alloc: Global, source: &Source) -> Result<Program, Fail>
     ensures { IfOk result (λ program. IsChecked (source_of program)) }
 {
-    let program = parse(alloc, text)?;
+    let text = text_of(alloc, source)?;
+    let program = parse(alloc, text.as_bytes())?;
     check(&program)?;
     Ok(program)
 }
@@ -90,7 +90,9 @@ fn run_on_words<'p, R: Threads + Wait + Sync>(
 ) -> Result<Report, RunFault>
     requires { IsChecked (source_of program.now) }
 {
-    run::<R, Job<'p>, WordContexts<Job<'p>>, Progression, Watch>(rt, alloc, program, setup, choosers, gate)
+    run::<R, Job<'p>, WordContexts<Job<'p>>, Progression, Watch>(
+        rt, alloc, program, setup, choosers, gate,
+    )
 }
 
 /// Runs a program over a table behind a lock.
@@ -104,7 +106,9 @@ fn run_on_lock<'p, R: Threads + Wait + Sync>(
 ) -> Result<Report, RunFault>
     requires { IsChecked (source_of program.now) }
 {
-    run::<R, Job<'p>, Altered<Job<'p>>, Progression, Watch>(rt, alloc, program, setup, choosers, gate)
+    run::<R, Job<'p>, Altered<Job<'p>>, Progression, Watch>(
+        rt, alloc, program, setup, choosers, gate,
+    )
 }
 
 /// Runs a program's text over the table on words by jobs that end before they await what they have forked.
@@ -118,32 +122,34 @@ fn run_hastily<'p, R: Threads + Wait + Sync>(
 ) -> Result<Report, RunFault>
     requires { IsChecked (source_of program.now) }
 {
-    run::<R, Hasty, WordContexts<Hasty>, Progression, Watch>(rt, alloc, program, setup, choosers, gate)
+    run::<R, Hasty, WordContexts<Hasty>, Progression, Watch>(
+        rt, alloc, program, setup, choosers, gate,
+    )
 }
 
-/// How a run is set up on a machine, and its choosers.
+/// How a run is set up on a machine whose cores have so many places each, and its choosers.
 fn setup_of(
     alloc: Global,
     machine: Machine,
+    slots: u8,
     draws: Draws,
     orders: &[CoreOrder],
 ) -> Result<(Setup, Vec<Progression>), AllocError> {
     let (cores, quantum, count) = machine;
-    let orders = orders.to_vec(alloc)?;
     let mut choosers = Vec::new(alloc);
     for nth in 0..count {
         choosers.push(draws.of(nth))?;
     }
     let setup = Setup {
         cores,
-        slots: u64::from(SLOTS),
+        slots: u64::from(slots),
         quantum,
-        orders,
+        orders: orders.to_vec(alloc)?,
     };
     Ok((setup, choosers))
 }
 
-/// What comes of a run of a program. All tests run their programs here.
+/// What comes of a run of a program.
 fn answer<R: Threads + Wait + Sync>(
     rt: &R,
     alloc: Global,

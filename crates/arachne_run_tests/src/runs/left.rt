@@ -1,15 +1,15 @@
 //! A thread that is left in the table when the root has ended.
+use super::Form;
 use super::cores::FORK;
 use super::facts::Telling;
 use super::rows::{Row, rows_hold};
-use super::Form;
 use crate::choosers::ZEROS;
 use crate::gates::Watching;
 use arachne_core::SLOTS;
 use std::test::Fail;
 
 /// The root ends before its child has begun, which the table hands back then.
-const LEFT: Row = Row {
+const LEFT: &[Row] = &[Row {
     shows: "a thread that is left stops the report",
     source: FORK,
     forms: &[Form::Hasty],
@@ -21,9 +21,9 @@ const LEFT: Row = Row {
     facts: &[],
     telling: Telling::Nothing,
     told: "Token",
-};
+}];
 
 #[test]
 fn a_thread_that_is_left_stops_the_report(rt: HostRuntime) -> Result<(), Fail> {
-    rows_hold(&rt, rt.alloc(), &[LEFT])
+    rows_hold(&rt, rt.alloc(), LEFT)
 }

@@ -17,19 +17,72 @@ use Rattle.arachne_run_tests.proofs.runs.run_hastily.Tie as tie
 -- is checked. The module of the function's goals, which an Answers.antt needs, took 26 seconds.
 pub run_hastily_spec : {M : Type 1} → statement M
 run_hastily_spec = tie.close (λ R laws threads threads-dict wait wait-dict world met-threads met-wait.
-  tie.spec R laws threads threads-dict wait wait-dict
+    tie.spec R laws threads threads-dict wait wait-dict
     (λ c κs lent. (
-      lent, (⊑_static _, (⊑_static _, (⊑_static _, (⊑_static _, (⊑_static _, (⊑_static _, (⊑_static _, (⊑_static _, (⊑_static _, (⊑_static _, (
-        search (sendable, hasty.the_send) depth 20, (
-        search (sendable, chooser.the_send) depth 20, (
-        search (sendable, nothing.the_send) depth 20, (
-        search (sendable, nothing.the_send) depth 20, (
-        search (sendable, nothing.the_send) depth 20, (
-        search (sendable, claim.the_send) depth 20, (
-        search (sendable, hold.the_send) depth 20, (
-        search (sendable, seat.the_send, hasty.the_send) depth 20, (
-        search (sendable, c.requires.1.0) depth 20, (
-        search (sendable, std.crosses, words.the_sync, hasty.the_send) depth 20, (
-        search (sendable, std.crosses, watch.the_sync) depth 20,
-        ((refl, tt), c.requires.1.1))))))))))))))))))))))))
+      lent,
+      (
+        ⊑_static _,
+        (
+          ⊑_static _,
+          (
+            ⊑_static _,
+            (
+              ⊑_static _,
+              (
+                ⊑_static _,
+                (
+                  ⊑_static _,
+                  (
+                    ⊑_static _,
+                    (
+                      ⊑_static _,
+                      (
+                        ⊑_static _,
+                        (
+                          ⊑_static _,
+                          (
+                            search (sendable, hasty.the_send) depth 20,
+                            (
+                              search (sendable, chooser.the_send) depth 20,
+                              (
+                                search (sendable, nothing.the_send) depth 20,
+                                (
+                                  search (sendable, nothing.the_send) depth 20,
+                                  (
+                                    search (sendable, nothing.the_send) depth 20,
+                                    (
+                                      search (sendable, claim.the_send) depth 20,
+                                      (
+                                        search (sendable, hold.the_send) depth 20,
+                                        (
+                                          search (sendable, seat.the_send, hasty.the_send) depth 20,
+                                          (
+                                            search (sendable, c.requires.1.0) depth 20,
+                                            (
+                                              search (sendable, std.crosses, words.the_sync, hasty.the_send) depth 20,
+                                              (
+                                                search (sendable, std.crosses, watch.the_sync) depth 20,
+                                                ((refl, tt), c.requires.1.1),
+                                              ),
+                                            ),
+                                          ),
+                                        ),
+                                      ),
+                                    ),
+                                  ),
+                                ),
+                              ),
+                            ),
+                          ),
+                        ),
+                      ),
+                    ),
+                  ),
+                ),
+              ),
+            ),
+          ),
+        ),
+      ),
+    ))
     (λ c. tt))
