@@ -1,5 +1,5 @@
 //! A form of table behind a lock that can answer one call by itself.
-ghost use Rattle.std.specs.Prelude.{◌≡◌, IfOk, IfErr};
+ghost use Rattle.std.specs.Prelude.{◌≡◌, ◌<◌, IfOk, IfErr};
 ghost use Rattle.arachne_contexts.specs.Answers.{RestsAs};
 ghost use Rattle.arachne_contexts.specs.Out.{Thread as a_thread, Spends};
 ghost use Rattle.arachne_locked.specs.Seats.{HasCounted, CountsOut};
@@ -39,7 +39,7 @@ enum Alteration {
     HandsBackFirst,
     /// Of three claims that follow one another the first two are lost.
     Loses,
-    /// Whoever sees core 1 full goes on once it has a place.
+    /// Whoever finds core 1 full goes on once it has a place, and no thread is moved.
     AwaitsPlace,
 }
 
@@ -49,15 +49,15 @@ const POLLS: u32 = 100_000_000;
 /// How often it lets others go on then, so that what the first call came to is known.
 const YIELDS: u32 = 100_000;
 
-/// How often whoever sees core 1 full looks again before it gives up.
+/// How often whoever finds core 1 full looks again before it gives up.
 const GLANCES: u32 = 2_000_000;
 
 /// A table behind a lock that hands on all calls, or all but one. A run makes its table itself, so the numbers of cores
 /// and of places say which: of 5 cores it hands back each thread that is to be finished, of 6 it refuses memory to a
 /// claim on a core that is in use, of 7 all cores but 0 are full, of 8 each seat has something out, of 9 and 10 it
 /// refuses memory and hands threads back, the one or the other first, of any other number of 5 places two of three
-/// claims are lost, of 2 cores of 3 places whoever sees core 1 full waits until it has a place, and else it answers
-/// nothing by itself.
+/// claims are lost, of 2 cores of 3 places whoever finds core 1 full waits until it has a place, and no thread is
+/// moved, and else it answers nothing by itself.
 #[derive(Drop)]
 pub struct Altered<T: Tagged> {
     inner: LockedContexts<T>,
@@ -76,6 +76,23 @@ fn wait(answered: &AtomicU64) {
     }
     for _ in 0..YIELDS {
         yield_now();
+    }
+}
+
+impl<T: Tagged + Drop> Altered<T> {
+    /// What is seen of a core once it has a place of three, or after so many looks.
+    fn glance_at_place<R: Wait>(&self, rt: &R, core: u8) -> u64
+        requires { core < self.now.inner.cores }
+    {
+        let mut seen = self.inner.glance(rt, core);
+        for _ in 0..GLANCES {
+            if seen & THREE != THREE {
+                break;
+            }
+            yield_now();
+            seen = self.inner.glance(rt, core);
+        }
+        seen
     }
 }
 
@@ -146,17 +163,10 @@ impl<T: Tagged + Drop> Contexts<T> for Altered<T> {
     ghost has = { λ table seat outs. CountsOut seat outs };
 
     fn glance<R: Wait>(&self, rt: &R, core: u8) -> u64 {
-        let mut seen = self.inner.glance(rt, core);
-        if let (Alteration::AwaitsPlace, 1) = (self.alteration, core) {
-            for _ in 0..GLANCES {
-                if seen & THREE != THREE {
-                    break;
-                }
-                yield_now();
-                seen = self.inner.glance(rt, core);
-            }
+        match self.alteration {
+            Alteration::AwaitsPlace if core == 1 => self.glance_at_place(rt, core),
+            _ => self.inner.glance(rt, core),
         }
-        seen
     }
 
     fn look<R: Wait>(&self, rt: &R, seat: &mut LockedSeat, core: u8) -> u64 {
@@ -189,6 +199,10 @@ impl<T: Tagged + Drop> Contexts<T> for Altered<T> {
             }
             Alteration::Loses if self.answered.fetch_add(1, Ordering::SeqCst) % 3 < 2 => {
                 Ok(Claimed::Lost(self.inner.look(rt, seat, core)))
+            }
+            Alteration::AwaitsPlace if core == 1 => {
+                let _ = self.glance_at_place(rt, core);
+                self.inner.claim(rt, seat, core)
             }
             _ => self.inner.claim(rt, seat, core),
         }
@@ -291,7 +305,10 @@ impl<T: Tagged + Drop> Contexts<T> for Altered<T> {
     }
 
     fn move_one<R: Wait>(&self, rt: &R, seat: &mut LockedSeat, place: Place, to: u8) -> Moved {
-        self.inner.move_one(rt, seat, place, to)
+        match self.alteration {
+            Alteration::AwaitsPlace => Moved::Unposted,
+            _ => self.inner.move_one(rt, seat, place, to),
+        }
     }
 
     fn close<R: Wait>(

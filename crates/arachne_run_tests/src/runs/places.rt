@@ -335,7 +335,7 @@ const SLEEPING: Source = Source {
 
 /// Core 0 is full of the root and two of the four, and the two others wait on core 1. The thread that is forked beside
 /// them ends there, so that its place is kept, and core 1's kernel thread has nothing to run. The table lets
-/// whoever finds that core full go on once it has a place.
+/// whoever finds that core full go on once it has a place, and moves no thread.
 const GIVEN_BACK: Row = Row {
     shows: "a kernel thread that sleeps keeps no place",
     source: SLEEPING,

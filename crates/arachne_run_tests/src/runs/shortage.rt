@@ -32,9 +32,9 @@ const BYTES: usize = 400;
 
 /// How often a run on one core is repeated with the memory of the first that had a report, and how many bytes more: the
 /// C library keeps some of what is given back for blocks of the same size, of each a few.
-const REPEATED: usize = 1_000;
+const REPEATED: usize = 2_000;
 
-const SLACK: usize = 100_000;
+const SLACK: usize = 200_000;
 
 /// Cores 1 and 2 are taken back, and core 1 is granted again.
 const ORDERS: &[CoreOrder] = &[
@@ -200,6 +200,20 @@ fn refused<R: Threads + Wait + Sync>(
     (most, came)
 }
 
+/// Whether a row's program has a report that says what the row does.
+fn goes_well<R: Threads + Wait + Sync>(
+    rt: &R,
+    alloc: Global,
+    row: &Row,
+    program: &Program,
+    form: Form,
+    machine: Machine,
+) -> bool
+    requires { IsChecked (source_of program.now) }
+{
+    matches!(tried(rt, alloc, row, program, form, machine), Ok(true))
+}
+
 /// Whether a row's program has a report again and again with the memory that there is. If each run left something
 /// behind, there would be none for the last ones.
 fn repeats<R: Threads + Wait + Sync>(
@@ -213,7 +227,7 @@ fn repeats<R: Threads + Wait + Sync>(
     requires { IsChecked (source_of program.now) }
 {
     for _ in 0..REPEATED {
-        if tried(rt, alloc, row, program, form, machine) != WELL {
+        if !goes_well(rt, alloc, row, program, form, machine) {
             return false;
         }
     }
@@ -256,13 +270,13 @@ fn row_ends<R: Threads + Wait + Sync>(
 ) -> Result<(), Fail> {
     let program = program_of(alloc, &row.source)?;
     for &machine in row.machines {
-        let before = last != WELL || tried(rt, alloc, row, &program, form, machine) == WELL;
+        let before = last != WELL || goes_well(rt, alloc, row, &program, form, machine);
         let (runs, came) = without_memory(rt, alloc, row, &program, form, machine, last);
-        let behind = tried(rt, alloc, row, &program, form, machine);
+        let behind = goes_well(rt, alloc, row, &program, form, machine);
         let (cores, _, _) = machine;
         let is_over = came == last || last == WELL && cores > 1 && is_want(came, cores);
-        if !before || !is_over || runs <= 10 || behind != WELL {
-            return Err(Fail::new(format_args!("{machine:?}: {before} {runs} {came:?} {behind:?}")));
+        if !(before && is_over && runs > 10 && behind) {
+            return Err(Fail::new(format_args!("{machine:?}: {before} {runs} {came:?} {behind}")));
         }
     }
     Ok(())
