@@ -32,10 +32,10 @@ mod slices;
 mod tables;
 mod tickets;
 
-/// A form of context table.
+/// A form of context table, and the jobs that run over it.
 #[derive(Clone, Copy)]
 enum Form {
-    /// The table behind a lock, which answers one call by itself on machines of 5, 6 and 7 cores.
+    /// The table behind a lock, which answers some calls by itself on the machines that `Altered` names.
     Locked,
     Words,
     /// The table on words, by jobs that end before they await what they have forked.
