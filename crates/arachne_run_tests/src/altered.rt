@@ -1,5 +1,5 @@
 //! A form of table behind a lock that can answer one call by itself.
-ghost use Rattle.std.specs.Prelude.{◌≡◌, IfOk, IfErr};
+ghost use Rattle.std.specs.Prelude.{◌≡◌, ◌<◌, IfOk, IfErr};
 ghost use Rattle.arachne_contexts.specs.Answers.{RestsAs};
 ghost use Rattle.arachne_contexts.specs.Out.{Thread as a_thread, Spends};
 ghost use Rattle.arachne_locked.specs.Seats.{HasCounted, CountsOut};
@@ -39,23 +39,25 @@ enum Alteration {
     HandsBackFirst,
     /// Of three claims that follow one another the first two are lost.
     Loses,
-    /// Whoever sees core 1 full goes on once a place was given back.
-    AwaitsGift,
+    /// Whoever finds core 1 full goes on once it has a place, and no thread is moved.
+    AwaitsPlace,
 }
 
 /// How often the second of two calls looks whether the first one was made before it gives up.
 const POLLS: u32 = 100_000_000;
 
-/// How often it lets others go on then, so that what the first call came to is known, and how often whoever sees core 1
-/// full does.
+/// How often it lets others go on then, so that what the first call came to is known.
 const YIELDS: u32 = 100_000;
+
+/// How often whoever finds core 1 full looks again before it gives up.
+const GLANCES: u32 = 2_000_000;
 
 /// A table behind a lock that hands on all calls, or all but one. A run makes its table itself, so the numbers of cores
 /// and of places say which: of 5 cores it hands back each thread that is to be finished, of 6 it refuses memory to a
 /// claim on a core that is in use, of 7 all cores but 0 are full, of 8 each seat has something out, of 9 and 10 it
 /// refuses memory and hands threads back, the one or the other first, of any other number of 5 places two of three
-/// claims are lost, of 2 cores of 3 places whoever sees core 1 full waits until a place was given back, and else it
-/// answers nothing by itself.
+/// claims are lost, of 2 cores of 3 places whoever finds core 1 full waits until it has a place, and no thread is
+/// moved, and else it answers nothing by itself.
 #[derive(Drop)]
 pub struct Altered<T: Tagged> {
     inner: LockedContexts<T>,
@@ -64,21 +66,33 @@ pub struct Altered<T: Tagged> {
     answered: AtomicU64,
 }
 
-/// Waits until a call was counted, or gives up after so many looks.
-fn wait_for(answered: &AtomicU64, looks: u32) {
-    for _ in 0..looks {
+/// Waits until the first of two calls was answered.
+fn wait(answered: &AtomicU64) {
+    for _ in 0..POLLS {
         if answered.load(Ordering::SeqCst) > 0 {
             break;
         }
         yield_now();
     }
-}
-
-/// Waits until the first of two calls was answered.
-fn wait(answered: &AtomicU64) {
-    wait_for(answered, POLLS);
     for _ in 0..YIELDS {
         yield_now();
+    }
+}
+
+impl<T: Tagged + Drop> Altered<T> {
+    /// What is seen of a core once it has a place of three, or after so many looks.
+    fn glance_at_place<R: Wait>(&self, rt: &R, core: u8) -> u64
+        requires { core < self.now.inner.cores }
+    {
+        let mut seen = self.inner.glance(rt, core);
+        for _ in 0..GLANCES {
+            if seen & THREE != THREE {
+                break;
+            }
+            yield_now();
+            seen = self.inner.glance(rt, core);
+        }
+        seen
     }
 }
 
@@ -110,7 +124,7 @@ impl<T: Tagged + Drop> Seats for Altered<T> {
             (9, _) => Alteration::RefusesMemoryFirst,
             (10, _) => Alteration::HandsBackFirst,
             (_, 5) => Alteration::Loses,
-            (2, 3) => Alteration::AwaitsGift,
+            (2, 3) => Alteration::AwaitsPlace,
             _ => Alteration::None,
         };
         let altered = Altered {
@@ -149,13 +163,9 @@ impl<T: Tagged + Drop> Contexts<T> for Altered<T> {
     ghost has = { λ table seat outs. CountsOut seat outs };
 
     fn glance<R: Wait>(&self, rt: &R, core: u8) -> u64 {
-        let seen = self.inner.glance(rt, core);
         match self.alteration {
-            Alteration::AwaitsGift if core == 1 && seen & THREE == THREE => {
-                wait_for(&self.answered, YIELDS);
-                self.inner.glance(rt, core)
-            }
-            _ => seen,
+            Alteration::AwaitsPlace if core == 1 => self.glance_at_place(rt, core),
+            _ => self.inner.glance(rt, core),
         }
     }
 
@@ -190,6 +200,10 @@ impl<T: Tagged + Drop> Contexts<T> for Altered<T> {
             Alteration::Loses if self.answered.fetch_add(1, Ordering::SeqCst) % 3 < 2 => {
                 Ok(Claimed::Lost(self.inner.look(rt, seat, core)))
             }
+            Alteration::AwaitsPlace if core == 1 => {
+                let _ = self.glance_at_place(rt, core);
+                self.inner.claim(rt, seat, core)
+            }
             _ => self.inner.claim(rt, seat, core),
         }
     }
@@ -209,11 +223,7 @@ impl<T: Tagged + Drop> Contexts<T> for Altered<T> {
         seat: &mut LockedSeat,
         claim: LockedClaim,
     ) -> Result<(), LockedClaim> {
-        let back = self.inner.give_back(rt, seat, claim);
-        if let Alteration::AwaitsGift = self.alteration {
-            self.answered.store(1, Ordering::SeqCst);
-        }
-        back
+        self.inner.give_back(rt, seat, claim)
     }
 
     fn post<R: Wait>(
@@ -295,7 +305,10 @@ impl<T: Tagged + Drop> Contexts<T> for Altered<T> {
     }
 
     fn move_one<R: Wait>(&self, rt: &R, seat: &mut LockedSeat, place: Place, to: u8) -> Moved {
-        self.inner.move_one(rt, seat, place, to)
+        match self.alteration {
+            Alteration::AwaitsPlace => Moved::Unposted,
+            _ => self.inner.move_one(rt, seat, place, to),
+        }
     }
 
     fn close<R: Wait>(

@@ -17,6 +17,9 @@ const SPINS: u32 = 50_000;
 /// How often it looks whether the run has stopped.
 const STOPS: u32 = 2_000_000;
 
+/// How often others may go on before it is told whether a slice has begun meanwhile.
+const LOOKS: u32 = 1_000;
+
 /// What a gate does.
 #[derive(Clone, Copy)]
 pub enum Watching {
@@ -86,6 +89,15 @@ impl Watch {
         self.zero.load(Ordering::SeqCst) >= zero
             && self.one.load(Ordering::SeqCst) >= one
             && self.failed.load(Ordering::SeqCst) == 0
+    }
+
+    /// Whether no slice that it notes begins for a while.
+    pub fn is_still(&self) -> bool {
+        let before = self.slices.load(Ordering::SeqCst);
+        for _ in 0..LOOKS {
+            yield_now();
+        }
+        self.slices.load(Ordering::SeqCst) == before
     }
 
     /// Notes a core's slice.

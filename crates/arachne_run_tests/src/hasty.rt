@@ -1,7 +1,6 @@
 //! A job whose thread ends before it awaits what it has forked, so that the table has a thread left in the end.
-ghost use Rattle.std.specs.Prelude.{◌≡◌, false, if◌then◌else◌, true, Some};
+ghost use Rattle.std.specs.Prelude.{◌≡◌, Some};
 ghost use Rattle.arachne_machine.specs.declared.pause.Pending.TheVariants as pause;
-ghost use Rattle.arachne_jobs.specs.Threads.{IsForking, name_of, pause_of, running_tag_of, tag_of};
 
 use arachne_contexts::Tagged;
 use arachne_core::{Rest, ThreadId};
@@ -9,24 +8,27 @@ use arachne_jobs::{
     Job, JobFault, JobOf, Openings, OutcomeReceiver, Room, RunJob, RunSpares, RunThread, RunTicket,
     Slice, Spares,
 };
-use arachne_lang::{Name, Program};
-use arachne_machine::Thread;
+use arachne_lang::{Class, Name, Program};
+use arachne_machine::Pending;
 use std::alloc::{AllocError, Global};
 
-/// A thread that ends in the slice behind its first fork.
+/// A thread that forks one, and ends behind that. It makes no steps of the program.
 #[derive(Drop)]
-pub struct Hasty<'p> {
-    job: Job<'p>,
+pub struct Hasty {
+    /// That of the root, which each of them has.
+    name: Name,
+    tag: u64,
     parent: Option<ThreadId>,
+    pending: Option<Pending>,
+    /// Whether it ends next: a child begins so.
     has_forked: bool,
-    has_ended: bool,
 }
 
-/// No child of such a thread waits for a place, so there is no ticket.
+/// A child of such a thread, which waits for no place, so that there is no ticket, and of which nothing is kept.
 #[derive(Drop)]
-pub struct NoTicket;
+pub struct Nothing;
 
-impl Tagged for NoTicket {
+impl Tagged for Nothing {
     ghost tag_of = { λ t. 0 };
 
     fn tag(&self) -> u64 {
@@ -34,151 +36,137 @@ impl Tagged for NoTicket {
     }
 }
 
-impl RunTicket for NoTicket {
+impl RunTicket for Nothing {
     fn still_waits(&self) -> bool {
         false
     }
 }
 
-/// Nothing is kept of such threads.
-#[derive(Drop)]
-pub struct NoSpares {
-    alloc: Global,
-}
-
-impl RunSpares for NoSpares {
-    fn none(alloc: Global) -> NoSpares {
-        NoSpares { alloc }
+impl RunSpares for Nothing {
+    fn none(_alloc: Global) -> Nothing {
+        Nothing
     }
 }
 
-impl<'p> Tagged for Hasty<'p> {
-    ghost tag_of = { λ h. tag_of h.job.thread };
+impl Tagged for Hasty {
+    ghost tag_of = { λ h. h.tag };
 
     fn tag(&self) -> u64 {
-        self.job.tag()
+        self.tag
     }
 }
 
-impl<'p> RunThread for Hasty<'p> {
-    ghost name_of = { λ h. name_of h.job.thread };
+impl RunThread for Hasty {
+    ghost name_of = { λ h. h.name };
 
-    ghost running_tag_of = { λ h. running_tag_of h.job.thread };
+    ghost running_tag_of = { λ h. h.tag };
 
     ghost parent_of = { λ h. h.parent };
 
-    ghost pause_of = { λ h. if h.has_ended then Some pause.Ended else pause_of h.job.thread };
+    ghost pause_of = { λ h. h.pending };
 
     fn name(&self) -> &Name {
-        self.job.name()
+        &self.name
     }
 
     fn running_tag(&self) -> u64 {
-        self.job.running_tag()
+        self.tag
     }
 
     fn rest(&self) -> Option<Rest> {
-        if self.has_ended {
-            return None;
+        match self.pending {
+            None => Some(Rest::Ready),
+            Some(_) => None,
         }
-        self.job.rest()
     }
 
     fn answer(&mut self) -> Result<(), JobFault> {
-        if self.has_ended {
-            return Err(JobFault::Foreign);
-        }
-        self.job.answer()
+        Err(JobFault::Foreign)
     }
 }
 
-impl<'p> RunJob for Hasty<'p> {
-    type Child = Thread<'p>;
+impl RunJob for Hasty {
+    type Child = Nothing;
 
-    type Ticket = NoTicket;
+    type Ticket = Nothing;
 
-    type Spares = NoSpares;
+    type Spares = Nothing;
 
-    ghost forks = { λ h child. (h.has_ended ≡ false) × IsForking h.job.thread child };
+    ghost forks = { λ h child. h.pending ≡ Some pause.Forks };
 
     fn slice(
         &mut self,
         left: &mut u32,
-        spares: &mut NoSpares,
-        room: &Room,
-        openings: &mut Openings,
-    ) -> Result<Slice<Thread<'p>>, JobFault> {
-        if self.has_forked || self.has_ended {
-            *left -= 1;
-            self.has_ended = true;
+        _spares: &mut Nothing,
+        _room: &Room,
+        _openings: &mut Openings,
+    ) -> Result<Slice<Nothing>, JobFault> {
+        *left -= 1;
+        if self.has_forked {
+            self.pending = Some(Pending::Ended);
             return Ok(Slice::Ends);
         }
-        self.job
-            .slice(left, &mut Spares::none(spares.alloc), room, openings)
+        self.pending = Some(Pending::Forks);
+        Ok(Slice::Forks(Class::Normal, Nothing))
     }
 
     fn fork_off(
         &mut self,
         alloc: Global,
         me: ThreadId,
-        child: Thread<'p>,
+        _child: Nothing,
         tag: u64,
-        _spares: &mut NoSpares,
-    ) -> Result<Hasty<'p>, JobFault> {
-        let job = self
-            .job
-            .fork_off(alloc, me, child, tag, &mut Spares::none(alloc))?;
+        _spares: &mut Nothing,
+    ) -> Result<Hasty, JobFault> {
+        self.pending = None;
         self.has_forked = true;
         Ok(Hasty {
-            job,
+            name: Name::root(alloc),
+            tag,
             parent: Some(me),
-            has_forked: false,
-            has_ended: false,
+            pending: None,
+            has_forked: true,
         })
     }
 
     fn put_aside(
         &mut self,
-        alloc: Global,
-        me: ThreadId,
-        child: Thread<'p>,
-        tag: u64,
+        _alloc: Global,
+        _me: ThreadId,
+        _child: Nothing,
+        _tag: u64,
         _waits: bool,
-    ) -> Result<Option<NoTicket>, JobFault> {
-        let _ = self.job.put_aside(alloc, me, child, tag, false)?;
+    ) -> Result<Option<Nothing>, JobFault> {
+        self.pending = None;
+        self.has_forked = true;
         Ok(None)
     }
 
-    fn of_ticket(_alloc: Global, _ticket: NoTicket, _spares: &mut NoSpares) -> Option<Hasty<'p>> {
+    fn of_ticket(_alloc: Global, _ticket: Nothing, _spares: &mut Nothing) -> Option<Hasty> {
         None
     }
 
-    fn leave(self, spares: &mut NoSpares) -> Result<Option<ThreadId>, JobFault> {
-        let Hasty {
-            job,
-            parent,
-            has_forked: _,
-            has_ended,
-        } = self;
-        if !has_ended {
-            let _ = job.leave(&mut Spares::none(spares.alloc))?;
+    fn leave(self, _spares: &mut Nothing) -> Result<Option<ThreadId>, JobFault> {
+        match self.pending {
+            Some(Pending::Ended) => Ok(self.parent),
+            _ => Err(JobFault::Foreign),
         }
-        Ok(parent)
     }
 }
 
-impl<'p> JobOf<'p> for Hasty<'p> {
+impl<'p> JobOf<'p> for Hasty {
     fn begin(
         alloc: Global,
         program: &'p Program,
-        _spares: &mut NoSpares,
-    ) -> Result<(Hasty<'p>, OutcomeReceiver), AllocError> {
-        let (job, receiver) = Job::begin(alloc, program, &mut Spares::none(alloc))?;
+        _spares: &mut Nothing,
+    ) -> Result<(Hasty, OutcomeReceiver), AllocError> {
+        let (_, receiver) = Job::begin(alloc, program, &mut Spares::none(alloc))?;
         let hasty = Hasty {
-            job,
+            name: Name::root(alloc),
+            tag: 0,
             parent: None,
+            pending: None,
             has_forked: false,
-            has_ended: false,
         };
         Ok((hasty, receiver))
     }

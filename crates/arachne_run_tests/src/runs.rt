@@ -6,7 +6,7 @@ ghost use Rattle.arachne_lang.specs.Checked.{IsChecked};
 use crate::altered::Altered;
 use crate::choosers::{Draws, Progression};
 use crate::gates::Watch;
-use arachne_core::SLOTS;
+use crate::hasty::Hasty;
 use arachne_lang::{Program, check, parse};
 use arachne_policy::CoreOrder;
 use arachne_run::{Job, Report, RunFault, Setup, run};
@@ -32,12 +32,14 @@ mod slices;
 mod tables;
 mod tickets;
 
-/// A form of context table.
+/// A form of context table, and the jobs that run over it.
 #[derive(Clone, Copy)]
 enum Form {
-    /// The table behind a lock, which answers one call by itself on machines of 5, 6 and 7 cores.
+    /// The table behind a lock, which answers some calls by itself on the machines that `Altered` names.
     Locked,
     Words,
+    /// The table on words, by jobs that end before they await what they have forked.
+    Hasty,
 }
 
 /// Both forms of table.
@@ -68,10 +70,11 @@ fn text_of(alloc: Global, source: &Source) -> Result<String, Fail> {
 }
 
 /// The program of a text, which may run.
-fn checked(alloc: Global, text: &[u8]) -> Result<Program, Fail>
+fn program_of(alloc: Global, source: &Source) -> Result<Program, Fail>
     ensures { IfOk result (λ program. IsChecked (source_of program)) }
 {
-    let program = parse(alloc, text)?;
+    let text = text_of(alloc, source)?;
+    let program = parse(alloc, text.as_bytes())?;
     check(&program)?;
     Ok(program)
 }
@@ -108,29 +111,45 @@ fn run_on_lock<'p, R: Threads + Wait + Sync>(
     )
 }
 
-/// How a run is set up on a machine, and its choosers.
+/// Runs a program's text over the table on words by jobs that end before they await what they have forked.
+fn run_hastily<'p, R: Threads + Wait + Sync>(
+    rt: &R,
+    alloc: Global,
+    program: &'p Program,
+    setup: Setup,
+    choosers: Vec<Progression>,
+    gate: &Watch,
+) -> Result<Report, RunFault>
+    requires { IsChecked (source_of program.now) }
+{
+    run::<R, Hasty, WordContexts<Hasty>, Progression, Watch>(
+        rt, alloc, program, setup, choosers, gate,
+    )
+}
+
+/// How a run is set up on a machine whose cores have so many places each, and its choosers.
 fn setup_of(
     alloc: Global,
     machine: Machine,
+    slots: u8,
     draws: Draws,
     orders: &[CoreOrder],
 ) -> Result<(Setup, Vec<Progression>), AllocError> {
     let (cores, quantum, count) = machine;
-    let orders = orders.to_vec(alloc)?;
     let mut choosers = Vec::new(alloc);
     for nth in 0..count {
         choosers.push(draws.of(nth))?;
     }
     let setup = Setup {
         cores,
-        slots: u64::from(SLOTS),
+        slots: u64::from(slots),
         quantum,
-        orders,
+        orders: orders.to_vec(alloc)?,
     };
     Ok((setup, choosers))
 }
 
-/// What comes of a run of a program. All tests run their programs here.
+/// What comes of a run of a program.
 fn answer<R: Threads + Wait + Sync>(
     rt: &R,
     alloc: Global,
@@ -145,5 +164,6 @@ fn answer<R: Threads + Wait + Sync>(
     match form {
         Form::Locked => run_on_lock(rt, alloc, program, setup, choosers, gate),
         Form::Words => run_on_words(rt, alloc, program, setup, choosers, gate),
+        Form::Hasty => run_hastily(rt, alloc, program, setup, choosers, gate),
     }
 }

@@ -1,19 +1,14 @@
 //! Runs that end by a fault while their threads wait, or go on without end: the first fault that was recorded is told,
 //! and all kernel threads are joined.
-use super::facts::{Telling, told};
+use super::facts::Telling;
 use super::programs::{SWEEP, SWEPT};
-use super::rows::{Row, row_holds};
-use super::{FORMS, Form, LOCKED, Machine, Source, answer, checked, setup_of, text_of};
+use super::rows::{Row, rows_hold};
+use super::{FORMS, LOCKED, Machine, Source};
 use crate::choosers::{CORE_ONE, Draws, SPREAD};
-use crate::gates::{Watch, Watching};
+use crate::gates::Watching;
 use arachne_core::SLOTS;
 use arachne_policy::{CoreOrder, OrderKind};
-use std::alloc::Global;
-use std::process::Abort;
-use std::sync::Wait;
-use std::sync::atomic::Ordering;
 use std::test::Fail;
-use std::thread::{Threads, yield_now};
 
 /// The machines whose table hands back each thread that is to be finished, so that the first one to end is a fault.
 const HANDING_BACK: &[Machine] = &[(5, 1, 5), (5, 100, 5)];
@@ -255,61 +250,23 @@ const ROWS: &[Row] = &[
         telling: Telling::Nothing,
         told: "Token",
     },
+    // What runs well in the same process behind all of them.
+    Row {
+        shows: "a run goes well behind others that did not",
+        source: SWEEP,
+        forms: FORMS,
+        slots: SLOTS,
+        machines: &[(4, 1, 4)],
+        draws: SPREAD,
+        orders: &[],
+        watching: Watching::Cores,
+        facts: &[],
+        telling: Telling::Threads,
+        told: SWEPT,
+    },
 ];
-
-/// How often it is looked whether a core enters another slice.
-const LOOKS: u32 = 1_000;
-
-/// A row's program ends on a machine by the fault that is told, and no core enters a slice any more.
-fn stops<R: Abort + Threads + Wait + Sync>(
-    rt: &R,
-    alloc: Global,
-    row: &Row,
-    machine: Machine,
-) -> Result<(), Fail> {
-    let text = text_of(alloc, &row.source)?;
-    let program = checked(alloc, text.as_bytes())?;
-    let (mut setup, choosers) = setup_of(alloc, machine, row.draws, row.orders)?;
-    setup.slots = u64::from(row.slots);
-    let watch = Watch::new(row.watching);
-    let answer = answer(rt, alloc, &program, Form::Locked, setup, choosers, &watch);
-    let entered = watch.slices.load(Ordering::SeqCst);
-    let told = told(alloc, &answer, row.telling)?;
-    let shows = row.shows;
-    assert_eq!(rt; told.as_str(), row.told, "{shows}: {machine:?} {text}");
-    for _ in 0..LOOKS {
-        yield_now();
-    }
-    let slices = watch.slices.load(Ordering::SeqCst);
-    assert_eq!(rt; slices, entered, "{shows}: {machine:?} {text}");
-    Ok(())
-}
-
-/// What runs well in the same process behind all of them.
-const WELL: Row = Row {
-    shows: "a run goes well behind others that did not",
-    source: SWEEP,
-    forms: FORMS,
-    slots: SLOTS,
-    machines: &[],
-    draws: SPREAD,
-    orders: &[],
-    watching: Watching::Cores,
-    facts: &[],
-    telling: Telling::Threads,
-    told: SWEPT,
-};
 
 #[test]
 fn a_fault_stops_all_workers(rt: HostRuntime) -> Result<(), Fail> {
-    let alloc = rt.alloc();
-    for row in ROWS {
-        for &machine in row.machines {
-            stops(&rt, alloc, row, machine)?;
-        }
-    }
-    for &form in WELL.forms {
-        row_holds(&rt, alloc, &WELL, form, (4, 1, 4), &[])?;
-    }
-    Ok(())
+    rows_hold(&rt, rt.alloc(), ROWS)
 }

@@ -1,12 +1,11 @@
 //! Many threads, over and over.
 use super::facts::{Fact, Telling};
 use super::rows::{Row, row_holds};
-use super::{Form, Source};
+use super::{Form, Machine, Source};
 use crate::choosers::{Draws, SPREAD};
 use crate::gates::Watching;
 use arachne_core::SLOTS;
 use std::alloc::Global;
-use std::process::Abort;
 use std::sync::Wait;
 use std::test::Fail;
 use std::thread::Threads;
@@ -20,7 +19,7 @@ const SUMS: Row = Row {
         forks: 0,
         expr: "(sweep add 1 (num 0) (num 100000) (hold 0 (tally 0 (num 5) (num 1))))",
     },
-    forms: &[],
+    forms: &[Form::Words],
     slots: SLOTS,
     machines: &[],
     draws: SPREAD,
@@ -37,10 +36,10 @@ const SUMS: Row = Row {
 };
 
 /// Runs the threads five times on 16 cores, with other choosers each time.
-fn run_five_times<R: Abort + Threads + Wait + Sync>(
+fn run_five_times<R: Threads + Wait + Sync>(
     rt: &R,
     alloc: Global,
-    quantum: u64,
+    machines: &'static [Machine],
     seed: u64,
 ) -> Result<(), Fail> {
     for nth in 0..5u64 {
@@ -48,38 +47,42 @@ fn run_five_times<R: Abort + Threads + Wait + Sync>(
             word: SPREAD.word.wrapping_add(seed).wrapping_mul(2 * nth + 1),
             ..SPREAD
         };
-        let row = Row { draws, ..SUMS };
-        row_holds(rt, alloc, &row, Form::Words, (16, quantum, 16), &[])?;
+        let row = Row {
+            draws,
+            machines,
+            ..SUMS
+        };
+        row_holds(rt, alloc, &row, &[])?;
     }
     Ok(())
 }
 
 #[test]
 fn many_threads_end_by_short_slices(rt: HostRuntime) -> Result<(), Fail> {
-    run_five_times(&rt, rt.alloc(), 100, 0)
+    run_five_times(&rt, rt.alloc(), &[(16, 100, 16)], 0)
 }
 
 #[test]
 fn many_threads_end_by_short_slices_again(rt: HostRuntime) -> Result<(), Fail> {
-    run_five_times(&rt, rt.alloc(), 100, 1)
+    run_five_times(&rt, rt.alloc(), &[(16, 100, 16)], 1)
 }
 
 #[test]
 fn many_threads_end_by_longer_slices(rt: HostRuntime) -> Result<(), Fail> {
-    run_five_times(&rt, rt.alloc(), 1_000, 0)
+    run_five_times(&rt, rt.alloc(), &[(16, 1_000, 16)], 0)
 }
 
 #[test]
 fn many_threads_end_by_longer_slices_again(rt: HostRuntime) -> Result<(), Fail> {
-    run_five_times(&rt, rt.alloc(), 1_000, 1)
+    run_five_times(&rt, rt.alloc(), &[(16, 1_000, 16)], 1)
 }
 
 #[test]
 fn many_threads_end_by_the_longest_slices(rt: HostRuntime) -> Result<(), Fail> {
-    run_five_times(&rt, rt.alloc(), 10_000, 0)
+    run_five_times(&rt, rt.alloc(), &[(16, 10_000, 16)], 0)
 }
 
 #[test]
 fn many_threads_end_by_the_longest_slices_again(rt: HostRuntime) -> Result<(), Fail> {
-    run_five_times(&rt, rt.alloc(), 10_000, 1)
+    run_five_times(&rt, rt.alloc(), &[(16, 10_000, 16)], 1)
 }

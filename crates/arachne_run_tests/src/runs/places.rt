@@ -164,6 +164,8 @@ const ROWS: &[Row] = &[
         telling: Telling::Ran,
         told: "slot spill slot ",
     },
+    THREE_WAIT,
+    NONE_KEPT,
 ];
 
 /// The root's first child has the other place, and three more wait for it in turn.
@@ -212,8 +214,7 @@ const NONE_KEPT: Row = Row {
 
 #[test]
 fn threads_get_places_as_they_come(rt: HostRuntime) -> Result<(), Fail> {
-    rows_hold(&rt, rt.alloc(), ROWS)?;
-    rows_hold(&rt, rt.alloc(), &[THREE_WAIT, NONE_KEPT])
+    rows_hold(&rt, rt.alloc(), ROWS)
 }
 
 const KEPT: &[Row] = &[
@@ -305,6 +306,15 @@ const AT_ONCE: &[Row] = &[
         telling: Telling::Nothing,
         told: "",
     },
+    GIVEN_BACK,
+    Row {
+        source: Source {
+            expr: "(fork n (fork n (fork n (fork n (fold (num 0) (num 400000) (num 0) (var 1)) (num 1) (var 0)) (num 1) (var 0)) (num 1) (var 0)) (let (fold (num 0) (num 60000) (num 0) (var 1)) (fork n (num 1) (let (fold (num 0) (num 60000) (num 0) (var 2)) (fork n (num 1) (num 1) (num 0))) (num 0))) (var 0))",
+            ..SLEEPING
+        },
+        machines: &[(2, 7, 2), (2, 100, 2), (2, 10_000, 2)],
+        ..GIVEN_BACK
+    },
 ];
 
 /// Core 0 draws core 1, and that core 0.
@@ -324,8 +334,8 @@ const SLEEPING: Source = Source {
 };
 
 /// Core 0 is full of the root and two of the four, and the two others wait on core 1. The thread that is forked beside
-/// them ends there, so that its place is kept, and core 1's kernel thread has nothing to run. The table lets the last
-/// fork go on once a place was given back.
+/// them ends there, so that its place is kept, and core 1's kernel thread has nothing to run. The table lets
+/// whoever finds that core full go on once it has a place, and moves no thread.
 const GIVEN_BACK: Row = Row {
     shows: "a kernel thread that sleeps keeps no place",
     source: SLEEPING,
@@ -340,22 +350,9 @@ const GIVEN_BACK: Row = Row {
     told: "",
 };
 
-const GIVES: &[Row] = &[
-    GIVEN_BACK,
-    Row {
-        source: Source {
-            expr: "(fork n (fork n (fork n (fork n (fold (num 0) (num 400000) (num 0) (var 1)) (num 1) (var 0)) (num 1) (var 0)) (num 1) (var 0)) (let (fold (num 0) (num 60000) (num 0) (var 1)) (fork n (num 1) (let (fold (num 0) (num 60000) (num 0) (var 2)) (fork n (num 1) (num 1) (num 0))) (num 0))) (var 0))",
-            ..SLEEPING
-        },
-        machines: &[(2, 7, 2), (2, 100, 2), (2, 10_000, 2)],
-        ..GIVEN_BACK
-    },
-];
-
 #[test]
 fn threads_run_side_by_side(rt: HostRuntime) -> Result<(), Fail> {
-    rows_hold(&rt, rt.alloc(), AT_ONCE)?;
-    rows_hold(&rt, rt.alloc(), GIVES)
+    rows_hold(&rt, rt.alloc(), AT_ONCE)
 }
 
 /// A normal thread ends, and one that is to be alone begins.
@@ -379,10 +376,12 @@ const ALONE_AFTER_FULL: Row = Row {
     ..ALONE_AFTER_ANOTHER
 };
 
+const ALONE_AGAIN: &[Row] = &[ALONE_AFTER_ANOTHER, ALONE_AFTER_FULL];
+
 #[test]
 fn a_core_that_is_left_is_free_at_once(rt: HostRuntime) -> Result<(), Fail> {
     for _ in 0..75 {
-        rows_hold(&rt, rt.alloc(), &[ALONE_AFTER_ANOTHER, ALONE_AFTER_FULL])?;
+        rows_hold(&rt, rt.alloc(), ALONE_AGAIN)?;
     }
     Ok(())
 }

@@ -1,11 +1,15 @@
 //! Rows of runs: what is run, on which machines, and what each run has to show.
+ghost use Rattle.arachne_lang.specs.Checked.{IsChecked};
+ghost use Rattle.arachne_lang.specs.Program.{source_of};
+
 use super::facts::{Fact, Telling, number, told};
-use super::{Form, Machine, Source, answer, checked, setup_of, text_of};
+use super::{Form, Machine, Source, answer, program_of, setup_of};
 use crate::choosers::Draws;
 use crate::gates::{Watch, Watching};
+use arachne_lang::Program;
 use arachne_policy::CoreOrder;
+use arachne_run::{Report, RunFault};
 use std::alloc::Global;
-use std::process::Abort;
 use std::sync::Wait;
 use std::test::Fail;
 use std::thread::Threads;
@@ -43,48 +47,113 @@ pub(super) struct Row {
     pub(super) told: &'static str,
 }
 
-/// Runs a row's program once: all its facts hold, and it is told as the row says.
-pub(super) fn row_holds<R: Abort + Threads + Wait + Sync>(
+/// Runs a row's program once. All tests run their programs here.
+fn run_row<R: Threads + Wait + Sync>(
     rt: &R,
     alloc: Global,
     row: &Row,
+    program: &Program,
     form: Form,
     machine: Machine,
     orders: &[CoreOrder],
-) -> Result<(), Fail> {
-    let text = text_of(alloc, &row.source)?;
-    let program = checked(alloc, text.as_bytes())?;
-    let (mut setup, choosers) = setup_of(alloc, machine, row.draws, orders)?;
-    setup.slots = u64::from(row.slots);
-    let watch = Watch::new(row.watching);
-    let answer = answer(rt, alloc, &program, form, setup, choosers, &watch);
-    let told = told(alloc, &answer, row.telling)?;
-    let shows = row.shows;
-    assert_eq!(rt; told.as_str(), row.told, "{shows}: {machine:?} {text}");
-    match &answer {
-        Ok(report) => {
-            for &(fact, expected) in row.facts {
-                let found = number(report, &watch, fact);
-                assert_eq!(rt; found, expected, "{shows}: {machine:?} {text}");
-            }
+    watch: &Watch,
+) -> Result<Report, RunFault>
+    requires { IsChecked (source_of program.now) }
+{
+    let (setup, choosers) = setup_of(alloc, machine, row.slots, row.draws, orders)?;
+    answer(rt, alloc, program, form, setup, choosers, watch)
+}
+
+/// The first of a row's facts that is wrong, by its number from 0, and what it is.
+fn wrong_fact(row: &Row, report: &Report, watch: &Watch) -> Option<(usize, u64)> {
+    for (nth, &(fact, expected)) in row.facts.iter().enumerate() {
+        let found = number(report, watch, fact);
+        if found != expected {
+            return Some((nth, found));
         }
-        Err(_) => assert!(rt; watch.is_over(), "{shows}: {machine:?} {text}"),
+    }
+    None
+}
+
+/// Runs a row's program once: why it has no report, or whether all facts hold. No text is made of it.
+pub(super) fn tried<R: Threads + Wait + Sync>(
+    rt: &R,
+    alloc: Global,
+    row: &Row,
+    program: &Program,
+    form: Form,
+    machine: Machine,
+) -> Result<bool, RunFault>
+    requires { IsChecked (source_of program.now) }
+{
+    let watch = Watch::new(row.watching);
+    let report = run_row(rt, alloc, row, program, form, machine, row.orders, &watch)?;
+    Ok(wrong_fact(row, &report, &watch).is_none())
+}
+
+/// A run is told as its row says, and all facts hold. Without a report all came that a core was held up for, and no
+/// slice begins any more.
+fn judge(
+    alloc: Global,
+    row: &Row,
+    machine: Machine,
+    answer: &Result<Report, RunFault>,
+    watch: &Watch,
+) -> Result<(), Fail> {
+    let wrong = match answer {
+        Ok(report) => wrong_fact(row, report, watch),
+        Err(_) if watch.is_over() && watch.is_still() => None,
+        Err(_) => Some((0, 0)),
+    };
+    let told = told(alloc, answer, row.telling)?;
+    let (shows, told) = (row.shows, told.as_str());
+    if told == row.told && wrong.is_none() {
+        return Ok(());
+    }
+    Err(Fail::new(format_args!("{shows}: {machine:?}: {wrong:?} {told}")))
+}
+
+/// Runs a row's program once, and judges that run.
+fn run_holds<R: Threads + Wait + Sync>(
+    rt: &R,
+    alloc: Global,
+    row: &Row,
+    program: &Program,
+    form: Form,
+    machine: Machine,
+    orders: &[CoreOrder],
+) -> Result<(), Fail>
+    requires { IsChecked (source_of program.now) }
+{
+    let watch = Watch::new(row.watching);
+    let answer = run_row(rt, alloc, row, program, form, machine, orders, &watch);
+    judge(alloc, row, machine, &answer, &watch)
+}
+
+/// Runs a row, by these orders, over each of its forms on each of its machines.
+pub(super) fn row_holds<R: Threads + Wait + Sync>(
+    rt: &R,
+    alloc: Global,
+    row: &Row,
+    orders: &[CoreOrder],
+) -> Result<(), Fail> {
+    let program = program_of(alloc, &row.source)?;
+    for &form in row.forms {
+        for &machine in row.machines {
+            run_holds(rt, alloc, row, &program, form, machine, orders)?;
+        }
     }
     Ok(())
 }
 
 /// Runs each row over each of its forms on each of its machines.
-pub(super) fn rows_hold<R: Abort + Threads + Wait + Sync>(
+pub(super) fn rows_hold<R: Threads + Wait + Sync>(
     rt: &R,
     alloc: Global,
     rows: &[Row],
 ) -> Result<(), Fail> {
     for row in rows {
-        for &form in row.forms {
-            for &machine in row.machines {
-                row_holds(rt, alloc, row, form, machine, row.orders)?;
-            }
-        }
+        row_holds(rt, alloc, row, row.orders)?;
     }
     Ok(())
 }

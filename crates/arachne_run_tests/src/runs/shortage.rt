@@ -3,18 +3,19 @@
 ghost use Rattle.arachne_lang.specs.Checked.{IsChecked};
 ghost use Rattle.arachne_lang.specs.Program.{source_of};
 
-use super::facts::{Fact, number};
+use super::facts::{Fact, Telling};
 use super::programs::SWEEP;
 use super::reports::CHAIN;
-use super::{Form, Machine, Source, answer, checked, setup_of, text_of};
-use crate::choosers::{Progression, SPREAD};
-use crate::gates::{Watch, Watching};
+use super::rows::{Row, tried};
+use super::{Form, Machine, Source, program_of};
+use crate::choosers::SPREAD;
+use crate::gates::Watching;
+use arachne_core::SLOTS;
 use arachne_lang::Program;
 use arachne_policy::{CoreOrder, OrderKind};
-use arachne_run::{RunFault, Setup};
+use arachne_run::RunFault;
 use arachne_shortage::Hoard;
-use std::alloc::{AllocError, Global};
-use std::process::Abort;
+use std::alloc::Global;
 use std::sync::Wait;
 use std::test::Fail;
 use std::thread::Threads;
@@ -31,21 +32,9 @@ const BYTES: usize = 400;
 
 /// How often a run on one core is repeated with the memory of the first that had a report, and how many bytes more: the
 /// C library keeps some of what is given back for blocks of the same size, of each a few.
-const REPEATED: usize = 1_000;
+const REPEATED: usize = 2_000;
 
-const SLACK: usize = 100_000;
-
-/// Enough of what runs want, which is made before memory is used up.
-const MADE: usize = 3_200;
-
-/// A program on a machine.
-struct Row {
-    source: Source,
-    machine: Machine,
-    orders: &'static [CoreOrder],
-    /// Its value and its number of threads, as a report has them.
-    told: (u64, u64),
-}
+const SLACK: usize = 200_000;
 
 /// Cores 1 and 2 are taken back, and core 1 is granted again.
 const ORDERS: &[CoreOrder] = &[
@@ -98,227 +87,233 @@ const WAITING: Source = Source {
     expr: "(sweep add 1 (num 0) (num 200) (var 0))",
 };
 
-const ROWS: &[Row] = &[
+/// The fork on four cores.
+const FORKS: Row = Row {
+    shows: "a run without memory ends by a fault, and one with a little more by its report",
+    source: FORK,
+    forms: &[],
+    slots: SLOTS,
+    machines: &[(4, 100, 4)],
+    draws: SPREAD,
+    orders: &[],
+    watching: Watching::Nothing,
+    facts: &[(Fact::Value, u64::MAX), (Fact::Threads, 2)],
+    telling: Telling::Nothing,
+    told: "",
+};
+
+const HOLD: Row = Row {
+    source: HOLDS,
+    facts: &[(Fact::Value, 8), (Fact::Threads, 8)],
+    ..FORKS
+};
+
+const CHAINED: Row = Row {
+    source: CHAIN,
+    facts: &[(Fact::Value, 61), (Fact::Threads, 61)],
+    ..FORKS
+};
+
+/// What is run on four cores.
+const ON_FOUR: &[Row] = &[
+    FORKS,
+    HOLD,
     Row {
-        source: FORK,
-        machine: (4, 100, 4),
-        orders: &[],
-        told: (u64::MAX, 2),
+        source: SWEEP,
+        machines: &[(4, 1, 4)],
+        orders: ORDERS,
+        facts: &[(Fact::Value, 28), (Fact::Threads, 4)],
+        ..FORKS
+    },
+    CHAINED,
+];
+
+const ONE: &[Machine] = &[(1, 100, 1)];
+
+/// What is run on one.
+const ON_ONE: &[Row] = &[
+    Row {
+        machines: ONE,
+        ..FORKS
     },
     Row {
-        source: FORK,
-        machine: (1, 100, 1),
-        orders: &[],
-        told: (u64::MAX, 2),
-    },
-    Row {
-        source: HOLDS,
-        machine: (4, 100, 4),
-        orders: &[],
-        told: (8, 8),
-    },
-    Row {
-        source: HOLDS,
-        machine: (1, 100, 1),
-        orders: &[],
-        told: (8, 8),
+        machines: ONE,
+        ..HOLD
     },
     Row {
         source: WANTED,
-        machine: (1, 1, 1),
-        orders: &[],
-        told: (50, 50),
+        machines: &[(1, 1, 1)],
+        facts: &[(Fact::Value, 50), (Fact::Threads, 50)],
+        ..FORKS
     },
     Row {
         source: WAITING,
-        machine: (1, 100, 1),
-        orders: &[],
-        told: (19_900, 200),
+        machines: ONE,
+        facts: &[(Fact::Value, 19_900), (Fact::Threads, 200)],
+        ..FORKS
     },
     Row {
-        source: SWEEP,
-        machine: (4, 1, 4),
-        orders: ORDERS,
-        told: (28, 4),
-    },
-    Row {
-        source: CHAIN,
-        machine: (4, 100, 4),
-        orders: &[],
-        told: (61, 61),
-    },
-    Row {
-        source: CHAIN,
-        machine: (1, 100, 1),
-        orders: &[],
-        told: (61, 61),
+        machines: ONE,
+        ..CHAINED
     },
 ];
 
-/// How a machine is set up, and its choosers.
-type Made = (Setup, Vec<Progression>);
+/// What comes of a run: why it has no report, or whether that says what the row does.
+type Tried = Result<bool, RunFault>;
 
-/// Runs a row's program. A report says what the row does.
-fn tried<R: Abort + Threads + Wait + Sync>(
-    rt: &R,
-    alloc: Global,
-    row: &Row,
-    program: &Program,
-    form: Form,
-    made: Made,
-) -> Result<(), RunFault>
-    requires { IsChecked (source_of program.now) }
-{
-    let watch = Watch::new(Watching::Nothing);
-    let (setup, choosers) = made;
-    let report = answer(rt, alloc, program, form, setup, choosers, &watch)?;
-    let value = number(&report, &watch, Fact::Value);
-    let threads = number(&report, &watch, Fact::Threads);
-    assert!(rt; (value, threads) == row.told);
-    Ok(())
-}
+/// A report that says what the row does.
+const WELL: Tried = Ok(true);
 
-/// So many times what a row's run wants.
-fn made_for(alloc: Global, row: &Row, count: usize) -> Result<Vec<Made>, AllocError> {
-    let mut made = Vec::new(alloc);
-    for _ in 0..count {
-        made.push(setup_of(alloc, row.machine, SPREAD, row.orders)?)?;
+/// Whether memory was refused. On several cores that can be a kernel thread's.
+fn is_want(tried: Tried, cores: u64) -> bool {
+    match tried {
+        Err(RunFault::Memory) => true,
+        Err(RunFault::KernelThread) => cores > 1,
+        _ => false,
     }
-    Ok(made)
 }
 
-/// Runs a row's program with no memory, and then with a little more each time, until that comes of it. It counts the
-/// runs before, and tells whether it came.
-fn refused<R: Abort + Threads + Wait + Sync>(
+/// Runs a row's program with no memory, and then with a little more each time, until that comes of it, or something
+/// else than want of memory. It counts the runs before, and tells what came of the last one.
+fn refused<R: Threads + Wait + Sync>(
     rt: &R,
     alloc: Global,
     row: &Row,
     program: &Program,
     form: Form,
-    made: &mut Vec<Made>,
+    machine: Machine,
     hoard: &mut Hoard,
-    last: Result<(), RunFault>,
-) -> (u64, bool)
+    last: Tried,
+) -> (u64, Tried)
     requires { IsChecked (source_of program.now) }
 {
-    let (cores, _, _) = row.machine;
+    let (cores, _, _) = machine;
     let most = if cores > 1 { RUNS_ON_CORES } else { RUNS };
+    let mut came = Err(RunFault::Memory);
     for runs in 0..most {
-        let Some(made) = made.pop() else {
-            return (runs, false);
-        };
-        let result = tried(rt, alloc, row, program, form, made);
-        if result == last {
-            return (runs, true);
+        came = tried(rt, alloc, row, program, form, machine);
+        if came == last || !is_want(came, cores) {
+            return (runs, came);
         }
-        // On one core no kernel thread is started.
-        let is_want = result == Err(RunFault::Memory)
-            || cores > 1 && result == Err(RunFault::KernelThread);
-        assert!(rt; is_want, "{result:?}");
         hoard.give_back(BYTES);
     }
-    (most, false)
+    (most, came)
+}
+
+/// Whether a row's program has a report that says what the row does.
+fn goes_well<R: Threads + Wait + Sync>(
+    rt: &R,
+    alloc: Global,
+    row: &Row,
+    program: &Program,
+    form: Form,
+    machine: Machine,
+) -> bool
+    requires { IsChecked (source_of program.now) }
+{
+    matches!(tried(rt, alloc, row, program, form, machine), Ok(true))
 }
 
 /// Whether a row's program has a report again and again with the memory that there is. If each run left something
 /// behind, there would be none for the last ones.
-fn repeats<R: Abort + Threads + Wait + Sync>(
+fn repeats<R: Threads + Wait + Sync>(
     rt: &R,
     alloc: Global,
     row: &Row,
     program: &Program,
     form: Form,
-    made: &mut Vec<Made>,
+    machine: Machine,
 ) -> bool
     requires { IsChecked (source_of program.now) }
 {
     for _ in 0..REPEATED {
-        let Some(made) = made.pop() else {
-            return false;
-        };
-        if tried(rt, alloc, row, program, form, made).is_err() {
+        if !goes_well(rt, alloc, row, program, form, machine) {
             return false;
         }
     }
     true
 }
 
-/// A row's program over a form of table, as memory is used up: how many runs were refused it, and whether that came
-/// then which is to.
-fn without_memory<R: Abort + Threads + Wait + Sync>(
+/// A row's program over a form of table, as memory is used up: how many runs were refused it, and what came of the last
+/// one. On one core it has to have a report again and again then; else want of memory is told.
+fn without_memory<R: Threads + Wait + Sync>(
     rt: &R,
     alloc: Global,
     row: &Row,
     program: &Program,
     form: Form,
-    last: Result<(), RunFault>,
-) -> Result<(u64, bool), AllocError>
+    machine: Machine,
+    last: Tried,
+) -> (u64, Tried)
     requires { IsChecked (source_of program.now) }
 {
-    let (cores, _, _) = row.machine;
-    let mut made = made_for(alloc, row, MADE)?;
-    let mut hoard = Hoard::take(alloc)?;
-    let (runs, is_over) = refused(rt, alloc, row, program, form, &mut made, &mut hoard, last);
-    if cores > 1 {
-        return Ok((runs, is_over));
-    }
+    let Ok(mut hoard) = Hoard::take(alloc) else {
+        return (0, Err(RunFault::Memory));
+    };
+    let (runs, came) = refused(rt, alloc, row, program, form, machine, &mut hoard, last);
     hoard.give_back(SLACK);
-    let repeats = repeats(rt, alloc, row, program, form, &mut made);
-    Ok((runs, is_over && repeats))
+    let (cores, _, _) = machine;
+    if cores == 1 && !repeats(rt, alloc, row, program, form, machine) {
+        return (runs, Err(RunFault::Memory));
+    }
+    (runs, came)
 }
 
-/// Each row's program on at most so many cores over a form of table: with all memory, as it is used up, and with all
-/// again.
-fn rows_end<R: Abort + Threads + Wait + Sync>(
+/// A row's program over a form of table: with all memory, as it is used up until that comes of a run, and with all
+/// again. Where that is a fault, the process has its first run without memory.
+fn row_ends<R: Threads + Wait + Sync>(
     rt: &R,
     alloc: Global,
+    row: &Row,
     form: Form,
-    most_cores: u64,
+    last: Tried,
 ) -> Result<(), Fail> {
-    for row in ROWS {
-        let (cores, _, _) = row.machine;
-        if cores > most_cores {
-            continue;
+    let program = program_of(alloc, &row.source)?;
+    for &machine in row.machines {
+        let before = last != WELL || goes_well(rt, alloc, row, &program, form, machine);
+        let (runs, came) = without_memory(rt, alloc, row, &program, form, machine, last);
+        let behind = goes_well(rt, alloc, row, &program, form, machine);
+        let (cores, _, _) = machine;
+        let is_over = came == last || last == WELL && cores > 1 && is_want(came, cores);
+        if !(before && is_over && runs > 10 && behind) {
+            return Err(Fail::new(format_args!("{machine:?}: {before} {runs} {came:?} {behind}")));
         }
-        let text = text_of(alloc, &row.source)?;
-        let program = checked(alloc, text.as_bytes())?;
-        let made = setup_of(alloc, row.machine, SPREAD, row.orders)?;
-        let before = tried(rt, alloc, row, &program, form, made);
-        let (runs, is_over) = without_memory(rt, alloc, row, &program, form, Ok(()))?;
-        let made = setup_of(alloc, row.machine, SPREAD, row.orders)?;
-        let behind = tried(rt, alloc, row, &program, form, made);
-        let is_right = before.is_ok() && runs > 10 && (is_over || cores > 1) && behind.is_ok();
-        assert!(rt;
-            is_right,
-            "{cores} {before:?} {runs} {is_over} {behind:?} {text}"
-        );
+    }
+    Ok(())
+}
+
+/// Each row's program over a form of table.
+fn rows_end<R: Threads + Wait + Sync>(
+    rt: &R,
+    alloc: Global,
+    rows: &[Row],
+    form: Form,
+    last: Tried,
+) -> Result<(), Fail> {
+    for row in rows {
+        row_ends(rt, alloc, row, form, last)?;
     }
     Ok(())
 }
 
 #[test]
+fn each_growth_is_refused_on_four_cores(rt: HostRuntime) -> Result<(), Fail> {
+    rows_end(&rt, rt.alloc(), ON_FOUR, Form::Words, WELL)
+}
+
+#[test]
 fn each_growth_is_refused_on_words(rt: HostRuntime) -> Result<(), Fail> {
-    rows_end(&rt, rt.alloc(), Form::Words, 4)
+    rows_end(&rt, rt.alloc(), ON_ONE, Form::Words, WELL)
 }
 
 #[test]
 fn each_growth_is_refused_behind_a_lock(rt: HostRuntime) -> Result<(), Fail> {
-    rows_end(&rt, rt.alloc(), Form::Locked, 1)
+    rows_end(&rt, rt.alloc(), ON_ONE, Form::Locked, WELL)
 }
 
 /// The first run of the process has no stack for a kernel thread, and the next one has.
 #[test]
 fn kernel_threads_are_refused(rt: HostRuntime) -> Result<(), Fail> {
-    let alloc = rt.alloc();
-    let Some(row) = ROWS.first() else {
-        return Err("no row")?;
-    };
-    let text = text_of(alloc, &row.source)?;
-    let program = checked(alloc, text.as_bytes())?;
-    let refusal = Err(RunFault::KernelThread);
-    let (runs, is_over) = without_memory(&rt, alloc, row, &program, Form::Words, refusal)?;
-    let made = setup_of(alloc, row.machine, SPREAD, row.orders)?;
-    let behind = tried(&rt, alloc, row, &program, Form::Words, made);
-    assert!(rt; behind.is_ok() && is_over && runs > 10, "{runs} {behind:?}");
-    Ok(())
+    let last = Err(RunFault::KernelThread);
+    row_ends(&rt, rt.alloc(), &FORKS, Form::Words, last)
 }

@@ -77,7 +77,8 @@ const CHARGES: &[Row] = &[
         facts: &[(Fact::InPlace, 1), (Fact::Slices(4), 1)],
         ..CHARGED
     },
-    // The root makes 777 steps, 95 of them before each of its forks but the first, and each child has a slice of its own.
+    // The root makes 777 steps, 95 of them before each of its forks but the first, and each child has a slice of its
+    // own.
     Row {
         shows: "the steps before a posted fork are charged",
         source: Source {

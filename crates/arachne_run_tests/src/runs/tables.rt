@@ -1,8 +1,8 @@
-//! That a run goes through its table, and looks at its setup before it does.
+//! That a run goes through its table.
 use super::cores::FORK;
 use super::facts::{Fact, Telling};
 use super::rows::{Row, rows_hold};
-use super::{FORMS, LOCKED, Source};
+use super::{LOCKED, Source};
 use crate::choosers::{CORE_ONE, CORE_THREE, ZEROS};
 use crate::gates::Watching;
 use arachne_core::SLOTS;
@@ -95,49 +95,9 @@ const ROWS: &[Row] = &[
         telling: Telling::Nothing,
         told: "Memory",
     },
-    // A run wants one chooser for each core, and tells this after the number of cores and the quantum.
-    Row {
-        shows: "setups are looked at first",
-        source: SEVEN,
-        forms: FORMS,
-        slots: SLOTS,
-        machines: &[(4, 1, 3), (4, 1, 5)],
-        draws: ZEROS,
-        orders: &[],
-        watching: Watching::Nothing,
-        facts: &[],
-        telling: Telling::Nothing,
-        told: "Choosers",
-    },
-    Row {
-        shows: "setups are looked at first",
-        source: SEVEN,
-        forms: FORMS,
-        slots: SLOTS,
-        machines: &[(4, 0, 3), (4, 10_001, 4)],
-        draws: ZEROS,
-        orders: &[],
-        watching: Watching::Nothing,
-        facts: &[],
-        telling: Telling::Nothing,
-        told: "Quantum",
-    },
-    Row {
-        shows: "setups are looked at first",
-        source: SEVEN,
-        forms: FORMS,
-        slots: SLOTS,
-        machines: &[(0, 0, 0), (65, 0, 3), (65, 1, 65)],
-        draws: ZEROS,
-        orders: &[],
-        watching: Watching::Nothing,
-        facts: &[],
-        telling: Telling::Nothing,
-        told: "Cores",
-    },
 ];
 
 #[test]
-fn a_run_goes_through_its_table_and_its_setup(rt: HostRuntime) -> Result<(), Fail> {
+fn a_run_goes_through_its_table(rt: HostRuntime) -> Result<(), Fail> {
     rows_hold(&rt, rt.alloc(), ROWS)
 }
