@@ -26,6 +26,15 @@ const ALONE_PARENT: Sort = Sort {
     ..PARENT
 };
 
+/// One that ends at its fourth step.
+const FOUR: Sort = Sort { steps: 3, ..LEAF };
+
+/// One that forks a child of eleven steps, and joins it.
+const LONG_PARENT: Sort = Sort {
+    steps: 10,
+    ..PARENT
+};
+
 /// One that ends at its eleventh step.
 const ELEVEN: Sort = Sort { steps: 10, ..LEAF };
 
@@ -420,6 +429,28 @@ const ROWS: &[Row] = &[
         spells: (Spell::Rounds(10_000), Spell::ToTheEnd),
         then: &[Act::Lives(1)],
         left: (1, 0),
+        ..NOTHING
+    },
+    Row {
+        shows: "a round in which a job without a place awaits its child finds nothing",
+        cores: 2,
+        slots: 1,
+        acts: &[
+            Act::Spawns(FOUR),
+            Act::Spawns(FOUR),
+            Act::Spawns(LONG_PARENT),
+            Act::Turns(0, true),
+            Act::Turns(0, true),
+            Act::Turns(0, true),
+            Act::Turns(0, true),
+            Act::Turns(1, true),
+            Act::Turns(1, true),
+            Act::Turns(1, true),
+            Act::Turns(1, true),
+            Act::Turns(1, false),
+            Act::Lives(2),
+        ],
+        left: (1, 1),
         ..NOTHING
     },
     Row {

@@ -77,7 +77,7 @@ fn report<R: Threads + Wait + Sync>(
     }
     match run_on(rt, alloc, &program, 4) {
         Ok(report) => Ok(report),
-        Err(_) => Err("memory or a kernel thread was refused"),
+        Err(_) => Err("the run ended without a report"),
     }
 }
 

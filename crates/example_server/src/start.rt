@@ -41,7 +41,7 @@ pub fn run<R: Threads + Wait + Sync>(
     };
     match work_together(rt, alloc, &crew, share) {
         Some(share) => end::<Table, R>(rt, alloc, server.pool, share),
-        None => Err("memory was refused"),
+        None => Err("memory or a kernel thread was refused"),
     }
 }
 
@@ -82,7 +82,7 @@ fn end<C: Contexts<Spawned<Request>> + Drop, R: Wait>(
 {
     let Share { worker, done, .. } = share;
     let Some(books) = done else {
-        return Err("memory was refused");
+        return Err("the sender has not ended");
     };
     let Ok(left) = pool.close(rt, alloc, worker) else {
         return Err("the pool was not closed");
