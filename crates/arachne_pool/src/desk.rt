@@ -150,8 +150,9 @@ fn wake<H: Wait, J: PoolJob, C: Contexts<Spawned<J>>>(
     unreachable!()
 }
 
-/// The child that a job has forked, parted off; the job's own id, if it has a place. There is room for it and for one job
-/// more then among those that have none. Where memory is refused that is noted, and the child is not parted off.
+/// The child that a job has forked, parted off; the job's own id is given if it has a place. There is room for the child
+/// and for one job more then among those that have none. Where memory is refused that is noted, and the child is not
+/// parted off.
 fn part_off<J: PoolJob>(
     desk: &mut Desk<J>,
     parent: &mut Spawned<J>,

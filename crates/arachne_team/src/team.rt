@@ -12,7 +12,8 @@ pub enum TeamFault {
     KernelThread,
 }
 
-/// What the kernel threads of a team do, each with a share of the type `S`. They are numbered from 0, which is the one that starts the others.
+/// What the kernel threads of a team do, each with a share of the type `S`. They are numbered from 0, which is the one
+/// that starts the others.
 ///
 /// Kernel threads are started over this trait alone, whatever they have: see [`work_together`](crate::work_together).
 pub trait Team<S> {

@@ -14,7 +14,8 @@ use arachne_team::{Team, TeamFault};
 use std::alloc::Global;
 use std::sync::Wait;
 
-/// What the kernel threads have in common. The first one is the sender, and there is one for each of the server's cores.
+/// What the kernel threads have in common. The first one is the sender, and there is one more for each of the server's
+/// cores.
 #[derive(Drop)]
 pub struct Crew<'s, C: Seats> {
     pub alloc: Global,
