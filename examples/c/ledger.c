@@ -1,6 +1,6 @@
 /* THREADS threads add the numbers up to COUNT to two ledgers: ledger THREADS COUNT. Prints both totals. Thread k
  * adds k+1, k+1+THREADS and so on, each number to ledger 0 and 1 to ledger 1. */
-#include "arachne_ledger.h"
+#include "arachne_exec.h"
 #include <inttypes.h>
 #include <pthread.h>
 #include <stdio.h>
@@ -27,7 +27,7 @@ static int run(arachne_adder *adder, int threads, uint64_t count) {
     int faults = 0;
     for (int k = 0; k < threads; k++) {
         jobs[k] = (job){ARACHNE_ADDER_NULL, k + 1, threads, count};
-        if (arachne_ledger_split(adder, &jobs[k].adder) != ARACHNE_LEDGER_DONE) return 1;
+        if (arachne_ledger_split(adder, &jobs[k].adder) != ARACHNE_DONE) return 1;
         if (pthread_create(&thread[k], NULL, add_all, &jobs[k]) != 0) return 1;
     }
     for (int k = 0; k < threads; k++) {
@@ -43,7 +43,7 @@ int main(int argc, char **argv) {
     uint64_t total;
     int threads = argc == 3 ? atoi(argv[1]) : 0;
     if (threads < 1 || threads > MOST) return 2;
-    if (arachne_ledgers_new(&adder, 2) != ARACHNE_LEDGER_DONE) return 1;
+    if (arachne_ledgers_new(&adder, 2) != ARACHNE_DONE) return 1;
     if (run(&adder, threads, strtoull(argv[2], NULL, 10)) != 0) return 1;
     for (size_t ledger = 0; ledger < 2; ledger++) {
         if (!arachne_ledger_total(&adder, ledger, &total)) return 1;

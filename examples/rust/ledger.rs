@@ -1,8 +1,8 @@
 //! THREADS threads add the numbers up to COUNT to two ledgers: ledger THREADS COUNT. Prints both totals. Thread k adds
 //! k+1, k+1+THREADS and so on, each number to ledger 0 and 1 to ledger 1.
-mod arachne_ledger;
+mod arachne_exec;
 
-use arachne_ledger::Adder;
+use arachne_exec::Adder;
 use std::process::ExitCode;
 use std::{env, thread};
 

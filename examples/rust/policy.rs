@@ -1,8 +1,8 @@
 //! Judges the samples on its input by the proved policy, one a line, and prints what `arachne policy` prints of them;
 //! that prints no advice where a later sample is bad.
-mod arachne_policy;
+mod arachne_exec;
 
-use arachne_policy::{Advice, Estimator, Sample};
+use arachne_exec::{Advice, Estimator, Sample};
 use std::io;
 use std::process::ExitCode;
 

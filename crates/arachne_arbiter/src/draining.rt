@@ -1,6 +1,6 @@
 //! Moving threads away from cores that orders have closed.
 ghost use Rattle.std.specs.Prelude.{◌≡◌, ◌<◌, ◌≤◌, true, false, replicate, slice_set, slice_index_or, vec_len, IfOk, IfSome};
-ghost use Rattle.arachne_arbiter.specs.Draining.{WaitsForNoMore};
+ghost use Rattle.arachne_arbiter.specs.Draining.{IsSettled, WaitsForNoMore};
 ghost use Rattle.arachne_contexts.specs.Out.{KeepsOut};
 
 use crate::cores::Cores;
@@ -14,8 +14,9 @@ use std::sync::Wait;
 pub(crate) struct Draining {
     waiting: Vec<bool>,
     last: u8,
-    // No core is waiting.
+    // No core is waiting. Where it isn't known, this is false.
     settled: bool,
+    ghost rests: { IsSettled settled waiting.items },
 }
 
 impl Draining {
@@ -72,7 +73,7 @@ impl Draining {
                     self.stop(core);
                 }
             }
-            None => self.settled = true,
+            None => self.settled = !self.waiting.contains(&true),
         }
     }
 

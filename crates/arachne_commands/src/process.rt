@@ -16,6 +16,7 @@ use std::io::{self, Eprint, ErrorKind, Input, Print, Read, Write};
 use std::process::{ExitCode, Termination};
 use std::sync::Wait;
 use std::thread::Threads;
+use std::time::Clock;
 
 /// What a run ends with. `main` can neither make one of its own nor let it go.
 pub struct Status {
@@ -32,7 +33,7 @@ impl Termination for Status {
 }
 
 /// Runs the program on the words, the input and the output of its process.
-pub fn run<R: Threads + Wait + Sync + Env + Alloc<A = Global> + Input + Print, E: Write>(
+pub fn run<R: Threads + Wait + Clock + Sync + Env + Alloc<A = Global> + Input + Print, E: Write>(
     rt: &R,
     faults: &mut E,
 ) -> Status {
@@ -50,7 +51,7 @@ fn words<R: Env + Alloc<A = Global>>(rt: &R) -> io::Result<Vec<String>> {
 }
 
 /// Runs the program on these words and streams, and ends with the status of `drive`, whose clauses these are.
-pub fn run_on<R: Threads + Wait + Sync, S: AsStr, I: Read, W: Write, E: Write>(
+pub fn run_on<R: Threads + Wait + Clock + Sync, S: AsStr, I: Read, W: Write, E: Write>(
     rt: &R,
     alloc: Global,
     words: &[S],

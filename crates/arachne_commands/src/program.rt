@@ -23,6 +23,7 @@ use std::fmt::Write as _;
 use std::io::{self, ErrorKind as StreamFault, Read, Write};
 use std::sync::Wait;
 use std::thread::Threads;
+use std::time::Clock;
 
 /// The status where all went well, where there was a fault, and where the words ask for nothing.
 pub const DONE: u8 = 0;
@@ -35,7 +36,7 @@ pub const WORDS: u8 = 2;
 const LINE: usize = 64;
 
 /// What is to be written for an input.
-fn answer<R: Threads + Wait + Sync, I: Read>(
+fn answer<R: Threads + Wait + Clock + Sync, I: Read>(
     rt: &R,
     alloc: Global,
     request: Request,
@@ -56,7 +57,7 @@ fn answer<R: Threads + Wait + Sync, I: Read>(
 }
 
 /// What is to be written for a text that is run.
-fn run_of<R: Threads + Wait + Sync>(
+fn run_of<R: Threads + Wait + Clock + Sync>(
     rt: &R,
     alloc: Global,
     text: &[u8],
@@ -190,7 +191,7 @@ fn refuse_request<W: Write>(faults: &mut W, why: &NotAsked) -> u8
 /// the status: 0 where all went well; 1 where there was a fault, whose line goes to the faults stream; and 2 where a
 /// word of a run is no order, with the fault's line, or the words were not understood, which `clap`'s text on the
 /// faults stream explains. Nothing is on the output before all is known. A run may wait, and starts threads.
-pub fn drive<R: Threads + Wait + Sync, S: AsStr, I: Read, W: Write, E: Write>(
+pub fn drive<R: Threads + Wait + Clock + Sync, S: AsStr, I: Read, W: Write, E: Write>(
     rt: &R,
     alloc: Global,
     words: &[S],

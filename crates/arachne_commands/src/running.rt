@@ -17,9 +17,10 @@ use rand_xoshiro::Xoshiro256PlusPlus;
 use std::alloc::{AllocError, Global};
 use std::sync::Wait;
 use std::thread::Threads;
+use std::time::Clock;
 
 /// Runs a program as the settings say, over a table on atomic words.
-pub fn run_program<'p, R: Threads + Wait + Sync>(
+pub fn run_program<'p, R: Threads + Wait + Clock + Sync>(
     rt: &R,
     alloc: Global,
     program: &'p Program,

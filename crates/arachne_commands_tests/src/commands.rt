@@ -6,6 +6,7 @@ use std::io::{self, Eprint, ErrorKind};
 use std::process::{Abort, ExitCode, Termination};
 use std::sync::Wait;
 use std::thread::Threads;
+use std::time::Clock;
 
 mod endings;
 mod fakes;
@@ -29,7 +30,7 @@ fn program_ends_with_the_status(rt: HostRuntime) {
 }
 
 /// The status that a process of the program ends with. It says nothing of what is read and written.
-fn process_status_of<R: Threads + Wait + Sync>(
+fn process_status_of<R: Threads + Wait + Clock + Sync>(
     rt: &R,
     alloc: Global,
     words: &[&str],
@@ -41,7 +42,7 @@ fn process_status_of<R: Threads + Wait + Sync>(
 }
 
 /// The run ends with this code. Only where it ends well is there an output, and no fault.
-fn assert_code<R: Abort + Eprint + Threads + Wait + Sync>(
+fn assert_code<R: Abort + Eprint + Threads + Wait + Clock + Sync>(
     rt: &R,
     alloc: Global,
     word: &str,

@@ -7,6 +7,7 @@ use arachne_contexts::{Contexts, Seats};
 use arachne_pool::{Pool, Spawned, Worker};
 use arachne_team::{Team, TeamFault};
 use std::sync::Wait;
+use std::time::Clock;
 
 /// How long a kernel thread works.
 #[derive(Clone, Copy)]
@@ -59,7 +60,12 @@ impl<'p, C: Contexts<Spawned<Task>>> Team<Share<C::Seat>> for Crew<'p, C> {
         (own, Some(theirs))
     }
 
-    fn work<R: Wait>(&self, rt: &R, number: u8, share: Share<C::Seat>) -> Option<Share<C::Seat>> {
+    fn work<R: Wait + Clock>(
+        &self,
+        rt: &R,
+        number: u8,
+        share: Share<C::Seat>,
+    ) -> Option<Share<C::Seat>> {
         let Share { mut worker, .. } = share;
         let spell = if number == 0 {
             self.spells.0
@@ -88,7 +94,7 @@ impl<'p, C: Contexts<Spawned<Task>>> Team<Share<C::Seat>> for Crew<'p, C> {
 }
 
 /// Works for a core, which may be none of the pool's, for so long.
-fn work<C: Contexts<Spawned<Task>>, R: Wait>(
+fn work<C: Contexts<Spawned<Task>>, R: Wait + Clock>(
     rt: &R,
     pool: &Pool<C>,
     worker: &mut Worker<C::Seat, Task>,

@@ -10,6 +10,7 @@ use std::alloc::Global;
 use std::sync::Wait;
 use std::test::Fail;
 use std::thread::Threads;
+use std::time::Clock;
 
 /// The pool's table.
 type Table = WordContexts<Spawned<Task>>;
@@ -470,7 +471,7 @@ const ROWS: &[Row] = &[
 ];
 
 /// Whether a row comes out as it says.
-fn holds<R: Threads + Wait + Sync>(rt: &R, alloc: Global, row: &Row) -> bool {
+fn holds<R: Threads + Wait + Clock + Sync>(rt: &R, alloc: Global, row: &Row) -> bool {
     let Some((pool, worker)) = begin::<Table, R>(rt, alloc, row) else {
         return false;
     };

@@ -49,6 +49,7 @@ module _ {T : Type 0} where
       record {
         owned = s.owned;
         fits = s.fits;
+        beyond = s.beyond;
         cores = λ c c_in. subst (ShowsWord w c) (sym (o.occ c (subst (λ (n : ℕ). c < n) ec c_in))) (s.cores c c_in);
         contexts = λ x x_in. let old = s.contexts x x_in in let y_in = in_context x x_in in record {
           within = old.within;

@@ -2,6 +2,7 @@
 use Rattle.std.proofs.Common.{◌≡◌, ℕ, ◌-◌, ◌<◌, ◌^◌, Bool, true, false, sym, ap, ◌∙◌, subst, inl, inr, get_or, bit_or, bit_and}
 use Rattle.std.proofs.lemmas.Bool.{cases_eq}
 use Rattle.arachne_core.specs.declared.event.Event.TheVariants as event
+use Rattle.arachne_core.specs.ContextTable.{IsVacantFrom}
 use Rattle.arachne_core.specs.Occupancy.{Occupancy, occupancy_of, IsOccupancyWord}
 use Rattle.arachne_core.specs.World.{World, with_at, Allowed, after}
 use Rattle.arachne_core.specs.OwnedOnce.{OwnedOnce}
@@ -28,6 +29,7 @@ module _ {T : Type 0} (tag_in : T → ℕ) (bits : ℕ) (w : World) (d : ℕ →
       record {
         owned = owned;
         fits = s.fits;
+        beyond = s.beyond;
         cores = λ j j_in. elim (cases_eq j c) [
           | inl e ↦ subst (λ (i : ℕ). ShowsWord v i (with_at b.occ c n i)) (sym e) (subst (ShowsWord v c) (sym (with_at-same b.occ c n)) here)
           | inr m ↦ let p = s.cores j j_in in subst (ShowsWord v j) (sym (with_at-other b.occ c n j m)) (record {
@@ -54,6 +56,9 @@ module _ {T : Type 0} (tag_in : T → ℕ) (bits : ℕ) (w : World) (d : ℕ →
   pub open_core : (c : ℕ) → c < w.cores → Allowed w (event.OpenCore c) × Shows tag_in bits (after w (event.OpenCore c)) d (record b { occ = with_at b.occ c (bit_and (b.occ c) (2 ^ 64 - 1 - 2 ^ 62)) })
   open_core c c_in = let r = opening (b.occ c) (s.cores c c_in).packed in
       (c_in, flagged c (bit_and (b.occ c) (2 ^ 64 - 1 - 2 ^ 62)) false c_in (keeps_owned_once w (event.OpenCore c) s.owned c_in) r.0 r.1)
+
+  pub past-the-places : (c : ℕ) → c < w.cores → IsVacantFrom w.slots (occupancy_of (b.occ c))
+  past-the-places c c_in i past = (s.cores c c_in).shows.occupied i ∙ s.beyond (record { core = c; index = i }) past
 
   pub drained : (c : ℕ) → c < w.cores → is_closed (b.occ c) ≡ true → HasNoOccupied w.slots (b.occ c) → IsDrained w c
   drained c c_in closed empty = let o = (s.cores c c_in).shows in (c_in, sym o.closed ∙ closed, λ i i_in. sym (o.occupied i) ∙ empty i i_in)

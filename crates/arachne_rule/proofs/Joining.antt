@@ -65,6 +65,7 @@ module _ {T : Type 0} (tag_in : T → ℕ) (bits : ℕ) (w : World) (d : ℕ →
   split = record {
     owned = s.owned;
     fits = s.fits;
+    beyond = s.beyond;
     cores = s.cores;
     contexts = λ x x_in. let o = s.contexts x x_in in record { within = o.within; coherent = o.coherent; mark = o.mark; named = o.named; value = o.value };
     names = s.names;
@@ -109,6 +110,7 @@ module _ {T : Type 0} (tag_in : T → ℕ) (bits : ℕ) (w : World) (d : ℕ →
   join = record {
     owned = s.owned;
     fits = s.fits;
+    beyond = s.beyond;
     cores = s.cores;
     contexts = λ x x_in. let q = s.contexts x x_in in record { within = q.within; coherent = q.coherent; mark = q.mark; named = q.named; value = q.value };
     names = s.names;

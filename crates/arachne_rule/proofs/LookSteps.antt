@@ -39,6 +39,7 @@ same-names tag_in bits w d b s p =
     record {
       owned = s.owned;
       fits = s.fits;
+      beyond = s.beyond;
       cores = s.cores;
       contexts = λ x x_in. let o = s.contexts x x_in in record { within = o.within; coherent = o.coherent; mark = o.mark; named = λ e. f (w.at x) ∙ o.named e; value = o.value };
       names = λ q q_in. subst (IsContext w) (sym (f q)) (s.names q q_in);

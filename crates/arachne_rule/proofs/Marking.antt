@@ -57,6 +57,7 @@ module _ {T : Type 0} (tag_in : T → ℕ) (bits : ℕ) where
       (record {
         state = o.state;
         generation = o.generation;
+        occupied = λ p n. refl;
         phase = o.phase;
         alone = λ y y_in n m. refl;
         mark = o.mark;

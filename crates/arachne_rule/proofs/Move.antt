@@ -141,6 +141,7 @@ module _ {T : Type 0} (tag_in : T → ℕ) (bits : ℕ) (w : World) (d : ℕ →
         record {
           owned = keeps_owned_once w (event.Move h x y) s.owned may;
           fits = s.fits;
+          beyond = s.beyond;
           cores = λ c c_in. let old = s.cores c c_in in record { packed = old.packed; shows = record { occupied = old.shows.occupied; closed = old.shows.closed; exclusive = old.shows.exclusive } };
           contexts = λ z z_in. elim (cases_eq z x) [
             | inl f ↦ subst (ShowsContext tag_in bits v e a) (sym f) here_x

@@ -41,6 +41,7 @@ module _ {T : Type 0} (tag_in : T → ℕ) (bits : ℕ) (w : World) (d : ℕ →
       record {
         owned = s.owned;
         fits = s.fits;
+        beyond = s.beyond;
         cores = s.cores;
         contexts = λ z z_in. let old = s.contexts z z_in in record {
           within = old.within;

@@ -15,6 +15,7 @@ module _ {T : Type 0} (tag_in : T → ℕ) (bits : ℕ) (w : World) (d : ℕ →
   noted_board k' same given ended = record {
     owned = s.owned;
     fits = s.fits;
+    beyond = s.beyond;
     cores = s.cores;
     contexts = λ x x_in. let o = s.contexts x x_in in record { within = o.within; coherent = o.coherent; mark = o.mark; named = o.named; value = o.value };
     names = s.names;

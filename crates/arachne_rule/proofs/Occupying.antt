@@ -54,6 +54,7 @@ module _ {T : Type 0} (tag_in : T → ℕ) (bits : ℕ) where
       (record {
         state = with_at-other w.state x st;
         generation = λ y n. refl;
+        occupied = with_place-other w.occupied (w.at x) q;
         phase = o.phase;
         alone = o.beside;
         mark = λ y y_in n. o.mark y y_in;

@@ -1,5 +1,5 @@
 -- One context changed: what a step owes there, and nothing else.
-use Rattle.std.proofs.Common.{◌≡◌, ℕ, ◌<◌, Bool, true, false, cond, eqb, ◌&&◌, ◌∷◌, refl, sym, ap, ◌∙◌, subst, inl, inr, []}
+use Rattle.std.proofs.Common.{◌≡◌, ℕ, ◌<◌, Bool, true, false, cond, eqb, ◌&&◌, ◌∷◌, refl, sym, ap, ◌∙◌, subst, inl, inr, [], arith}
 use Rattle.std.proofs.lemmas.Bool.{cases_eq}
 use Rattle.arachne_core.specs.declared.place.Place.{Place}
 use Rattle.arachne_core.specs.declared.state.State.{State}
@@ -48,6 +48,7 @@ module _ {T : Type 0} (tag_in : T → ℕ) (bits : ℕ) where
   pub record Elsewhere (w : World) (c : Change) (d e : ℕ → Phase) (b a : Board T) (x : ℕ) : Type 0 where
     pub state : (y : ℕ) → (y ≡ x → ⊥) → c.state y ≡ w.state y
     pub generation : (y : ℕ) → (y ≡ x → ⊥) → c.generation y ≡ w.generation y
+    pub occupied : (p : Place) → (p ≡ w.at x → ⊥) → c.occupied p ≡ w.occupied p
     pub phase : (y : ℕ) → (y ≡ x → ⊥) → e y ≡ d y
     pub alone : (y : ℕ) → IsContext w y → (y ≡ x → ⊥) → (w.state y ≡ Free → ⊥) → c.alone (core_of w y) ≡ w.alone (core_of w y)
     pub mark : (y : ℕ) → IsContext w y → (y ≡ x → ⊥) → a.mark y ≡ b.mark y
@@ -70,6 +71,7 @@ module _ {T : Type 0} (tag_in : T → ℕ) (bits : ℕ) where
     owned = owned;
     fits = s.fits;
     cores = cores;
+    beyond = λ p l. h.occupied p (λ f. omega (arith, l, ap (λ (q : Place). q.index) f, (s.owned.placed x x_in).1)) ∙ s.beyond p l;
     contexts = λ y y_in. elim (cases_eq y x) [
       | inl f ↦ subst (λ (z : ℕ). ShowsContext tag_in bits (changed w c) e a z) (sym f) here
       | inr n ↦

@@ -58,6 +58,7 @@ module _ {T : Type 0} (tag_in : T → ℕ) (bits : ℕ) (shape : Shape) (words :
       record {
         owned = owned;
         fits = (is.cores, is.slots, is.last);
+        beyond = λ p _. refl;
         cores = λ c c_in. subst (ShowsWord w c) (sym (first_words.occ c c_in)) (record {
           packed = packs_vacant.0;
           shows = record {

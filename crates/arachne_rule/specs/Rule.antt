@@ -121,12 +121,13 @@ module _ {T : Type 0} (tag_in : T → ℕ) where
     pub named : (d x).named ≡ true → b.name (w.at x) ≡ x
     pub value : (d x).away ≡ false → HasValue (w.state x) (b.home x)
 
-  -- The core's number has so many bits in a mark word. Every place word names a context; and what each seat says that
-  -- it carries, has posted and has ended is its share of the World.
+  -- The core's number has so many bits in a mark word. No index from a core's last place on is occupied. Every place
+  -- word names a context; and what each seat says that it carries, has posted and has ended is its share of the World.
   pub record Shows (bits : ℕ) (w : World) (d : ℕ → Phase) (b : Board T) : Type 0 where
     pub owned : OwnedOnce w
     pub fits : (w.cores ≤ 2 ^ bits) × (w.slots ≤ SLOTS) × (w.last < 2 ^ (54 - bits))
     pub cores : (c : ℕ) → c < w.cores → ShowsWord w c (b.occ c)
+    pub beyond : (p : Place) → w.slots ≤ p.index → w.occupied p ≡ false
     pub contexts : (x : ℕ) → IsContext w x → ShowsContext bits w d b x
     pub names : (p : Place) → IsPlace w p → IsContext w (b.name p)
     pub carried : (h x : ℕ) → IsContext w x → carried_at x (known_at b.views h).carried ≡ share_of w d h x

@@ -7,6 +7,8 @@ ghost use Rattle.std.specs.Prelude.{◌≡◌, ◌≢◌, ℕ, ◌+◌, ◌-◌,
 ghost use mathlib.Core.Option as slot;
 ghost use lib.ListN.{get_elem?};
 ghost use Rattle.atomic_table.specs.Table.{Act, homes_after, opening};
+ghost use Rattle.arachne_core.specs.ContextTable.{IsVacantFrom};
+ghost use Rattle.arachne_core.specs.Occupancy.{occupancy_of};
 ghost use Rattle.arachne_core.specs.declared.place.Place.{Place};
 ghost use Rattle.arachne_core.specs.declared.event.Event.TheVariants as event;
 ghost use Rattle.arachne_core.specs.declared.mark.Mark.TheVariants as mark;
@@ -327,6 +329,12 @@ pub fn a_context_has_one_carrier<T>()
 pub fn an_ended_thread_is_gone<T>()
     ensures { (tag_in : T → ℕ) (bits : ℕ) (w : World) (d : ℕ → Phase) (b : Board T) → Shows tag_in bits w d b → (h weight : ℕ) (k : Known) → Knows b h weight k
         → (t : Thread) → HasEnded k t → IsContext w t.0.context × IsGone bits t.0 (b.mark t.0.context) × (Allowed w (event.Wake t.0) → ⊥) }
+{}
+
+/// No word has the bit of an index past the last place of its core.
+pub fn a_word_shows_no_index_past_the_places<T>()
+    ensures { (tag_in : T → ℕ) (bits : ℕ) (w : World) (d : ℕ → Phase) (b : Board T) → Shows tag_in bits w d b → (core : ℕ) → core < w.cores
+        → IsVacantFrom w.slots (occupancy_of (b.occ core)) }
 {}
 
 /// A word that shows a closed core with no index occupied is that of a drained core.

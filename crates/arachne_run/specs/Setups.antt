@@ -56,6 +56,20 @@ as_run_fault worker.Ledgers = Ledgers
 as_run_fault worker.Token = Token
 as_run_fault worker.KernelThread = KernelThread
 
+-- the number of a fault, by which the loop of a worker knows it, and the fault of a number
+abbrev pub number_of : WorkerFault → ℕ
+number_of worker.Memory = 0
+number_of worker.Foreign = 1
+number_of worker.Threads = 2
+number_of worker.Ledgers = 3
+number_of worker.Token = 4
+number_of worker.KernelThread = 5
+
+abbrev pub numbered : ℕ → WorkerFault
+numbered n =
+    if n == 0 then worker.Memory else (if n == 1 then worker.Foreign else (if n == 2 then worker.Threads
+    else (if n == 3 then worker.Ledgers else (if n == 5 then worker.KernelThread else worker.Token))))
+
 -- what a worker stops for where a job can't go on
 abbrev pub as_worker_fault : JobFault → WorkerFault
 as_worker_fault job.Memory = worker.Memory

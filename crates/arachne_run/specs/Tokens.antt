@@ -12,15 +12,17 @@ use Rattle.arachne_run.specs.declared.resources.Holdings.{Holdings}
 use Rattle.arachne_run.specs.declared.resources.Resources.{Resources}
 use Rattle.arachne_run.specs.declared.tokens.Tokens.{Tokens}
 
--- what a worker's seat is a seat at: the table, the queue of tickets, and how many cores and orders there are
+-- what a worker's seat is a seat at: the table, the queue of tickets, the ledgers and locks, and how many cores and
+-- orders there are
 pub record Ground (Table : Type 0) : Type 0 where
   pub table : Table
   pub tickets : QueueView
+  pub resources : Resources
   pub cores : ℕ
   pub orders : ℕ
 
 abbrev pub ground_of : {Table Ticket : Type 0} → Machine Table Ticket → Ground Table
-ground_of machine = record { table = machine.table; tickets = machine.tickets; cores = machine.cores; orders = machine.orders }
+ground_of machine = record { table = machine.table; tickets = machine.tickets; resources = machine.resources; cores = machine.cores; orders = machine.orders }
 
 -- the arbiter, if there is one, has as many orders as the machine, for its cores
 abbrev pub IsArbiterOf : {Table Ticket : Type 0} → Machine Table Ticket → Option Progress → Type 0

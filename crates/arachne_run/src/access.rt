@@ -4,17 +4,35 @@ ghost use Rattle.arachne_run.specs.Tokens.{AreHoldingsOf};
 
 use crate::fault::WorkerFault;
 use crate::resources::{Holdings, Resources};
+use arachne_arbiter::Pace;
 use arachne_core::ThreadId;
+use arachne_jobs::RunThread;
 use arachne_sleep::{AskFault, Asked, Freed, NotHolder, Pass, SleepLocks, Tried, Who};
-use crossbeam_utils::Backoff;
+use arachne_workers::{Stop, stand_by};
 use std::marker::Model;
 use std::sync::Wait;
+use std::time::Clock;
+
+/// What a thread asks for.
+#[derive(Clone, Copy)]
+pub(crate) enum Want {
+    /// This lock.
+    Asks(u64),
+    /// This lock, for which it has asked before and is not answered yet.
+    Awaits(u64),
+    /// That this lock is freed.
+    Frees(u64),
+    /// That this ledger gets this amount.
+    Tallies(u64, u64),
+}
 
 /// The locks and the ledgers, and what a worker has of them. Contracts see the locks and the ledgers.
 #[derive(Drop)]
 pub(crate) struct Access<'a> {
     resources: &'a Resources,
     holdings: Holdings,
+    /// Whether the thread in hand was granted a lock since it was taken, and has freed none since.
+    pub(crate) has_lock: bool,
 }
 
 impl<'a> Model for Access<'a> {
@@ -37,6 +55,7 @@ impl<'a> Access<'a> {
         Access {
             resources,
             holdings,
+            has_lock: false,
         }
     }
 
@@ -46,52 +65,121 @@ impl<'a> Access<'a> {
         self.holdings
     }
 
-    /// Asks for a lock. Whether the thread holds it at once; else it waits.
-    pub(crate) fn ask<H: Wait>(&mut self, rt: &H, lock: u64, who: Who) -> Result<bool, WorkerFault>
+    /// Does what a thread of this id asks for, and tells it so, unless it has to wait. The locks know it by the tag of
+    /// the one that goes on next in its place.
+    pub(crate) fn serve<H: Wait + Clock, T: RunThread>(
+        &mut self,
+        rt: &H,
+        pace: &mut Pace,
+        want: Want,
+        id: ThreadId,
+        thread: &mut T,
+    ) -> Result<Stop, WorkerFault>
+        ensures { (self.new ≡ self.old) × (T.tag_of thread.new ≡ T.tag_of thread.old) }
+    {
+        let tag = thread.running_tag();
+        let stop = self.do_for(rt, pace, want, Who { tag, id })?;
+        if let Stop::Waits(_) = stop {
+            return Ok(stop);
+        }
+        match thread.answer() {
+            Ok(()) => Ok(stop),
+            Err(fault) => Err(WorkerFault::from(fault)),
+        }
+    }
+
+    /// Does what a thread asks for, as the locks know it.
+    fn do_for<H: Wait + Clock>(
+        &mut self,
+        rt: &H,
+        pace: &mut Pace,
+        want: Want,
+        who: Who,
+    ) -> Result<Stop, WorkerFault>
         ensures { self.new ≡ self.old }
     {
-        let backoff = Backoff::new();
+        match want {
+            Want::Asks(lock) => {
+                if !self.ask(rt, pace, lock, who)? {
+                    return Ok(Stop::Waits(lock));
+                }
+                self.has_lock = true;
+            }
+            Want::Awaits(lock) => {
+                if !self.check(rt, pace, lock, who)? {
+                    return Ok(Stop::Waits(lock));
+                }
+                self.has_lock = true;
+            }
+            Want::Frees(lock) => {
+                self.has_lock = false;
+                if let Some(next) = self.free(rt, pace, lock, who)? {
+                    return Ok(Stop::Wakes(next));
+                }
+            }
+            Want::Tallies(ledger, amount) => self.add(ledger, amount)?,
+        }
+        Ok(Stop::Goes)
+    }
+
+    /// Asks for a lock. Whether the thread holds it at once; else it waits.
+    pub(crate) fn ask<H: Wait + Clock>(
+        &mut self,
+        rt: &H,
+        pace: &mut Pace,
+        lock: u64,
+        who: Who,
+    ) -> Result<bool, WorkerFault>
+        ensures { self.new ≡ self.old }
+    {
+        let mut tries: u32 = 0;
         for _ in rt.forever() {
             match self.try_ask(lock, who)? {
                 Tried::Answered(Ok(Asked::Granted(_))) => return Ok(true),
                 Tried::Answered(Ok(Asked::Queued { at: _ })) => return Ok(false),
                 Tried::Answered(Err(AskFault::Memory)) => return Err(WorkerFault::Memory),
                 Tried::Answered(Err(AskFault::AlreadyIn)) => return Err(WorkerFault::Threads),
-                Tried::Contended => backoff.snooze(),
+                Tried::Contended => {}
             }
+            stand_by(rt, pace, tries);
+            tries = tries.saturating_add(1);
         }
         unreachable!()
     }
 
     /// Whether the thread that has asked for a lock holds it now.
-    pub(crate) fn check<H: Wait>(
+    pub(crate) fn check<H: Wait + Clock>(
         &mut self,
         rt: &H,
+        pace: &mut Pace,
         lock: u64,
         who: Who,
     ) -> Result<bool, WorkerFault>
         ensures { self.new ≡ self.old }
     {
-        let backoff = Backoff::new();
+        let mut tries: u32 = 0;
         for _ in rt.forever() {
             match self.try_check(lock, who)? {
                 Tried::Answered(pass) => return Ok(pass.is_some()),
-                Tried::Contended => backoff.snooze(),
+                Tried::Contended => {}
             }
+            stand_by(rt, pace, tries);
+            tries = tries.saturating_add(1);
         }
         unreachable!()
     }
 
     /// Frees a lock. The id of the thread that holds it next, if any waits for it.
-    pub(crate) fn free<H: Wait>(
+    pub(crate) fn free<H: Wait + Clock>(
         &mut self,
         rt: &H,
+        pace: &mut Pace,
         lock: u64,
         who: Who,
     ) -> Result<Option<ThreadId>, WorkerFault>
         ensures { self.new ≡ self.old }
     {
-        let backoff = Backoff::new();
+        let mut tries: u32 = 0;
         for _ in rt.forever() {
             match self.try_free(lock, who)? {
                 Tried::Answered(Ok(Freed { next, .. })) => {
@@ -101,8 +189,10 @@ impl<'a> Access<'a> {
                     });
                 }
                 Tried::Answered(Err(_)) => return Err(WorkerFault::Threads),
-                Tried::Contended => backoff.snooze(),
+                Tried::Contended => {}
             }
+            stand_by(rt, pace, tries);
+            tries = tries.saturating_add(1);
         }
         unreachable!()
     }
@@ -115,24 +205,18 @@ impl<'a> Access<'a> {
     ) -> Result<Tried<Result<Asked, AskFault>>, WorkerFault>
         ensures { self.new ≡ self.old }
     {
-        let lock = number_of(&self.resources.locks, lock)?;
-        Ok(
-            self.resources
-                .locks
-                .ask(&mut self.holdings.lock_seats, lock, who),
-        )
+        let locks = &self.resources.locks;
+        let lock = number_of(locks, lock)?;
+        Ok(locks.ask(&mut self.holdings.lock_seats, lock, who))
     }
 
     /// Tries once to look whether a thread that has asked for a lock holds it now.
     fn try_check(&mut self, lock: u64, who: Who) -> Result<Tried<Option<Pass>>, WorkerFault>
         ensures { self.new ≡ self.old }
     {
-        let lock = number_of(&self.resources.locks, lock)?;
-        Ok(
-            self.resources
-                .locks
-                .check(&mut self.holdings.lock_seats, lock, who),
-        )
+        let locks = &self.resources.locks;
+        let lock = number_of(locks, lock)?;
+        Ok(locks.check(&mut self.holdings.lock_seats, lock, who))
     }
 
     /// Tries once to free a lock.
@@ -143,12 +227,9 @@ impl<'a> Access<'a> {
     ) -> Result<Tried<Result<Freed, NotHolder>>, WorkerFault>
         ensures { self.new ≡ self.old }
     {
-        let lock = number_of(&self.resources.locks, lock)?;
-        Ok(
-            self.resources
-                .locks
-                .free(&mut self.holdings.lock_seats, lock, who),
-        )
+        let locks = &self.resources.locks;
+        let lock = number_of(locks, lock)?;
+        Ok(locks.free(&mut self.holdings.lock_seats, lock, who))
     }
 
     /// Adds to a ledger. In a checked program a pause names a ledger that is there.

@@ -7,14 +7,14 @@ ghost use Rattle.arachne_run.specs.Histories.{GrantsAreHolds, IsGrantedAsHeld, g
 
 use crate::fault::WorkerFault;
 use arachne_machine::ThreadLine;
-use arachne_sleep::LockEvent;
+use arachne_sleep::{History, LockEvent};
 use std::alloc::{AllocError, Global};
 
 /// Looks whether no two threads have one tag, and each lock was granted to each thread as often as that held it.
 pub(crate) fn audit(
     alloc: Global,
     threads: &[ThreadLine],
-    histories: &[Vec<LockEvent>],
+    histories: &[History],
 ) -> Result<(), WorkerFault>
     ensures distinct { OnOk result (AreDistinct (map (λ line. line.tag) threads.now)) }
     ensures grants { OnOk result (GrantsAreHolds threads.now (map (λ history. history.items) histories.now)) }
@@ -59,14 +59,13 @@ fn are_grants_holds(
     alloc: Global,
     threads: &[ThreadLine],
     marks: &[bool],
-    histories: &[Vec<LockEvent>],
+    histories: &[History],
 ) -> Result<bool, AllocError>
     requires { AreMarksOf (map (λ line. line.tag) threads.now) marks.now }
     ensures { result ≡ Ok true → GrantsAreHolds threads.now (map (λ history. history.items) histories.now) }
 {
     for lock in 0..histories.len() {
-        let history = histories[lock].as_slice();
-        if !is_granted_as_held(alloc, threads, marks, lock, history)? {
+        if !is_granted_as_held(alloc, threads, marks, lock, &histories[lock])? {
             return Ok(false);
         }
     }
@@ -79,10 +78,10 @@ fn is_granted_as_held(
     threads: &[ThreadLine],
     marks: &[bool],
     lock: usize,
-    history: &[LockEvent],
+    history: &History,
 ) -> Result<bool, AllocError>
     requires { AreMarksOf (map (λ line. line.tag) threads.now) marks.now }
-    ensures { result ≡ Ok true → IsGrantedAsHeld lock threads.now history.now }
+    ensures { result ≡ Ok true → IsGrantedAsHeld lock threads.now history.now.items }
 {
     let Some(grants) = grants_by_tag(alloc, marks, history)? else {
         return Ok(false);
@@ -100,14 +99,14 @@ fn is_granted_as_held(
 fn grants_by_tag(
     alloc: Global,
     marks: &[bool],
-    history: &[LockEvent],
+    history: &History,
 ) -> Result<Option<Vec<u64>>, AllocError>
-    ensures grants { IfOk result (λ found. IfSome found (λ grants. (tag : ℕ) → slice_index grants.items tag ≡ grants_to tag history.now)) }
-    ensures marked { IfOk result (λ found. IfSome found (λ grants. (who : Who) → Contains history.now (Grant who) → slice_index_or marks.now who.tag false ≡ true)) }
+    ensures grants { IfOk result (λ found. IfSome found (λ grants. (tag : ℕ) → slice_index grants.items tag ≡ grants_to tag history.now.items)) }
+    ensures marked { IfOk result (λ found. IfSome found (λ grants. (who : Who) → Contains history.now.items (Grant who) → slice_index_or marks.now who.tag false ≡ true)) }
 {
     let mut grants = Vec::new(alloc);
     grants.resize(marks.len(), 0)?;
-    for event in history {
+    for event in history.iter() {
         if let LockEvent::Grant(who) = event {
             let tag = who.tag as usize;
             if tag >= grants.len() || !marks[tag] {

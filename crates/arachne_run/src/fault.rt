@@ -1,6 +1,7 @@
 //! Why a run has no report.
 use arachne_jobs::JobFault;
 use arachne_policy::OrderFault;
+use arachne_workers::Halt;
 use std::alloc::AllocError;
 use thiserror::Error;
 
@@ -79,6 +80,45 @@ impl From<WorkerFault> for RunFault {
             WorkerFault::Ledgers => RunFault::Ledgers,
             WorkerFault::Token => RunFault::Token,
             WorkerFault::KernelThread => RunFault::KernelThread,
+        }
+    }
+}
+
+/// The loop of a worker knows a fault by its number.
+impl From<WorkerFault> for Halt {
+    ghost use Rattle.std.specs.Prelude.{◌≡◌};
+    ghost use Rattle.arachne_run.specs.Setups.{number_of};
+
+    ghost from_gives = { λ fault halt. halt.why ≡ number_of fault };
+
+    fn from(fault: WorkerFault) -> Halt {
+        Halt {
+            why: match fault {
+                WorkerFault::Memory => 0,
+                WorkerFault::Foreign => 1,
+                WorkerFault::Threads => 2,
+                WorkerFault::Ledgers => 3,
+                WorkerFault::Token => 4,
+                WorkerFault::KernelThread => 5,
+            },
+        }
+    }
+}
+
+impl From<Halt> for WorkerFault {
+    ghost use Rattle.std.specs.Prelude.{◌≡◌};
+    ghost use Rattle.arachne_run.specs.Setups.{numbered};
+
+    ghost from_gives = { λ halt fault. fault ≡ numbered halt.why };
+
+    fn from(halt: Halt) -> WorkerFault {
+        match halt.why {
+            0 => WorkerFault::Memory,
+            1 => WorkerFault::Foreign,
+            2 => WorkerFault::Threads,
+            3 => WorkerFault::Ledgers,
+            5 => WorkerFault::KernelThread,
+            _ => WorkerFault::Token,
         }
     }
 }

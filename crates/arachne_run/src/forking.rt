@@ -1,5 +1,4 @@
-//! How threads get their places: the child of a fork is posted at one, waits for one, or runs in its parent's; the root
-//! is posted.
+//! How threads get their places: the child of a fork is posted at one, waits for one, or runs in its parent's.
 //!
 //! It may touch the table through the seat that it is given, and the queue of those that wait.
 ghost use Rattle.std.specs.Prelude.{◌≡◌, ◌<◌, ◌≤◌, [], ◌∷◌, IfOk, MatchOption, OnOk, map};
@@ -7,18 +6,21 @@ ghost use Rattle.arachne_contexts.specs.Out.{Claim as a_claim, HasOut};
 ghost use Rattle.arachne_spill.specs.Views.{IsPassOf};
 ghost use Rattle.arachne_run.specs.Tokens.{IsSetUp, IsSpent, thread_in};
 
+use crate::access::{Access, Want};
 use crate::claims::Claims;
-use crate::desk::Stop;
 use crate::fault::WorkerFault;
 use crate::machine::Machine;
-use crate::queue::Post;
+use arachne_arbiter::Pace;
 use arachne_contexts::{Contexts, Held, Identified, Placed};
+use arachne_core::ThreadId;
 use arachne_jobs::{Openings, RunJob, Slice};
 use arachne_lang::Class;
 use arachne_spill::SpillPass;
+use arachne_workers::{Post, Stop};
 use rand_core::Rng;
 use std::alloc::Global;
 use std::sync::Wait;
+use std::time::Clock;
 
 /// What a worker has for the forks of threads.
 #[derive(Drop)]
@@ -30,9 +32,9 @@ pub(crate) struct Forks<R, P> {
     pub(crate) spares: P,
 }
 
-/// The thread in hand goes on for at most as many steps as are left, and its fork, if it comes to one, is answered.
+/// The thread in hand goes on for at most as many steps as are left, and what it asks for, if it comes to that, is done.
 #[inline(always)]
-pub(crate) fn go_on<H: Wait, T: RunJob, C: Contexts<T>, R: Rng>(
+pub(crate) fn go_on<H: Wait + Clock, T: RunJob, C: Contexts<T>, R: Rng>(
     rt: &H,
     alloc: Global,
     machine: &Machine<C, T::Ticket>,
@@ -40,6 +42,8 @@ pub(crate) fn go_on<H: Wait, T: RunJob, C: Contexts<T>, R: Rng>(
     pass: &mut SpillPass<T::Ticket>,
     held: &mut Held<T, C::Hold>,
     forks: &mut Forks<R, T::Spares>,
+    access: &mut Access<'_>,
+    pace: &mut Pace,
     left: &mut u32,
 ) -> Result<Stop, WorkerFault>
     requires seat { C.sits machine.now.table seat.old }
@@ -47,7 +51,7 @@ pub(crate) fn go_on<H: Wait, T: RunJob, C: Contexts<T>, R: Rng>(
     requires pass { IsPassOf machine.now.tickets pass.old }
     requires set_up { IsSetUp C.core_count C.slot_count machine.now }
     requires some { 1 ≤ left.old }
-    ensures { C.sits machine.now.table seat.new × IsPassOf machine.now.tickets pass.new
+    ensures { C.sits machine.now.table seat.new × IsPassOf machine.now.tickets pass.new × (access.new ≡ access.old)
         × OnOk result (C.has machine.now.table seat.new (thread_in T.tag_of held.new ∷ []) × (left.new ≤ left.old)) }
 {
     let room = machine.shared.room();
@@ -56,20 +60,22 @@ pub(crate) fn go_on<H: Wait, T: RunJob, C: Contexts<T>, R: Rng>(
         .slice(left, &mut forks.spares, room, &mut forks.openings)?;
     draw(&mut forks.chooser, forks.openings.draws);
     forks.openings.draws = 0;
-    Ok(match slice {
-        Slice::Goes => Stop::Goes,
+    let want = match slice {
+        Slice::Goes => return Ok(Stop::Goes),
         Slice::Forks(class, child) => {
             return answer_fork::<H, T, C, R>(
                 rt, alloc, machine, seat, pass, held, class, child, forks,
             );
         }
-        Slice::Blocks => Stop::Blocks,
-        Slice::Asks(lock) => Stop::Asks(lock),
-        Slice::Awaits(lock) => Stop::Awaits(lock),
-        Slice::Frees(lock) => Stop::Frees(lock),
-        Slice::Tallies(ledger, amount) => Stop::Tallies(ledger, amount),
-        Slice::Ends => Stop::Ends,
-    })
+        Slice::Blocks => return Ok(Stop::Blocks),
+        Slice::Ends => return Ok(Stop::Ends),
+        Slice::Asks(lock) => Want::Asks(lock),
+        Slice::Awaits(lock) => Want::Awaits(lock),
+        Slice::Frees(lock) => Want::Frees(lock),
+        Slice::Tallies(ledger, amount) => Want::Tallies(ledger, amount),
+    };
+    let id = held.id();
+    access.serve(rt, pace, want, id, &mut held.value)
 }
 
 /// Draws so many words from the chooser.
@@ -119,7 +125,7 @@ fn answer_fork<H: Wait, T: RunJob, C: Contexts<T>, R: Rng>(
             Err(_) => Err(WorkerFault::Token),
         };
     }
-    let waits = class == Class::Normal && !machine.tickets.is_full(pass);
+    let waits = class == Class::Normal && !machine.tickets.is_full(rt, pass);
     if let Some(ticket) = held.value.put_aside(alloc, me, child, tag, waits)? {
         // Where the queue was filled meanwhile, the child waits without a ticket, for its parent.
         if machine.tickets.push(rt, pass, ticket).is_ok() {
@@ -155,15 +161,15 @@ pub(crate) fn free_place<H: Wait, T: RunJob, C: Contexts<T>>(
     Ok(place)
 }
 
-/// Posts a child that has waited at a place, or gives that back where the child is gone meanwhile. Whether it was
-/// posted.
+/// Posts the root, or a child that has waited, at a place, or gives that back where the child is gone meanwhile. Its
+/// id, if it was posted.
 pub(crate) fn post_waiting<H: Wait, T: RunJob, C: Contexts<T>>(
     rt: &H,
     machine: &Machine<C, T::Ticket>,
     spare: &mut C::Seat,
     claim: C::Claim,
     job: Option<T>,
-) -> Result<bool, WorkerFault>
+) -> Result<Option<ThreadId>, WorkerFault>
     requires seat { C.sits machine.now.table spare.old }
     requires out { HasOut (C.has machine.now.table) (a_claim claim) spare.old }
     ensures seat { C.sits machine.now.table spare.new }
@@ -171,42 +177,15 @@ pub(crate) fn post_waiting<H: Wait, T: RunJob, C: Contexts<T>>(
 {
     match job {
         Some(job) => match machine.table.post(rt, spare, claim, job) {
-            Ok(_) => Ok(true),
+            Ok(id) => Ok(Some(id)),
             Err(_) => Err(WorkerFault::Token),
         },
         None => match machine.table.give_back(rt, spare, claim) {
             Ok(()) => {
                 machine.shared.room().place_was_left();
-                Ok(false)
+                Ok(None)
             }
             Err(_) => Err(WorkerFault::Token),
         },
-    }
-}
-
-/// Posts the root, if there is one here, on core 0, where a table on which nothing runs has a place. Its index.
-pub(crate) fn post_root<H: Wait, T: RunJob, C: Contexts<T>>(
-    rt: &H,
-    machine: &Machine<C, T::Ticket>,
-    seat: &mut C::Seat,
-    root: Option<T>,
-) -> Result<Option<u8>, WorkerFault>
-    requires seat { C.sits machine.now.table seat.old }
-    requires out { C.has machine.now.table seat.old [] }
-    requires set_up { IsSetUp C.core_count C.slot_count machine.now }
-    ensures seat { C.sits machine.now.table seat.new }
-    ensures out { OnOk result (C.has machine.now.table seat.new []) }
-{
-    let Some(root) = root else {
-        return Ok(None);
-    };
-    let Some(claim) = machine.cores::<H, T>(rt).claim_on(seat, 0)? else {
-        return Err(WorkerFault::Token);
-    };
-    machine.shared.room().place_was_claimed();
-    let index = claim.place().index;
-    match machine.table.post(rt, seat, claim, root) {
-        Ok(_) => Ok(Some(index)),
-        Err(_) => Err(WorkerFault::Token),
     }
 }

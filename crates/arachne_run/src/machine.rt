@@ -8,7 +8,6 @@ ghost use Rattle.arachne_run.specs.declared.fault.WorkerFault.TheVariants.{Memor
 ghost use Rattle.arachne_run.specs.Tokens.{AreIdle, IsSetUp};
 
 use crate::fault::WorkerFault;
-use crate::policy::may_keep_places;
 use crate::resources::{Remains, Resources};
 use crate::shared::Shared;
 use crate::tokens::Tokens;
@@ -19,6 +18,7 @@ use arachne_jobs::has_exclusive;
 use arachne_lang::Program;
 use arachne_policy::CoreOrder;
 use arachne_spill::{CAPACITY, SpillPass, SpillQueue};
+use arachne_workers::may_keep_places;
 use std::alloc::{AllocError, Global};
 use std::marker::PhantomData;
 use std::sync::Wait;

@@ -11,7 +11,7 @@ use crate::fault::WorkerFault;
 use crate::resources::Remains;
 use arachne_lang::Sequence;
 use arachne_machine::{DetachedOutcome, ThreadLine};
-use arachne_sleep::LockEvent;
+use arachne_sleep::History;
 use std::alloc::Global;
 
 /// What a run brings.
@@ -24,7 +24,7 @@ pub struct Report {
     /// Its threads, the root first.
     pub threads: Sequence<ThreadLine>,
     /// For each lock all that was asked, granted and freed, oldest first.
-    pub histories: Vec<Vec<LockEvent>>,
+    pub histories: Vec<History>,
     /// How many of the orders were applied.
     pub applied: usize,
 }

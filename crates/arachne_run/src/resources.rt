@@ -10,7 +10,7 @@ ghost use Rattle.arachne_run.specs.Tokens.{AreHoldingsOf};
 
 use crate::fault::WorkerFault;
 use arachne_ledger::{Ledgers, Share};
-use arachne_sleep::{LockEvent, LockSeats, SleepLocks};
+use arachne_sleep::{History, LockSeats, SleepLocks};
 use std::alloc::{AllocError, Global};
 
 /// The ledgers and the locks of a run.
@@ -33,7 +33,7 @@ pub(crate) struct Remains {
     /// The words of the ledgers.
     pub(crate) words: Vec<u64>,
     /// The history of each lock.
-    pub(crate) histories: Vec<Vec<LockEvent>>,
+    pub(crate) histories: Vec<History>,
 }
 
 impl Resources {
@@ -106,7 +106,7 @@ fn closed_locks(
     alloc: Global,
     locks: SleepLocks,
     seats: LockSeats,
-) -> Result<Vec<Vec<LockEvent>>, WorkerFault>
+) -> Result<Vec<History>, WorkerFault>
     requires { AreSeatsOf locks seats }
     ensures missing { (All IsWholeSeat seats → ⊥) → result ≡ Err Token }
     ensures whole { All IsWholeSeat seats → IfErr result (λ fault. fault ≡ Memory) }

@@ -20,6 +20,7 @@ use rand_core::Rng;
 use std::alloc::Global;
 use std::sync::Wait;
 use std::thread::Threads;
+use std::time::Clock;
 
 /// Runs a program on one kernel thread for each core, over a table of the type `C`. Each core draws from its own
 /// chooser. The orders take cores back and grant them again while it runs; those that are not reached before its end
@@ -28,7 +29,7 @@ use std::thread::Threads;
 /// The program is unchanged. After an error nothing of the run is left.
 pub fn run<
     'p,
-    H: Threads + Wait + Sync,
+    H: Threads + Wait + Clock + Sync,
     T: JobOf<'p> + Send,
     C: Contexts<T> + Sync + Drop,
     R: Rng + Drop + Send,

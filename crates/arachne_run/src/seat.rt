@@ -3,32 +3,33 @@
 //! With `forking`, for its forks, it alone calls the table while threads run. Its type keeps the bookkeeping: the
 //! thread in hand is out with one seat, the places that are kept with the other, and nothing else is out between two
 //! calls.
-ghost use Rattle.std.specs.Prelude.{◌≡◌, ◌<◌, ◌≤◌, IfOk};
-ghost use Rattle.arachne_run.specs.Tokens.{IsArbiterOf, IsSetUp, ground_of};
-ghost use Rattle.arachne_spill.specs.Views.{IsPassOf};
+ghost use Rattle.std.specs.Prelude.{◌≡◌, ◌<◌};
+ghost use Rattle.arachne_run.specs.Tokens.{AreIdle, IsSetUp, ground_of};
 
+use crate::access::Access;
 use crate::claims::Claims;
-use crate::desk::{Desk, Grip, Stop};
 use crate::fault::WorkerFault;
-use crate::forking::{Forks, free_place, go_on, post_root, post_waiting};
+use crate::forking::{Forks, free_place, go_on, post_waiting};
+use crate::gate::Gate;
 use crate::machine::Machine;
-use crate::policy;
-use arachne_arbiter::Arbiter;
+use crate::tokens::Tokens;
+use arachne_arbiter::{Arbiter, Pace};
 use arachne_contexts::{Claimed, Contexts, Held, Moved, Placed, Rested, Taken, Woken};
 use arachne_core::{MarkWord, OccWord, Place, Rest, ThreadId};
 use arachne_jobs::{Openings, RunJob, RunSpares, RunThread, RunTicket};
-use arachne_lang::Name;
-use arachne_sleep::Who;
 use arachne_spill::SpillPass;
+use arachne_workers::{Desk, Event, Grip, Halt, Post, Stop, Ticket, keeps_place, may_take_ticket};
 use rand_core::Rng;
 use std::alloc::Global;
 use std::marker::Model;
 use std::sync::Wait;
+use std::time::Clock;
 
 /// What a worker has at the table. Contracts see what it is a seat at: its invariant says what is out with it.
 #[derive(Drop)]
-pub(crate) struct Seat<'a, H, T: RunJob, C: Contexts<T>, R> {
+pub(crate) struct Seat<'a, H, T: RunJob, C: Contexts<T>, R, G> {
     pub(crate) rt: &'a H,
+    pub(crate) gate: &'a G,
     pub(crate) alloc: Global,
     pub(crate) machine: &'a Machine<C, T::Ticket>,
     pub(crate) core: u8,
@@ -43,9 +44,10 @@ pub(crate) struct Seat<'a, H, T: RunJob, C: Contexts<T>, R> {
     pub(crate) pass: SpillPass<T::Ticket>,
     pub(crate) arbiter: Option<Arbiter>,
     pub(crate) forks: Forks<R, T::Spares>,
+    pub(crate) access: Access<'a>,
 }
 
-impl<'a, H, T: RunJob, C: Contexts<T>, R> Model for Seat<'a, H, T, C, R> {
+impl<'a, H, T: RunJob, C: Contexts<T>, R, G> Model for Seat<'a, H, T, C, R, G> {
     ghost use Rattle.std.specs.Prelude.{◌≡◌, ◌<◌, false, map};
     ghost use Rattle.arachne_contexts.specs.Out.{Claim as a_claim};
     ghost use Rattle.arachne_spill.specs.Views.{IsPassOf};
@@ -59,38 +61,35 @@ impl<'a, H, T: RunJob, C: Contexts<T>, R> Model for Seat<'a, H, T, C, R> {
         × C.sits s.machine.now.table s.seat × C.sits s.machine.now.table s.spare
         × (s.is_broken ≡ false → C.has s.machine.now.table s.seat (in_hand T.tag_of s.held))
         × (s.is_broken ≡ false → C.has s.machine.now.table s.spare (map a_claim s.kept))
-        × IsPassOf s.machine.now.tickets s.pass × IsArbiterOf s.machine.now s.arbiter };
+        × IsPassOf s.machine.now.tickets s.pass × IsArbiterOf s.machine.now s.arbiter × (s.access ≡ s.machine.now.resources) };
 }
 
-impl<'a, H: Wait, T: RunJob, C: Contexts<T>, R: Rng + Drop> Seat<'a, H, T, C, R> {
-    /// A worker's two seats, with which nothing is out, and what else it has of the machine. The root is posted, if it
-    /// begins here; its index.
+impl<'a, H: Wait, T: RunJob, C: Contexts<T>, R: Rng + Drop, G: Gate> Seat<'a, H, T, C, R, G> {
+    /// A worker's two seats, with which nothing is out, and what else it has of the machine.
     pub(crate) fn open(
         rt: &'a H,
         alloc: Global,
         machine: &'a Machine<C, T::Ticket>,
+        gate: &'a G,
         core: u8,
-        seat: C::Seat,
-        pass: SpillPass<T::Ticket>,
-        arbiter: Option<Arbiter>,
-        chooser: Option<R>,
-        root: Option<T>,
-    ) -> Result<(Seat<'a, H, T, C, R>, Option<u8>), WorkerFault>
+        chooser: R,
+        tokens: Tokens<C::Seat, T::Ticket>,
+    ) -> Seat<'a, H, T, C, R, G>
         requires set_up { IsSetUp C.core_count C.slot_count machine.now }
         requires core { core < machine.now.cores }
-        requires seat { C.sits machine.now.table seat }
-        requires idle { C.idle machine.now.table seat }
-        requires pass { IsPassOf machine.now.tickets pass }
-        requires arbiter { IsArbiterOf machine.now arbiter }
-        ensures { IfOk result (λ opened. opened.0 ≡ ground_of machine.now) }
+        requires tokens { AreIdle C.sits C.idle machine.now tokens }
+        ensures { result ≡ ground_of machine.now }
     {
-        let Some(chooser) = chooser else {
-            return Err(WorkerFault::KernelThread);
-        };
-        let (mut seat, spare) = machine.table.split(rt, seat);
-        let root = post_root::<H, T, C>(rt, machine, &mut seat, root)?;
-        let seat = Seat {
+        let Tokens {
+            seat,
+            pass,
+            holdings,
+            arbiter,
+        } = tokens;
+        let (seat, spare) = machine.table.split(rt, seat);
+        Seat {
             rt,
+            gate,
             alloc,
             machine,
             core,
@@ -106,12 +105,35 @@ impl<'a, H: Wait, T: RunJob, C: Contexts<T>, R: Rng + Drop> Seat<'a, H, T, C, R>
                 openings: Openings::new(),
                 spares: T::Spares::none(alloc),
             },
+            access: Access::new(&machine.resources, holdings),
+        }
+    }
+
+    /// Posts the root, if it begins here, where a table on which nothing runs has a place. Its index.
+    pub(crate) fn post_root(&mut self, root: Option<T>) -> Result<Option<u8>, WorkerFault>
+        ensures { self.new ≡ self.old }
+    {
+        let Some(root) = root else {
+            return Ok(None);
         };
-        Ok((seat, root))
+        if self.is_broken {
+            return Err(WorkerFault::Token);
+        }
+        self.is_broken = true;
+        let (rt, machine) = (self.rt, self.machine);
+        let (spare, kept) = (&mut self.spare, &mut self.kept);
+        let Some(claim) = free_place::<H, T, C>(rt, machine, spare, kept, self.core)? else {
+            return Err(WorkerFault::Token);
+        };
+        let index = claim.place().index;
+        post_waiting::<H, T, C>(rt, machine, &mut self.spare, claim, Some(root))?;
+        self.is_broken = false;
+        Ok(Some(index))
     }
 }
 
-impl<'a, H: Wait, T: RunJob, C: Contexts<T>, R: Rng + Drop> Desk for Seat<'a, H, T, C, R> {
+impl<'a, H: Wait + Clock, T: RunJob, C: Contexts<T>, R: Rng + Drop, G: Gate> Desk
+    for Seat<'a, H, T, C, R, G> {
     #[inline(always)]
     fn take(&mut self, index: u8) -> Grip {
         if index >= self.machine.slots || self.held.is_some() || self.is_broken {
@@ -120,7 +142,9 @@ impl<'a, H: Wait, T: RunJob, C: Contexts<T>, R: Rng + Drop> Desk for Seat<'a, H,
         let table = &self.machine.table;
         match table.take(self.rt, &mut self.seat, self.core, index) {
             Taken::Run(held) => {
+                self.gate.turn(self.core, held.id(), held.value.name());
                 self.held = Some(held);
+                self.access.has_lock = false;
                 Grip::Taken
             }
             Taken::NotReady(_) => Grip::None,
@@ -128,29 +152,17 @@ impl<'a, H: Wait, T: RunJob, C: Contexts<T>, R: Rng + Drop> Desk for Seat<'a, H,
         }
     }
 
-    fn in_hand(&self) -> Result<Who, WorkerFault> {
-        match &self.held {
-            Some(held) => Ok(Who {
-                tag: held.value.running_tag(),
-                id: held.id(),
-            }),
-            None => Err(WorkerFault::Token),
-        }
+    fn quantum(&self) -> u32 {
+        self.machine.quantum
     }
 
     #[inline(always)]
-    fn named(&self) -> Option<(ThreadId, &Name)> {
-        let held = self.held.as_ref()?;
-        Some((held.id(), held.value.name()))
-    }
-
-    #[inline(always)]
-    fn advance(&mut self, left: &mut u32) -> Result<Stop, WorkerFault> {
+    fn advance(&mut self, pace: &mut Pace, left: &mut u32) -> Result<Stop, Halt> {
         if self.is_broken {
-            return Err(WorkerFault::Token);
+            return Err(Halt::from(WorkerFault::Token));
         }
         let Some(held) = &mut self.held else {
-            return Err(WorkerFault::Token);
+            return Err(Halt::from(WorkerFault::Token));
         };
         self.is_broken = true;
         let stop = go_on::<H, T, C, R>(
@@ -161,30 +173,30 @@ impl<'a, H: Wait, T: RunJob, C: Contexts<T>, R: Rng + Drop> Desk for Seat<'a, H,
             &mut self.pass,
             held,
             &mut self.forks,
+            &mut self.access,
+            pace,
             left,
         )?;
         self.is_broken = false;
         Ok(stop)
     }
 
-    fn answer(&mut self) -> Result<(), WorkerFault> {
-        match &mut self.held {
-            Some(held) => Ok(held.value.answer()?),
-            None => Err(WorkerFault::Token),
-        }
+    #[inline(always)]
+    fn holds(&self) -> bool {
+        self.access.has_lock
     }
 
     #[inline(always)]
-    fn rest(&mut self) -> Result<Rest, WorkerFault> {
+    fn rest(&mut self) -> Result<Rest, Halt> {
         if self.is_broken {
-            return Err(WorkerFault::Token);
+            return Err(Halt::from(WorkerFault::Token));
         }
         let Some(held) = self.held.take() else {
-            return Err(WorkerFault::Token);
+            return Err(Halt::from(WorkerFault::Token));
         };
         let Some(rest) = held.value.rest() else {
             self.held = Some(held);
-            return Err(WorkerFault::Foreign);
+            return Err(Halt::from(WorkerFault::Foreign));
         };
         let table = &self.machine.table;
         match table.put_back(self.rt, &mut self.seat, held, rest) {
@@ -192,51 +204,61 @@ impl<'a, H: Wait, T: RunJob, C: Contexts<T>, R: Rng + Drop> Desk for Seat<'a, H,
             Ok(Rested::WokenMeanwhile) => Ok(Rest::Ready),
             Err(held) => {
                 self.held = Some(held);
-                Err(WorkerFault::Token)
+                Err(Halt::from(WorkerFault::Token))
             }
         }
     }
 
     #[inline(always)]
-    fn end(&mut self) -> Result<Option<ThreadId>, WorkerFault> {
+    fn end(&mut self) -> Result<Option<ThreadId>, Halt> {
         if self.is_broken {
-            return Err(WorkerFault::Token);
+            return Err(Halt::from(WorkerFault::Token));
         }
         let Some(held) = self.held.take() else {
-            return Err(WorkerFault::Token);
+            return Err(Halt::from(WorkerFault::Token));
         };
         let table = &self.machine.table;
         match table.finish(self.rt, &mut self.seat, held) {
-            Ok(job) => {
-                self.machine.shared.room().place_was_left();
-                Ok(job.leave(&mut self.forks.spares)?)
-            }
+            Ok(job) => match job.leave(&mut self.forks.spares) {
+                Ok(None) => {
+                    self.machine.shared.stop();
+                    Ok(None)
+                }
+                Ok(parent) => Ok(parent),
+                Err(fault) => Err(Halt::from(WorkerFault::from(fault))),
+            },
             Err(held) => {
                 self.held = Some(held);
-                Err(WorkerFault::Token)
+                Err(Halt::from(WorkerFault::Token))
             }
         }
     }
 
-    fn keep_place(&mut self, before: OccWord) -> Result<(), WorkerFault> {
+    fn keep_place(&mut self, before: OccWord) -> Result<(), Halt> {
+        let room = self.machine.shared.room();
         if !self.machine.may_keep || self.is_broken {
+            room.place_was_left();
             return Ok(());
         }
-        if policy::keeps_place(before, self.machine.slots) {
+        let mut is_kept = false;
+        if keeps_place(before, self.machine.slots) {
             let table = &self.machine.table;
             self.is_broken = true;
             let claimed = table.claim(self.rt, &mut self.spare, self.core);
             if let Ok(Claimed::Place(claim)) = claimed {
                 match self.kept.keep(claim) {
-                    Ok(()) => self.machine.shared.room().place_was_claimed(),
+                    Ok(()) => is_kept = true,
                     Err(claim) => {
                         if table.give_back(self.rt, &mut self.spare, claim).is_err() {
-                            return Err(WorkerFault::Token);
+                            return Err(Halt::from(WorkerFault::Token));
                         }
                     }
                 }
             }
             self.is_broken = false;
+        }
+        if !is_kept {
+            room.place_was_left();
         }
         Ok(())
     }
@@ -245,9 +267,9 @@ impl<'a, H: Wait, T: RunJob, C: Contexts<T>, R: Rng + Drop> Desk for Seat<'a, H,
         self.kept.count()
     }
 
-    fn give_one_back(&mut self) -> Result<bool, WorkerFault> {
+    fn give_one_back(&mut self) -> Result<bool, Halt> {
         if self.is_broken {
-            return Err(WorkerFault::Token);
+            return Err(Halt::from(WorkerFault::Token));
         }
         let Some(claim) = self.kept.take() else {
             return Ok(false);
@@ -255,7 +277,7 @@ impl<'a, H: Wait, T: RunJob, C: Contexts<T>, R: Rng + Drop> Desk for Seat<'a, H,
         let table = &self.machine.table;
         if table.give_back(self.rt, &mut self.spare, claim).is_err() {
             self.is_broken = true;
-            return Err(WorkerFault::Token);
+            return Err(Halt::from(WorkerFault::Token));
         }
         self.machine.shared.room().place_was_left();
         Ok(true)
@@ -300,50 +322,63 @@ impl<'a, H: Wait, T: RunJob, C: Contexts<T>, R: Rng + Drop> Desk for Seat<'a, H,
         )
     }
 
-    fn take_ticket(&mut self) -> Result<(bool, Option<u8>), WorkerFault> {
+    #[inline(always)]
+    fn may_take_ticket(&mut self) -> bool {
+        if !self.machine.shared.room().is_any_waiting() {
+            return false;
+        }
+        let kept = self.kept.count();
+        may_take_ticket(self.look(), kept, self.machine.slots)
+    }
+
+    fn take_ticket(&mut self) -> Result<Ticket, Halt> {
         if self.is_broken {
-            return Err(WorkerFault::Token);
+            return Err(Halt::from(WorkerFault::Token));
         }
         let Some(ticket) = self.machine.tickets.pop(self.rt, &mut self.pass) else {
-            return Ok((false, None));
+            return Ok(Ticket::None);
         };
         self.machine.shared.room().ticket_was_taken();
         if !ticket.still_waits() {
-            return Ok((true, None));
+            return Ok(Ticket::Gone);
         }
         self.is_broken = true;
         let (rt, machine) = (self.rt, self.machine);
         let (spare, kept) = (&mut self.spare, &mut self.kept);
         let Some(claim) = free_place::<H, T, C>(rt, machine, spare, kept, self.core)? else {
             self.is_broken = false;
-            return Ok((true, None));
+            return Ok(Ticket::Gone);
         };
-        let index = claim.place().index;
+        let place = claim.place();
         let job = T::of_ticket(self.alloc, ticket, &mut self.forks.spares);
         let posted = post_waiting::<H, T, C>(rt, machine, &mut self.spare, claim, job)?;
-        let index = if posted { Some(index) } else { None };
         self.is_broken = false;
-        Ok((true, index))
+        Ok(match posted {
+            Some(id) => Ticket::Posted(Post { id, place }),
+            None => Ticket::Gone,
+        })
     }
 
     fn tend(&mut self) -> (Option<usize>, u64) {
         let machine = self.machine;
-        if machine.orders == 0 {
-            return (None, 0);
-        }
         let Some(arbiter) = &mut self.arbiter else {
             return (None, 0);
         };
         let before = arbiter.applied();
         let cores = machine.cores::<H, T>(self.rt);
-        let signals = machine.shared.signals();
-        let receivers = arbiter.tend(&cores, &mut self.seat, signals.parking(), signals.slices());
+        let workers = machine.shared.workers();
+        let receivers = arbiter.tend(&cores, &mut self.seat, workers.parking(), workers.slices());
         let after = arbiter.applied();
         let applied = if after != before { Some(after) } else { None };
         (applied, receivers)
     }
 
-    fn has_orders_left(&self) -> bool {
+    #[inline(always)]
+    fn has_orders(&self) -> bool {
+        self.machine.orders != 0
+    }
+
+    fn is_waited_for(&self) -> bool {
         match &self.arbiter {
             Some(arbiter) => arbiter.applied() < self.machine.orders,
             None => false,
@@ -353,5 +388,14 @@ impl<'a, H: Wait, T: RunJob, C: Contexts<T>, R: Rng + Drop> Desk for Seat<'a, H,
     fn is_drained(&mut self) -> bool {
         let table = &self.machine.table;
         table.is_drained(self.rt, &mut self.seat, self.core)
+    }
+
+    fn begins(&self, nth: u64) {
+        self.gate.slice(self.core, nth);
+    }
+
+    #[inline(always)]
+    fn told(&self, event: Event) {
+        self.gate.told(self.core, event);
     }
 }

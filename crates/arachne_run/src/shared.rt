@@ -2,23 +2,19 @@
 ghost use Rattle.std.specs.Prelude.{◌≡◌, IfOk};
 
 use crate::fault::WorkerFault;
-use crate::signals::Signals;
 use arachne_jobs::Room;
 use arachne_spill::CAPACITY;
+use arachne_workers::Shared as Workers;
 use std::alloc::{AllocError, Global};
 use std::marker::Model;
-use std::sync::atomic::{AtomicU64, Ordering};
 use std::sync::{Mutex, Wait};
-use std::time::Duration;
 
-/// The word that stops all workers, what is looked at before each fork, the first fault, and what kernel threads tell
-/// one another.
+/// What kernel threads tell one another, what is looked at before each fork, and the first fault.
 #[derive(Drop)]
 pub(crate) struct Shared {
-    stop: AtomicU64,
     room: Room,
     first_fault: Mutex<Option<WorkerFault>>,
-    signals: Signals,
+    workers: Workers,
 }
 
 // Contracts see for how many cores it is.
@@ -27,7 +23,7 @@ impl Model for Shared {
 
     ghost Value = { ℕ };
 
-    ghost view = { λ s. s.signals };
+    ghost view = { λ s. s.workers };
 }
 
 impl Shared {
@@ -35,38 +31,24 @@ impl Shared {
     pub(crate) fn new(alloc: Global, cores: u8, places: u64) -> Result<Shared, AllocError>
         ensures { IfOk result (λ shared. shared ≡ cores) }
     {
-        let signals = Signals::new(alloc, cores)?;
+        let workers = Workers::new(alloc, cores)?;
         Ok(Shared {
-            stop: AtomicU64::new(0),
             room: Room::new(places, CAPACITY as u64),
             first_fault: Mutex::new(None),
-            signals,
+            workers,
         })
     }
 
     /// What kernel threads tell one another.
-    pub(crate) fn signals(&self) -> &Signals
+    pub(crate) fn workers(&self) -> &Workers
         ensures { result.now ≡ self.now }
     {
-        &self.signals
+        &self.workers
     }
 
     /// Stops all workers, those that sleep or are parked too.
     pub(crate) fn stop(&self) {
-        self.stop.store(1, Ordering::SeqCst);
-        self.signals.wake_all();
-    }
-
-    pub(crate) fn is_stopped(&self) -> bool {
-        self.stop.load(Ordering::SeqCst) != 0
-    }
-
-    /// A core's worker sleeps for so long, or until a thread of its core may be ready or all workers stop.
-    pub(crate) fn sleep<H: Wait>(&self, rt: &H, core: u8, spell: Duration) {
-        // A stop after the look at its word finds that the worker is about to sleep, and wakes it.
-        if self.signals.is_about_to_sleep(core) && !self.is_stopped() {
-            self.signals.sleep(rt, core, spell);
-        }
+        self.workers.stop();
     }
 
     /// What is looked at before each fork.

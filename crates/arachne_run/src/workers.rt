@@ -2,21 +2,21 @@
 ghost use Rattle.std.specs.Prelude.{◌≡◌, ◌<◌, IfSome};
 ghost use Rattle.arachne_run.specs.Tokens.{AreIdle, IsSetUp, ground_of};
 
-use crate::access::Access;
-use crate::execute::Worker;
 use crate::fault::WorkerFault;
 use crate::gate::Gate;
 use crate::machine::Machine;
-use crate::queue::Agenda;
 use crate::seat::Seat;
 use crate::tokens::Tokens;
+use arachne_arbiter::Pace;
 use arachne_contexts::{Contexts, Tagged};
 use arachne_jobs::RunJob;
 use arachne_team::{Team, TeamFault, work_together};
+use arachne_workers::{Agenda, Worker};
 use rand_core::Rng;
 use std::alloc::Global;
 use std::sync::Wait;
 use std::thread::Threads;
+use std::time::Clock;
 
 /// What the workers of a run have in common.
 #[derive(Drop)]
@@ -80,7 +80,7 @@ impl<'a, T: RunJob, C: Contexts<T>, R: Rng + Drop, G: Gate> Team<Share<C::Seat, 
         (own, theirs)
     }
 
-    fn work<H: Wait>(
+    fn work<H: Wait + Clock>(
         &self,
         rt: &H,
         number: u8,
@@ -130,7 +130,7 @@ impl<'a, T: RunJob, C: Contexts<T>, R: Rng + Drop, G: Gate> Team<Share<C::Seat, 
 
 /// Has all cores work until they are stopped, each with its chooser. The last chooser is that of core 0.
 pub(crate) fn work_all<
-    H: Threads + Wait + Sync,
+    H: Threads + Wait + Clock + Sync,
     T: RunJob + Send,
     C: Contexts<T> + Sync,
     R: Rng + Drop + Send,
@@ -173,7 +173,7 @@ where
 
 /// Works on one core until all stop, where there is a root from it on. The tokens, unless something is out with them
 /// after a fault. A core without a chooser has no worker, and that is a fault.
-fn work_on<H: Wait, T: RunJob, C: Contexts<T>, R: Rng + Drop, G: Gate>(
+fn work_on<H: Wait + Clock, T: RunJob, C: Contexts<T>, R: Rng + Drop, G: Gate>(
     rt: &H,
     alloc: Global,
     machine: &Machine<C, T::Ticket>,
@@ -188,15 +188,13 @@ fn work_on<H: Wait, T: RunJob, C: Contexts<T>, R: Rng + Drop, G: Gate>(
     requires core { core < machine.now.cores }
     ensures { IfSome result (AreIdle C.sits C.idle machine.now) }
 {
-    let Tokens {
-        seat,
-        pass,
-        holdings,
-        arbiter,
-    } = tokens;
-    let opened = Seat::open(rt, alloc, machine, core, seat, pass, arbiter, chooser, root);
-    let (desk, root) = match opened {
-        Ok(opened) => opened,
+    let Some(chooser) = chooser else {
+        machine.shared.fail(rt, WorkerFault::KernelThread);
+        return None;
+    };
+    let mut desk = Seat::open(rt, alloc, machine, gate, core, chooser, tokens);
+    let root = match desk.post_root(root) {
+        Ok(root) => root,
         Err(fault) => {
             machine.shared.fail(rt, fault);
             return None;
@@ -204,32 +202,28 @@ fn work_on<H: Wait, T: RunJob, C: Contexts<T>, R: Rng + Drop, G: Gate>(
     };
     let mut worker = Worker {
         rt,
-        gate,
-        shared: &machine.shared,
+        shared: machine.shared.workers(),
         core,
         slots: machine.slots,
-        quantum: machine.quantum,
-        access: Access::new(&machine.resources, holdings),
         agenda: Agenda::new(alloc, root),
         slices: 0,
+        pace: Pace::new(),
         desk,
     };
-    if let Err(fault) = worker.work() {
-        machine.shared.fail(rt, fault);
+    if let Err(halt) = worker.work() {
+        machine.shared.fail(rt, WorkerFault::from(halt));
         return None;
     }
-    let Worker { desk, access, .. } = worker;
-    into_tokens(machine, desk, access)
+    let Worker { desk, .. } = worker;
+    into_tokens(machine, desk)
 }
 
 /// The tokens of a worker that has ended, unless something is out with them.
-fn into_tokens<'a, H: Wait, T: RunJob, C: Contexts<T>, R: Rng + Drop>(
+fn into_tokens<'a, H: Wait, T: RunJob, C: Contexts<T>, R: Rng + Drop, G: Gate>(
     machine: &Machine<C, T::Ticket>,
-    desk: Seat<'a, H, T, C, R>,
-    access: Access<'a>,
+    desk: Seat<'a, H, T, C, R, G>,
 ) -> Option<Tokens<C::Seat, T::Ticket>>
     requires desk { desk ≡ ground_of machine.now }
-    requires access { access ≡ machine.now.resources }
     ensures { IfSome result (AreIdle C.sits C.idle machine.now) }
 {
     let Seat {
@@ -241,6 +235,7 @@ fn into_tokens<'a, H: Wait, T: RunJob, C: Contexts<T>, R: Rng + Drop>(
         kept,
         pass,
         arbiter,
+        access,
         ..
     } = desk;
     let mut kept = kept;

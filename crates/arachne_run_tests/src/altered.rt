@@ -8,6 +8,7 @@ use arachne_contexts::{Claimed, Contexts, Held, Moved, Rested, Seats, Tagged, Ta
 use arachne_core::{Place, Rest, ThreadId};
 use arachne_locked::{LockedClaim, LockedContexts, LockedHold, LockedSeat};
 use std::alloc::{AllocError, Global};
+use std::hint::spin_loop;
 use std::sync::Wait;
 use std::sync::atomic::{AtomicU64, Ordering};
 use std::thread::yield_now;
@@ -41,13 +42,24 @@ enum Alteration {
     Loses,
     /// Whoever finds core 1 full goes on once it has a place, and no thread is moved.
     AwaitsPlace,
+    /// Of three claims of a whole core that follow one another the first two are lost.
+    LosesAlone,
+    /// Of three wakes that follow one another the first two are lost.
+    LosesWakes,
+    /// A core that is to be opened is opened only after a while.
+    OpensLate,
 }
 
 /// How often the second of two calls looks whether the first one was made before it gives up.
 const POLLS: u32 = 100_000_000;
 
-/// How often it lets others go on then, so that what the first call came to is known.
-const YIELDS: u32 = 100_000;
+/// How long it spins then, and how often it lets others go on, so that what the first call came to is known.
+const SPINS: u32 = 1_000_000;
+
+const YIELDS: u32 = 400;
+
+/// How often it lets others go on before a core is opened late.
+const AWHILE: u32 = 2_000;
 
 /// How often whoever finds core 1 full looks again before it gives up.
 const GLANCES: u32 = 2_000_000;
@@ -57,7 +69,8 @@ const GLANCES: u32 = 2_000_000;
 /// claim on a core that is in use, of 7 all cores but 0 are full, of 8 each seat has something out, of 9 and 10 it
 /// refuses memory and hands threads back, the one or the other first, of any other number of 5 places two of three
 /// claims are lost, of 2 cores of 3 places whoever finds core 1 full waits until it has a place, and no thread is
-/// moved, and else it answers nothing by itself.
+/// moved, of any other number of 6 places two of three claims of a whole core are lost, of 7 places two of three wakes,
+/// of 9 places a core that is opened is opened only after a while, and else it answers nothing by itself.
 #[derive(Drop)]
 pub struct Altered<T: Tagged> {
     inner: LockedContexts<T>,
@@ -73,6 +86,9 @@ fn wait(answered: &AtomicU64) {
             break;
         }
         yield_now();
+    }
+    for _ in 0..SPINS {
+        spin_loop();
     }
     for _ in 0..YIELDS {
         yield_now();
@@ -125,6 +141,9 @@ impl<T: Tagged + Drop> Seats for Altered<T> {
             (10, _) => Alteration::HandsBackFirst,
             (_, 5) => Alteration::Loses,
             (2, 3) => Alteration::AwaitsPlace,
+            (_, 6) => Alteration::LosesAlone,
+            (_, 7) => Alteration::LosesWakes,
+            (_, 9) => Alteration::OpensLate,
             _ => Alteration::None,
         };
         let altered = Altered {
@@ -214,7 +233,12 @@ impl<T: Tagged + Drop> Contexts<T> for Altered<T> {
         seat: &mut LockedSeat,
         core: u8,
     ) -> Result<Claimed<LockedClaim>, AllocError> {
-        self.inner.claim_alone(rt, seat, core)
+        match self.alteration {
+            Alteration::LosesAlone if self.answered.fetch_add(1, Ordering::SeqCst) % 3 < 2 => {
+                Ok(Claimed::Lost(FULL))
+            }
+            _ => self.inner.claim_alone(rt, seat, core),
+        }
     }
 
     fn give_back<R: Wait>(
@@ -289,7 +313,12 @@ impl<T: Tagged + Drop> Contexts<T> for Altered<T> {
     }
 
     fn wake<R: Wait>(&self, rt: &R, seat: &mut LockedSeat, id: ThreadId) -> Woken {
-        self.inner.wake(rt, seat, id)
+        match self.alteration {
+            Alteration::LosesWakes if self.answered.fetch_add(1, Ordering::SeqCst) % 3 < 2 => {
+                Woken::Lost(0)
+            }
+            _ => self.inner.wake(rt, seat, id),
+        }
     }
 
     fn close_core<R: Wait>(&self, rt: &R, seat: &mut LockedSeat, core: u8) -> u64 {
@@ -297,6 +326,11 @@ impl<T: Tagged + Drop> Contexts<T> for Altered<T> {
     }
 
     fn open_core<R: Wait>(&self, rt: &R, seat: &mut LockedSeat, core: u8) -> u64 {
+        if let Alteration::OpensLate = self.alteration {
+            for _ in 0..AWHILE {
+                yield_now();
+            }
+        }
         self.inner.open_core(rt, seat, core)
     }
 

@@ -1,6 +1,8 @@
 //! A gate that notes which cores run, or holds them up.
-use arachne_core::CORES;
-use arachne_run::{Event, Gate};
+use arachne_core::{CORES, ThreadId};
+use arachne_judge::Log;
+use arachne_lang::Name;
+use arachne_run::{Event, Gate, SliceEnd};
 use std::hint::spin_loop;
 use std::sync::atomic::{AtomicU64, Ordering};
 use std::thread::yield_now;
@@ -14,11 +16,14 @@ const PAUSE: u32 = 5_000;
 /// How often it looks, without a pause, for a slice that may not begin.
 const SPINS: u32 = 50_000;
 
+/// How often it turns, without a look, while a core that has nothing to run comes to sleep: some milliseconds.
+const REST: u32 = 1_000_000;
+
 /// How often it looks whether the run has stopped.
 const STOPS: u32 = 2_000_000;
 
 /// How often others may go on before it is told whether a slice has begun meanwhile.
-const LOOKS: u32 = 1_000;
+const LOOKS: u32 = 100;
 
 /// What a gate does.
 #[derive(Clone, Copy)]
@@ -42,6 +47,21 @@ pub enum Watching {
     /// It gives core 1 time to park before core 0's slice of the first number, and holds that of the second until core
     /// 1 has entered slice 0.
     Granting(u64, u64),
+    /// It gives core 1, once that has ended a slice, time to sleep before core 0's slice of this number, and holds the
+    /// fourth after it until core 1 is about to park.
+    Parking(u64),
+    /// It holds core 0's slice of this number until this core is about to park.
+    Parked(u8, u64),
+    /// It counts the children that wait for a place with a ticket.
+    Spills,
+    /// It holds core 0's slice of this number until core 1 has entered its slice 0, and that until an order is applied.
+    /// From then on each slice of core 1 follows a taking.
+    Anew(u64),
+    /// It holds core 0's slice of the first number until a thread of core 1 awaits a child, and gives core 1 time to
+    /// park before that of the second. Core 1 may park only once a thread has ended there.
+    ParksLast(u64, u64),
+    /// It holds core 1's slice 0 until threads were moved away from there, and notes to which cores they were.
+    Moving,
     /// It gives a core time to park before core 0's slice 0. It holds core 2's slice 0 until core 1 has entered this
     /// slice, and that until the run is stopped, which the parked core tells. Then core 1 may enter no slice. Slices of
     /// core 1 before it are held until core 0's slice 0 has ended.
@@ -52,13 +72,19 @@ pub enum Watching {
 #[derive(Drop)]
 pub struct Watch {
     watching: Watching,
+    /// What it was told, where that is judged.
+    pub log: Option<Log>,
+    /// The number of the only fork of the root that is exclusive, where that is judged.
+    pub exclusive: Option<u64>,
     /// Bit k is set where core k has entered a slice.
     pub entered: AtomicU64,
     /// How many slices were entered.
     pub slices: AtomicU64,
+    /// How many sleeps ended by their time before something was found.
+    pub oversleeps: AtomicU64,
     zero: AtomicU64,
     one: AtomicU64,
-    /// Core 0's first slice has ended.
+    /// A slice has ended: of core 0, or where core 1 is to sleep of that one.
     ended: AtomicU64,
     failed: AtomicU64,
 }
@@ -67,8 +93,11 @@ impl Watch {
     pub fn new(watching: Watching) -> Watch {
         Watch {
             watching,
+            log: None,
+            exclusive: None,
             entered: AtomicU64::new(0),
             slices: AtomicU64::new(0),
+            oversleeps: AtomicU64::new(0),
             zero: AtomicU64::new(0),
             one: AtomicU64::new(0),
             ended: AtomicU64::new(0),
@@ -79,11 +108,12 @@ impl Watch {
     /// Whether all came that a core was held up for, and nothing was that may not be.
     pub fn is_over(&self) -> bool {
         let (zero, one) = match self.watching {
-            Watching::Nothing | Watching::Cores => (0, 0),
+            Watching::Nothing | Watching::Cores | Watching::Spills => (0, 0),
             Watching::Lead(wanted) => (wanted, 0),
             Watching::First => (0, 1),
-            Watching::Applying(_) => (1, 0),
-            Watching::Stopping(_) => (0, 1),
+            Watching::Applying(_) | Watching::Anew(_) | Watching::Moving => (1, 0),
+            Watching::ParksLast(_, _) => (1, 0),
+            Watching::Stopping(_) | Watching::Parked(_, _) => (0, 1),
             _ => (1, 1),
         };
         self.zero.load(Ordering::SeqCst) >= zero
@@ -142,8 +172,24 @@ impl Watch {
                 }
             }
             Watching::Granting(pause, _) if nth == pause => self.pause(),
+            Watching::Parking(rest) if nth == rest => {
+                self.wait(&self.ended, 1);
+                for _ in 0..REST {
+                    spin_loop();
+                }
+            }
+            Watching::Parked(_, held) if nth == held => self.wait(&self.one, 1),
+            Watching::Anew(held) if nth == held => self.wait(&self.slices, 1),
+            Watching::ParksLast(held, _) if nth == held => self.wait(&self.one, 1),
+            Watching::ParksLast(_, pause) if nth == pause => {
+                let _ = comes(&self.failed, 1, PAUSE);
+            }
             Watching::Stopping(_) if nth == 0 => self.pause(),
             Watching::Granting(_, wanted) if nth == wanted => {
+                self.zero.store(1, Ordering::SeqCst);
+                self.wait(&self.one, 1);
+            }
+            Watching::Parking(rest) if nth == rest.wrapping_add(4) => {
                 self.zero.store(1, Ordering::SeqCst);
                 self.wait(&self.one, 1);
             }
@@ -172,6 +218,16 @@ impl Watch {
                 let _ = comes(&self.zero, 1, STOPS);
             }
             Watching::Stopping(wanted) if nth > wanted => self.failed.store(1, Ordering::SeqCst),
+            Watching::Anew(_) => {
+                if nth == 0 {
+                    self.slices.store(1, Ordering::SeqCst);
+                    self.wait(&self.zero, 1);
+                } else if self.one.load(Ordering::SeqCst) == 0 {
+                    self.failed.store(1, Ordering::SeqCst);
+                }
+                self.one.store(0, Ordering::SeqCst);
+            }
+            Watching::Moving if nth == 0 => self.wait(&self.zero, 1),
             _ => {}
         }
     }
@@ -190,6 +246,9 @@ fn comes(word: &AtomicU64, wanted: u64, polls: u32) -> bool {
 
 impl Gate for Watch {
     fn slice(&self, core: u8, nth: u64) {
+        if let Some(log) = &self.log {
+            log.slice(core, nth);
+        }
         match (self.watching, core) {
             (Watching::Cores, _) => self.note(core),
             (_, 0) => self.enter_zero(nth),
@@ -199,10 +258,29 @@ impl Gate for Watch {
         }
     }
 
-    fn told(&self, core: u8, event: Event<'_>) {
+    fn turn(&self, core: u8, id: ThreadId, name: &Name) {
+        if let Some(log) = &self.log {
+            let is_alone = name.len() == 1 && self.exclusive == Some(name.number(0));
+            log.turn(core, id, is_alone);
+        }
+        if let (Watching::Anew(_), 1) = (self.watching, core) {
+            self.one.store(1, Ordering::SeqCst);
+        }
+    }
+
+    fn told(&self, core: u8, event: Event) {
+        if let Some(log) = &self.log {
+            log.told(core, event);
+        }
         match event {
-            Event::Sliced(_, _) => self.slice_ended(core),
+            Event::Sliced(_, end) => self.slice_ended(core, end),
+            Event::Spilled => self.spilled(),
+            Event::MovedAway(receivers) => self.moved_away(receivers),
+            Event::Parks => self.parks(core),
             Event::Unparked => self.unparked(core),
+            Event::Overslept => {
+                self.oversleeps.fetch_add(1, Ordering::SeqCst);
+            }
             Event::Applied(orders) => self.applied(orders),
             _ => {}
         }
@@ -210,10 +288,41 @@ impl Gate for Watch {
 }
 
 impl Watch {
-    fn slice_ended(&self, core: u8) {
+    fn slice_ended(&self, core: u8, end: SliceEnd) {
         match (self.watching, core) {
+            (Watching::ParksLast(_, _), 1) => match end {
+                SliceEnd::Ended => self.zero.store(1, Ordering::SeqCst),
+                SliceEnd::AwaitsChild => self.one.store(1, Ordering::SeqCst),
+                SliceEnd::GoesOn | SliceEnd::Awaits(_) => {}
+            },
             (Watching::Holding(_), 1) => self.wait(&self.zero, 1),
-            (Watching::Stopping(_), 0) => self.ended.store(1, Ordering::SeqCst),
+            (Watching::Stopping(_), 0) | (Watching::Parking(_), 1) => {
+                self.ended.store(1, Ordering::SeqCst);
+            }
+            _ => {}
+        }
+    }
+
+    fn spilled(&self) {
+        if let Watching::Spills = self.watching {
+            self.slices.fetch_add(1, Ordering::SeqCst);
+        }
+    }
+
+    fn moved_away(&self, receivers: u64) {
+        if let Watching::Moving = self.watching {
+            self.entered.fetch_or(receivers, Ordering::SeqCst);
+            self.zero.store(1, Ordering::SeqCst);
+        }
+    }
+
+    fn parks(&self, core: u8) {
+        match self.watching {
+            Watching::Parking(_) if core == 1 => self.one.store(1, Ordering::SeqCst),
+            Watching::Parked(wanted, _) if core == wanted => self.one.store(1, Ordering::SeqCst),
+            Watching::ParksLast(_, _) if core == 1 && self.zero.load(Ordering::SeqCst) == 0 => {
+                self.failed.store(1, Ordering::SeqCst);
+            }
             _ => {}
         }
     }
@@ -229,7 +338,7 @@ impl Watch {
             Watching::Holding(_) if self.zero.load(Ordering::SeqCst) == 0 => {
                 self.failed.store(1, Ordering::SeqCst);
             }
-            Watching::Applying(_) => self.zero.store(1, Ordering::SeqCst),
+            Watching::Applying(_) | Watching::Anew(_) => self.zero.store(1, Ordering::SeqCst),
             _ => {}
         }
     }

@@ -7,6 +7,8 @@ mod altered;
 #[cfg(test)]
 mod choosers;
 #[cfg(test)]
+mod clocks;
+#[cfg(test)]
 mod gates;
 #[cfg(test)]
 mod hasty;

@@ -15,10 +15,13 @@ use std::alloc::{AllocError, Global};
 use std::sync::Wait;
 use std::test::Fail;
 use std::thread::Threads;
+use std::time::Clock;
 
 mod cores;
 mod facts;
 mod faults;
+mod heeded;
+mod judged;
 mod left;
 mod loads;
 mod locks;
@@ -31,6 +34,7 @@ mod shortage;
 mod slices;
 mod tables;
 mod tickets;
+mod waiting;
 
 /// A form of context table, and the jobs that run over it.
 #[derive(Clone, Copy)]
@@ -80,7 +84,7 @@ fn program_of(alloc: Global, source: &Source) -> Result<Program, Fail>
 }
 
 /// Runs a program over a table on words.
-fn run_on_words<'p, R: Threads + Wait + Sync>(
+fn run_on_words<'p, R: Threads + Wait + Clock + Sync>(
     rt: &R,
     alloc: Global,
     program: &'p Program,
@@ -96,7 +100,7 @@ fn run_on_words<'p, R: Threads + Wait + Sync>(
 }
 
 /// Runs a program over a table behind a lock.
-fn run_on_lock<'p, R: Threads + Wait + Sync>(
+fn run_on_lock<'p, R: Threads + Wait + Clock + Sync>(
     rt: &R,
     alloc: Global,
     program: &'p Program,
@@ -112,7 +116,7 @@ fn run_on_lock<'p, R: Threads + Wait + Sync>(
 }
 
 /// Runs a program's text over the table on words by jobs that end before they await what they have forked.
-fn run_hastily<'p, R: Threads + Wait + Sync>(
+fn run_hastily<'p, R: Threads + Wait + Clock + Sync>(
     rt: &R,
     alloc: Global,
     program: &'p Program,
@@ -150,7 +154,7 @@ fn setup_of(
 }
 
 /// What comes of a run of a program.
-fn answer<R: Threads + Wait + Sync>(
+fn answer<R: Threads + Wait + Clock + Sync>(
     rt: &R,
     alloc: Global,
     program: &Program,

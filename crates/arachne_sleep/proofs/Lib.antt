@@ -1,3 +1,5 @@
+pub mod Weaving
+pub mod Turns
 pub mod Consistency
 pub mod Histories
 pub mod OneHolderLaw

@@ -13,3 +13,8 @@ pub mod Rule
 pub mod Steps
 pub mod Views
 pub mod Calls
+pub mod Threads
+pub mod ThreadList
+pub mod Weaving
+pub mod Written
+pub mod Woven

@@ -5,7 +5,7 @@ ghost use Rattle.arachne_sleep.specs.Calls.{IsAsked, IsFreed, IsChecked, pass_as
 ghost use Rattle.arachne_sleep.specs.Histories.{place_of};
 
 use crate::answer::{AskFault, Asked, Freed, NotHolder, Pass};
-use crate::event::LockEvent;
+use crate::history::History;
 use crate::lock_state::LockState;
 use crate::who::Who;
 use crossbeam_utils::CachePadded;
@@ -92,7 +92,7 @@ impl GuardedState {
         answer
     }
 
-    pub(crate) fn into_history(self) -> Vec<LockEvent>
+    pub(crate) fn into_history(self) -> History
         ensures events { result.items ≡ self.state.history }
         ensures sound { IsSound self.state.history }
     {

@@ -1,5 +1,6 @@
 //! A sleep lock that kernel threads share, and in whose calls none of them waits.
 ghost use Rattle.std.specs.Prelude.{◌≡◌, ◌↔◌, List, MatchBool, IsTrue, IsOk, IfOk, None, [], ◌∷◌};
+ghost use Rattle.arachne_sleep.specs.declared.event.LockEvent.{LockEvent};
 ghost use Rattle.arachne_sleep.specs.History.{IsSound};
 ghost use Rattle.arachne_sleep.specs.OneHolder.{HasOneHolderAtATime};
 ghost use Rattle.arachne_sleep.specs.Logs.{contended_log, given_back_log};
@@ -9,8 +10,8 @@ ghost use Rattle.arachne_sleep.specs.Views.{Guarded, IsSeatOf, IsWhole, whole_se
 ghost use Rattle.arachne_sleep.specs.Calls.{IsAsked, IsFreed, IsChecked, pass_asked, AskAnswer, FreeAnswer, CheckAnswer, IsToldBy};
 
 use crate::answer::{AskFault, Asked, Freed, NotHolder, Pass, Tried};
-use crate::event::LockEvent;
 use crate::guarded_state::GuardedState;
+use crate::history::History;
 use crate::lock_seat::LockSeat;
 use crate::steps::{Deal, GiveBack, GuardRule, Take};
 use crate::view::View;
@@ -194,7 +195,7 @@ impl SleepLock {
     }
 
     /// All that was asked, granted and freed, oldest first. It takes no memory.
-    pub fn close(self, seat: LockSeat) -> Result<Vec<LockEvent>, (SleepLock, LockSeat)>
+    pub fn close(self, seat: LockSeat) -> Result<History, (SleepLock, LockSeat)>
         requires own { IsSeatOf self seat }
         requires whole { IsWhole seat }
         ensures closed { IsOk result }
@@ -205,7 +206,7 @@ impl SleepLock {
         Ok(self.into_history(seat))
     }
 
-    pub(crate) fn into_history(self, seat: LockSeat) -> Vec<LockEvent>
+    pub(crate) fn into_history(self, seat: LockSeat) -> History
         requires own { IsSeatOf self seat }
         requires whole { IsWhole seat }
         ensures sound { IsSound result.items }

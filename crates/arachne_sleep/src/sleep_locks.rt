@@ -8,7 +8,7 @@ ghost use Rattle.arachne_sleep.specs.Calls.{AskAnswer, FreeAnswer, CheckAnswer, 
 ghost use Rattle.arachne_sleep.specs.SleepLocks.{AreSeatsOf, ChangesAt, all_joined};
 
 use crate::answer::{AskFault, Asked, Freed, NotHolder, Pass, Tried};
-use crate::event::LockEvent;
+use crate::history::History;
 use crate::lock_seat::LockSeat;
 use crate::sleep_lock::SleepLock;
 use crate::who::Who;
@@ -157,7 +157,7 @@ impl SleepLocks {
         self,
         alloc: Global,
         seats: LockSeats,
-    ) -> Result<Vec<Vec<LockEvent>>, (SleepLocks, LockSeats)>
+    ) -> Result<Vec<History>, (SleepLocks, LockSeats)>
         requires own { AreSeatsOf self seats }
         requires whole { All IsWhole seats }
         ensures count { IfOk result (λ histories. length histories.items ≡ length self) }

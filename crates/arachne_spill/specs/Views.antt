@@ -43,3 +43,8 @@ AllCameOut pass = (tag : ℕ) → times tag pass.pushed ≡ times tag pass.poppe
 -- so many more went in through it than came out
 abbrev pub IsAheadBy : PassView → ℕ → Type 0
 IsAheadBy pass count = length pass.pushed ≡ length pass.popped + count
+
+-- At one moment of the call the queue held so many items. Through the whole pass so many more went in than came out;
+-- of another pass this says little, since nothing ties the other passes of that moment to the queue.
+abbrev pub HasCounted : {T : Type 0} → (T → ℕ) → PassView → ℕ → Type 0
+HasCounted tag_of pass count = WasSeen tag_of pass count × (IsWhole pass → IsAheadBy pass count)

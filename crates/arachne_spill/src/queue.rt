@@ -1,7 +1,7 @@
 //! The queue, and the calls on it.
-ghost use Rattle.std.specs.Prelude.{◌≡◌, ◌↔◌, ◌++◌, [], ◌∷◌, IfOk, IfErr, OnOk, OnErr, IfSome, IfNone, IsTrue};
+ghost use Rattle.std.specs.Prelude.{◌≡◌, ◌↔◌, ◌++◌, [], ◌∷◌, ℕ, IfOk, IfErr, OnOk, OnErr, IfSome, IfNone, IsTrue};
 ghost use Rattle.arachne_weights.specs.Weight.{whole, first_part, second_part, joined};
-ghost use Rattle.arachne_spill.specs.Views.{IsPassOf, IsWhole, IsAheadBy, WasSeen, AllCameOut, capacity};
+ghost use Rattle.arachne_spill.specs.Views.{IsPassOf, IsWhole, IsAheadBy, WasSeen, HasCounted, AllCameOut, capacity};
 
 use crate::pass::{SpillPass, View};
 use crate::steps::{Balanced, Deal, Pop, Push};
@@ -45,7 +45,8 @@ impl<T: Tagged + Drop> SpillQueue<T> {
         Ok((SpillQueue { ring }, pass))
     }
 
-    /// Puts an item at the back. It comes back only where the queue was full at one moment of the call.
+    /// Puts an item at the back. It comes back only where the queue was full at one moment of the call: the clauses say
+    /// so of the whole pass alone, since of another one they tell nothing of the queue.
     pub fn push<R: Wait>(&self, rt: &R, pass: &mut SpillPass<T>, item: T) -> Result<(), T>
         requires own { IsPassOf self.now pass.old }
         ensures pushed { OnOk result (pass.new ≡ record pass.old { pushed = pass.old.pushed ++ T.tag_of item ∷ [] }) }
@@ -57,7 +58,8 @@ impl<T: Tagged + Drop> SpillQueue<T> {
         self.ring.push_as::<Push, R>(rt, &mut pass.pass, item)
     }
 
-    /// Takes the item at the front. There is none only where the queue was empty at one moment of the call.
+    /// Takes the item at the front. There is none only where the queue was empty at one moment of the call: the clauses
+    /// say so of the whole pass alone, since of another one they tell nothing of the queue.
     pub fn pop<R: Wait>(&self, rt: &R, pass: &mut SpillPass<T>) -> Option<T>
         requires own { IsPassOf self.now pass.old }
         ensures popped { IfSome result (λ item. pass.new ≡ record pass.old { popped = pass.old.popped ++ T.tag_of item ∷ [] }) }
@@ -68,24 +70,35 @@ impl<T: Tagged + Drop> SpillQueue<T> {
         self.ring.pop_as::<Pop, R>(rt, &mut pass.pass)
     }
 
-    /// Whether the queue was full at one moment of the call. It waits for nobody, and changes nothing.
-    pub fn is_full(&self, pass: &mut SpillPass<T>) -> bool
+    /// How many items the queue held at one moment of the call. What is said of it is of use for the whole pass alone.
+    /// It looks again while others push, and changes nothing.
+    pub fn len<R: Wait>(&self, rt: &R, pass: &mut SpillPass<T>) -> usize
         requires own { IsPassOf self.now pass.old }
         ensures same { pass.new ≡ pass.old }
-        ensures full { IsTrue result → WasSeen T.tag_of pass.old capacity }
-        ensures whole { IsTrue result → IsWhole pass.old → IsAheadBy pass.old capacity }
+        ensures seen { WasSeen T.tag_of pass.old result }
+        ensures whole { IsWhole pass.old → IsAheadBy pass.old result }
+        ensures all_out { result ≡ 0 → IsWhole pass.old → AllCameOut pass.old }
     {
-        self.ring.is_full_as::<Push>(&mut pass.pass)
+        self.ring.len_as::<Push, R>(rt, &mut pass.pass)
     }
 
-    /// Whether the queue was empty at one moment of the call. It waits for nobody, and changes nothing.
-    pub fn is_empty(&self, pass: &mut SpillPass<T>) -> bool
+    /// Whether the queue was full at one moment of the call, as [`SpillQueue::len`] sees it.
+    pub fn is_full<R: Wait>(&self, rt: &R, pass: &mut SpillPass<T>) -> bool
         requires own { IsPassOf self.now pass.old }
         ensures same { pass.new ≡ pass.old }
-        ensures empty { IsTrue result → WasSeen T.tag_of pass.old 0 }
+        ensures counted { (count : ℕ) × (IsTrue result ↔ (count ≡ capacity)) × HasCounted T.tag_of pass.old count }
+    {
+        self.len(rt, pass) == CAPACITY
+    }
+
+    /// Whether the queue was empty at one moment of the call, as [`SpillQueue::len`] sees it.
+    pub fn is_empty<R: Wait>(&self, rt: &R, pass: &mut SpillPass<T>) -> bool
+        requires own { IsPassOf self.now pass.old }
+        ensures same { pass.new ≡ pass.old }
+        ensures counted { (count : ℕ) × (IsTrue result ↔ (count ≡ 0)) × HasCounted T.tag_of pass.old count }
         ensures all_out { IsTrue result → IsWhole pass.old → AllCameOut pass.old }
     {
-        self.ring.is_empty_as::<Pop>(&mut pass.pass)
+        self.len(rt, pass) == 0
     }
 
     /// Halves the weight, rounded up for the first pass, which keeps what is known. At weight 1 or 0 neither gets any.

@@ -39,6 +39,8 @@ fn a_table_of_words_gives_each_row(rt: HostRuntime) -> Result<(), Fail> {
 #[test]
 fn tables_behind_a_lock_are_filled(rt: HostRuntime) -> Result<(), Fail> {
     sizes::fill_tables::<LockedContexts<Job>, HostRuntime>(&rt, rt.alloc())?;
+    let made = sizes::make_tables::<LockedContexts<Job>>(rt.alloc())?;
+    assert!(rt; made == 64 * 56);
     let spent = sizes::spend_core::<LockedContexts<Job>, HostRuntime>(&rt, rt.alloc())?;
     assert!(rt; spent == (0x38ffffffffffffff, 0x78ffffffffffffff, false));
     Ok(())
@@ -47,6 +49,8 @@ fn tables_behind_a_lock_are_filled(rt: HostRuntime) -> Result<(), Fail> {
 #[test]
 fn tables_of_words_are_filled(rt: HostRuntime) -> Result<(), Fail> {
     sizes::fill_tables::<WordContexts<Job>, HostRuntime>(&rt, rt.alloc())?;
+    let made = sizes::make_tables::<WordContexts<Job>>(rt.alloc())?;
+    assert!(rt; made == 64 * 56);
     let spent = sizes::spend_core::<WordContexts<Job>, HostRuntime>(&rt, rt.alloc())?;
     assert!(rt; spent == (0x38ffffffffffffff, 0x78ffffffffffffff, false));
     Ok(())

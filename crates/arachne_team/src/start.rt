@@ -7,6 +7,7 @@ use std::alloc::Global;
 use std::snapshot::Snapshot;
 use std::sync::Wait;
 use std::thread::{self, Promise, PromisedHandle, Threads};
+use std::time::Clock;
 
 /// The share that a kernel thread gives back is one of this team.
 #[derive(Drop)]
@@ -33,7 +34,7 @@ impl<S, W: Team<S>> Promise<Option<S>> for Returns<W> {
 ///
 /// Where memory or a kernel thread is refused the team is told so, and those that have begun work without the others.
 /// The idea is that of a team of threads of OpenMP.
-pub fn work_together<H: Threads + Wait + Sync, S: Drop + Send, W: Team<S> + Sync>(
+pub fn work_together<H: Threads + Wait + Clock + Sync, S: Drop + Send, W: Team<S> + Sync>(
     rt: &H,
     alloc: Global,
     team: &W,

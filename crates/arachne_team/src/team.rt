@@ -2,6 +2,7 @@
 ghost use Rattle.std.specs.Prelude.{ℕ, ◌≡◌, ◌<◌, IfSome};
 
 use std::sync::Wait;
+use std::time::Clock;
 
 /// Why a kernel thread of a team does not begin.
 #[derive(Clone, Copy, Debug, PartialEq, Eq)]
@@ -34,7 +35,7 @@ pub trait Team<S> {
         ensures other { IfSome result.1 (Self.has self.now) };
 
     /// What the kernel thread of this number does. Its share, unless it is lost.
-    fn work<R: Wait>(&self, rt: &R, number: u8, share: S) -> Option<S>
+    fn work<R: Wait + Clock>(&self, rt: &R, number: u8, share: S) -> Option<S>
         requires share { Self.has self.now share }
         requires number { number < Self.size self.now }
         ensures { IfSome result (Self.has self.now) };

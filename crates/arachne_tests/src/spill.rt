@@ -67,21 +67,21 @@ fn drain<R: Wait>(rt: &R, queue: &Queue, pass: &mut Pass) -> Option<u64>
 }
 
 /// Whether the queue is empty, and whether it is full.
-fn looks(queue: &Queue, pass: &mut Pass) -> (bool, bool)
+fn looks<R: Wait>(rt: &R, queue: &Queue, pass: &mut Pass) -> (bool, bool)
     requires { IsPassOf queue.now pass.old }
     ensures { IsPassOf queue.now pass.new }
 {
-    (queue.is_empty(pass), queue.is_full(pass))
+    (queue.is_empty(rt, pass), queue.is_full(rt, pass))
 }
 
 #[test]
 fn the_257th_ticket_comes_back(rt: HostRuntime) -> Result<(), AllocError> {
     let (queue, mut pass) = make(rt.alloc())?;
-    let empty = looks(&queue, &mut pass);
+    let empty = looks(&rt, &queue, &mut pass);
     let refused = fill(&rt, &queue, &mut pass);
-    let full = looks(&queue, &mut pass);
+    let full = looks(&rt, &queue, &mut pass);
     let popped = drain(&rt, &queue, &mut pass);
-    let drained = looks(&queue, &mut pass);
+    let drained = looks(&rt, &queue, &mut pass);
     assert!(rt; (empty, full, drained) == ((true, false), (false, true), (true, false)));
     assert!(rt; (refused, popped, CAPACITY) == (Some(256), Some(256), 256));
     Ok(())

@@ -9,7 +9,7 @@ use arachne_join::{Fits, JoinCell, SendingEnd};
 use std::alloc::{AllocError, Global};
 use std::sync::Wait;
 use std::thread;
-use std::thread::Threads;
+use std::thread::{Parker, Threads};
 
 /// The square of a number, modulo 2^64.
 #[derive(Drop)]
@@ -25,23 +25,24 @@ type Cell = JoinCell<Square, u64>;
 /// How many squares are added up in the end, each by a kernel thread of its own.
 const MANY: u64 = 10_000;
 
-/// The child's part. Its sending end is used up.
-fn leave(cell: &Cell, end: SendingEnd<Square, u64>, number: u64)
+/// The child's part. Its sending end is used up, and the parent is woken.
+fn leave(cell: &Cell, end: SendingEnd<Square, u64>, number: u64, left: &Parker)
     requires place { end ≡ cell.now.table }
     requires what_for { cell.now.key ≡ number }
 {
     end.leave(cell, Square(number.wrapping_mul(number)));
+    left.unpark();
 }
 
-/// The parent's part: it looks until the value is there.
-fn fetch<R: Wait>(rt: &R, cell: &Cell) -> u64
+/// The parent's part: it sleeps until the value is there.
+fn fetch<R: Wait>(rt: &R, cell: &Cell, left: &Parker) -> u64
     ensures { result ≡ cell.now.key * cell.now.key % 2 ^ 64 }
 {
     for _ in rt.forever() {
         if let Ok((square, _)) = cell.fetch() {
             return square.0;
         }
-        thread::yield_now();
+        left.park(rt);
     }
     unreachable!()
 }
@@ -55,7 +56,12 @@ fn square_beside<R: Threads + Wait + Sync>(
     ensures { IfOk result (λ square. square ≡ number * number % 2 ^ 64) }
 {
     let (cell, end) = JoinCell::new(alloc, &number)?;
-    let ((), square) = thread::join(rt, || leave(&cell, end, number), || fetch(rt, &cell));
+    let left = Parker::new();
+    let ((), square) = thread::join(
+        rt,
+        || leave(&cell, end, number, &left),
+        || fetch(rt, &cell, &left),
+    );
     Ok(square)
 }
 

@@ -19,6 +19,7 @@ use rand_xoshiro::Xoshiro256PlusPlus;
 use std::alloc::{AllocError, Global};
 use std::sync::Wait;
 use std::thread::Threads;
+use std::time::Clock;
 
 /// Two threads hold lock 0 in turn, and add to ledger 0.
 const TEXT: &str = "arachne 1
@@ -37,7 +38,7 @@ fn choosers(alloc: Global, cores: u64) -> Result<Vec<Xoshiro256PlusPlus>, AllocE
 }
 
 /// Runs a checked program on so many cores, a kernel thread for each, with no orders to take cores back.
-fn run_on<'p, R: Threads + Wait + Sync>(
+fn run_on<'p, R: Threads + Wait + Clock + Sync>(
     rt: &R,
     alloc: Global,
     program: &'p Program,
@@ -61,7 +62,7 @@ fn run_on<'p, R: Threads + Wait + Sync>(
 
 /// What a run of a text's program brings, or why it brings nothing: what the program means on one thread, and a history
 /// of each lock.
-fn report<R: Threads + Wait + Sync>(
+fn report<R: Threads + Wait + Clock + Sync>(
     rt: &R,
     alloc: Global,
     text: &[u8],
@@ -92,7 +93,7 @@ fn main(rt: HostRuntime) -> Result<()> {
     }
     println!(rt; "{} threads", report.threads.as_slice().len())?;
     for history in report.histories.as_slice() {
-        println!(rt; "{} events of a lock", history.as_slice().len())?;
+        println!(rt; "{} events of a lock", history.len())?;
     }
     Ok(())
 }

@@ -13,6 +13,7 @@ use arachne_table::{Contexts, Seats};
 use arachne_team::{Team, TeamFault};
 use std::alloc::Global;
 use std::sync::Wait;
+use std::time::Clock;
 
 /// What the kernel threads have in common. The first one is the sender, and there is one more for each of the server's
 /// cores.
@@ -74,7 +75,12 @@ impl<'s, C: Contexts<Spawned<Request>>> Team<Share<C::Seat>> for Crew<'s, C> {
         (own, Some(theirs))
     }
 
-    fn work<R: Wait>(&self, rt: &R, number: u8, share: Share<C::Seat>) -> Option<Share<C::Seat>> {
+    fn work<R: Wait + Clock>(
+        &self,
+        rt: &R,
+        number: u8,
+        share: Share<C::Seat>,
+    ) -> Option<Share<C::Seat>> {
         let Share {
             worker,
             begun,

@@ -15,13 +15,14 @@ use arachne_team::work_together;
 use std::alloc::{AllocError, Global};
 use std::sync::Wait;
 use std::thread::Threads;
+use std::time::Clock;
 
 /// The pool's table.
 type Table = WordContexts<Spawned<Request>>;
 
 /// Answers all requests of a list, with the cores of a keeper and one more core, on which nothing runs: the sender's.
 /// What was done, or why that can't be.
-pub fn run<R: Threads + Wait + Sync>(
+pub fn run<R: Threads + Wait + Clock + Sync>(
     rt: &R,
     alloc: Global,
     requests: &[Due],

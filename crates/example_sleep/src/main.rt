@@ -7,12 +7,13 @@ ghost use Rattle.arachne_sleep.specs.Views.{IsSeatOf};
 
 use anyhow::{Result, bail};
 use arachne_core::ThreadId;
-use arachne_sleep::{Asked, LockEvent, LockSeat, SleepLock, Tried, Who};
+use arachne_sleep::{Asked, History, LockSeat, SleepLock, Tried, Who};
 use std::sync::Wait;
 use std::thread;
+use std::time::{Clock, Duration};
 
 /// Asks for the lock, and comes back once the thread holds it. None where memory is refused.
-fn enter<R: Wait>(rt: &R, lock: &SleepLock, seat: &mut LockSeat, who: Who) -> Option<()>
+fn enter<R: Wait + Clock>(rt: &R, lock: &SleepLock, seat: &mut LockSeat, who: Who) -> Option<()>
     requires { IsSeatOf lock.now seat.old }
     ensures { IsSeatOf lock.now seat.new }
 {
@@ -22,15 +23,15 @@ fn enter<R: Wait>(rt: &R, lock: &SleepLock, seat: &mut LockSeat, who: Who) -> Op
             // Its turn comes: who frees the lock is told the next in line, and may wake it.
             Tried::Answered(Ok(Asked::Queued { .. })) => break,
             Tried::Answered(Err(_)) => return None,
-            // Another seat is at the lock, and nothing has changed: try again.
-            Tried::Contended => thread::yield_now(),
+            // Another seat is at the lock for a moment, and nothing has changed: try again.
+            Tried::Contended => thread::sleep(rt, Duration::from_micros(50)),
         }
     }
     for _ in rt.forever() {
         if let Tried::Answered(Some(_)) = lock.check(seat, who) {
             return Some(());
         }
-        thread::yield_now();
+        thread::sleep(rt, Duration::from_micros(50));
     }
     unreachable!()
 }
@@ -48,7 +49,12 @@ fn leave<R: Wait>(rt: &R, lock: &SleepLock, seat: &mut LockSeat, who: Who) -> Op
     unreachable!()
 }
 
-fn take_turns<R: Wait>(rt: &R, lock: &SleepLock, mut seat: LockSeat, tag: u64) -> Option<LockSeat>
+fn take_turns<R: Wait + Clock>(
+    rt: &R,
+    lock: &SleepLock,
+    mut seat: LockSeat,
+    tag: u64,
+) -> Option<LockSeat>
     requires { IsSeatOf lock.now seat }
     ensures { IfSome result (IsSeatOf lock.now) }
 {
@@ -64,7 +70,7 @@ fn take_turns<R: Wait>(rt: &R, lock: &SleepLock, mut seat: LockSeat, tag: u64) -
 }
 
 /// The history of a lock that nobody uses any more.
-fn history(lock: SleepLock, seat: LockSeat) -> Option<Vec<LockEvent>>
+fn history(lock: SleepLock, seat: LockSeat) -> Option<History>
     requires { IsSeatOf lock seat }
     ensures { IfSome result (λ history. HasOneHolderAtATime history.items) }
 {

@@ -7,6 +7,7 @@ use anyhow::{Result, bail};
 use arachne_table::{Claimed, Contexts, Tagged, Taken, WordContexts};
 use std::sync::Wait;
 use std::thread;
+use std::time::{Clock, Duration};
 
 /// How many places the core has.
 const PLACES: u8 = 8;
@@ -26,12 +27,12 @@ impl Tagged for Parcel {
 }
 
 /// Posts all numbers, each once there is a place for it. None where memory is refused.
-fn post_all<C: Contexts<Parcel>, R: Wait>(rt: &R, table: &C, mut seat: C::Seat) -> Option<C::Seat>
+fn post<C: Contexts<Parcel>, R: Wait + Clock>(rt: &R, table: &C, seat: C::Seat) -> Option<C::Seat>
     requires seat { C.sits table.now seat × C.idle table.now seat }
     requires core { 0 < C.core_count table.now }
     ensures { IfSome result (λ seat. C.sits table.now seat × C.idle table.now seat) }
 {
-    let mut number = 0;
+    let (mut seat, mut number) = (seat, 0);
     for _ in rt.forever() {
         if number == NUMBERS {
             return Some(seat);
@@ -43,14 +44,14 @@ fn post_all<C: Contexts<Parcel>, R: Wait>(rt: &R, table: &C, mut seat: C::Seat) 
             }
             // Another seat was quicker: try again.
             Claimed::Lost(_) => {}
-            Claimed::Full(_) | Claimed::Closed(_) => thread::yield_now(),
+            Claimed::Full(_) | Claimed::Closed(_) => thread::sleep(rt, Duration::from_micros(50)),
         }
     }
     unreachable!()
 }
 
 /// Takes what is ready until all numbers have come. Their sum.
-fn take_all<C: Contexts<Parcel>, R: Wait>(
+fn take_all<C: Contexts<Parcel>, R: Wait + Clock>(
     rt: &R,
     table: &C,
     mut seat: C::Seat,
@@ -71,7 +72,7 @@ fn take_all<C: Contexts<Parcel>, R: Wait>(
         if taken == NUMBERS {
             return Some((seat, sum));
         }
-        thread::yield_now();
+        thread::sleep(rt, Duration::from_micros(50));
     }
     unreachable!()
 }
@@ -81,7 +82,7 @@ fn main(rt: HostRuntime) -> Result<()> {
     let (first, second) = table.split(seat);
     let (first, second) = thread::join(
         &rt,
-        || post_all::<WordContexts<Parcel>, HostRuntime>(&rt, &table, first),
+        || post::<WordContexts<Parcel>, HostRuntime>(&rt, &table, first),
         || take_all::<WordContexts<Parcel>, HostRuntime>(&rt, &table, second),
     );
     let (Some(first), Some((second, sum))) = (first, second) else {

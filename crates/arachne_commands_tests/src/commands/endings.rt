@@ -6,6 +6,7 @@ use std::alloc::{AllocError, Global};
 use std::process::Abort;
 use std::sync::Wait;
 use std::thread::Threads;
+use std::time::Clock;
 
 /// How a run is to end: its status, its output and its faults, where `usage` stands for a text of `clap`'s.
 #[derive(Clone, Copy)]
@@ -49,7 +50,7 @@ pub(super) fn shown(status: u8, faults: &[u8]) -> &[u8] {
 
 /// The status with which the program ends. It says nothing of what is read and written, which makes the proofs of the
 /// tests short.
-pub(super) fn status_of<R: Threads + Wait + Sync>(
+pub(super) fn status_of<R: Threads + Wait + Clock + Sync>(
     rt: &R,
     alloc: Global,
     words: &[&str],
@@ -62,7 +63,7 @@ pub(super) fn status_of<R: Threads + Wait + Sync>(
 
 /// Runs the program on these words and streams, and answers whether it ends as is told. Where all went well the output
 /// is flushed once, at its end, and where the words are refused nothing is read.
-pub(super) fn ends<R: Threads + Wait + Sync>(
+pub(super) fn ends<R: Threads + Wait + Clock + Sync>(
     rt: &R,
     alloc: Global,
     words: &str,
@@ -83,7 +84,7 @@ pub(super) fn ends<R: Threads + Wait + Sync>(
 }
 
 /// The program ends so on these words and bytes.
-pub(super) fn assert_ends<R: Abort + Threads + Wait + Sync>(
+pub(super) fn assert_ends<R: Abort + Threads + Wait + Clock + Sync>(
     rt: &R,
     alloc: Global,
     words: &str,
@@ -97,7 +98,7 @@ pub(super) fn assert_ends<R: Abort + Threads + Wait + Sync>(
 }
 
 /// The program ends on these words and an input as is told, both as rows spell them.
-fn assert_row<R: Abort + Threads + Wait + Sync>(
+fn assert_row<R: Abort + Threads + Wait + Clock + Sync>(
     rt: &R,
     alloc: Global,
     words: &str,
@@ -111,7 +112,7 @@ fn assert_row<R: Abort + Threads + Wait + Sync>(
 }
 
 /// The program ends on these words as each row of a block says. It counts the rows.
-fn assert_rows<R: Abort + Threads + Wait + Sync>(
+fn assert_rows<R: Abort + Threads + Wait + Clock + Sync>(
     rt: &R,
     alloc: Global,
     words: &str,
@@ -128,7 +129,7 @@ fn assert_rows<R: Abort + Threads + Wait + Sync>(
 }
 
 /// Each line of words of a block, which begins with a `$`, ends on each of its rows as that says. It counts the runs.
-fn assert_block<R: Abort + Threads + Wait + Sync>(
+fn assert_block<R: Abort + Threads + Wait + Clock + Sync>(
     rt: &R,
     alloc: Global,
     block: &str,
@@ -144,7 +145,7 @@ fn assert_block<R: Abort + Threads + Wait + Sync>(
 
 /// Blocks with an empty line between them: lines of words, and rows of an input, an arrow and how each of the words
 /// ends on it. It counts the runs.
-pub(super) fn all_end<R: Abort + Threads + Wait + Sync>(
+pub(super) fn all_end<R: Abort + Threads + Wait + Clock + Sync>(
     rt: &R,
     alloc: Global,
     blocks: &str,

@@ -5,6 +5,7 @@ use std::alloc::{AllocError, Global};
 use std::process::Abort;
 use std::sync::Wait;
 use std::thread::Threads;
+use std::time::Clock;
 
 const PROGRAM: &str = "\
 Run and evaluate programs of the task language, and judge samples of a load
@@ -103,7 +104,7 @@ const SHOWN: &[(&str, &str)] = &[
 ];
 
 /// The words show this text on the faults stream, with status 2.
-fn assert_shows<R: Abort + Threads + Wait + Sync>(
+fn assert_shows<R: Abort + Threads + Wait + Clock + Sync>(
     rt: &R,
     alloc: Global,
     words: &str,

@@ -7,6 +7,7 @@ use std::alloc::{AllocError, Global};
 use std::process::Abort;
 use std::sync::Wait;
 use std::thread::Threads;
+use std::time::Clock;
 
 /// The most runs of a row, and how many bytes more there are for each.
 const RUNS: u64 = 5_000;
@@ -17,7 +18,7 @@ const BYTES: usize = 100;
 const WANTS: &[&[u8]] = &[b"fault 30\n", b"fault 35\n"];
 
 /// How the words end on an input: as is told, or by a fault of want of memory or of a kernel thread.
-fn is_told<R: Threads + Wait + Sync>(
+fn is_told<R: Threads + Wait + Clock + Sync>(
     rt: &R,
     alloc: Global,
     words: &[&str],
@@ -79,7 +80,7 @@ const ON_CORES: &[Row] = &[(
 
 /// Runs a row's words with memory, with none, and then with a little more each time, until they end as is told, or
 /// that often. It counts the runs.
-fn ends_at_last<R: Abort + Threads + Wait + Sync>(
+fn ends_at_last<R: Abort + Threads + Wait + Clock + Sync>(
     rt: &R,
     alloc: Global,
     row: Row,

@@ -9,6 +9,7 @@ use std::io::ErrorKind;
 use std::process::Abort;
 use std::sync::Wait;
 use std::thread::Threads;
+use std::time::Clock;
 
 /// Words, an input, and how they end on it, as rows spell them.
 type Row = (&'static str, &'static str, &'static str);
@@ -93,7 +94,7 @@ const ERRORS: &[(ErrorKind, bool)] = &[
 
 /// Runs a row's words on its input, which is given so many bytes at a time, with each of its reads failing in turn, in
 /// each way. It counts the reads.
-fn each_read_fails<R: Abort + Threads + Wait + Sync>(
+fn each_read_fails<R: Abort + Threads + Wait + Clock + Sync>(
     rt: &R,
     alloc: Global,
     row: Row,
@@ -228,7 +229,7 @@ fn told_of<'a>(case: &Case<'a>, stream: Stream, at: u64) -> Told<'a> {
 
 /// A case of which one call fails so ends as it is to, and that call is not made again. Without a failure the calls of
 /// each kind are counted.
-fn calls_of<R: Abort + Threads + Wait + Sync>(
+fn calls_of<R: Abort + Threads + Wait + Clock + Sync>(
     rt: &R,
     alloc: Global,
     case: &Case<'_>,
@@ -252,7 +253,7 @@ fn calls_of<R: Abort + Threads + Wait + Sync>(
 }
 
 /// Each call of this kind fails in turn, in each way.
-fn each_call_fails<R: Abort + Threads + Wait + Sync>(
+fn each_call_fails<R: Abort + Threads + Wait + Clock + Sync>(
     rt: &R,
     alloc: Global,
     case: &Case<'_>,

@@ -1,5 +1,5 @@
 //! What a report, and a gate that watched the run, show.
-use super::locks::{events_of, grants, grants_are_holds, history};
+use super::locks::{events, events_of, grants, grants_are_holds};
 use super::programs::threads_of;
 use crate::gates::Watch;
 use arachne_machine::Ran;
@@ -36,6 +36,10 @@ pub(super) enum Fact {
     Cores,
     /// Whether so many slices were entered.
     Slices(u64),
+    /// Whether so many children waited with a ticket.
+    Tickets(u64),
+    /// Whether no more sleeps than this ended by their time before something was found.
+    OversleepsUpTo(u64),
     /// Whether all came that the gate held a core up for.
     IsOver,
     /// How often something happened to the first lock.
@@ -65,9 +69,11 @@ pub(super) fn number(report: &Report, watch: &Watch, fact: Fact) -> u64 {
         Fact::AppliesUpTo(most) => u64::from(report.applied as u64 <= most),
         Fact::Cores => watch.entered.load(Ordering::SeqCst),
         Fact::Slices(least) => u64::from(watch.slices.load(Ordering::SeqCst) >= least),
+        Fact::Tickets(least) => u64::from(watch.slices.load(Ordering::SeqCst) >= least),
+        Fact::OversleepsUpTo(most) => { u64::from(watch.oversleeps.load(Ordering::SeqCst) <= most) }
         Fact::IsOver => u64::from(watch.is_over()),
-        Fact::Events => history(report).len() as u64,
-        Fact::Grants => grants(history(report), None),
+        Fact::Events => events(report),
+        Fact::Grants => grants(report, None),
         Fact::GrantsAreHolds => u64::from(grants_are_holds(report)),
     }
 }

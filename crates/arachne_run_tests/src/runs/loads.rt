@@ -9,15 +9,16 @@ use std::alloc::Global;
 use std::sync::Wait;
 use std::test::Fail;
 use std::thread::Threads;
+use std::time::Clock;
 
-/// Each of 100,000 threads holds the lock once and tallies.
+/// Each of 20,000 threads holds the lock once and tallies.
 const SUMS: Row = Row {
     shows: "many threads end",
     source: Source {
         ledgers: 1,
         locks: 1,
         forks: 0,
-        expr: "(sweep add 1 (num 0) (num 100000) (hold 0 (tally 0 (num 5) (num 1))))",
+        expr: "(sweep add 1 (num 0) (num 20000) (hold 0 (tally 0 (num 5) (num 1))))",
     },
     forms: &[Form::Words],
     slots: SLOTS,
@@ -26,25 +27,24 @@ const SUMS: Row = Row {
     orders: &[],
     watching: Watching::Nothing,
     facts: &[
-        (Fact::Value, 100_000),
-        (Fact::Threads, 100_000),
+        (Fact::Value, 20_000),
+        (Fact::Threads, 20_000),
         (Fact::Totals, 1),
-        (Fact::Total, 500_000),
+        (Fact::Total, 100_000),
     ],
     telling: Telling::Nothing,
     told: "",
 };
 
-/// Runs the threads five times on 16 cores, with other choosers each time.
-fn run_five_times<R: Threads + Wait + Sync>(
+/// Runs the threads three times on 16 cores, with other choosers each time.
+fn run_three_times<R: Threads + Wait + Clock + Sync>(
     rt: &R,
     alloc: Global,
     machines: &'static [Machine],
-    seed: u64,
 ) -> Result<(), Fail> {
-    for nth in 0..5u64 {
+    for nth in 0..3u64 {
         let draws = Draws {
-            word: SPREAD.word.wrapping_add(seed).wrapping_mul(2 * nth + 1),
+            word: SPREAD.word.wrapping_mul(2 * nth + 1),
             ..SPREAD
         };
         let row = Row {
@@ -59,30 +59,15 @@ fn run_five_times<R: Threads + Wait + Sync>(
 
 #[test]
 fn many_threads_end_by_short_slices(rt: HostRuntime) -> Result<(), Fail> {
-    run_five_times(&rt, rt.alloc(), &[(16, 100, 16)], 0)
-}
-
-#[test]
-fn many_threads_end_by_short_slices_again(rt: HostRuntime) -> Result<(), Fail> {
-    run_five_times(&rt, rt.alloc(), &[(16, 100, 16)], 1)
+    run_three_times(&rt, rt.alloc(), &[(16, 100, 16)])
 }
 
 #[test]
 fn many_threads_end_by_longer_slices(rt: HostRuntime) -> Result<(), Fail> {
-    run_five_times(&rt, rt.alloc(), &[(16, 1_000, 16)], 0)
-}
-
-#[test]
-fn many_threads_end_by_longer_slices_again(rt: HostRuntime) -> Result<(), Fail> {
-    run_five_times(&rt, rt.alloc(), &[(16, 1_000, 16)], 1)
+    run_three_times(&rt, rt.alloc(), &[(16, 1_000, 16)])
 }
 
 #[test]
 fn many_threads_end_by_the_longest_slices(rt: HostRuntime) -> Result<(), Fail> {
-    run_five_times(&rt, rt.alloc(), &[(16, 10_000, 16)], 0)
-}
-
-#[test]
-fn many_threads_end_by_the_longest_slices_again(rt: HostRuntime) -> Result<(), Fail> {
-    run_five_times(&rt, rt.alloc(), &[(16, 10_000, 16)], 1)
+    run_three_times(&rt, rt.alloc(), &[(16, 10_000, 16)])
 }

@@ -6,22 +6,25 @@ use crate::choosers::{SPREAD, ZEROS};
 use crate::gates::Watching;
 use arachne_core::SLOTS;
 use arachne_run::Report;
-use arachne_sleep::{LockEvent, Who};
+use arachne_sleep::{History, LockEvent, Who};
 use std::alloc::Global;
 use std::test::Fail;
 
-/// What happened to the program's first lock.
-pub(super) fn history(report: &Report) -> &[LockEvent] {
+/// How many events the program's first lock had.
+pub(super) fn events(report: &Report) -> u64 {
     match report.histories.first() {
-        Some(history) => history.as_slice(),
-        None => &[],
+        Some(history) => history.len() as u64,
+        None => 0,
     }
 }
 
-/// How often a lock was granted, to the thread of this tag or, without one, to any.
-pub(super) fn grants(history: &[LockEvent], tag: Option<u64>) -> u64 {
+/// How often the program's first lock was granted, to the thread of this tag or, without one, to any.
+pub(super) fn grants(report: &Report, tag: Option<u64>) -> u64 {
     let mut count = 0u64;
-    for &event in history {
+    let Some(history) = report.histories.first() else {
+        return count;
+    };
+    for event in history.iter() {
         if let LockEvent::Grant(who) = event {
             let counts = match tag {
                 Some(tag) => who.tag == tag,
@@ -35,17 +38,16 @@ pub(super) fn grants(history: &[LockEvent], tag: Option<u64>) -> u64 {
 
 /// Whether those that were granted the first lock are those that have held it once.
 pub(super) fn grants_are_holds(report: &Report) -> bool {
-    let history = history(report);
     let mut counted = 0u64;
     for line in report.threads.as_slice() {
-        let grants = grants(history, Some(line.tag));
+        let grants = grants(report, Some(line.tag));
         let has_held = line.holds.as_slice().first() == Some(&1);
         if grants != u64::from(has_held) {
             return false;
         }
         counted = counted.wrapping_add(grants);
     }
-    counted == grants(history, None)
+    counted == grants(report, None)
 }
 
 /// What happens, and to whom.
@@ -58,8 +60,8 @@ fn parts_of(event: LockEvent) -> (&'static str, Who) {
 }
 
 /// What happened to a lock: a line for each event, with the thread's tag, its context and that one's generation.
-fn push_events(alloc: Global, text: &mut String, history: &[LockEvent]) -> Result<(), Fail> {
-    for &event in history {
+fn push_events(alloc: Global, text: &mut String, history: &History) -> Result<(), Fail> {
+    for event in history.iter() {
         let (word, who) = parts_of(event);
         let (tag, context, generation) = (who.tag, who.id.context, who.id.generation);
         text.push_str(format!(in alloc; "{word} {tag} {context} {generation}\n")?.as_str())?;
@@ -74,7 +76,7 @@ pub(super) fn events_of(alloc: Global, report: &Report) -> Result<String, Fail> 
         if lock > 0 {
             text.push_str("\n")?;
         }
-        push_events(alloc, &mut text, history.as_slice())?;
+        push_events(alloc, &mut text, history)?;
     }
     Ok(text)
 }
@@ -212,4 +214,37 @@ const ROWS: &[Row] = &[
 #[test]
 fn locks_are_granted_in_turn(rt: HostRuntime) -> Result<(), Fail> {
     rows_hold(&rt, rt.alloc(), ROWS)
+}
+
+/// The most locks that a program has.
+const MOST_LOCKS: u8 = 16;
+
+/// A run of a program with so many locks.
+fn with_locks(locks: u8) -> Row {
+    Row {
+        shows: "a program has as many locks as it says",
+        source: Source {
+            ledgers: 0,
+            locks,
+            forks: 0,
+            expr: "(fork n (num 1) (num 2) (add (var 0) (var 1)))",
+        },
+        forms: FORMS,
+        slots: SLOTS,
+        machines: &[(1, 100, 1), (2, 1, 2)],
+        draws: ZEROS,
+        orders: &[],
+        watching: Watching::Nothing,
+        facts: &[(Fact::Value, 3)],
+        telling: Telling::Nothing,
+        told: "",
+    }
+}
+
+#[test]
+fn programs_have_any_number_of_locks(rt: HostRuntime) -> Result<(), Fail> {
+    for locks in 0..=MOST_LOCKS {
+        rows_hold(&rt, rt.alloc(), &[with_locks(locks)])?;
+    }
+    Ok(())
 }

@@ -13,6 +13,7 @@ use std::alloc::Global;
 use std::sync::Wait;
 use std::test::Fail;
 use std::thread::Threads;
+use std::time::Clock;
 
 /// All machines on which a program has to mean the same.
 pub(super) const MACHINES: &[Machine] = &[
@@ -48,7 +49,7 @@ pub(super) struct Row {
 }
 
 /// Runs a row's program once. All tests run their programs here.
-fn run_row<R: Threads + Wait + Sync>(
+pub(super) fn run_row<R: Threads + Wait + Clock + Sync>(
     rt: &R,
     alloc: Global,
     row: &Row,
@@ -76,7 +77,7 @@ fn wrong_fact(row: &Row, report: &Report, watch: &Watch) -> Option<(usize, u64)>
 }
 
 /// Runs a row's program once: why it has no report, or whether all facts hold. No text is made of it.
-pub(super) fn tried<R: Threads + Wait + Sync>(
+pub(super) fn tried<R: Threads + Wait + Clock + Sync>(
     rt: &R,
     alloc: Global,
     row: &Row,
@@ -93,7 +94,7 @@ pub(super) fn tried<R: Threads + Wait + Sync>(
 
 /// A run is told as its row says, and all facts hold. Without a report all came that a core was held up for, and no
 /// slice begins any more.
-fn judge(
+pub(super) fn judge(
     alloc: Global,
     row: &Row,
     machine: Machine,
@@ -114,7 +115,7 @@ fn judge(
 }
 
 /// Runs a row's program once, and judges that run.
-fn run_holds<R: Threads + Wait + Sync>(
+fn run_holds<R: Threads + Wait + Clock + Sync>(
     rt: &R,
     alloc: Global,
     row: &Row,
@@ -131,7 +132,7 @@ fn run_holds<R: Threads + Wait + Sync>(
 }
 
 /// Runs a row, by these orders, over each of its forms on each of its machines.
-pub(super) fn row_holds<R: Threads + Wait + Sync>(
+pub(super) fn row_holds<R: Threads + Wait + Clock + Sync>(
     rt: &R,
     alloc: Global,
     row: &Row,
@@ -147,7 +148,7 @@ pub(super) fn row_holds<R: Threads + Wait + Sync>(
 }
 
 /// Runs each row over each of its forms on each of its machines.
-pub(super) fn rows_hold<R: Threads + Wait + Sync>(
+pub(super) fn rows_hold<R: Threads + Wait + Clock + Sync>(
     rt: &R,
     alloc: Global,
     rows: &[Row],

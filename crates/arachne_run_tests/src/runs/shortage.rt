@@ -19,6 +19,7 @@ use std::alloc::Global;
 use std::sync::Wait;
 use std::test::Fail;
 use std::thread::Threads;
+use std::time::Clock;
 
 /// The most runs of a row on one core, which has a report at last.
 const RUNS: u64 = 2_000;
@@ -175,7 +176,7 @@ fn is_want(tried: Tried, cores: u64) -> bool {
 
 /// Runs a row's program with no memory, and then with a little more each time, until that comes of it, or something
 /// else than want of memory. It counts the runs before, and tells what came of the last one.
-fn refused<R: Threads + Wait + Sync>(
+fn refused<R: Threads + Wait + Clock + Sync>(
     rt: &R,
     alloc: Global,
     row: &Row,
@@ -201,7 +202,7 @@ fn refused<R: Threads + Wait + Sync>(
 }
 
 /// Whether a row's program has a report that says what the row does.
-fn goes_well<R: Threads + Wait + Sync>(
+fn goes_well<R: Threads + Wait + Clock + Sync>(
     rt: &R,
     alloc: Global,
     row: &Row,
@@ -216,7 +217,7 @@ fn goes_well<R: Threads + Wait + Sync>(
 
 /// Whether a row's program has a report again and again with the memory that there is. If each run left something
 /// behind, there would be none for the last ones.
-fn repeats<R: Threads + Wait + Sync>(
+fn repeats<R: Threads + Wait + Clock + Sync>(
     rt: &R,
     alloc: Global,
     row: &Row,
@@ -236,7 +237,7 @@ fn repeats<R: Threads + Wait + Sync>(
 
 /// A row's program over a form of table, as memory is used up: how many runs were refused it, and what came of the last
 /// one. On one core it has to have a report again and again then; else want of memory is told.
-fn without_memory<R: Threads + Wait + Sync>(
+fn without_memory<R: Threads + Wait + Clock + Sync>(
     rt: &R,
     alloc: Global,
     row: &Row,
@@ -261,7 +262,7 @@ fn without_memory<R: Threads + Wait + Sync>(
 
 /// A row's program over a form of table: with all memory, as it is used up until that comes of a run, and with all
 /// again. Where that is a fault, the process has its first run without memory.
-fn row_ends<R: Threads + Wait + Sync>(
+fn row_ends<R: Threads + Wait + Clock + Sync>(
     rt: &R,
     alloc: Global,
     row: &Row,
@@ -283,7 +284,7 @@ fn row_ends<R: Threads + Wait + Sync>(
 }
 
 /// Each row's program over a form of table.
-fn rows_end<R: Threads + Wait + Sync>(
+fn rows_end<R: Threads + Wait + Clock + Sync>(
     rt: &R,
     alloc: Global,
     rows: &[Row],

@@ -11,7 +11,7 @@ use arachne_policy::{CoreOrder, OrderKind};
 use std::test::Fail;
 
 /// A child that counts to 5,000, for which there is no place: it waits until its parent awaits it.
-const TAKEN_BACK: Source = Source {
+pub(super) const TAKEN_BACK: Source = Source {
     ledgers: 0,
     locks: 0,
     forks: 0,
@@ -19,103 +19,18 @@ const TAKEN_BACK: Source = Source {
 };
 
 /// The same behind 299 others, so that there is no room to wait either.
-const AT_ONCE: Source = Source {
+pub(super) const AT_ONCE: Source = Source {
     ledgers: 0,
     locks: 0,
     forks: 0,
     expr: "(let (sweep add 1 (num 0) (num 300) (var 0)) (fork n (fold (num 0) (num 5000) (num 0) (var 2)) (num 2) (add (var 1) (var 2))))",
 };
 
-/// A child that counts and runs in its parent's place.
-const CHARGED: Row = Row {
-    shows: "the steps of a thread in place are charged to the slices",
-    source: TAKEN_BACK,
-    forms: FORMS,
-    slots: 1,
-    machines: &[(1, 1, 1)],
-    draws: ZEROS,
-    orders: &[],
-    watching: Watching::Cores,
-    facts: &[
-        (Fact::Value, 2),
-        (Fact::InPlace, 1),
-        (Fact::Slices(5000), 1),
-    ],
-    telling: Telling::Nothing,
-    told: "",
+/// The root makes 777 steps, 95 of them before each of its forks but the first, and each child has a slice of its own.
+pub(super) const POSTED: Source = Source {
+    expr: "(fork n (num 1) (let (fold (num 0) (num 90) (num 0) (num 0)) (fork n (num 1) (let (fold (num 0) (num 90) (num 0) (num 0)) (fork n (num 1) (let (fold (num 0) (num 90) (num 0) (num 0)) (fork n (num 1) (let (fold (num 0) (num 90) (num 0) (num 0)) (fork n (num 1) (let (fold (num 0) (num 90) (num 0) (num 0)) (fork n (num 1) (let (fold (num 0) (num 90) (num 0) (num 0)) (fork n (num 1) (let (fold (num 0) (num 90) (num 0) (num 0)) (fork n (num 1) (let (fold (num 0) (num 90) (num 0) (num 0)) (num 1)) (num 1))) (num 1))) (num 1))) (num 1))) (num 1))) (num 1))) (num 1))) (num 1))",
+    ..TAKEN_BACK
 };
-
-/// The same of one for which there is no room to wait. The steps of the others are fewer than 5,000.
-const CHARGED_AT_ONCE: Row = Row {
-    source: AT_ONCE,
-    facts: &[
-        (Fact::Value, 2),
-        (Fact::InPlace, 300),
-        (Fact::Slices(5000), 1),
-    ],
-    ..CHARGED
-};
-
-const CHARGES: &[Row] = &[
-    CHARGED,
-    Row {
-        machines: &[(1, 7, 1)],
-        facts: &[(Fact::InPlace, 1), (Fact::Slices(5000 / 7), 1)],
-        ..CHARGED
-    },
-    Row {
-        machines: &[(1, 100, 1)],
-        facts: &[(Fact::InPlace, 1), (Fact::Slices(50), 1)],
-        ..CHARGED
-    },
-    Row {
-        source: Source {
-            expr: "(fork n (fold (num 0) (num 30000) (num 0) (var 1)) (num 2) (add (var 0) (var 1)))",
-            ..TAKEN_BACK
-        },
-        machines: &[(1, 10_000, 1)],
-        facts: &[(Fact::InPlace, 1), (Fact::Slices(4), 1)],
-        ..CHARGED
-    },
-    // The root makes 777 steps, 95 of them before each of its forks but the first, and each child has a slice of its
-    // own.
-    Row {
-        shows: "the steps before a posted fork are charged",
-        source: Source {
-            expr: "(fork n (num 1) (let (fold (num 0) (num 90) (num 0) (num 0)) (fork n (num 1) (let (fold (num 0) (num 90) (num 0) (num 0)) (fork n (num 1) (let (fold (num 0) (num 90) (num 0) (num 0)) (fork n (num 1) (let (fold (num 0) (num 90) (num 0) (num 0)) (fork n (num 1) (let (fold (num 0) (num 90) (num 0) (num 0)) (fork n (num 1) (let (fold (num 0) (num 90) (num 0) (num 0)) (fork n (num 1) (let (fold (num 0) (num 90) (num 0) (num 0)) (fork n (num 1) (let (fold (num 0) (num 90) (num 0) (num 0)) (num 1)) (num 1))) (num 1))) (num 1))) (num 1))) (num 1))) (num 1))) (num 1))) (num 1))",
-            ..TAKEN_BACK
-        },
-        slots: SLOTS,
-        machines: &[(1, 100, 1)],
-        facts: &[(Fact::Value, 1), (Fact::InPlace, 0), (Fact::Slices(16), 1)],
-        ..CHARGED
-    },
-    CHARGED_AT_ONCE,
-    Row {
-        machines: &[(1, 7, 1)],
-        facts: &[(Fact::InPlace, 300), (Fact::Slices(5000 / 7), 1)],
-        ..CHARGED_AT_ONCE
-    },
-    Row {
-        machines: &[(1, 100, 1)],
-        facts: &[(Fact::InPlace, 300), (Fact::Slices(50), 1)],
-        ..CHARGED_AT_ONCE
-    },
-    Row {
-        source: Source {
-            expr: "(let (sweep add 1 (num 0) (num 300) (var 0)) (fork n (fold (num 0) (num 30000) (num 0) (var 2)) (num 2) (add (var 1) (var 2))))",
-            ..AT_ONCE
-        },
-        machines: &[(1, 10_000, 1)],
-        facts: &[(Fact::InPlace, 300), (Fact::Slices(4), 1)],
-        ..CHARGED_AT_ONCE
-    },
-];
-
-#[test]
-fn steps_in_place_are_charged(rt: HostRuntime) -> Result<(), Fail> {
-    rows_hold(&rt, rt.alloc(), CHARGES)
-}
 
 /// Core 1's first slice doesn't end before core 0 has entered its slice 400. By then 400 have ended.
 const HELD_BACK: Row = Row {

@@ -6,17 +6,21 @@ use super::rows::close;
 use super::steps::{Size, Step, answered};
 use crate::{Claimed, Contexts, Taken};
 use arachne_core::{CORES, LAST_GENERATION, SLOTS};
-use std::alloc::Global;
+use std::alloc::{AllocError, Global};
 use std::sync::Wait;
 use std::test::Fail;
 
-const CORE_COUNTS: &[u8] = &[1, 2, 3, 5, 8, 15, 16, 17, 63, 64];
+const CORE_COUNTS: &[u8] = &[1, 2, 3, 5, 8, 15, 16, 17, 20, 32, 40, 63, 64];
 
 /// How many places a core has, and its word when each of them is occupied.
 const SLOT_COUNTS: &[(u8, u64)] = &[
     (1, 0x0100000000000001),
     (2, 0x0200000000000003),
     (3, 0x0300000000000007),
+    (4, 0x040000000000000f),
+    (8, 0x08000000000000ff),
+    (30, 0x1e0000003fffffff),
+    (54, 0x363fffffffffffff),
     (55, 0x377fffffffffffff),
     (56, 0x38ffffffffffffff),
 ];
@@ -75,6 +79,18 @@ pub(super) fn fill_tables<C: Contexts<Job> + Drop, R: Wait>(
         }
     }
     Ok(())
+}
+
+/// Makes a table of each size that there is, and how many there are.
+pub(super) fn make_tables<C: Contexts<Job> + Drop>(alloc: Global) -> Result<usize, AllocError> {
+    let mut made = 0usize;
+    for cores in 1..CORES + 1 {
+        for slots in 1..SLOTS + 1 {
+            let _ = C::new(alloc, cores, slots, 0)?;
+            made = made.wrapping_add(1);
+        }
+    }
+    Ok(made)
 }
 
 /// Posts a thread on core 0, and ends it at this index.

@@ -3,7 +3,7 @@ ghost use Rattle.std.specs.Prelude.{◌<◌, IfSome, length};
 ghost use Rattle.arachne_sleep.specs.SleepLocks.{AreSeatsOf};
 
 use super::{A, B, several};
-use arachne_sleep::{AskFault, LockEvent, LockSeats, SleepLocks, Tried, Who};
+use arachne_sleep::{AskFault, History, LockEvent, LockSeats, SleepLocks, Tried, Who};
 use std::alloc::Global;
 use std::thread;
 use std::thread::Threads;
@@ -153,14 +153,19 @@ fn tell_of(first: &[LockEvent], second: &[LockEvent], who: Who, places: &[usize]
 }
 
 /// Whether the histories of two locks tell of all grants to A and to B, and of nothing else.
-fn tell_all(histories: &[Vec<LockEvent>], of_a: &[usize], of_b: &[usize]) -> bool {
-    let [first, second] = histories else {
-        return false;
-    };
+fn tell_all(first: &[LockEvent], second: &[LockEvent], of_a: &[usize], of_b: &[usize]) -> bool {
     tell_of(first, second, A, of_a)
         && tell_of(first, second, B, of_b)
         && first.len() == 6 * ROUNDS
         && second.len() == 6 * ROUNDS
+}
+
+/// The events of a history. Where memory is refused it is asked for once more.
+fn listed(alloc: Global, history: &History) -> Option<Vec<LockEvent>> {
+    match history.to_vec(alloc) {
+        Ok(events) => Some(events),
+        Err(_) => history.to_vec(alloc).ok(),
+    }
 }
 
 /// Whether A and B have held each lock so many times as there are rounds, as the histories tell.
@@ -168,7 +173,11 @@ fn each_had_its_turns<R: Threads + Sync>(rt: &R, alloc: Global) -> Option<bool> 
     let (locks, seats) = several::make(alloc, 2).ok()?;
     let (seats, of_a, of_b) = contend_for_each(rt, alloc, &locks, seats)?;
     let histories = several::closed(alloc, locks, seats)?;
-    Some(tell_all(&histories, &of_a?, &of_b?))
+    let [first, second] = histories.as_slice() else {
+        return None;
+    };
+    let (first, second) = (listed(alloc, first)?, listed(alloc, second)?);
+    Some(tell_all(&first, &second, &of_a?, &of_b?))
 }
 
 #[test]

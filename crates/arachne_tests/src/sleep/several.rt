@@ -4,7 +4,7 @@ ghost use Rattle.arachne_sleep.specs.SleepLocks.{AreSeatsOf};
 ghost use Rattle.arachne_sleep.specs.Views.{IsWhole};
 
 use super::{Answer, Call, ROWS, WHOLE, told_ask, told_check, told_free};
-use arachne_sleep::{AskFault, Asked, LockEvent, LockSeats, SleepLocks, Tried, Who};
+use arachne_sleep::{AskFault, Asked, History, LockEvent, LockSeats, SleepLocks, Tried, Who};
 use std::alloc::{AllocError, Global};
 
 // Under `rt try --test --fail-alloc N` the Nth allocation is refused. A call that answers so is made once more.
@@ -81,16 +81,25 @@ fn first_wrong(locks: &SleepLocks, seats: &mut LockSeats) -> Option<usize>
     None
 }
 
+/// Whether a history has these events.
+fn has_events(history: &History, events: &[LockEvent]) -> bool {
+    history.len() == events.len()
+        && history
+            .iter()
+            .zip(events)
+            .all(|(event, wanted)| event == *wanted)
+}
+
 /// Whether lock 2 alone of three has a history.
-fn is_of_the_last(histories: &[Vec<LockEvent>]) -> bool {
+fn is_of_the_last(histories: &[History]) -> bool {
     histories.len() == 3
         && histories[0].is_empty()
         && histories[1].is_empty()
-        && histories[2].as_slice() == WHOLE
+        && has_events(&histories[2], WHOLE)
 }
 
 /// The histories of three locks, on one of which each call was made.
-fn histories(alloc: Global) -> Option<Vec<Vec<LockEvent>>> {
+fn histories(alloc: Global) -> Option<Vec<History>> {
     let (locks, mut seats) = make(alloc, 3).ok()?;
     if locks.count() != 3 || first_wrong(&locks, &mut seats).is_some() {
         return None;
@@ -140,11 +149,7 @@ fn parted_and_joined(alloc: Global, locks: &SleepLocks, seats: LockSeats) -> Opt
 }
 
 /// Closes the locks, once more where memory was refused.
-pub(super) fn closed(
-    alloc: Global,
-    locks: SleepLocks,
-    seats: LockSeats,
-) -> Option<Vec<Vec<LockEvent>>>
+pub(super) fn closed(alloc: Global, locks: SleepLocks, seats: LockSeats) -> Option<Vec<History>>
     requires { AreSeatsOf locks seats }
 {
     if !locks.are_whole(&seats) {
@@ -154,4 +159,31 @@ pub(super) fn closed(
         Ok(histories) => Some(histories),
         Err((locks, seats)) => locks.close(alloc, seats).ok(),
     }
+}
+
+/// The most locks that a program has.
+const MOST: u8 = 16;
+
+/// The histories of so many locks, which are made, split, joined and closed.
+fn made_and_closed(alloc: Global, count: u8) -> Option<Vec<History>> {
+    let (locks, seats) = make(alloc, count).ok()?;
+    let (own, theirs) = parted(alloc, &locks, seats)?;
+    let seats = locks.join_seats(theirs, own);
+    closed(alloc, locks, seats)
+}
+
+/// The first number of locks that can't be made.
+fn first_refused(alloc: Global) -> Option<u8> {
+    for count in 0..=MOST {
+        match made_and_closed(alloc, count) {
+            Some(histories) if histories.len() == usize::from(count) => {}
+            _ => return Some(count),
+        }
+    }
+    None
+}
+
+#[test]
+fn there_may_be_any_number_of_locks(rt: HostRuntime) {
+    assert_eq!(rt; first_refused(rt.alloc()), None);
 }

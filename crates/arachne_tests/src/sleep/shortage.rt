@@ -4,7 +4,7 @@ ghost use Rattle.arachne_sleep.specs.Views.{IsSeatOf, IsWhole};
 
 use super::thread;
 use arachne_shortage::Hoard;
-use arachne_sleep::{AskFault, Asked, LockEvent, LockSeat, LockState, SleepLock, Tried, Who};
+use arachne_sleep::{AskFault, Asked, History, LockSeat, LockState, SleepLock, Tried, Who};
 use std::alloc::{AllocError, Global};
 
 /// How many bytes are given back where a growth was refused: so few that the next growth of the same call is refused
@@ -139,7 +139,7 @@ fn make(alloc: Global) -> Result<(SleepLock, LockSeat), AllocError>
 }
 
 /// Splits a lock's seat and joins it again, and closes the lock. Its history.
-fn closed(lock: SleepLock, seat: LockSeat) -> Option<Vec<LockEvent>>
+fn closed(lock: SleepLock, seat: LockSeat) -> Option<History>
     requires own { IsSeatOf lock seat }
 {
     let (seat, other) = lock.split(seat);

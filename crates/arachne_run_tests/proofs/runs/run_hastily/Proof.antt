@@ -16,8 +16,8 @@ use Rattle.arachne_run_tests.proofs.runs.run_hastily.Tie as tie
 -- What is lent to the run outlives it; what it sends to its kernel threads and shares with them may cross; the program
 -- is checked. It is by hand, since the module of the function's goals, which an Answers.antt needs, takes 26 seconds.
 pub run_hastily_spec : {M : Type 1} → statement M
-run_hastily_spec = tie.close (λ R laws threads threads-dict wait wait-dict world met-threads met-wait.
-    tie.spec R laws threads threads-dict wait wait-dict
+run_hastily_spec = tie.close (λ R laws threads threads-dict wait wait-dict clock clock-dict world met-threads met-wait met-clock.
+    tie.spec R laws threads threads-dict wait wait-dict clock clock-dict
     (λ c κs lent. (
       lent,
       (

@@ -31,8 +31,8 @@ program κs = record { mir = named 1; lft = κs.1.0 }
 -- What is lent to the run outlives it; what it sends to its kernel threads and shares with them may cross; the program
 -- is checked. It is by hand, since the module of the function's goals, which an Answers.antt needs, takes 26 seconds.
 pub run_on_words_spec : {M : Type 1} → statement M
-run_on_words_spec = tie.close (λ R laws threads threads-dict wait wait-dict world met-threads met-wait.
-    tie.spec R laws threads threads-dict wait wait-dict
+run_on_words_spec = tie.close (λ R laws threads threads-dict wait wait-dict clock clock-dict world met-threads met-wait met-clock.
+    tie.spec R laws threads threads-dict wait wait-dict clock clock-dict
     (λ c κs within. (
       within.1.1.1.1.1.1,
       (

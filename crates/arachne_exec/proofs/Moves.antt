@@ -1,0 +1,461 @@
+-- What a seat may do: each kind of step is allowed, and tells what it says.
+use Rattle.std.proofs.Common.{◌≡◌, ◌≢◌, ◌⊎◌, inl, inr, ℕ, ◌+◌, ◌-◌, ◌*◌, ◌/◌, ◌%◌, ◌^◌, ◌<◌, ◌≤◌, true, false, List, ◌∷◌, length, get_or, set, sym, refl, ap, ◌∙◌, subst, arith, eqb, get_or-set_same, get_or-set_other}
+use Rattle.std.specs.Int.{bit_at}
+use Rattle.std.specs.Int.RustNames.{bit_and, bit_or}
+use Rattle.std.proofs.lemmas.List.{set-get_or}
+use Rattle.std.proofs.lemmas.Grind.{get_or-set_at}
+use Rattle.std.proofs.lemmas.Nat.Bits.{bit_at_and, bit_at-lt, bit_at-suc, bit_at_lowest}
+use mathlib.Core.Logic.{dite}
+use mathlib.Core.Option.{some, none}
+use mathlib.Core.Option as maybe
+use native.Mathlib.Decide.{ℕ_discrete}
+use prog.Atomic.{either}
+use lib.ListN.{get_elem?}
+use Rattle.atomic_table.specs.Table.{Step, step, keeps, takes, gives, Act, Allows, stepped, carried_after, Valid, rest}
+use Rattle.atomic_table.proofs.Lists.{exchanged}
+use Rattle.arachne_weights.specs.declared.token.Token.{Token}
+use Rattle.arachne_weights.specs.Tokens.{held, learns}
+use Rattle.arachne_exec.specs.declared.view.Known.{Known}
+use Rattle.arachne_exec.specs.declared.view.Deed.{Deed}
+use Rattle.arachne_exec.specs.Layout.{idle_at, numbers_at, summary_at, ready_at, free_at, mark_at, worker_of, others, in_word}
+use Rattle.arachne_exec.specs.Board.{is_ready, is_blocked, is_idle, one, seats_of, Board, HasOneKeeper, IsBalanced, IsShown, WakesSleepers, IsLawful}
+use Rattle.arachne_exec.specs.Changes.{older, newest_job, newest_place, gained, unblocking, readying, blocking, spawning, beginning, ending, marking, hearing, noted, rousing, unshowing, owing, having_seen, working}
+use Rattle.arachne_exec.specs.Steps.{Mine, with, knowing, Looks, Takes, Claims, Frees, Readies, Spawns, Begins, Blocks, Renews, Retires, Hears, Wakes, Marks, FindsShown, Shows, Hides, LooksAgain, LooksIdle, Unparks, Rises, Rests, LooksNext, Registers, Leaves}
+use Rattle.arachne_exec.proofs.Bits.{one-same, one-apart, same_others, clear_same, clear_other, clear_le, unset, set_same, set_other, not_one, elsewhere, here}
+use Rattle.arachne_weights.proofs.Totals.{total-set}
+use Rattle.arachne_exec.proofs.Keeping.{ready_apart, free_apart, mark_apart, in-hand, home-of-ready, home-of-blocked, keeps-take, keeps-claim, keeps-ready, keeps-free, keeps-block, keeps-wake, keeps-mark, keeps-aside, keeps-places, keeps-view, hands-renumbered}
+use Rattle.arachne_exec.proofs.Balancing.{balanced-same, balanced-taken, balanced-put, balanced-spawned, balanced-begun, balanced-ended}
+use Rattle.arachne_exec.proofs.Hearing.{hears-on, as-marked, hears-mark, hears-clear}
+use Rattle.arachne_exec.proofs.Debts.{with-same, with-more, with-others}
+use Rattle.arachne_exec.proofs.KeepsShown.{shows-on, shows-owing, shows-paid}
+use Rattle.arachne_exec.proofs.Sleeping.{seats-same, keeps-sleep, sleeps-on}
+
+same_place : (p q : ℕ) → p / 64 ≡ q / 64 → p % 64 ≡ q % 64 → p ≡ q
+same_place p q e r = omega (arith, e, r)
+
+same_bits : (p q : ℕ) → q / 64 ≡ p / 64 → others (q % 64) ≡ others (p % 64) → p ≡ q
+same_bits p q e o = let r = same_others (q % 64) (p % 64) (omega arith) (omega arith) o in same_place p q (sym e) (sym r)
+
+pub summary_apart : (c d : ℕ) → summary_at c ≡ summary_at d → c ≡ d
+summary_apart c d e = omega (arith, e)
+
+pub clash : (n k : ℕ) → bit_at n k ≡ 1 → bit_at n k ≡ 0 → ⊥
+clash n k a b = let wrong : 1 ≡ 0 = sym a ∙ b in omega (arith, wrong)
+
+-- a bit that is set after others were cleared was set before
+pub was_set : (n k i : ℕ) → bit_at (bit_and n (others k)) i ≡ 1 → bit_at n i ≡ 1
+was_set n k i e = let both = bit_at_and n (others k) i in let low = bit_at-lt n i in omega (arith, both, e, low)
+
+pub some_number : (n : ℕ) → n ≢ 0 → 0 < n
+some_number n d = let apart : ¬ (n ≡ 0) = d in omega (arith, apart)
+
+same_job : (k : Known) (q x : ℕ) (ys : List (ℕ × ℕ)) → k.hand ≡ (q, x) ∷ ys → newest_job k.hand ≡ x
+same_job k q x ys e = ap newest_job e
+
+module _ (shards slots id w : ℕ) where
+  -- ---- a step that changes no word
+
+  pub unchanged : (k : Known) (xs : List (ℕ × ℕ)) (i : ℕ) (s : Board) → IsLawful shards (record { words = s.words; homes = s.homes; views = set s.views id (held w k) })
+      → IsLawful shards (stepped s i (get_or s.words i 0) id xs (held w k) keeps)
+  unchanged k xs i s h = subst (λ ws. IsLawful shards (record { words = ws; homes = s.homes; views = set s.views id (held w k) })) (sym (set-get_or s.words i 0)) h
+
+  module _ (s : Board) (h : IsLawful shards s) (k : Known) (mine : get_elem? s.views id ≡ some (held w k)) where
+    t : Token Known
+    t = held w k
+
+    -- what it has done is noted
+    pub telling : (ds : List Deed) → IsLawful shards (record { words = s.words; homes = s.homes; views = set s.views id (held w (record k { deeds = ds })) })
+    telling ds = let l : Known = record k { deeds = ds } in record {
+      shared = learns h.shared id w k l mine;
+      keeper = keeps-view (64 * shards) s h.keeper id (held w k) mine (held w l) refl;
+      balance = balanced-same s h.balance id (held w k) (held w l) mine s.words refl refl refl;
+      hears = hears-on (64 * shards) s h.hears id (held w k) (held w l) mine s.homes s.words (λ p inside. refl) refl refl;
+      shows = shows-on (64 * shards) s h.shows id (held w k) (held w l) mine s.words s.homes (λ c r. r) (λ c. refl) refl;
+      sleep = sleeps-on s h.sleep id (held w k) (held w l) mine s.words s.homes refl refl (λ c r. r) refl refl refl;
+    }
+
+    pub noting : (xs : List (ℕ × ℕ)) (i n : ℕ) → IsLawful shards (stepped s i (get_or s.words i 0) id xs (held w (noted i n k)) keeps)
+    noting xs i n = unchanged (noted i n k) xs i s (telling _)
+
+    pub stays : (xs : List (ℕ × ℕ)) (i : ℕ) → IsLawful shards (stepped s i (get_or s.words i 0) id xs (held w k) keeps)
+    stays xs i = unchanged k xs i s (telling k.deeds)
+
+    -- ---- what a word that is written leaves as it was
+
+    module _ (i now : ℕ) where
+      -- a word that is no mark
+      pub unmarked : ((p : ℕ) → mark_at p ≢ i) → (p : ℕ) → p < 64 * (64 * shards) → get_or (set s.words i now) (mark_at p) 0 % 2 ≡ get_or s.words (mark_at p) 0 % 2
+      unmarked never p inside = ap (λ x. x % 2) (get_or-set_other s.words i (mark_at p) now 0 (never p))
+
+      pub same_summary : ((c : ℕ) → summary_at c ≢ i) → (c : ℕ) → 0 < get_or (set s.words i now) (summary_at c) 0 → 0 < get_or s.words (summary_at c) 0
+      same_summary never c some_there = let same = get_or-set_other s.words i (summary_at c) now 0 (never c) in omega (arith, some_there, same)
+
+      pub same_ready : ((c : ℕ) → ready_at c ≢ i) → (c : ℕ) → 0 < get_or (set s.words i now) (ready_at c) 0 → 0 < get_or s.words (ready_at c) 0
+      same_ready never c some_there = let same = get_or-set_other s.words i (ready_at c) now 0 (never c) in omega (arith, some_there, same)
+
+      pub same_shown : ((c : ℕ) → summary_at c ≢ i) → (c : ℕ) → in_word summary_at (set s.words i now) c ≡ in_word summary_at s.words c
+      same_shown never c = ap (λ x. bit_at x (c % 64)) (get_or-set_other s.words i (summary_at (c / 64)) now 0 (never (c / 64)))
+
+      -- no block is shown or hidden, and nobody sleeps or is woken
+      module _ (l : Known) (homes : List (maybe.Option ℕ)) where
+        pub quiet-shows : ((c : ℕ) → ready_at c ≢ i) → ((c : ℕ) → summary_at c ≢ i) → l.unshown ≡ k.unshown → IsShown (64 * shards) (record { words = set s.words i now; homes = homes; views = set s.views id (held w l) })
+        quiet-shows none_ready none_shown same = shows-on (64 * shards) s h.shows id (held w k) (held w l) mine (set s.words i now) homes (same_ready none_ready) (same_shown none_shown) same
+
+        quiet-sleep : numbers_at ≢ i → idle_at ≢ i → ((c : ℕ) → summary_at c ≢ i) → l.owes ≡ k.owes → l.worker ≡ k.worker → l.seen ≡ k.seen
+            → WakesSleepers (record { words = set s.words i now; homes = homes; views = set s.views id (held w l) })
+        quiet-sleep numbers idles none_shown owes worker seen = sleeps-on s h.sleep id (held w k) (held w l) mine (set s.words i now) homes
+            (get_or-set_other s.words i numbers_at now 0 numbers) (get_or-set_other s.words i idle_at now 0 idles) (same_summary none_shown) owes worker seen
+
+    -- a ready word that falls
+    fallen : (d : ℕ) → d < 64 * shards → (now : ℕ) → now ≤ get_or s.words (ready_at d) 0 → (c : ℕ) → 0 < get_or (set s.words (ready_at d) now) (ready_at c) 0 → 0 < get_or s.words (ready_at c) 0
+    fallen d inside now less c some_ready = dite (ℕ_discrete (ready_at c) (ready_at d))
+        (λ e. let here = get_or-set_at s.words (ready_at d) (ready_at c) now 0 e (omega (arith, h.keeper.sized, inside)) in
+        let there = ap (λ i. get_or s.words i 0) e in omega (arith, some_ready, less, here, there))
+        (λ ne. let same = get_or-set_other s.words (ready_at d) (ready_at c) now 0 ne in omega (arith, some_ready, same))
+
+    -- a summary word that falls
+    pub sunk : (d : ℕ) → d < shards → (now : ℕ) → now ≤ get_or s.words (summary_at d) 0 → (c : ℕ) → 0 < get_or (set s.words (summary_at d) now) (summary_at c) 0 → 0 < get_or s.words (summary_at c) 0
+    sunk d inside now less c some_shown = dite (ℕ_discrete (summary_at c) (summary_at d))
+        (λ e. let here = get_or-set_at s.words (summary_at d) (summary_at c) now 0 e (omega (arith, h.keeper.sized, inside)) in
+        let there = ap (λ i. get_or s.words i 0) e in omega (arith, some_shown, less, here, there))
+        (λ ne. let same = get_or-set_other s.words (summary_at d) (summary_at c) now 0 ne in omega (arith, some_shown, same))
+
+    -- a mark that is written
+    module _ (q now : ℕ) (l : Known) (homes : List (maybe.Option ℕ)) where
+      mark-shows : l.unshown ≡ k.unshown → IsShown (64 * shards) (record { words = set s.words (mark_at q) now; homes = homes; views = set s.views id (held w l) })
+      mark-shows same = quiet-shows (mark_at q) now l homes (λ c e. omega (arith, e)) (λ c e. omega (arith, e)) same
+
+      mark-sleep : l.owes ≡ k.owes → l.worker ≡ k.worker → l.seen ≡ k.seen → WakesSleepers (record { words = set s.words (mark_at q) now; homes = homes; views = set s.views id (held w l) })
+      mark-sleep owes worker seen = quiet-sleep (mark_at q) now l homes (λ e. omega (arith, e)) (λ e. omega (arith, e)) (λ c e. omega (arith, e)) owes worker seen
+
+    -- a ready bit that is set: the place was in hand
+    module _ (q x y : ℕ) (within : q < 64 * (64 * shards)) (l : Known) where
+      ready-law : (now : ℕ) → now ≡ bit_or (get_or s.words (ready_at (q / 64)) 0) (2 ^ (q % 64)) → k.hand ≡ (q, x) ∷ l.hand
+          → IsBalanced (record { words = set s.words (ready_at (q / 64)) now; homes = set s.homes q (some y); views = set s.views id (held w l) }) → l.woken ≡ k.woken → l.heard ≡ k.heard
+          → IsShown (64 * shards) (record { words = set s.words (ready_at (q / 64)) now; homes = set s.homes q (some y); views = set s.views id (held w l) })
+          → l.owes ≡ k.owes → l.worker ≡ k.worker → l.seen ≡ k.seen
+          → IsLawful shards (record { words = set s.words (ready_at (q / 64)) now; homes = set s.homes q (some y); views = set s.views id (held w l) })
+      ready-law now is hand balance woken heard shows owes worker seen = record {
+        shared = learns h.shared id w k l mine;
+        keeper = subst (λ n. HasOneKeeper (64 * shards) (record { words = set s.words (ready_at (q / 64)) n; homes = set s.homes q (some y); views = set s.views id (held w l) })) (sym is)
+            (keeps-ready (64 * shards) s h.keeper id (held w k) mine q within (held w l) x y hand);
+        balance = balance;
+        hears = hears-on (64 * shards) s h.hears id (held w k) (held w l) mine (set s.homes q (some y)) (set s.words (ready_at (q / 64)) now) (unmarked (ready_at (q / 64)) now (λ p e. omega (arith, e))) woken heard;
+        shows = shows;
+        sleep = quiet-sleep (ready_at (q / 64)) now l (set s.homes q (some y)) (λ e. omega (arith, e)) (λ e. omega (arith, e)) (λ c e. omega (arith, e)) owes worker seen;
+      }
+
+      -- the block had none before
+      ready-first : (now : ℕ) → k.unshown ≡ 0 → l.unshown ≡ q / 64 + 1
+          → IsShown (64 * shards) (record { words = set s.words (ready_at (q / 64)) now; homes = set s.homes q (some y); views = set s.views id (held w l) })
+      ready-first now was is = shows-owing (64 * shards) s h.shows id (held w k) (held w l) mine (set s.words (ready_at (q / 64)) now) (set s.homes q (some y)) (q / 64) was is
+          (λ c ne some_ready. let same = get_or-set_other s.words (ready_at (q / 64)) (ready_at c) now 0 (λ e. ne (ready_apart c (q / 64) e)) in omega (arith, some_ready, same))
+          (λ c ne. same_shown (ready_at (q / 64)) now (λ d e. omega (arith, e)) c)
+
+      ready-more : (now : ℕ) → get_or s.words (ready_at (q / 64)) 0 ≢ 0 → l.unshown ≡ k.unshown
+          → IsShown (64 * shards) (record { words = set s.words (ready_at (q / 64)) now; homes = set s.homes q (some y); views = set s.views id (held w l) })
+      ready-more now some_before same = shows-on (64 * shards) s h.shows id (held w k) (held w l) mine (set s.words (ready_at (q / 64)) now) (set s.homes q (some y))
+          (λ c some_ready. dite (ℕ_discrete (ready_at c) (ready_at (q / 64)))
+          (λ e. subst (λ i. 0 < get_or s.words i 0) (sym e) (some_number (get_or s.words (ready_at (q / 64)) 0) some_before))
+          (λ ne. let old = get_or-set_other s.words (ready_at (q / 64)) (ready_at c) now 0 ne in omega (arith, some_ready, old)))
+          (same_shown (ready_at (q / 64)) now (λ d e. omega (arith, e))) same
+
+  -- ---- looks, and bits that are cleared
+
+  pub looks : (k : Known) (xs : List (ℕ × ℕ)) (i : ℕ) → Allows (IsLawful shards) slots id (held w k, xs) i (λ n. n) (Looks (step slots i 0 0 none) (held w k, xs))
+  looks k xs i s h _ mine _ = (held w (noted i (get_or s.words i 0) k), keeps, tt, noting s h k mine xs i (get_or s.words i 0), refl)
+
+  pub takes_ready : (k : Known) (xs : List (ℕ × ℕ)) (q : ℕ) → q < 64 * (64 * shards)
+      → Allows (IsLawful shards) slots id (held w k, xs) (ready_at (q / 64)) (λ n. bit_and n (others (q % 64))) (Takes (step slots (ready_at (q / 64)) (others (q % 64)) 0 none) (held w k, xs))
+  takes_ready k xs q within s h _ mine small =
+      let i : ℕ = ready_at (q / 64) in let n : ℕ = get_or s.words i 0 in let now : ℕ = bit_and n (others (q % 64)) in let m : Mine = (held w k, xs) in dite (ℕ_discrete (bit_at n (q % 64)) 1)
+      (λ there. let job = home-of-ready (64 * shards) s h.keeper id (held w k) mine q within there in let l : Known = gained q job.0 k in (
+        held w l,
+        takes q job.0,
+        job.1,
+        record {
+          shared = learns h.shared id w k l mine;
+          keeper = keeps-take (64 * shards) s h.keeper id (held w k) mine q within (held w l) job.0 there refl;
+          balance = balanced-taken s h.balance id (held w k) (held w l) mine _ q job.0 job.1 refl refl refl;
+          hears = hears-on (64 * shards) s h.hears id (held w k) (held w l) mine _ _ (unmarked s h k mine i now (λ p e. omega (arith, e))) refl refl;
+          shows = shows-on (64 * shards) s h.shows id (held w k) (held w l) mine _ _ (fallen s h k mine (q / 64) (omega (arith, within)) now (clear_le n (q % 64) (omega arith)))
+              (same_shown s h k mine i now (λ c e. omega (arith, e))) refl;
+          sleep = quiet-sleep s h k mine i now l (set s.homes q none) (λ e. omega (arith, e)) (λ e. omega (arith, e)) (λ c e. omega (arith, e)) refl refl refl;
+        },
+        λ p at first. let same = same_bits p q (ready_apart (q / 64) (p / 64) at) first in (
+          λ _. (job.0, ap (λ x. with m (gained x job.0 k) ((x, job.0) ∷ xs)) (sym same)),
+          λ none_there. absurd (clash n (q % 64) there (subst (λ x. bit_at n (x % 64) ≡ 0) same none_there)),
+        ),
+      ))
+      (λ other. let clear = not_one n (q % 64) other in (
+        held w (noted i n k),
+        keeps,
+        tt,
+        subst (λ x. IsLawful shards (stepped s i x id xs (held w (noted i n k)) keeps)) (sym (unset n (q % 64) (omega arith) small clear)) (noting s h k mine xs i n),
+        λ p at first. let same = same_bits p q (ready_apart (q / 64) (p / 64) at) first in (
+          λ there. absurd (clash n (q % 64) (subst (λ x. bit_at n (x % 64) ≡ 1) same there) clear),
+          λ _. refl,
+        ),
+      ))
+
+  pub claims : (k : Known) (xs : List (ℕ × ℕ)) (q : ℕ) → q < 64 * (64 * shards)
+      → Allows (IsLawful shards) slots id (held w k, xs) (free_at (q / 64)) (λ n. bit_and n (others (q % 64))) (Claims free_at (step slots (free_at (q / 64)) (others (q % 64)) 0 none) (held w k, xs))
+  claims k xs q within s h _ mine small =
+      let i : ℕ = free_at (q / 64) in let n : ℕ = get_or s.words i 0 in let now : ℕ = bit_and n (others (q % 64)) in let m : Mine = (held w k, xs) in dite (ℕ_discrete (bit_at n (q % 64)) 1)
+      (λ there. let empty = h.keeper.empty q within there in let l : Known = gained q 0 k in (
+        held w l,
+        takes q 0,
+        empty,
+        record {
+          shared = learns h.shared id w k l mine;
+          keeper = keeps-claim (64 * shards) s h.keeper id (held w k) mine q within (held w l) 0 there refl;
+          balance = balanced-taken s h.balance id (held w k) (held w l) mine _ q 0 empty refl refl refl;
+          hears = hears-on (64 * shards) s h.hears id (held w k) (held w l) mine _ _ (unmarked s h k mine i now (λ p e. omega (arith, e))) refl refl;
+          shows = quiet-shows s h k mine i now l (set s.homes q none) (λ c e. omega (arith, e)) (λ c e. omega (arith, e)) refl;
+          sleep = quiet-sleep s h k mine i now l (set s.homes q none) (λ e. omega (arith, e)) (λ e. omega (arith, e)) (λ c e. omega (arith, e)) refl refl refl;
+        },
+        λ p at first. let same = same_bits p q (free_apart (q / 64) (p / 64) at) first in (
+          λ _. ap (λ x. with m (gained x 0 k) ((x, 0) ∷ xs)) (sym same),
+          λ none_there. absurd (clash n (q % 64) there (subst (λ x. bit_at n (x % 64) ≡ 0) same none_there)),
+        ),
+      ))
+      (λ other. let clear = not_one n (q % 64) other in (
+        held w (noted i n k),
+        keeps,
+        tt,
+        subst (λ x. IsLawful shards (stepped s i x id xs (held w (noted i n k)) keeps)) (sym (unset n (q % 64) (omega arith) small clear)) (noting s h k mine xs i n),
+        λ p at first. let same = same_bits p q (free_apart (q / 64) (p / 64) at) first in (
+          λ there. absurd (clash n (q % 64) (subst (λ x. bit_at n (x % 64) ≡ 1) same there) clear),
+          λ _. refl,
+        ),
+      ))
+
+  -- ---- the newest place is put somewhere
+
+  module _ (k : Known) (q x : ℕ) (xs : List (ℕ × ℕ)) (hand : k.hand ≡ (q, x) ∷ older k.hand) (within : q < 64 * (64 * shards)) where
+    module _ (s : Board) (h : IsLawful shards s) (mine : get_elem? s.views id ≡ some (held w k)) where
+      out : get_elem? s.homes q ≡ some none
+      out = h.keeper.away q within (in-hand (64 * shards) s h.keeper id (held w k) mine q x (older k.hand) hand)
+
+      unblocked-here : is_blocked s.words q ≡ 0
+      unblocked-here = let sum = h.keeper.kept q within in let some_hand = in-hand (64 * shards) s h.keeper id (held w k) mine q x (older k.hand) hand in omega (arith, sum, some_hand)
+
+      mark-room : mark_at q < length s.words
+      mark-room = omega (arith, h.keeper.sized, within)
+
+    pub frees : Allows (IsLawful shards) slots id (held w k, (q, 0) ∷ xs) (free_at (q / 64)) (λ n. bit_or n (2 ^ (q % 64))) (Frees (step slots (free_at (q / 64)) (2 ^ (q % 64)) 0 none) (held w k, (q, 0) ∷ xs))
+    frees s h _ mine small =
+        let i : ℕ = free_at (q / 64) in let now : ℕ = bit_or (get_or s.words i 0) (2 ^ (q % 64)) in let l : Known = ending k in (
+          held w l,
+          gives,
+          tt,
+          record {
+            shared = learns h.shared id w k l mine;
+            keeper = keeps-free (64 * shards) s h.keeper id (held w k) mine q within (held w l) x 0 refl hand;
+            balance = balanced-ended s h.balance id (held w k) (held w l) mine _ q x (out s h mine) refl (ap (λ j. j ∷ k.ended) (same_job k q x (older k.hand) hand)) hand;
+            hears = hears-on (64 * shards) s h.hears id (held w k) (held w l) mine _ _ (unmarked s h k mine i now (λ p e. omega (arith, e))) refl refl;
+            shows = quiet-shows s h k mine i now l (set s.homes q (some 0)) (λ c e. omega (arith, e)) (λ c e. omega (arith, e)) refl;
+            sleep = quiet-sleep s h k mine i now l (set s.homes q (some 0)) (λ e. omega (arith, e)) (λ e. omega (arith, e)) (λ c e. omega (arith, e)) refl refl refl;
+          },
+          refl,
+        )
+
+    pub readies : k.unshown ≡ 0 → Allows (IsLawful shards) slots id (held w k, (q, x) ∷ xs) (ready_at (q / 64)) (λ n. bit_or n (2 ^ (q % 64))) (Readies (step slots (ready_at (q / 64)) (2 ^ (q % 64)) 0 none) (held w k, (q, x) ∷ xs))
+    readies shown s h _ mine small =
+        let d : ℕ = q / 64 in let n : ℕ = get_or s.words (ready_at d) 0 in let now : ℕ = bit_or n (2 ^ (q % 64)) in let m : Mine = (held w k, (q, x) ∷ xs) in dite (ℕ_discrete n 0)
+        (λ empty. let l : Known = unshowing (d + 1) (readying k) in (
+          held w l,
+          gives,
+          tt,
+          ready-law s h k mine q x x within l now refl hand (balanced-put s h.balance id (held w k) (held w l) mine _ q x (out s h mine) refl refl hand) refl refl
+              (ready-first s h k mine q x x within l now shown refl) refl refl refl,
+          λ p at. let same : d ≡ p / 64 = ready_apart d (p / 64) at in (
+            λ _. ap (λ c. with m (unshowing (c + 1) (readying k)) xs) same,
+            λ full. absurd (full empty),
+          ),
+        ))
+        (λ full. let l : Known = readying k in (
+          held w l,
+          gives,
+          tt,
+          ready-law s h k mine q x x within l now refl hand (balanced-put s h.balance id (held w k) (held w l) mine _ q x (out s h mine) refl refl hand) refl refl
+              (ready-more s h k mine q x x within l now full refl) refl refl refl,
+          λ p at. ((λ empty. absurd (full empty)), λ _. refl),
+        ))
+
+    -- a mark that a blocked place gets
+    pub blocks_at : (old new : ℕ) → old % 4 ≡ 0 → new ≡ old + 2 → Allows (IsLawful shards) slots id (held w k, (q, x) ∷ xs) (mark_at q) (λ n. either (eqb n old) new n) (Blocks (step slots (mark_at q) old new none) (held w k, (q, x) ∷ xs))
+    blocks_at old new unwoken is s h _ mine small =
+        let i : ℕ = mark_at q in let n : ℕ = get_or s.words i 0 in let m : Mine = (held w k, (q, x) ∷ xs) in
+        exchanged n old new (λ y. (u : Token Known) × (a : Act ℕ) × Valid s.homes m.1 a × IsLawful shards (stepped s i y id m.1 u a) × Blocks (step slots i old new none) m n (u, carried_after m.1 a))
+        (λ hit. let l : Known = blocking k in (
+          held w l,
+          gives,
+          tt,
+          record {
+            shared = learns h.shared id w k l mine;
+            keeper = keeps-block (64 * shards) s h.keeper id (held w k) mine q within (held w l) x x new hand (omega (arith, unwoken, is));
+            balance = balanced-put s h.balance id (held w k) (held w l) mine _ q x (out s h mine) refl refl hand;
+            hears = hears-on (64 * shards) s h.hears id (held w k) (held w l) mine _ _ (λ p inside. as-marked (64 * shards) s h.hears id (held w k) (held w l) mine s.homes q (mark-room s h mine) new (omega (arith, hit, is)) p) refl refl;
+            shows = mark-shows s h k mine q new l (set s.homes q (some x)) refl;
+            sleep = mark-sleep s h k mine q new l (set s.homes q (some x)) refl refl refl;
+          },
+          ((λ _. refl), λ miss. absurd (miss hit)),
+        ))
+        (λ miss. (held w (noted i n k), keeps, tt, noting s h k mine m.1 i n, ((λ hit. absurd (miss hit)), λ _. refl)))
+
+    -- a new mark, by who has the place
+    module _ (new : ℕ) (clear : new % 2 ≡ 0) (s : Board) (h : IsLawful shards s) (mine : get_elem? s.views id ≡ some (held w k)) (l : Known) where
+      renewed : new / 2 % 2 ≡ 0 → l.hand ≡ k.hand → l.spawned ≡ k.spawned → l.ended ≡ k.ended → l.woken ≡ k.woken → l.heard ≡ (hearing (get_or s.words (mark_at q) 0 % 2) q k).heard → l.unshown ≡ k.unshown
+          → l.owes ≡ k.owes → l.worker ≡ k.worker → l.seen ≡ k.seen
+          → IsLawful shards (record { words = set s.words (mark_at q) new; homes = s.homes; views = set s.views id (held w l) })
+      renewed is_awake same spawned ended woken heard unshown owes worker seen = record {
+        shared = learns h.shared id w k l mine;
+        keeper = keeps-mark (64 * shards) s h.keeper id (held w k) mine q within (held w l) new (is_awake ∙ sym (unblocked-here s h mine)) same;
+        balance = balanced-same s h.balance id (held w k) (held w l) mine _ spawned ended same;
+        hears = hears-clear (64 * shards) s h.hears id (held w k) (held w l) mine s.homes q (mark-room s h mine) new clear woken heard;
+        shows = mark-shows s h k mine q new l s.homes unshown;
+        sleep = mark-sleep s h k mine q new l s.homes owes worker seen;
+      }
+
+    module _ (y : ℕ) where
+      pub renews : (new : ℕ) → new % 4 ≡ 0 → Allows (IsLawful shards) slots id (held w k, (q, y) ∷ xs) (mark_at q) (λ _. new) (Renews (step slots (mark_at q) new 0 none) (held w k, (q, y) ∷ xs))
+      renews new clear s h _ mine small =
+          let n : ℕ = get_or s.words (mark_at q) 0 in let l : Known = noted (mark_at q) new (hearing (n % 2) q k) in let m : Mine = (held w k, (q, y) ∷ xs) in (
+            held w l,
+            keeps,
+            tt,
+            renewed new (omega (arith, clear)) s h mine l (omega (arith, clear)) refl refl refl refl refl refl refl refl refl,
+            λ p at. ap (λ z. knowing m (noted (mark_at q) new (hearing (n % 2) z k))) (mark_apart q p at),
+          )
+
+    pub retires : (new : ℕ) → new % 4 ≡ 2 → Allows (IsLawful shards) slots id (held w k, (q, 0) ∷ xs) (mark_at q) (λ _. new) (Retires (step slots (mark_at q) new 0 none) (held w k, (q, 0) ∷ xs))
+    retires new is s h _ mine small =
+        let n : ℕ = get_or s.words (mark_at q) 0 in let l : Known = ending (hearing (n % 2) q k) in let m : Mine = (held w k, (q, 0) ∷ xs) in (
+          held w l,
+          gives,
+          tt,
+          record {
+            shared = learns h.shared id w k l mine;
+            keeper = keeps-block (64 * shards) s h.keeper id (held w k) mine q within (held w l) x 0 new hand (omega (arith, is));
+            balance = balanced-ended s h.balance id (held w k) (held w l) mine _ q x (out s h mine) refl (ap (λ j. j ∷ k.ended) (same_job k q x (older k.hand) hand)) hand;
+            hears = hears-clear (64 * shards) s h.hears id (held w k) (held w l) mine (set s.homes q (some 0)) q (mark-room s h mine) new (omega (arith, is)) refl refl;
+            shows = mark-shows s h k mine q new l (set s.homes q (some 0)) refl;
+            sleep = mark-sleep s h k mine q new l (set s.homes q (some 0)) refl refl refl;
+          },
+          λ p at. ap (λ z. with m (ending (hearing (n % 2) z k)) xs) (mark_apart q p at),
+        )
+
+    module _ (y : ℕ) where
+      -- all bits but the lowest two
+      abbrev kept_bits : ℕ
+      kept_bits = 2 ^ 64 - 1 - 3
+
+      low_clear : (n : ℕ) → bit_and n kept_bits % 2 ≡ 0
+      low_clear n = let e = bit_at_and n kept_bits 0 in let l = bit_at_lowest (bit_and n kept_bits) in let z : bit_at kept_bits 0 ≡ 0 = refl in omega (arith, e, l, z)
+
+      next_clear : (n : ℕ) → bit_and n kept_bits / 2 % 2 ≡ 0
+      next_clear n = let e = bit_at_and n kept_bits 1 in let z : bit_at kept_bits 1 ≡ 0 = refl in
+          let d : bit_at (bit_and n kept_bits) 1 ≡ bit_and n kept_bits / 2 % 2 = bit_at-suc (bit_and n kept_bits) 0 ∙ bit_at_lowest (bit_and n kept_bits / 2) in omega (arith, e, z, d)
+
+      pub hears_wake : Allows (IsLawful shards) slots id (held w k, (q, y) ∷ xs) (mark_at q) (λ n. bit_and n (2 ^ 64 - 1 - 3)) (Hears (step slots (mark_at q) (2 ^ 64 - 1 - 3) 0 none) (held w k, (q, y) ∷ xs))
+      hears_wake s h _ mine small =
+          let n : ℕ = get_or s.words (mark_at q) 0 in let l : Known = hearing (n % 2) q k in let m : Mine = (held w k, (q, y) ∷ xs) in (
+            held w l,
+            keeps,
+            tt,
+            renewed (bit_and n kept_bits) (low_clear n) s h mine l (next_clear n) refl refl refl refl refl refl refl refl refl,
+            λ p at. ap (λ z. knowing m (hearing (n % 2) z k)) (mark_apart q p at),
+          )
+
+  -- a job that was laid into the slot of a place which had none
+  pub spawns : (k : Known) (q y : ℕ) (xs : List (ℕ × ℕ)) → k.hand ≡ (q, 0) ∷ older k.hand → q < 64 * (64 * shards) → k.unshown ≡ 0
+      → Allows (IsLawful shards) slots id (held w k, (q, y) ∷ xs) (ready_at (q / 64)) (λ n. bit_or n (2 ^ (q % 64))) (Spawns (step slots (ready_at (q / 64)) (2 ^ (q % 64)) 0 none) (held w k, (q, y) ∷ xs))
+  spawns k q y xs hand within shown s h _ mine small =
+      let d : ℕ = q / 64 in let n : ℕ = get_or s.words (ready_at d) 0 in let now : ℕ = bit_or n (2 ^ (q % 64)) in let m : Mine = (held w k, (q, y) ∷ xs) in
+      let away = out k q 0 xs hand within s h mine in dite (ℕ_discrete n 0)
+      (λ empty. let l : Known = unshowing (d + 1) (spawning y k) in (
+        held w l,
+        gives,
+        tt,
+        ready-law s h k mine q 0 y within l now refl hand (balanced-spawned s h.balance id (held w k) (held w l) mine _ q y away refl refl hand) refl refl
+            (ready-first s h k mine q 0 y within l now shown refl) refl refl refl,
+        λ p at. let same : d ≡ p / 64 = ready_apart d (p / 64) at in (
+          λ _. ap (λ c. with m (unshowing (c + 1) (spawning y k)) xs) same,
+          λ full. absurd (full empty),
+        ),
+      ))
+      (λ full. let l : Known = spawning y k in (
+        held w l,
+        gives,
+        tt,
+        ready-law s h k mine q 0 y within l now refl hand (balanced-spawned s h.balance id (held w k) (held w l) mine _ q y away refl refl hand) refl refl
+            (ready-more s h k mine q 0 y within l now full refl) refl refl refl,
+        λ p at. ((λ empty. absurd (full empty)), λ _. refl),
+      ))
+
+  -- the same, where the place stays in hand
+  pub begins : (k : Known) (q y : ℕ) (xs : List (ℕ × ℕ)) (i : ℕ) → k.hand ≡ (q, 0) ∷ older k.hand
+      → Allows (IsLawful shards) slots id (held w k, (q, y) ∷ xs) i (λ n. n) (Begins (step slots i 0 0 none) (held w k, (q, y) ∷ xs))
+  begins k q y xs i hand s h _ mine small =
+      let n : ℕ = get_or s.words i 0 in let l : Known = beginning y (noted i n k) in
+      let now : l.hand ≡ (q, y) ∷ older k.hand = ap (λ (zs : List (ℕ × ℕ)). (newest_place zs, y) ∷ older k.hand) hand in (
+        held w l,
+        keeps,
+        tt,
+        unchanged l ((q, y) ∷ xs) i s (record {
+          shared = learns h.shared id w k l mine;
+          keeper = keeps-places (64 * shards) s h.keeper id (held w k) mine (held w l) (hands-renumbered (64 * shards) s h.keeper id (held w k) mine (held w l) q 0 y (older k.hand) hand now);
+          balance = balanced-begun s h.balance id (held w k) (held w l) mine s.words q y (older k.hand) refl refl hand now;
+          hears = hears-on (64 * shards) s h.hears id (held w k) (held w l) mine s.homes s.words (λ p inside. refl) refl refl;
+          shows = shows-on (64 * shards) s h.shows id (held w k) (held w l) mine s.words s.homes (λ c r. r) (λ c. refl) refl;
+          sleep = sleeps-on s h.sleep id (held w k) (held w l) mine s.words s.homes refl refl (λ c r. r) refl refl refl;
+        }),
+        refl,
+      )
+
+  -- ---- a wake
+
+  module _ (k : Known) (xs : List (ℕ × ℕ)) (q : ℕ) (within : q < 64 * (64 * shards)) (old new : ℕ) where
+    pub wakes : old % 4 ≡ 2 → new ≡ old - 2 → Allows (IsLawful shards) slots id (held w k, xs) (mark_at q) (λ n. either (eqb n old) new n) (Wakes (step slots (mark_at q) old new none) (held w k, xs))
+    wakes was now s h _ mine small =
+        let i : ℕ = mark_at q in let n : ℕ = get_or s.words i 0 in let m : Mine = (held w k, xs) in
+        exchanged n old new (λ y. (u : Token Known) × (a : Act ℕ) × Valid s.homes m.1 a × IsLawful shards (stepped s i y id m.1 u a) × Wakes (step slots i old new none) m n (u, carried_after m.1 a))
+        (λ hit. let is_there : is_blocked s.words q ≡ 1 = ap (λ z. z / 2 % 2) hit ∙ omega (arith, was) in
+        let job = home-of-blocked (64 * shards) s h.keeper id (held w k) mine q within is_there in let l : Known = unblocking q job.0 k in (
+          held w l,
+          takes q job.0,
+          job.1,
+          record {
+            shared = learns h.shared id w k l mine;
+            keeper = keeps-wake (64 * shards) s h.keeper id (held w k) mine q within (held w l) job.0 new is_there (omega (arith, was, now)) refl;
+            balance = balanced-taken s h.balance id (held w k) (held w l) mine _ q job.0 job.1 refl refl refl;
+            hears = hears-on (64 * shards) s h.hears id (held w k) (held w l) mine _ _
+                (λ p inside. as-marked (64 * shards) s h.hears id (held w k) (held w l) mine s.homes q (omega (arith, h.keeper.sized, within)) new (omega (arith, hit, was, now)) p) refl refl;
+            shows = mark-shows s h k mine q new l (set s.homes q none) refl;
+            sleep = mark-sleep s h k mine q new l (set s.homes q none) refl refl refl;
+          },
+          λ p at. ((λ _. (job.0, ap (λ z. with m (unblocking z job.0 k) ((z, job.0) ∷ xs)) (mark_apart q p at))), λ miss. absurd (miss hit)),
+        ))
+        (λ miss. (held w (noted i n k), keeps, tt, noting s h k mine xs i n, λ p at. ((λ hit. absurd (miss hit)), λ _. refl)))
+
+    -- the mark of a job that isn't blocked says of a wake
+    pub marks : old % 4 ≡ 0 → new ≡ old + 1 → Allows (IsLawful shards) slots id (held w k, xs) (mark_at q) (λ n. either (eqb n old) new n) (Marks (step slots (mark_at q) old new none) (held w k, xs))
+    marks was now s h _ mine small =
+        let i : ℕ = mark_at q in let n : ℕ = get_or s.words i 0 in let m : Mine = (held w k, xs) in
+        exchanged n old new (λ y. (u : Token Known) × (a : Act ℕ) × Valid s.homes m.1 a × IsLawful shards (stepped s i y id m.1 u a) × Marks (step slots i old new none) m n (u, carried_after m.1 a))
+        (λ hit. let l : Known = marking q k in (
+          held w l,
+          keeps,
+          tt,
+          record {
+            shared = learns h.shared id w k l mine;
+            keeper = keeps-mark (64 * shards) s h.keeper id (held w k) mine q within (held w l) new (omega (arith, was, now) ∙ ap (λ z. z / 2 % 2) (sym hit)) refl;
+            balance = balanced-same s h.balance id (held w k) (held w l) mine _ refl refl refl;
+            hears = hears-mark (64 * shards) s h.hears id (held w k) (held w l) mine s.homes q (omega (arith, h.keeper.sized, within)) new (omega (arith, hit, was)) (omega (arith, was, now)) refl refl;
+            shows = mark-shows s h k mine q new l s.homes refl;
+            sleep = mark-sleep s h k mine q new l s.homes refl refl refl;
+          },
+          λ p at. ((λ _. ap (λ z. knowing m (marking z k)) (mark_apart q p at)), λ miss. absurd (miss hit)),
+        ))
+        (λ miss. (held w (noted i n k), keeps, tt, noting s h k mine xs i n, λ p at. ((λ hit. absurd (miss hit)), λ _. refl)))

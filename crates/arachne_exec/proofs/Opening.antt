@@ -1,0 +1,210 @@
+-- The rule at first, and where seats are split and joined.
+use Rattle.std.proofs.Common.{◌≡◌, ◌≢◌, inl, inr, ⊎_elim, ℕ, zero, suc, ◌+◌, ◌-◌, ◌*◌, ◌/◌, ◌%◌, ◌^◌, ◌≤◌, ◌==◌, if◌then◌else◌, List, [], ◌∷◌, ◌++◌, length, get_or, set, sym, refl, ap, ◌∙◌, subst, arith, ◌<◌, map}
+use Rattle.std.proofs.lemmas.List.{length-map}
+use Rattle.std.specs.List.{sum_by}
+use Rattle.std.proofs.lemmas.List.Sums.{sum_by-cons, sum_by-append}
+use Rattle.std.specs.Int.{bit_at}
+use Rattle.std.proofs.lemmas.Nat.Bits.{bit_at-zero, bit_at_ones}
+use Rattle.std.proofs.lemmas.Bool.{eq-eqb, ne_eqb}
+use mathlib.Core.Option.{some, some-injective, some-ne-none}
+use mathlib.Core.Option as maybe
+use lib.ListN.{get_elem?}
+use Rattle.atomic_table.specs.Table.{opening, Splits, Joins}
+use Rattle.atomic_table.proofs.Lists.{set_here, set_else, at_set, at_snoc, some_there}
+use Rattle.arachne_weights.specs.declared.token.Token.{Token}
+use Rattle.arachne_weights.specs.Weight.{whole, first_part, second_part, joined}
+use Rattle.arachne_weights.specs.Tokens.{held, spent, begins, splits, joins}
+use Rattle.arachne_weights.proofs.Totals.{total-set, total-snoc}
+use Rattle.arachne_exec.specs.declared.view.Known.{Known}
+use Rattle.arachne_exec.specs.Layout.{numbers_at, summary_at, ready_at, free_at, mark_at}
+use Rattle.arachne_exec.specs.Board.{is_free, is_ready, is_blocked, one, times, places_in, jobs_in, by_all, in_hands, seats_of, owed, unshown_by, Board, IsLawful, blank, first_view, is_number, at_home}
+use Rattle.arachne_exec.specs.Changes.{first_of, second_of, together, both_of}
+use Rattle.arachne_exec.specs.First.{first_word, AreFirstWords}
+use Rattle.arachne_exec.proofs.Bits.{one-apart}
+
+full : first_word 8 ≡ 2 ^ 64 - 1
+full = refl
+
+full_at : (i : ℕ) → i ≢ 8 → i % 96 ≡ 32 → first_word i ≡ 2 ^ 64 - 1
+full_at i ne e = ap (λ b. if b then 2 ^ 64 - 1 else (if i % 96 == 32 then 2 ^ 64 - 1 else 0)) (ne_eqb i 8 ne) ∙ ap (λ b. if b then 2 ^ 64 - 1 else 0) (eq-eqb (i % 96) 32 e)
+
+empty_at : (i : ℕ) → i ≢ 8 → i % 96 ≢ 32 → first_word i ≡ 0
+empty_at i ne d = ap (λ b. if b then 2 ^ 64 - 1 else (if i % 96 == 32 then 2 ^ 64 - 1 else 0)) (ne_eqb i 8 ne) ∙ ap (λ b. if b then 2 ^ 64 - 1 else 0) (ne_eqb (i % 96) 32 d)
+
+the_one : (h : ℕ) (v : Token Known) → get_elem? (first_view ∷ []) h ≡ some v → first_view ≡ v
+the_one zero v e = some-injective first_view v e
+the_one (suc h) v e = absurd (some-ne-none v (sym e))
+
+one_zero : (n : ℕ) → one 0 (n + 1) ≡ 0
+one_zero n = one-apart 0 (n + 1) (λ e. omega (arith, e))
+
+none_home : (job : ℕ) (xs : List ℕ) → 0 < job → ((i : ℕ) → get_or xs i 0 ≡ 0) → at_home job (map some xs) ≡ 0
+none_home job [] some_job clear = refl
+none_home job (x ∷ xs) some_job clear =
+    let rest = none_home job xs some_job (λ i. clear (suc i)) in let first : x ≡ 0 = clear 0 in
+    let here : one x job ≡ 0 = one-apart x job (λ e. omega (arith, e, first, some_job)) in
+    sum_by-cons (λ (h : maybe.Option ℕ). is_number job h) (some x) (map some xs) ∙ omega (arith, rest, here)
+
+-- each slot has 0 in it
+zero_there : (xs : List ℕ) (i : ℕ) → i < length xs → ((j : ℕ) → get_or xs j 0 ≡ 0) → get_elem? (map some xs) i ≡ some (some 0)
+zero_there [] i inside clear = absurd (omega (arith, inside))
+zero_there (x ∷ xs) zero inside clear = ap (λ y. some (some y)) (clear 0)
+zero_there (x ∷ xs) (suc i) inside clear = zero_there xs i (omega (arith, inside)) (λ j. clear (suc j))
+
+pub opens : (shards : ℕ) (ws xs : List ℕ) → AreFirstWords (64 * shards) ws → length xs ≡ 4096 * shards → ((i : ℕ) → get_or xs i 0 ≡ 0) → IsLawful shards (opening ws xs first_view)
+opens shards ws xs a slots clear = record {
+  shared = begins blank;
+  keeper = record {
+    sized = a.0;
+    room = length-map xs some ∙ slots ∙ omega arith;
+    kept = λ p inside.
+        let f : is_free ws p ≡ 1 = ap (λ x. bit_at x (p % 64)) (a.1 (free_at (p / 64)) (omega (arith, inside)) ∙ full_at (free_at (p / 64)) (λ e. omega (arith, e)) (omega arith)) ∙ bit_at_ones 64 (p % 64) (omega arith) in
+        let r : is_ready ws p ≡ 0 = ap (λ x. bit_at x (p % 64)) (a.1 (ready_at (p / 64)) (omega (arith, inside)) ∙ empty_at (ready_at (p / 64)) (λ e. omega (arith, e)) (λ e. omega (arith, e))) ∙ bit_at-zero (p % 64) in
+        let k : is_blocked ws p ≡ 0 = ap (λ x. x / 2 % 2) (a.1 (mark_at p) (omega (arith, inside)) ∙ empty_at (mark_at p) (λ e. omega (arith, e)) (λ e. omega (arith, e))) in
+        let n : in_hands p (first_view ∷ []) ≡ 0 = refl in
+        omega (arith, f, r, k, n);
+    home = λ p inside none_has. some_there xs p (omega (arith, slots, inside));
+    away = λ p inside has. let n : in_hands p (first_view ∷ []) ≡ 0 = refl in absurd (omega (arith, n, has));
+    empty = λ p inside free. zero_there xs p (omega (arith, slots, inside)) clear;
+  };
+  balance = record {
+    balanced = λ job some_job. let n : at_home job (map some xs) ≡ 0 = none_home job xs some_job clear in
+        let p : by_all (λ (k : Known). times job k.spawned) (first_view ∷ []) ≡ 0 = refl in let t : by_all (λ (k : Known). times job k.ended) (first_view ∷ []) ≡ 0 = refl in
+        let d : by_all (λ (k : Known). jobs_in job k.hand) (first_view ∷ []) ≡ 0 = refl in omega (arith, n, p, t, d);
+  };
+  hears = record {
+    marks = λ p inside.
+        let m : get_or ws (mark_at p) 0 ≡ 0 = a.1 (mark_at p) (omega (arith, inside)) ∙ empty_at (mark_at p) (λ e. omega (arith, e)) (λ e. omega (arith, e)) in
+        let w : by_all (λ (k : Known). times p k.woken) (first_view ∷ []) ≡ 0 = refl in let d : by_all (λ (k : Known). times p k.heard) (first_view ∷ []) ≡ 0 = refl in omega (arith, m, w, d);
+  };
+  shows = record {
+    shown = λ c inside some_ready.
+        let none_ready : get_or ws (ready_at c) 0 ≡ 0 = a.1 (ready_at c) (omega (arith, inside)) ∙ empty_at (ready_at c) (λ e. omega (arith, e)) (λ e. omega (arith, e)) in absurd (omega (arith, none_ready, some_ready));
+  };
+  sleep = record {
+    single = λ w low.
+        let f : bit_at (get_or ws 8 0) w ≡ 1 = ap (λ x. bit_at x w) (a.1 8 (omega arith) ∙ full) ∙ bit_at_ones 64 w low in
+        let n : seats_of w (first_view ∷ []) ≡ one 0 (w + 1) = omega arith in
+        omega (arith, f, n, one_zero w);
+    near = λ h v there. subst (λ (x : Token Known). x.known.worker ≤ 64) (the_one h v there) (omega arith);
+    awake = λ h v there w k is below. let none_seen : v.known.seen ≡ 0 = ap (λ (x : Token Known). x.known.seen) (sym (the_one h v there)) in absurd (omega (arith, below, none_seen));
+  };
+}
+
+-- ---- totals over seats that are split and joined
+
+module _ (f : Known → ℕ) (none_blank : f blank ≡ 0) where
+  split-total : (views : List (Token Known)) (id w : ℕ) (k : Known) → get_elem? views id ≡ some (held w k)
+      → by_all f (set views id (first_of (held w k)) ++ second_of (held w k) ∷ []) ≡ by_all f views
+  split-total views id w k mine =
+      let one_ = total-set (λ (t : Token Known). f t.known) views id (held w k) (first_of (held w k)) mine in
+      let two = total-snoc (λ (t : Token Known). f t.known) (set views id (first_of (held w k))) (second_of (held w k)) in omega (arith, one_, two, none_blank)
+
+  join-total : (views : List (Token Known)) (id w other x : ℕ) (k l : Known) → get_elem? views id ≡ some (held w k) → other ≢ id → get_elem? views other ≡ some (held x l)
+      → f (together k l) ≡ f k + f l
+      → by_all f (set (set views id (both_of (held w k) (held x l))) other (spent blank)) ≡ by_all f views
+  join-total views id w other x k l mine apart from sum =
+      let there = set_else views id other (both_of (held w k) (held x l)) apart ∙ from in
+      let one_ = total-set (λ (t : Token Known). f t.known) views id (held w k) (both_of (held w k) (held x l)) mine in
+      let two = total-set (λ (t : Token Known). f t.known) (set views id (both_of (held w k) (held x l))) other (held x l) (spent blank) there in omega (arith, one_, two, none_blank, sum)
+
+deals-law : (shards id w : ℕ) (k : Known) (s : Board) → IsLawful shards s → get_elem? s.views id ≡ some (held w k)
+    → IsLawful shards (record { words = s.words; homes = s.homes; views = set s.views id (first_of (held w k)) ++ second_of (held w k) ∷ [] })
+deals-law shards id w k s h mine = record {
+  shared = splits h.shared id w k k blank mine;
+  keeper = record {
+    sized = h.keeper.sized;
+    room = h.keeper.room;
+    kept = λ p inside. let same = split-total (λ l. places_in p l.hand) refl s.views id w k mine in let old = h.keeper.kept p inside in omega (arith, old, same);
+    home = λ p inside none_has. let same = split-total (λ l. places_in p l.hand) refl s.views id w k mine in h.keeper.home p inside (omega (arith, none_has, same));
+    away = λ p inside has. let same = split-total (λ l. places_in p l.hand) refl s.views id w k mine in h.keeper.away p inside (omega (arith, has, same));
+    empty = h.keeper.empty;
+  };
+  balance = record {
+    balanced = λ job some_job.
+        let a = split-total (λ l. times job l.spawned) refl s.views id w k mine in let b = split-total (λ l. times job l.ended) refl s.views id w k mine in
+        let c = split-total (λ l. jobs_in job l.hand) refl s.views id w k mine in let old = h.balance.balanced job some_job in omega (arith, a, b, c, old);
+  };
+  hears = record {
+    marks = λ p inside.
+        let a = split-total (λ l. times p l.woken) refl s.views id w k mine in let b = split-total (λ l. times p l.heard) refl s.views id w k mine in let old = h.hears.marks p inside in omega (arith, a, b, old);
+  };
+  shows = record {
+    shown = λ c inside some_ready. ⊎_elim (λ set_. inl set_) (λ o. let same = split-total (λ l. one l.unshown (c + 1)) (one_zero c) s.views id w k mine in inr (omega (arith, o, same))) (h.shows.shown c inside some_ready);
+  };
+  sleep = record {
+    single = λ j low. let same = split-total (λ l. one l.worker (j + 1)) (one_zero j) s.views id w k mine in let old = h.sleep.single j low in omega (arith, old, same);
+    near = λ j x there. ⊎_elim
+        (λ old. ⊎_elim (λ t. subst (λ (y : Token Known). y.known.worker ≤ 64) t.1 (h.sleep.near id (held w k) mine)) (λ t. h.sleep.near j x t.1) (at_set s.views id j (first_of (held w k)) x old))
+        (λ new. subst (λ (y : Token Known). y.known.worker ≤ 64) new (omega arith))
+        (at_snoc (set s.views id (first_of (held w k))) (second_of (held w k)) x j there);
+    awake = λ j x there g n is below idle some_ready.
+        let same = split-total (λ l. one l.owes (g + 64 * n + 1)) (one_zero (g + 64 * n)) s.views id w k mine in ⊎_elim
+        (λ old. ⊎_elim
+        (λ t. let is_mine = ap (λ (y : Token Known). y.known.worker) t.1 ∙ is in let within : n < k.seen = subst (λ (y : Token Known). n < y.known.seen) (sym t.1) below in
+        let was = h.sleep.awake id (held w k) mine g n is_mine within idle some_ready in omega (arith, was, same))
+        (λ t. let was = h.sleep.awake j x t.1 g n is below idle some_ready in omega (arith, was, same))
+        (at_set s.views id j (first_of (held w k)) x old))
+        (λ new. let none_seen : x.known.seen ≡ 0 = ap (λ (y : Token Known). y.known.seen) (sym new) in absurd (omega (arith, below, none_seen)))
+        (at_snoc (set s.views id (first_of (held w k))) (second_of (held w k)) x j there);
+  };
+}
+
+pub deals : (shards id w : ℕ) (k : Known) → Splits (IsLawful shards) id (held w k) (first_of (held w k)) (second_of (held w k))
+deals shards id w k s h mine = deals-law shards id w k s h mine
+
+-- a seat that is taken in has an empty hand, no number, and owes nothing
+module _ (shards id w other x : ℕ) (k l : Known) (nothing : (l.hand ≡ []) × (l.worker ≡ 0) × (l.unshown ≡ 0) × (l.owes ≡ 0)) where
+  gathers-law : (s : Board) → IsLawful shards s → get_elem? s.views id ≡ some (held w k) → other ≢ id → get_elem? s.views other ≡ some (held x l)
+      → IsLawful shards (record { words = s.words; homes = s.homes; views = set (set s.views id (both_of (held w k) (held x l))) other (spent blank) })
+  gathers-law s h mine apart from =
+      let hand_of = λ (p : ℕ). join-total (λ m. places_in p m.hand) refl s.views id w other x k l mine apart from (let e = ap (places_in p) nothing.0 in omega (arith, e)) in
+      let owes_of = λ (c : ℕ). join-total (λ m. one m.owes (c + 1)) (one_zero c) s.views id w other x k l mine apart from (let e = ap (λ n. one n (c + 1)) nothing.3 ∙ one_zero c in omega (arith, e)) in record {
+        shared = joins h.shared id other w x k l (together k l) mine apart from;
+        keeper = record {
+          sized = h.keeper.sized;
+          room = h.keeper.room;
+          kept = λ p inside. let same = hand_of p in let old = h.keeper.kept p inside in omega (arith, old, same);
+          home = λ p inside none_has. let same = hand_of p in h.keeper.home p inside (omega (arith, none_has, same));
+          away = λ p inside has. let same = hand_of p in h.keeper.away p inside (omega (arith, has, same));
+          empty = h.keeper.empty;
+        };
+        balance = record {
+          balanced = λ job some_job.
+              let a = join-total (λ m. times job m.spawned) refl s.views id w other x k l mine apart from (sum_by-append (λ (y : ℕ). one y job) k.spawned l.spawned) in
+              let b = join-total (λ m. times job m.ended) refl s.views id w other x k l mine apart from (sum_by-append (λ (y : ℕ). one y job) k.ended l.ended) in
+              let c = join-total (λ m. jobs_in job m.hand) refl s.views id w other x k l mine apart from (let e = ap (jobs_in job) nothing.0 in omega (arith, e)) in
+              let old = h.balance.balanced job some_job in omega (arith, a, b, c, old);
+        };
+        hears = record {
+          marks = λ p inside.
+              let a = join-total (λ m. times p m.woken) refl s.views id w other x k l mine apart from (sum_by-append (λ (y : ℕ). one y p) k.woken l.woken) in
+              let b = join-total (λ m. times p m.heard) refl s.views id w other x k l mine apart from (sum_by-append (λ (y : ℕ). one y p) k.heard l.heard) in
+              let old = h.hears.marks p inside in omega (arith, a, b, old);
+        };
+        shows = record {
+          shown = λ c inside some_ready. ⊎_elim (λ set_. inl set_)
+              (λ o. let same = join-total (λ m. one m.unshown (c + 1)) (one_zero c) s.views id w other x k l mine apart from (let e = ap (λ n. one n (c + 1)) nothing.2 ∙ one_zero c in omega (arith, e)) in inr (omega (arith, o, same)))
+              (h.shows.shown c inside some_ready);
+        };
+        sleep = record {
+          single = λ j low.
+              let same = join-total (λ m. one m.worker (j + 1)) (one_zero j) s.views id w other x k l mine apart from (let e = ap (λ n. one n (j + 1)) nothing.1 ∙ one_zero j in omega (arith, e)) in
+              let old = h.sleep.single j low in omega (arith, old, same);
+          near = λ j y there. ⊎_elim
+              (λ t. subst (λ (z : Token Known). z.known.worker ≤ 64) t.1 (omega arith))
+              (λ t. ⊎_elim (λ u. subst (λ (z : Token Known). z.known.worker ≤ 64) u.1 (h.sleep.near id (held w k) mine)) (λ u. h.sleep.near j y u.1) (at_set s.views id j (both_of (held w k) (held x l)) y t.1))
+              (at_set (set s.views id (both_of (held w k) (held x l))) other j (spent blank) y there);
+          awake = λ j y there g n is below idle some_ready. let same = owes_of (g + 64 * n) in ⊎_elim
+              (λ t. let none_seen : y.known.seen ≡ 0 = ap (λ (z : Token Known). z.known.seen) (sym t.1) in absurd (omega (arith, below, none_seen)))
+              (λ t. ⊎_elim
+              (λ u. let is_mine = ap (λ (z : Token Known). z.known.worker) u.1 ∙ is in let within : n < k.seen = subst (λ (z : Token Known). n < z.known.seen) (sym u.1) below in
+              let was = h.sleep.awake id (held w k) mine g n is_mine within idle some_ready in omega (arith, was, same))
+              (λ u. let was = h.sleep.awake j y u.1 g n is below idle some_ready in omega (arith, was, same))
+              (at_set s.views id j (both_of (held w k) (held x l)) y t.1))
+              (at_set (set s.views id (both_of (held w k) (held x l))) other j (spent blank) y there);
+        };
+      }
+
+  pub gathers : Joins (IsLawful shards) id (held w k) other (held x l) (both_of (held w k) (held x l)) (spent blank)
+  gathers s h mine apart from = gathers-law s h mine apart (sym (set_else s.views id other (both_of (held w k) (held x l)) apart) ∙ from)

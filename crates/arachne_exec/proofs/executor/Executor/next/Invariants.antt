@@ -1,0 +1,10 @@
+use Rattle.std.proofs.Common.{◌≡◌}
+use Rattle.arachne_exec.specs.Calls.{HasLooked, KeepsHand}
+use Rattle.arachne_exec.proofs.executor.Executor.next.Given as goal
+
+abbrev pub invariant-loop-index : goal.invariant-loop-index
+invariant-loop-index l = record {
+  seat : l.seat ≡ record l.fn.seat { known = l.seat.known };
+  looked : HasLooked l.fn.seat.known l.seat.known;
+  hand : KeepsHand l.fn.seat.known l.seat.known;
+}

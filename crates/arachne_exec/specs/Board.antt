@@ -1,0 +1,131 @@
+-- What holds of the words, the slots and the seats of an executor between any two steps.
+use Rattle.std.specs.Prelude.{◌≡◌, ◌⊎◌, ℕ, ◌+◌, ◌*◌, ◌/◌, ◌%◌, ◌<◌, ◌≤◌, ◌==◌, List, [], length, slice_index, if◌then◌else◌}
+use Rattle.std.specs.Int.{bit_at}
+use Rattle.std.specs.List.{sum_by}
+use mathlib.Core.Option.{some, none}
+use mathlib.Core.Option as maybe
+use lib.ListN.{get_elem?}
+use Rattle.atomic_table.specs.Table.{State}
+use Rattle.arachne_weights.specs.declared.token.Token.{Token}
+use Rattle.arachne_weights.specs.Tokens.{IsReachable, held}
+use Rattle.arachne_weights.specs.Weight.{whole}
+use Rattle.arachne_exec.specs.declared.view.Known.{Known}
+use Rattle.arachne_exec.specs.Layout.{idle_at, numbers_at, summary_at, ready_at, free_at, mark_at, words_of, worker_of, in_word}
+
+-- the words, the jobs that are at home, and what seats know
+abbrev pub Board : Type 0
+Board = State ℕ (Token Known)
+
+-- a seat that has done nothing
+abbrev pub blank : Known
+blank = record { hand = []; spawned = []; ended = []; woken = []; heard = []; roused = []; deeds = []; unshown = 0; owes = 0; worker = 0; seen = 0 }
+
+-- the first seat has the whole weight
+abbrev pub first_view : Token Known
+first_view = held whole blank
+
+-- ---- counting
+
+abbrev pub one : ℕ → ℕ → ℕ
+one other place = if other == place then 1 else 0
+
+abbrev pub times : ℕ → List ℕ → ℕ
+times place places = sum_by (λ (other : ℕ). one other place) places
+
+-- a hand is a list of places with their jobs
+abbrev pub places_in : ℕ → List (ℕ × ℕ) → ℕ
+places_in place hand = sum_by (λ (x : ℕ × ℕ). one x.0 place) hand
+
+abbrev pub jobs_in : ℕ → List (ℕ × ℕ) → ℕ
+jobs_in job hand = sum_by (λ (x : ℕ × ℕ). one x.1 job) hand
+
+abbrev pub is_number : ℕ → maybe.Option ℕ → ℕ
+is_number job none = 0
+is_number job (some other) = one other job
+
+-- how often over all seats
+abbrev pub by_all : (Known → ℕ) → List (Token Known) → ℕ
+by_all count views = sum_by (λ (t : Token Known). count t.known) views
+
+-- ---- who keeps a place
+
+-- 1 where the place is free, 1 where its job is ready, 1 where its job is blocked
+abbrev pub is_free : List ℕ → ℕ → ℕ
+is_free words place = in_word free_at words place
+
+abbrev pub is_ready : List ℕ → ℕ → ℕ
+is_ready words place = in_word ready_at words place
+
+abbrev pub is_blocked : List ℕ → ℕ → ℕ
+is_blocked words place = slice_index words (mark_at place) / 2 % 2
+
+-- how often seats have the place in hand
+abbrev pub in_hands : ℕ → List (Token Known) → ℕ
+in_hands place views = by_all (λ (k : Known). places_in place k.hand) views
+
+-- Each place has one keeper: the free word, the ready word, its mark, or a seat. Where no seat has it in hand, its slot
+-- is at home, and where it is free there is no job in it.
+pub record HasOneKeeper (blocks : ℕ) (b : Board) : Type 0 where
+  pub sized : length b.words ≡ words_of blocks
+  pub room : length b.homes ≡ 64 * blocks
+  pub kept : (place : ℕ) → place < 64 * blocks → is_free b.words place + is_ready b.words place + is_blocked b.words place + in_hands place b.views ≡ 1
+  pub away : (place : ℕ) → place < 64 * blocks → 0 < in_hands place b.views → get_elem? b.homes place ≡ some none
+  pub home : (place : ℕ) → place < 64 * blocks → in_hands place b.views ≡ 0 → (job : ℕ) × (get_elem? b.homes place ≡ some (some job))
+  pub empty : (place : ℕ) → place < 64 * blocks → is_free b.words place ≡ 1 → get_elem? b.homes place ≡ some (some 0)
+
+-- ---- what was spawned
+
+abbrev pub at_home : ℕ → List (maybe.Option ℕ) → ℕ
+at_home job homes = sum_by (λ (h : maybe.Option ℕ). is_number job h) homes
+
+-- each job number but 0 was spawned as often as it has ended, is in a hand, and lies in a slot
+pub record IsBalanced (b : Board) : Type 0 where
+  pub balanced : (job : ℕ) → 0 < job
+      → by_all (λ (k : Known). times job k.spawned) b.views ≡ by_all (λ (k : Known). times job k.ended) b.views + by_all (λ (k : Known). jobs_in job k.hand) b.views + at_home job b.homes
+
+-- ---- wakes of a job that isn't blocked
+
+-- each mark that a wake has set was heard by who had the place in hand, or is there
+pub record HearsWakes (blocks : ℕ) (b : Board) : Type 0 where
+  pub marks : (place : ℕ) → place < 64 * blocks
+      → by_all (λ (k : Known). times place k.woken) b.views ≡ by_all (λ (k : Known). times place k.heard) b.views + slice_index b.words (mark_at place) % 2
+
+-- ---- which blocks a shard shows
+
+-- how many seats owe the block its bit in the summary word
+abbrev pub unshown_by : ℕ → List (Token Known) → ℕ
+unshown_by block views = by_all (λ (k : Known). one k.unshown (block + 1)) views
+
+-- a block whose ready word isn't empty has its bit in the summary word of its shard, or a seat owes it
+pub record IsShown (blocks : ℕ) (b : Board) : Type 0 where
+  pub shown : (block : ℕ) → block < blocks → 0 < slice_index b.words (ready_at block) → (in_word summary_at b.words block ≡ 1) ⊎ (0 < unshown_by block b.views)
+
+-- ---- who wakes a sleeper
+
+-- how many seats have made the shard's summary word no longer empty, and haven't looked since whether its worker sleeps
+abbrev pub owed : ℕ → List (Token Known) → ℕ
+owed shard views = by_all (λ (k : Known). one k.owes (shard + 1)) views
+
+-- how many seats are that worker
+abbrev pub seats_of : ℕ → List (Token Known) → ℕ
+seats_of worker views = by_all (λ (k : Known). one k.worker (worker + 1)) views
+
+abbrev pub is_idle : List ℕ → ℕ → ℕ
+is_idle words worker = bit_at (slice_index words idle_at) worker
+
+-- A worker number is free or has one seat. If a worker's idle bit is set, then each of its summary words that it has
+-- found empty since it set that bit is empty, or a seat owes the look at the idle word.
+pub record WakesSleepers (b : Board) : Type 0 where
+  pub single : (worker : ℕ) → worker < 64 → bit_at (slice_index b.words numbers_at) worker + seats_of worker b.views ≡ 1
+  pub near : (h : ℕ) (t : Token Known) → get_elem? b.views h ≡ some t → t.known.worker ≤ 64
+  pub awake : (h : ℕ) (t : Token Known) → get_elem? b.views h ≡ some t → (worker k : ℕ) → t.known.worker ≡ worker + 1 → k < t.known.seen → is_idle b.words worker ≡ 1
+      → 0 < slice_index b.words (summary_at (worker + 64 * k)) → 0 < owed (worker + 64 * k) b.views
+
+-- the rule of an executor with so many shards
+pub record IsLawful (shards : ℕ) (b : Board) : Type 0 where
+  pub shared : IsReachable blank b.views
+  pub keeper : HasOneKeeper (64 * shards) b
+  pub balance : IsBalanced b
+  pub hears : HearsWakes (64 * shards) b
+  pub shows : IsShown (64 * shards) b
+  pub sleep : WakesSleepers b

@@ -1,0 +1,200 @@
+-- What each call answers, by what its seat has and knows then.
+use Rattle.std.specs.Prelude.{◌≡◌, ◌≢◌, ◌⊎◌, ℕ, ◌+◌, ◌*◌, ◌/◌, ◌%◌, ◌<◌, ◌≤◌, List, ◌∷◌, ◌++◌, map}
+use Rattle.std.specs.Int.{bit_at}
+use Rattle.std.specs.Int.RustNames.{bit_and}
+use Rattle.arachne_exec.specs.declared.view.Known.{Known}
+use Rattle.arachne_exec.specs.declared.answers.Job.{Job}
+use Rattle.arachne_exec.specs.declared.answers.Placed.{Placed}
+use Rattle.arachne_exec.specs.declared.answers.Next.{Next}
+use Rattle.arachne_exec.specs.declared.answers.Next.TheVariants as next
+use Rattle.arachne_exec.specs.declared.answers.Rested.{Rested}
+use Rattle.arachne_exec.specs.declared.answers.Rested.TheVariants as rested
+use Rattle.arachne_exec.specs.declared.answers.Spawned.{Spawned}
+use Rattle.arachne_exec.specs.declared.answers.Spawned.TheVariants as spawned
+use Rattle.arachne_exec.specs.declared.answers.SpawnedHere.{SpawnedHere}
+use Rattle.arachne_exec.specs.declared.answers.SpawnedHere.TheVariants as spawned_here
+use Rattle.arachne_exec.specs.declared.answers.Woken.{Woken}
+use Rattle.arachne_exec.specs.declared.answers.Woken.TheVariants as woken
+use Rattle.arachne_exec.specs.declared.answers.WokenHere.{WokenHere}
+use Rattle.arachne_exec.specs.declared.answers.WokenHere.TheVariants as here
+use Rattle.arachne_exec.specs.declared.waking.Found.{Found}
+use Rattle.arachne_exec.specs.declared.waking.Found.TheVariants as found
+use Rattle.arachne_exec.specs.Seats.{CallView}
+use Rattle.arachne_exec.specs.Layout.{ready_at, free_at, mark_at, places_in_word, worker_of, last_generation, name_of}
+use Rattle.arachne_exec.specs.Changes.{older, gained, gaining, unblocking, readying, blocking, spawning, beginning, ending, marking, hearing, noted, rousing}
+
+-- the worker of a place
+abbrev pub worker_at : ℕ → ℕ
+worker_at place = worker_of (place / 4096)
+
+-- the free bit of a place of the block was found set, and the job was laid there; the name is what its mark says
+pub record HasPlaced (at : Placed) (block job : ℕ) (k after : Known) : Type 0 where
+  pub there : at.place / 64 ≡ block
+  pub free : ℕ
+  pub mark : ℕ
+  pub named : at.name ≡ name_of at.place mark
+  pub known : after ≡ rousing at.unpark (worker_at at.place) (spawning job (noted (mark_at at.place) mark (gained at.place 0 (noted (free_at block) free k))))
+
+-- Full: the block's free word was found empty. Lost: a bit that was found set was then found clear
+abbrev pub HasSpawned : Spawned → ℕ → ℕ → Known → Known → Type 0
+HasSpawned (spawned.Placed at) block job k after = HasPlaced at block job k after
+HasSpawned spawned.Full block job k after = after ≡ noted (free_at block) 0 k
+HasSpawned spawned.Lost block job k after = (free then index : ℕ) × (bit_at then index ≡ 0) × (after ≡ noted (free_at block) then (noted (free_at block) free k))
+
+-- the free bit of a place of the block was found set, and the job was laid there and is in hand; the name is what its
+-- mark says
+pub record HasBegun (job : Job) (block number : ℕ) (k after : Known) : Type 0 where
+  pub there : job.place / 64 ≡ block
+  pub given : job.job ≡ number
+  pub free : ℕ
+  pub mark : ℕ
+  pub named : job.name ≡ name_of job.place mark
+  pub known : after ≡ beginning number (noted (mark_at job.place) mark (gained job.place 0 (noted (free_at block) free k)))
+
+abbrev pub HasSpawnedHere : SpawnedHere → ℕ → ℕ → Known → Known → Type 0
+HasSpawnedHere (spawned_here.Held job) block number k after = HasBegun job block number k after
+HasSpawnedHere spawned_here.Full block number k after = after ≡ noted (free_at block) 0 k
+HasSpawnedHere spawned_here.Lost block number k after = (free then index : ℕ) × (bit_at then index ≡ 0) × (after ≡ noted (free_at block) then (noted (free_at block) free k))
+
+-- the ready bit of a place of the block was found set; the name is what its mark says
+pub record HasTaken (job : Job) (block : ℕ) (k after : Known) : Type 0 where
+  pub there : job.place / 64 ≡ block
+  pub ready : ℕ
+  pub mark : ℕ
+  pub named : job.name ≡ name_of job.place mark
+  pub heard : ℕ
+  pub known : after ≡ hearing (heard % 2) job.place (noted (mark_at job.place) mark (gained job.place job.job (noted (ready_at block) ready k)))
+
+-- The ready word was found empty; or places of it were picked, and those whose bits were then found set are in hand,
+-- with their jobs, the lowest as the newest.
+abbrev pub HasTakenMany : ℕ → ℕ → Known → Known → Type 0
+HasTakenMany bits block k after = ((bits ≡ 0) × (after ≡ noted (ready_at block) 0 k))
+    ⊎ ((ready pick found : ℕ) × (jobs : List (ℕ × ℕ)) × (0 < pick) × (bit_and ready pick ≡ pick) × (bits ≡ bit_and found pick) × (map (λ (x : ℕ × ℕ). x.0) jobs ≡ places_in_word block bits)
+    × (after ≡ gaining jobs (noted (ready_at block) found (noted (ready_at block) ready k))))
+
+-- the newest job in hand, with the name that its mark says; a wake that the mark said of is used up
+pub record HasStarted (job : Job) (place : ℕ) (k after : Known) : Type 0 where
+  pub there : job.place ≡ place
+  pub newest : k.hand ≡ (place, job.job) ∷ older k.hand
+  pub mark : ℕ
+  pub named : job.name ≡ name_of place mark
+  pub heard : ℕ
+  pub known : after ≡ hearing (heard % 2) place (noted (mark_at place) mark k)
+
+-- the ready word was found empty, or a bit that was found set was then found clear
+abbrev pub HasTakenNone : ℕ → Known → Known → Type 0
+HasTakenNone block k after = (after ≡ noted (ready_at block) 0 k)
+    ⊎ ((ready then index : ℕ) × (bit_at then index ≡ 0) × (after ≡ noted (ready_at block) then (noted (ready_at block) ready k)))
+
+-- Blocked: its mark said of no wake. Ready: it said of one, or became another
+abbrev pub HasRested : Rested → ℕ → Known → Known → Type 0
+HasRested rested.Blocked place k after = (mark : ℕ) × (mark % 4 ≡ 0) × (after ≡ blocking (noted (mark_at place) mark k))
+HasRested (rested.Ready unpark) place k after = (mark : ℕ)
+    × (((mark % 4 ≢ 0) × (after ≡ rousing unpark (worker_at place) (readying (noted (mark_at place) mark k))))
+    ⊎ ((then : ℕ) × (then ≢ mark) × (after ≡ rousing unpark (worker_at place) (readying (noted (mark_at place) then (noted (mark_at place) mark k))))))
+
+-- the job of the newest place has ended, and the next one there has the next generation; or there is none any more, and
+-- the place is retired
+pub record HasFinished (place : ℕ) (k after : Known) : Type 0 where
+  pub mark : ℕ
+  pub heard : ℕ
+  pub known : ((mark / 4 + 1 < last_generation) × (after ≡ ending (noted (mark_at place) (4 * (mark / 4 + 1)) (hearing (heard % 2) place (noted (mark_at place) mark k)))))
+      ⊎ ((last_generation ≤ mark / 4 + 1) × (after ≡ ending (hearing (heard % 2) place (noted (mark_at place) mark k))))
+
+-- the mark at the place was found not to be of this generation; or there is no such place, or no such generation
+abbrev pub IsGone : ℕ → ℕ → ℕ → Known → Known → Type 0
+IsGone places place generation k after = ((after ≡ k) × ((places ≤ place) ⊎ (last_generation ≤ generation)))
+    ⊎ ((mark : ℕ) × (mark / 4 ≢ generation) × (after ≡ noted (mark_at place) mark k))
+
+-- the mark was found to be that of a job of the generation which was woken before
+abbrev pub IsAlready : ℕ → ℕ → Known → Known → Type 0
+IsAlready place generation k after = (mark : ℕ) × (mark / 4 ≡ generation) × (mark % 2 ≡ 1) × (after ≡ noted (mark_at place) mark k)
+
+-- another mark than the one found first was found then
+abbrev pub IsLost : ℕ → Known → Known → Type 0
+IsLost place k after = (mark then : ℕ) × (then ≢ mark) × (after ≡ noted (mark_at place) then (noted (mark_at place) mark k))
+
+-- the mark was found to be that of a blocked job of the generation, which came into the hand
+abbrev pub HasUnblocked : ℕ → ℕ → ℕ → Known → Known → Type 0
+HasUnblocked place generation job k after = (generation < last_generation) × (after ≡ unblocking place job (noted (mark_at place) (4 * generation + 2) k))
+
+-- the mark was found to be that of a job of the generation that isn't blocked, and says of a wake now
+abbrev pub HasMarked : ℕ → ℕ → Known → Known → Type 0
+HasMarked place generation k after = after ≡ marking place (noted (mark_at place) (4 * generation) k)
+
+-- of an executor with so many places
+abbrev pub HasWoken : Woken → ℕ → ℕ → ℕ → Known → Known → Type 0
+HasWoken (woken.Ready unpark) places place generation k after = (job : ℕ) × (held : Known) × HasUnblocked place generation job k held × (after ≡ rousing unpark (worker_at place) (readying held))
+HasWoken woken.Marked places place generation k after = HasMarked place generation k after
+HasWoken woken.Already places place generation k after = IsAlready place generation k after
+HasWoken woken.Gone places place generation k after = IsGone places place generation k after
+HasWoken woken.Lost places place generation k after = IsLost place k after
+
+abbrev pub HasWokenHere : WokenHere → ℕ → ℕ → ℕ → Known → Known → Type 0
+HasWokenHere (here.Held job) places place generation k after = (job.place ≡ place) × (job.name ≡ name_of place (4 * generation + 2)) × HasUnblocked place generation job.job k after
+HasWokenHere here.Marked places place generation k after = HasMarked place generation k after
+HasWokenHere here.Already places place generation k after = IsAlready place generation k after
+HasWokenHere here.Gone places place generation k after = IsGone places place generation k after
+HasWokenHere here.Lost places place generation k after = IsLost place k after
+
+-- it has looked at words, and told workers to be unparked
+abbrev pub HasLooked : Known → Known → Type 0
+HasLooked k after = after ≡ record k { deeds = after.deeds; roused = after.roused }
+
+-- the same, and it has set its idle bit
+abbrev pub HasLain : Known → Known → Type 0
+HasLain k after = after ≡ record k { deeds = after.deeds; roused = after.roused; seen = after.seen }
+
+-- since its idle bit was set, the worker has found each of its summary words empty
+abbrev pub HasSeenAll : ℕ → Known → Type 0
+HasSeenAll shards k = (worker j : ℕ) → k.worker ≡ worker + 1 → worker + 64 * j < shards → j < k.seen
+
+-- Run: a job of a block of the worker's. Park: all of its summary words were found empty
+abbrev pub HasAnswered : Next → ℕ → ℕ → Known → Known → Type 0
+HasAnswered (next.Run job) shards worker k after = (block : ℕ) × (looked : Known) × (block < 64 * shards) × (worker_of (block / 64) ≡ worker) × HasLooked k looked × HasTaken job block looked after
+HasAnswered next.Park shards worker k after = HasLain k after × HasSeenAll shards after
+HasAnswered next.Again shards worker k after = HasLain k after
+
+-- what a wake has found, within a call
+abbrev pub IsFound : Found → ℕ → ℕ → ℕ → CallView → CallView → Type 0
+IsFound (found.Held at) places place generation v after = (at ≡ place) × (place < places) × (generation < last_generation)
+    × ((job : ℕ) × (after ≡ record v { known = unblocking place job (noted (mark_at place) (4 * generation + 2) v.known); slots = (place, job) ∷ v.slots }))
+IsFound found.Marked places place generation v after = (after ≡ record v { known = after.known }) × HasMarked place generation v.known after.known
+IsFound found.Already places place generation v after = (after ≡ record v { known = after.known }) × IsAlready place generation v.known after.known
+IsFound found.Gone places place generation v after = (after ≡ record v { known = after.known }) × IsGone places place generation v.known after.known
+IsFound found.Lost places place generation v after = (after ≡ record v { known = after.known }) × IsLost place v.known after.known
+
+-- ---- what a call leaves in the hand
+
+-- the hand and the worker number are as before
+abbrev pub KeepsHand : Known → Known → Type 0
+KeepsHand k after = (after.hand ≡ k.hand) × (after.worker ≡ k.worker)
+
+-- a job more is in the hand, of an executor with so many places
+abbrev pub HandsOver : ℕ → Job → Known → Known → Type 0
+HandsOver places job k after = (job.place < places) × (after.hand ≡ (job.place, job.job) ∷ k.hand) × (after.worker ≡ k.worker)
+
+-- these places of a block are in the hand too
+abbrev pub HandsMany : ℕ → ℕ → Known → Known → Type 0
+HandsMany bits block k after = ((jobs : List (ℕ × ℕ)) × (map (λ (x : ℕ × ℕ). x.0) jobs ≡ places_in_word block bits) × (after.hand ≡ jobs ++ k.hand)) × (after.worker ≡ k.worker)
+
+-- the newest job is no longer in the hand
+abbrev pub LaysDown : Known → Known → Type 0
+LaysDown k after = (after.hand ≡ older k.hand) × (after.worker ≡ k.worker)
+
+abbrev pub HandsNext : Next → ℕ → Known → Known → Type 0
+HandsNext (next.Run job) places k after = HandsOver places job k after
+HandsNext next.Park places k after = KeepsHand k after
+HandsNext next.Again places k after = KeepsHand k after
+
+abbrev pub HandsSpawned : SpawnedHere → ℕ → Known → Known → Type 0
+HandsSpawned (spawned_here.Held job) places k after = HandsOver places job k after
+HandsSpawned spawned_here.Full places k after = KeepsHand k after
+HandsSpawned spawned_here.Lost places k after = KeepsHand k after
+
+abbrev pub HandsWoken : WokenHere → ℕ → Known → Known → Type 0
+HandsWoken (here.Held job) places k after = HandsOver places job k after
+HandsWoken here.Marked places k after = KeepsHand k after
+HandsWoken here.Already places k after = KeepsHand k after
+HandsWoken here.Gone places k after = KeepsHand k after
+HandsWoken here.Lost places k after = KeepsHand k after

@@ -1,0 +1,9 @@
+pub mod Layout
+pub mod First
+pub mod Board
+pub mod Changes
+pub mod Steps
+pub mod Seats
+pub mod Calls
+pub mod Ending
+pub mod Promises

@@ -1,0 +1,47 @@
+-- What contracts see of an executor and of its seats.
+use Rattle.std.specs.Prelude.{◌≡◌, ℕ, ◌*◌, ◌≤◌, List, [], ◌∷◌}
+use Rattle.atomic_table.specs.Seated.{TableId}
+use Rattle.atomic_table.specs.Table.{rest}
+use Rattle.arachne_exec.specs.declared.view.Known.{Known}
+use Rattle.arachne_exec.specs.Layout.{words_of}
+use Rattle.arachne_exec.specs.Changes.{older}
+
+-- which table it is, and how many shards it has
+pub record Places : Type 0 where
+  pub table : TableId
+  pub shards : ℕ
+
+pub record IsLaidOut (table : TableId) (key shards : ℕ) : Type 0 where
+  pub keyed : key ≡ shards
+  pub words : table.words ≡ words_of (64 * shards)
+  pub slots : table.slots ≡ 4096 * shards
+  pub few : shards ≤ 256
+
+-- a seat: which table it is of, its part of the whole weight, and what it knows
+pub record SeatView : Type 0 where
+  pub table : TableId
+  pub weight : ℕ
+  pub known : Known
+
+-- the same within a call, where slots are out with it, the one taken last first
+pub record CallView : Type 0 where
+  pub table : TableId
+  pub weight : ℕ
+  pub known : Known
+  pub slots : List (ℕ × ℕ)
+
+-- Between two calls the slots of the places in hand are out with the seat, and no other, and it owes nothing.
+pub record IsCalm (k : Known) (slots : List (ℕ × ℕ)) : Type 0 where
+  pub out : slots ≡ k.hand
+  pub shown : k.unshown ≡ 0
+  pub debt : k.owes ≡ 0
+
+-- the newest place in hand
+pub record IsNewest (place : ℕ) (k : Known) : Type 0 where
+  pub job : ℕ
+  pub hand : k.hand ≡ (place, job) ∷ older k.hand
+
+-- within a call: the newest place in hand is this one with the job, and this is in its slot, which is out
+pub record HasNewest (place job inside : ℕ) (v : CallView) : Type 0 where
+  pub hand : v.known.hand ≡ (place, job) ∷ older v.known.hand
+  pub slot : v.slots ≡ (place, inside) ∷ rest v.slots

@@ -1,0 +1,153 @@
+-- What each kind of step tells the seat that makes it: of the seat before, the number found and the seat after.
+use Rattle.std.specs.Prelude.{◌≡◌, ◌≢◌, ℕ, ◌+◌, ◌-◌, ◌*◌, ◌/◌, ◌%◌, ◌^◌, ◌<◌, ◌++◌, map, true, false, List, [], ◌∷◌}
+use Rattle.std.specs.Int.{bit_at}
+use Rattle.std.specs.Int.RustNames.{bit_and}
+use Rattle.atomic_table.specs.Table.{Me, Step, rest}
+use Rattle.arachne_weights.specs.declared.token.Token.{Token}
+use Rattle.arachne_weights.specs.Tokens.{held}
+use Rattle.arachne_exec.specs.declared.view.Known.{Known}
+use Rattle.arachne_exec.specs.Layout.{summary_at, ready_at, mark_at, worker_of, others, places_in_word}
+use Rattle.arachne_exec.specs.Changes.{newest_job, gained, gaining, unblocking, readying, blocking, spawning, beginning, ending, marking, hearing, noted, rousing, unshowing, owing, having_seen, working}
+
+-- a view, and the slots that are out with the seat: each a place with what is in it
+abbrev pub Mine : Type 0
+Mine = Me ℕ (Token Known)
+
+abbrev pub IsLive : Mine → Type 0
+IsLive me = me.0 ≡ held me.0.weight me.0.known
+
+-- the seat with other knowledge and other slots
+abbrev pub with : Mine → Known → List (ℕ × ℕ) → Mine
+with m k slots = (held m.0.weight k, slots)
+
+-- the seat with other knowledge
+abbrev pub knowing : Mine → Known → Mine
+knowing m k = with m k m.1
+
+-- the number is noted
+abbrev pub Looks : Step ℕ → Mine → ℕ → Mine → Type 0
+Looks step before found after = after ≡ knowing before (noted step.word found before.0.known)
+
+-- the bit of a place is cleared: where it was set, the place is in the seat's hand, with its job
+abbrev pub Takes : Step ℕ → Mine → ℕ → Mine → Type 0
+Takes step before found after = (place : ℕ) → step.word ≡ ready_at (place / 64) → step.first ≡ others (place % 64)
+    → (bit_at found (place % 64) ≡ 1 → (job : ℕ) × (after ≡ with before (gained place job before.0.known) ((place, job) ∷ before.1)))
+    × (bit_at found (place % 64) ≡ 0 → after ≡ knowing before (noted step.word found before.0.known))
+
+-- The bits of several places of a block are cleared: those that were set are in the seat's hand, the lowest as the
+-- newest.
+abbrev pub TakesMany : Step ℕ → Mine → ℕ → Mine → Type 0
+TakesMany step before found after = (block pick : ℕ) → pick < 2 ^ 64 → step.word ≡ ready_at block → step.first ≡ 2 ^ 64 - 1 - pick
+    → (jobs : List (ℕ × ℕ)) × (map (λ (x : ℕ × ℕ). x.0) jobs ≡ places_in_word block (bit_and found pick)) × (after ≡ with before (gaining jobs (noted step.word found before.0.known)) (jobs ++ before.1))
+
+-- the same of the free word, where a place has no job
+abbrev pub Claims : (ℕ → ℕ) → Step ℕ → Mine → ℕ → Mine → Type 0
+Claims at step before found after = (place : ℕ) → step.word ≡ at (place / 64) → step.first ≡ others (place % 64)
+    → (bit_at found (place % 64) ≡ 1 → after ≡ with before (gained place 0 before.0.known) ((place, 0) ∷ before.1))
+    × (bit_at found (place % 64) ≡ 0 → after ≡ knowing before (noted step.word found before.0.known))
+
+-- the newest place is free: its job has ended
+abbrev pub Frees : Step ℕ → Mine → ℕ → Mine → Type 0
+Frees step before found after = after ≡ with before (ending before.0.known) (rest before.1)
+
+-- the newest place is ready; where its block had no ready job, the bit in the summary word is owed
+abbrev pub Readies : Step ℕ → Mine → ℕ → Mine → Type 0
+Readies step before found after = (place : ℕ) → step.word ≡ ready_at (place / 64)
+    → (found ≡ 0 → after ≡ with before (unshowing (place / 64 + 1) (readying before.0.known)) (rest before.1))
+    × (found ≢ 0 → after ≡ with before (readying before.0.known) (rest before.1))
+
+-- the same of a place that a job was laid into
+abbrev pub Spawns : Step ℕ → Mine → ℕ → Mine → Type 0
+Spawns step before found after = (place : ℕ) → step.word ≡ ready_at (place / 64)
+    → (found ≡ 0 → after ≡ with before (unshowing (place / 64 + 1) (spawning (newest_job before.1) before.0.known)) (rest before.1))
+    × (found ≢ 0 → after ≡ with before (spawning (newest_job before.1) before.0.known) (rest before.1))
+
+-- the newest place has the job that was laid into it, and stays in hand; the number is noted
+abbrev pub Begins : Step ℕ → Mine → ℕ → Mine → Type 0
+Begins step before found after = after ≡ knowing before (beginning (newest_job before.1) (noted step.word found before.0.known))
+
+-- where the mark was as expected, the newest place is blocked
+abbrev pub Blocks : Step ℕ → Mine → ℕ → Mine → Type 0
+Blocks step before found after =
+    (found ≡ step.first → after ≡ with before (blocking before.0.known) (rest before.1)) × (found ≢ step.first → after ≡ knowing before (noted step.word found before.0.known))
+
+-- the newest place gets a new mark, and a mark of a wake is used up
+abbrev pub Renews : Step ℕ → Mine → ℕ → Mine → Type 0
+Renews step before found after = (place : ℕ) → step.word ≡ mark_at place → after ≡ knowing before (noted step.word step.first (hearing (found % 2) place before.0.known))
+
+-- the newest place is blocked for ever: its job has ended
+abbrev pub Retires : Step ℕ → Mine → ℕ → Mine → Type 0
+Retires step before found after = (place : ℕ) → step.word ≡ mark_at place → after ≡ with before (ending (hearing (found % 2) place before.0.known)) (rest before.1)
+
+-- a mark of a wake is used up
+abbrev pub Hears : Step ℕ → Mine → ℕ → Mine → Type 0
+Hears step before found after = (place : ℕ) → step.word ≡ mark_at place → after ≡ knowing before (hearing (found % 2) place before.0.known)
+
+-- where the mark was as expected, the place was blocked and is in the seat's hand
+abbrev pub Wakes : Step ℕ → Mine → ℕ → Mine → Type 0
+Wakes step before found after = (place : ℕ) → step.word ≡ mark_at place
+    → (found ≡ step.first → (job : ℕ) × (after ≡ with before (unblocking place job before.0.known) ((place, job) ∷ before.1)))
+    × (found ≢ step.first → after ≡ knowing before (noted step.word found before.0.known))
+
+-- where the mark was as expected, it says of a wake
+abbrev pub Marks : Step ℕ → Mine → ℕ → Mine → Type 0
+Marks step before found after = (place : ℕ) → step.word ≡ mark_at place
+    → (found ≡ step.first → after ≡ knowing before (marking place before.0.known))
+    × (found ≢ step.first → after ≡ knowing before (noted step.word found before.0.known))
+
+-- ---- the summary word
+
+-- where the block's bit is set, it is no longer owed
+abbrev pub FindsShown : Step ℕ → Mine → ℕ → Mine → Type 0
+FindsShown step before found after = (block : ℕ) → before.0.known.unshown ≡ block + 1
+    → (bit_at found (block % 64) ≡ 1 → after ≡ knowing before (unshowing 0 before.0.known)) × (bit_at found (block % 64) ≡ 0 → after ≡ before)
+
+-- the block's bit is set; where the summary word was empty, the look at the idle word is owed
+abbrev pub Shows : Step ℕ → Mine → ℕ → Mine → Type 0
+Shows step before found after = (block : ℕ) → step.word ≡ summary_at (block / 64)
+    → (found ≡ 0 → after ≡ knowing before (owing (block / 64 + 1) (unshowing 0 before.0.known))) × (found ≢ 0 → after ≡ knowing before (unshowing 0 before.0.known))
+
+-- the block's bit is cleared, and owed
+abbrev pub Hides : Step ℕ → Mine → ℕ → Mine → Type 0
+Hides step before found after = (block : ℕ) → step.word ≡ summary_at (block / 64) → step.first ≡ others (block % 64) → after ≡ knowing before (unshowing (block + 1) before.0.known)
+
+-- where the block has no ready job, its bit is no longer owed
+abbrev pub LooksAgain : Step ℕ → Mine → ℕ → Mine → Type 0
+LooksAgain step before found after = (found ≡ 0 → after ≡ knowing before (unshowing 0 before.0.known)) × (found ≢ 0 → after ≡ before)
+
+-- ---- the idle word
+
+-- where the worker's idle bit isn't set, nothing is owed any more
+abbrev pub LooksIdle : Step ℕ → Mine → ℕ → Mine → Type 0
+LooksIdle step before found after = (shard : ℕ) → before.0.known.owes ≡ shard + 1
+    → (bit_at found (worker_of shard) ≡ 1 → after ≡ before) × (bit_at found (worker_of shard) ≡ 0 → after ≡ knowing before (owing 0 before.0.known))
+
+-- the worker's idle bit is cleared: where it was set, the worker is to be unparked
+abbrev pub Unparks : Step ℕ → Mine → ℕ → Mine → Type 0
+Unparks step before found after = (shard : ℕ) → before.0.known.owes ≡ shard + 1
+    → (bit_at found (worker_of shard) ≡ 1 → after ≡ knowing before (rousing true (worker_of shard) (owing 0 before.0.known)))
+    × (bit_at found (worker_of shard) ≡ 0 → after ≡ knowing before (owing 0 before.0.known))
+
+-- a worker clears its own idle bit
+abbrev pub Rises : Step ℕ → Mine → ℕ → Mine → Type 0
+Rises step before found after = after ≡ before
+
+-- a worker sets its idle bit, and has looked at none of its summary words since
+abbrev pub Rests : Step ℕ → Mine → ℕ → Mine → Type 0
+Rests step before found after = after ≡ knowing before (having_seen 0 before.0.known)
+
+-- the next one of the worker's summary words: where it is empty, one more was seen
+abbrev pub LooksNext : Step ℕ → Mine → ℕ → Mine → Type 0
+LooksNext step before found after =
+    (found ≡ 0 → after ≡ knowing before (having_seen (before.0.known.seen + 1) before.0.known)) × (found ≢ 0 → after ≡ before)
+
+-- ---- worker numbers
+
+-- the bit of a number is cleared: where it was set, the number is the seat's
+abbrev pub Registers : Step ℕ → Mine → ℕ → Mine → Type 0
+Registers step before found after = (worker : ℕ) → step.first ≡ others worker → worker < 64
+    → (bit_at found worker ≡ 1 → after ≡ knowing before (working (worker + 1) before.0.known)) × (bit_at found worker ≡ 0 → after ≡ before)
+
+-- the seat has no number any more
+abbrev pub Leaves : Step ℕ → Mine → ℕ → Mine → Type 0
+Leaves step before found after = after ≡ knowing before (working 0 before.0.known)

@@ -1,0 +1,81 @@
+//! What calls answer.
+
+/// A job in hand: where it stands, its name, and its number.
+#[derive(Clone, Copy, Debug, PartialEq, Eq)]
+pub struct Job {
+    pub place: usize,
+    pub name: u64,
+    pub job: u64,
+}
+
+/// Where a job was put, and its name. `unpark` is whether the worker of the place is to be unparked.
+#[derive(Clone, Copy, Debug, PartialEq, Eq)]
+pub struct Placed {
+    pub place: usize,
+    pub name: u64,
+    pub unpark: bool,
+}
+
+/// What became of a job that was to be spawned.
+#[derive(Clone, Copy, Debug, PartialEq, Eq)]
+pub enum Spawned {
+    Placed(Placed),
+    /// No place of the block was free.
+    Full,
+    /// Another thread claimed the place first: ask again.
+    Lost,
+}
+
+/// What became of a job that was to be spawned into the hand.
+#[derive(Clone, Copy, Debug, PartialEq, Eq)]
+pub enum SpawnedHere {
+    Held(Job),
+    /// No place of the block was free.
+    Full,
+    /// Another thread claimed the place first: ask again.
+    Lost,
+}
+
+/// What became of a job that waits.
+#[derive(Clone, Copy, Debug, PartialEq, Eq)]
+pub enum Rested {
+    Blocked,
+    /// It was woken since it was taken, and is ready.
+    Ready { unpark: bool },
+}
+
+/// What a worker is to do next.
+#[derive(Clone, Copy, Debug, PartialEq, Eq)]
+pub enum Next {
+    Run(Job),
+    /// To park: its idle bit is set, and each of its summary words was found empty after that.
+    Park,
+    /// To ask again.
+    Again,
+}
+
+/// What a wake found.
+#[derive(Clone, Copy, Debug, PartialEq, Eq)]
+pub enum Woken {
+    /// The job was blocked, and is ready.
+    Ready { unpark: bool },
+    /// The job is ready, and runs after this; or it runs, and is ready at its next rest.
+    Marked,
+    /// It was marked before.
+    Already,
+    /// No job has that name any more.
+    Gone,
+    /// Another thread changed the mark: ask again.
+    Lost,
+}
+
+/// What a wake found that takes the job.
+#[derive(Clone, Copy, Debug, PartialEq, Eq)]
+pub enum WokenHere {
+    /// The job was blocked, and is in hand.
+    Held(Job),
+    Marked,
+    Already,
+    Gone,
+    Lost,
+}

@@ -1,0 +1,53 @@
+//! The end of an executor: the jobs that were spawned and haven't ended.
+ghost use Rattle.std.specs.Prelude.{◌≡◌, ◌*◌, ◌≤◌, [], vec_len, IfOk, IfErr};
+ghost use Rattle.std.specs.Vec.{vec_capacity};
+ghost use Rattle.arachne_weights.specs.Weight.{whole};
+ghost use Rattle.arachne_exec.specs.Ending.{IsSettled};
+
+use crate::executor::Executor;
+use crate::seat::{CallSeat, ExecSeat};
+use std::alloc::Global;
+
+impl Executor {
+    /// The jobs that were spawned and haven't ended, by place. Where memory for the list is refused, executor and seat
+    /// come back.
+    pub fn close(self, alloc: Global, seat: ExecSeat) -> Result<Vec<u64>, (Executor, ExecSeat)>
+        requires own { seat.table ≡ self.table }
+        requires whole { seat.weight ≡ whole }
+        requires nothing_in_hand { seat.known.hand ≡ [] }
+        ensures settled { IfOk result (λ left. IsSettled seat.known left.items) }
+        ensures handed_back { IfErr result (λ back. back ≡ (self, seat)) }
+    {
+        let Ok(left) = Vec::with_capacity(alloc, self.places()) else {
+            return Err((self, seat));
+        };
+        Ok(self.close_into(seat, left))
+    }
+
+    /// The same, where there is room for the list.
+    pub fn close_into(self, seat: ExecSeat, list: Vec<u64>) -> Vec<u64>
+        requires own { seat.table ≡ self.table }
+        requires whole { seat.weight ≡ whole }
+        requires nothing_in_hand { seat.known.hand ≡ [] }
+        requires empty { list.items ≡ [] }
+        requires room { 4096 * self.shards ≤ vec_capacity list }
+        ensures settled { IsSettled seat.known result.items }
+        ensures counted { vec_len result ≤ 4096 * self.shards }
+    {
+        let mut left = list;
+        let places = self.table.slot_count();
+        let Executor { table, shards: _ } = self;
+        let ExecSeat { at, .. } = seat;
+        let CallSeat { seat } = at;
+        let mut closed = table.close_with(seat);
+        for place in 0..places {
+            let job = closed.take(place);
+            if job == 0 {
+                continue;
+            }
+            left.push(job).unwrap();
+        }
+        closed.free();
+        left
+    }
+}

@@ -1,0 +1,140 @@
+//! The executor and its seats.
+ghost use Rattle.std.specs.Prelude.{◌≡◌, ◌*◌, ◌↔◌, ◌≤◌, [], IsTrue, IfOk};
+ghost use Rattle.arachne_weights.specs.Weight.{whole, first_part, second_part, joined};
+ghost use Rattle.arachne_exec.specs.Board.{blank};
+ghost use Rattle.arachne_exec.specs.Changes.{together};
+
+use crate::layout::{empty_slots, first_words};
+use crate::seat::{CallSeat, ExecSeat};
+use crate::steps::{Deal, Lawful};
+use crate::turns::Turn;
+use crate::view::View;
+use arachne_weights::Weight;
+use atomic_table::Table;
+use std::alloc::{AllocError, Global};
+use std::marker::Model;
+
+/// Where each job of a host is: words and slots of one table.
+///
+/// Contracts see which table it is, and how many shards it has.
+// In its methods a line `let _ = self.shards;` opens the table for the prover, which learns its sizes there.
+#[derive(Drop)]
+pub struct Executor {
+    pub(crate) table: Table<u64, View, usize, Lawful, Global>,
+    pub(crate) shards: usize,
+}
+
+impl Model for Executor {
+    ghost use Rattle.arachne_exec.specs.Seats.{Places, IsLaidOut};
+
+    ghost Value = { Places };
+
+    ghost view = { λ e. record { table = e.table.shared.table_id; shards = e.shards } };
+
+    ghost invariant = { λ e. IsLaidOut e.table.shared.table_id e.table.shared.key e.shards };
+}
+
+impl Executor {
+    /// An executor with so many shards of 4,096 free places, and the seat with the whole weight.
+    pub fn new(alloc: Global, shards: usize) -> Result<(Executor, ExecSeat), AllocError>
+        requires { shards ≤ 256 }
+        ensures shards { IfOk result (λ made. made.0.shards ≡ shards) }
+        ensures seat { IfOk result (λ made. made.1 ≡ record { table = made.0.table; weight = whole; known = blank }) }
+    {
+        let words = first_words(alloc, 64 * shards)?;
+        let slots = empty_slots(alloc, 64 * shards)?;
+        let Ok((table, seat)) = Table::new(alloc, words.as_slice(), slots, &shards) else {
+            return Err(AllocError);
+        };
+        let seat = ExecSeat {
+            at: CallSeat { seat },
+            weight: Weight::whole(),
+            turn: Turn::start(),
+            index: 0,
+        };
+        Ok((Executor { table, shards }, seat))
+    }
+
+    /// How many shards of 4,096 places there are.
+    pub fn shards(&self) -> usize
+        ensures { result ≡ self.now.shards }
+    {
+        self.shards
+    }
+
+    /// How many places there are.
+    pub fn places(&self) -> usize
+        ensures { result ≡ 4096 * self.now.shards }
+    {
+        self.few();
+        4096 * self.shards
+    }
+
+    /// There are at most 256 shards. It does nothing.
+    pub(crate) fn few(&self)
+        ensures { self.now.shards ≤ 256 }
+    {
+        let _ = &self.shards;
+    }
+
+    fn cut(&self, seat: &mut CallSeat) -> CallSeat
+        requires own { seat.old.table ≡ self.now.table }
+        ensures first { seat.new ≡ record seat.old { weight = first_part seat.old.weight } }
+        ensures second { result ≡ record { table = seat.old.table; weight = second_part seat.old.weight; known = blank; slots = [] } }
+    {
+        let _ = self.shards;
+        let other = self.table.shared.split_seat::<Deal>(&mut seat.seat);
+        CallSeat { seat: other }
+    }
+
+    fn take_in(&self, seat: &mut CallSeat, other: CallSeat)
+        requires own { (seat.old.table ≡ self.now.table) × (other.table ≡ self.now.table) }
+        requires nothing { (other.slots ≡ []) × (other.known.hand ≡ []) × (other.known.worker ≡ 0) × (other.known.unshown ≡ 0) × (other.known.owes ≡ 0) }
+        ensures { seat.new ≡ record seat.old { weight = joined seat.old.weight other.weight; known = together seat.old.known other.known } }
+    {
+        let _ = self.shards;
+        let CallSeat { seat: spent } = other;
+        self.table.shared.join_seat::<Deal>(&mut seat.seat, spent);
+    }
+
+    /// A seat for another thread, with half the weight and nothing else. At weight 1 or 0 neither keeps any.
+    pub fn split(&self, seat: &mut ExecSeat) -> ExecSeat
+        requires own { seat.old.table ≡ self.now.table }
+        ensures first { seat.new ≡ record seat.old { weight = first_part seat.old.weight } }
+        ensures second { result ≡ record { table = seat.old.table; weight = second_part seat.old.weight; known = blank } }
+    {
+        let (first, second) = seat.weight.split();
+        let other = self.cut(&mut seat.at);
+        seat.weight = first;
+        ExecSeat {
+            at: other,
+            weight: second,
+            turn: Turn::start(),
+            index: 0,
+        }
+    }
+
+    /// Takes in another seat, which has an empty hand and no worker number: adds up the weights, to at most the whole,
+    /// and what both know.
+    pub fn join_seats(&self, seat: &mut ExecSeat, other: ExecSeat)
+        requires own { (seat.old.table ≡ self.now.table) × (other.table ≡ self.now.table) }
+        requires nothing_in_hand { other.known.hand ≡ [] }
+        requires no_worker { other.known.worker ≡ 0 }
+        ensures { seat.new ≡ record seat.old { weight = joined seat.old.weight other.weight; known = together seat.old.known other.known } }
+    {
+        let ExecSeat {
+            at: spent,
+            weight: added,
+            ..
+        } = other;
+        self.take_in(&mut seat.at, spent);
+        seat.weight = seat.weight.join(added);
+    }
+
+    /// Whether all other seats were joined into this one.
+    pub fn is_whole(&self, seat: &ExecSeat) -> bool
+        ensures { IsTrue result ↔ (seat.now.weight ≡ whole) }
+    {
+        seat.weight.is_whole()
+    }
+}

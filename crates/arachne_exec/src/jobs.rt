@@ -1,0 +1,201 @@
+//! The way of a job: spawn, take, rest, finish.
+ghost use Rattle.std.specs.Prelude.{◌≡◌, ◌≢◌, ◌⊎◌, ℕ, ◌+◌, ◌*◌, ◌/◌, ◌%◌, ◌^◌, ◌<◌, IsTrue, IsFalse, IfSome, IfNone};
+ghost use Rattle.atomic_table.specs.Table.{rest};
+ghost use Rattle.arachne_exec.specs.Layout.{mark_at};
+ghost use Rattle.arachne_exec.specs.Changes.{readying, blocking, hearing, noted, rousing};
+ghost use Rattle.arachne_exec.specs.Seats.{HasNewest, IsNewest};
+ghost use Rattle.arachne_exec.specs.Calls.{worker_at, HasSpawned, HasSpawnedHere, HandsSpawned, HasTaken, HasTakenNone, HasRested, HasFinished, KeepsHand, HandsOver, LaysDown};
+
+use crate::answers::{Job, Placed, Rested, Spawned, SpawnedHere};
+use crate::executor::Executor;
+use crate::layout::{LAST_GENERATION, free_word, mark_word, name_at, ready_word};
+use crate::seat::{CallSeat, ExecSeat};
+use crate::turns::{first_from, has_more};
+
+impl Executor {
+    /// The mark of the newest place says of no wake from now on. The mark that was found.
+    pub(crate) fn refresh(&self, seat: &mut CallSeat, place: usize) -> u64
+        requires own { seat.old.table ≡ self.now.table }
+        requires place { place < 4096 * self.now.shards }
+        requires newest { (job : ℕ) × (inside : ℕ) × HasNewest place job inside seat.old }
+        ensures { (heard : ℕ) × (seat.new ≡ record seat.old { known = hearing (heard % 2) place (noted (mark_at place) result seat.old.known) }) }
+    {
+        self.few();
+        let mark = self.look(seat, mark_word(place));
+        if mark % 4 != 0 {
+            self.hear(seat, place);
+        }
+        mark
+    }
+
+    /// Puts a job at a free place of a block, where it is ready: one try.
+    pub fn spawn(&self, seat: &mut ExecSeat, block: usize, job: u64) -> Spawned
+        requires own { seat.old.table ≡ self.now.table }
+        requires block { block < 64 * self.now.shards }
+        ensures seat { seat.new ≡ record seat.old { known = seat.new.known } }
+        ensures answer { HasSpawned result block job seat.old.known seat.new.known }
+        ensures hand { KeepsHand seat.old.known seat.new.known }
+    {
+        self.few();
+        let free = self.look(&mut seat.at, free_word(block));
+        if free == 0 {
+            return Spawned::Full;
+        }
+        let place = 64 * block + free.trailing_zeros() as usize;
+        if !self.claim_bit(&mut seat.at, place) {
+            return Spawned::Lost;
+        }
+        let mark = self.look(&mut seat.at, mark_word(place));
+        self.lay(&mut seat.at, place, job);
+        let unpark = self.publish_new(&mut seat.at, place, job);
+        Spawned::Placed(Placed {
+            place,
+            name: name_at(place, mark),
+            unpark,
+        })
+    }
+
+    /// Puts a job at a free place of a block and into the seat's hand, where nobody else can take it: one try.
+    pub fn spawn_here(&self, seat: &mut ExecSeat, block: usize, job: u64) -> SpawnedHere
+        requires own { seat.old.table ≡ self.now.table }
+        requires block { block < 64 * self.now.shards }
+        ensures seat { seat.new ≡ record seat.old { known = seat.new.known } }
+        ensures answer { HasSpawnedHere result block job seat.old.known seat.new.known }
+        ensures hand { HandsSpawned result (4096 * self.now.shards) seat.old.known seat.new.known }
+    {
+        self.few();
+        let free = self.look(&mut seat.at, free_word(block));
+        if free == 0 {
+            return SpawnedHere::Full;
+        }
+        let place = 64 * block + free.trailing_zeros() as usize;
+        if !self.claim_bit(&mut seat.at, place) {
+            return SpawnedHere::Lost;
+        }
+        self.lay(&mut seat.at, place, job);
+        let mark = self.begin(&mut seat.at, place, job);
+        SpawnedHere::Held(Job {
+            place,
+            name: name_at(place, mark),
+            job,
+        })
+    }
+
+    /// Takes a job that is ready at a block: one try, at the first ready place from this index on, round the block. With
+    /// it whether the block had another behind that place.
+    pub(crate) fn take_from(
+        &self,
+        seat: &mut ExecSeat,
+        block: usize,
+        from: usize,
+    ) -> Option<(Job, bool)>
+        requires own { seat.old.table ≡ self.now.table }
+        requires block { block < 64 * self.now.shards }
+        ensures seat { seat.new ≡ record seat.old { known = seat.new.known } }
+        ensures took { IfSome result (λ taken. HasTaken taken.0 block seat.old.known seat.new.known) }
+        ensures none { IfNone result (HasTakenNone block seat.old.known seat.new.known) }
+        ensures hand { IfSome result (λ taken. HandsOver (4096 * self.now.shards) taken.0 seat.old.known seat.new.known) }
+        ensures same { IfNone result (KeepsHand seat.old.known seat.new.known) }
+    {
+        self.few();
+        let ready = self.look(&mut seat.at, ready_word(block));
+        if ready == 0 {
+            return None;
+        }
+        let index = first_from(ready, from);
+        let place = 64 * block + index;
+        if !self.take_bit(&mut seat.at, place) {
+            return None;
+        }
+        let mark = self.refresh(&mut seat.at, place);
+        let job = self.lay(&mut seat.at, place, 0);
+        self.lay(&mut seat.at, place, job);
+        let job = Job {
+            place,
+            name: name_at(place, mark),
+            job,
+        };
+        Some((job, has_more(ready, index)))
+    }
+
+    /// Takes a job that is ready at a block, of any worker: one try, at the first ready place behind the index of the one
+    /// that the seat took last so, round the block.
+    pub fn take(&self, seat: &mut ExecSeat, block: usize) -> Option<Job>
+        requires own { seat.old.table ≡ self.now.table }
+        requires block { block < 64 * self.now.shards }
+        ensures seat { seat.new ≡ record seat.old { known = seat.new.known } }
+        ensures took { IfSome result (λ job. HasTaken job block seat.old.known seat.new.known) }
+        ensures none { IfNone result (HasTakenNone block seat.old.known seat.new.known) }
+        ensures hand { IfSome result (λ job. HandsOver (4096 * self.now.shards) job seat.old.known seat.new.known) }
+        ensures same { IfNone result (KeepsHand seat.old.known seat.new.known) }
+    {
+        let from = seat.index;
+        let (job, _) = self.take_from(seat, block, from)?;
+        seat.index = job.place % 64 + 1;
+        Some(job)
+    }
+
+    /// The newest job in hand is ready again. Whether the worker of its place is to be unparked.
+    pub fn rest_ready(&self, seat: &mut ExecSeat, place: usize) -> bool
+        requires own { seat.old.table ≡ self.now.table }
+        requires place { place < 4096 * self.now.shards }
+        requires newest { IsNewest place seat.old.known }
+        ensures { seat.new ≡ record seat.old { known = rousing result (worker_at place) (readying seat.old.known) } }
+    {
+        self.publish(&mut seat.at, place)
+    }
+
+    /// The newest place is blocked, unless its mark says of a wake.
+    fn try_block(&self, seat: &mut CallSeat, place: usize) -> bool
+        requires own { seat.old.table ≡ self.now.table }
+        requires place { place < 4096 * self.now.shards }
+        requires newest { (job : ℕ) × HasNewest place job job seat.old }
+        ensures put { IsTrue result → (mark : ℕ) × (mark % 4 ≡ 0) × (seat.new ≡ record seat.old { known = blocking (noted (mark_at place) mark seat.old.known); slots = rest seat.old.slots }) }
+        ensures missed { IsFalse result → (mark : ℕ) × (((mark % 4 ≢ 0) × (seat.new ≡ record seat.old { known = noted (mark_at place) mark seat.old.known }))
+            ⊎ ((then : ℕ) × (then ≢ mark) × (seat.new ≡ record seat.old { known = noted (mark_at place) then (noted (mark_at place) mark seat.old.known) }))) }
+    {
+        self.few();
+        let mark = self.look(seat, mark_word(place));
+        if mark % 4 != 0 {
+            return false;
+        }
+        self.put_blocked(seat, place, mark)
+    }
+
+    /// The newest job in hand waits, unless it was woken since it was taken.
+    pub fn rest_blocked(&self, seat: &mut ExecSeat, place: usize) -> Rested
+        requires own { seat.old.table ≡ self.now.table }
+        requires place { place < 4096 * self.now.shards }
+        requires newest { IsNewest place seat.old.known }
+        ensures seat { seat.new ≡ record seat.old { known = seat.new.known } }
+        ensures answer { HasRested result place seat.old.known seat.new.known }
+        ensures hand { LaysDown seat.old.known seat.new.known }
+    {
+        if self.try_block(&mut seat.at, place) {
+            return Rested::Blocked;
+        }
+        let unpark = self.publish(&mut seat.at, place);
+        Rested::Ready { unpark }
+    }
+
+    /// The newest job in hand has ended. Its place is free, for a job of the next generation.
+    pub fn finish(&self, seat: &mut ExecSeat, place: usize)
+        requires own { seat.old.table ≡ self.now.table }
+        requires place { place < 4096 * self.now.shards }
+        requires newest { IsNewest place seat.old.known }
+        ensures seat { seat.new ≡ record seat.old { known = seat.new.known } }
+        ensures ended { HasFinished place seat.old.known seat.new.known }
+        ensures hand { LaysDown seat.old.known seat.new.known }
+    {
+        self.few();
+        let mark = self.look(&mut seat.at, mark_word(place));
+        self.lay(&mut seat.at, place, 0);
+        let generation = mark / 4 + 1;
+        if generation >= LAST_GENERATION {
+            self.retire(&mut seat.at, place);
+            return;
+        }
+        self.renew(&mut seat.at, place, generation);
+        self.put_free(&mut seat.at, place);
+    }
+}

@@ -1,0 +1,32 @@
+//! The core of an executor, on atomic words: where each job is, who has it in hand, and whom to wake.
+#![tactic(auto)]
+
+mod answers;
+mod ending;
+mod executor;
+mod jobs;
+mod laws;
+mod layout;
+mod looking;
+mod parking;
+mod seat;
+mod showing;
+mod sleepers;
+mod steps;
+mod taking;
+mod turns;
+mod view;
+mod waking;
+mod words;
+
+pub use answers::{Job, Next, Placed, Rested, Spawned, SpawnedHere, Woken, WokenHere};
+pub use executor::Executor;
+pub use laws::{
+    executors_cross_threads, free_places_are_empty, jobs_are_conserved, ready_blocks_are_shown,
+    ready_jobs_are_shown, sleepers_are_woken, wakes_are_heard, workers_are_one,
+};
+pub use layout::{
+    BLOCKS_PER_SHARD, MOST_SHARDS, PLACES_PER_BLOCK, WORKERS, place_of, worker_of_place,
+};
+pub use seat::ExecSeat;
+pub use view::{Deed, Known, View};

@@ -1,0 +1,140 @@
+//! What a worker does next, and when it may park.
+ghost use Rattle.std.specs.Prelude.{◌≡◌, ℕ, ◌+◌, ◌*◌, ◌/◌, ◌<◌, ◌≤◌, IsTrue, IsFalse, IfSome, IfNone};
+ghost use Rattle.arachne_exec.specs.declared.view.Known.{Known};
+ghost use Rattle.arachne_exec.specs.Layout.{worker_of};
+ghost use Rattle.arachne_exec.specs.Changes.{having_seen, working};
+ghost use Rattle.arachne_exec.specs.Calls.{HasAnswered, HasLooked, HasSeenAll, HasTaken, HandsNext, HandsOver, KeepsHand};
+
+use crate::answers::{Job, Next};
+use crate::executor::Executor;
+use crate::layout::summary_word;
+use crate::seat::{CallSeat, ExecSeat};
+use crate::turns::{Turn, has_more};
+
+/// How many of so many shards a worker looks after.
+fn shards_of(worker: usize, shards: usize) -> usize
+    requires { worker < 64 }
+    ensures all { (j : ℕ) → worker + 64 * j < shards → j < result }
+    ensures none { (j : ℕ) → j < result → worker + 64 * j < shards }
+{
+    if worker < shards {
+        (shards - worker - 1) / 64 + 1
+    } else {
+        0
+    }
+}
+
+impl Executor {
+    /// The seat becomes the worker of this number, where no seat is it. Whether it did.
+    pub fn register(&self, seat: &mut ExecSeat, worker: usize) -> bool
+        requires own { seat.old.table ≡ self.now.table }
+        requires worker { (seat.old.known.worker ≡ 0) × (worker < 64) }
+        ensures registered { IsTrue result → seat.new ≡ record seat.old { known = working (worker + 1) seat.old.known } }
+        ensures taken { IsFalse result → seat.new ≡ seat.old }
+    {
+        self.take_number(&mut seat.at, worker)
+    }
+
+    /// The seat's number is free again.
+    pub fn leave(&self, seat: &mut ExecSeat, worker: usize)
+        requires own { seat.old.table ≡ self.now.table }
+        requires worker { (seat.old.known.worker ≡ worker + 1) × (worker < 64) }
+        ensures { seat.new ≡ record seat.old { known = working 0 seat.old.known } }
+    {
+        self.give_number(&mut seat.at, worker);
+    }
+
+    /// The worker is awake, as where it ends its sleep by itself.
+    pub fn wake_up(&self, seat: &mut ExecSeat, worker: usize)
+        requires own { seat.old.table ≡ self.now.table }
+        requires worker { (seat.old.known.worker ≡ worker + 1) × (worker < 64) }
+        ensures { seat.new ≡ seat.old }
+    {
+        self.clear_idle(&mut seat.at, worker);
+    }
+
+    fn lie_down(&self, seat: &mut CallSeat, worker: usize) -> bool
+        requires own { seat.old.table ≡ self.now.table }
+        requires worker { (seat.old.known.worker ≡ worker + 1) × (worker < 64) }
+        ensures seat { (seen : ℕ) × (seat.new ≡ record seat.old { known = having_seen seen seat.old.known }) }
+        ensures parks { IsTrue result → HasSeenAll self.now.shards seat.new.known }
+    {
+        self.few();
+        self.set_idle(seat, worker);
+        for next in 0..shards_of(worker, self.shards) {
+            if !self.sees_none(seat, worker, next) {
+                self.clear_idle(seat, worker);
+                return false;
+            }
+        }
+        true
+    }
+
+    /// Whether the worker may park: its idle bit is set, and after that each of its summary words was found empty.
+    pub fn may_park(&self, seat: &mut ExecSeat, worker: usize) -> bool
+        requires own { seat.old.table ≡ self.now.table }
+        requires worker { (seat.old.known.worker ≡ worker + 1) × (worker < 64) }
+        ensures seat { (seen : ℕ) × (seat.new ≡ record seat.old { known = having_seen seen seat.old.known }) }
+        ensures parks { IsTrue result → HasSeenAll self.now.shards seat.new.known }
+    {
+        self.lie_down(&mut seat.at, worker)
+    }
+
+    /// A job that is ready at a shard, the first from the seat's turn on. Bits of blocks that have none are cleared in its summary word.
+    fn take_in_shard(&self, seat: &mut ExecSeat, shard: usize) -> Option<Job>
+        requires own { seat.old.table ≡ self.now.table }
+        requires shard { shard < self.now.shards }
+        ensures seat { seat.new ≡ record seat.old { known = seat.new.known } }
+        ensures took { IfSome result (λ job. (block : ℕ) × (looked : Known) × (block < 64 * self.now.shards) × (block / 64 ≡ shard) × HasLooked seat.old.known looked × HasTaken job block looked seat.new.known) }
+        ensures none { IfNone result (HasLooked seat.old.known seat.new.known) }
+        ensures hand { IfSome result (λ job. HandsOver (4096 * self.now.shards) job seat.old.known seat.new.known) }
+        ensures same { IfNone result (KeepsHand seat.old.known seat.new.known) }
+    {
+        self.few();
+        let first = seat.turn.first_block(shard);
+        let shown = self.look(&mut seat.at, summary_word(shard));
+        let mut left = shown.rotate_right(first as u32);
+        while left != 0 {
+            let index = (first + left.trailing_zeros() as usize) % 64;
+            let block = 64 * shard + index;
+            let from = seat.turn.first_place(block);
+            if let Some((job, more)) = self.take_from(seat, block, from) {
+                // where the search has come round, the shard has had its turn
+                let in_shard = index >= first && has_more(shown, index);
+                seat.turn = Turn::behind(job.place, more, in_shard);
+                return Some(job);
+            }
+            self.tidy(&mut seat.at, block);
+            left &= left - 1;
+        }
+        None
+    }
+
+    /// What the worker is to do next: a job of its blocks, or to park.
+    pub fn next(&self, seat: &mut ExecSeat, worker: usize) -> Next
+        requires own { seat.old.table ≡ self.now.table }
+        requires worker { (seat.old.known.worker ≡ worker + 1) × (worker < 64) }
+        ensures seat { seat.new ≡ record seat.old { known = seat.new.known } }
+        ensures answer { HasAnswered result self.now.shards worker seat.old.known seat.new.known }
+        ensures hand { HandsNext result (4096 * self.now.shards) seat.old.known seat.new.known }
+    {
+        self.few();
+        let count = shards_of(worker, self.shards);
+        let first = seat.turn.first_shard(count);
+        for index in 0..count {
+            let index = if first + index < count {
+                first + index
+            } else {
+                first + index - count
+            };
+            if let Some(job) = self.take_in_shard(seat, worker + 64 * index) {
+                return Next::Run(job);
+            }
+        }
+        if self.may_park(seat, worker) {
+            Next::Park
+        } else {
+            Next::Again
+        }
+    }
+}

@@ -1,0 +1,81 @@
+//! How a ready job is shown: its bit in the ready word, the bit of its block, and the look that wakes a sleeper.
+ghost use Rattle.std.specs.Prelude.{◌≡◌, ◌≢◌, ℕ, ◌+◌, ◌*◌, ◌/◌, ◌<◌};
+ghost use Rattle.atomic_table.specs.Table.{rest};
+ghost use Rattle.arachne_exec.specs.Layout.{worker_of};
+ghost use Rattle.arachne_exec.specs.Changes.{readying, spawning, rousing, settled, owing};
+ghost use Rattle.arachne_exec.specs.Seats.{HasNewest};
+
+use crate::executor::Executor;
+use crate::seat::CallSeat;
+
+impl Executor {
+    /// Looks whether the worker of the shard is idle: where it is, it is no longer, and is to be unparked.
+    pub(crate) fn pay(&self, seat: &mut CallSeat, shard: usize) -> bool
+        requires own { seat.old.table ≡ self.now.table }
+        requires owed { seat.old.known.owes ≡ shard + 1 }
+        ensures { seat.new ≡ record seat.old { known = rousing result (worker_of shard) (owing 0 seat.old.known) } }
+    {
+        if !self.finds_idle(seat, shard) {
+            return false;
+        }
+        self.unpark(seat, shard)
+    }
+
+    /// Shows a block whose bit is owed. Whether its worker is to be unparked.
+    pub(crate) fn show(&self, seat: &mut CallSeat, block: usize) -> bool
+        requires own { seat.old.table ≡ self.now.table }
+        requires block { block < 64 * self.now.shards }
+        requires owed { (seat.old.known.unshown ≡ block + 1) × (seat.old.known.owes ≡ 0) }
+        ensures { seat.new ≡ record seat.old { known = rousing result (worker_of (block / 64)) (settled seat.old.known) } }
+    {
+        if self.finds_shown(seat, block) {
+            return false;
+        }
+        if !self.put_shown(seat, block) {
+            return false;
+        }
+        self.pay(seat, block / 64)
+    }
+
+    /// The newest place is ready. Whether its worker is to be unparked.
+    pub(crate) fn publish(&self, seat: &mut CallSeat, place: usize) -> bool
+        requires own { seat.old.table ≡ self.now.table }
+        requires place { place < 4096 * self.now.shards }
+        requires newest { (job : ℕ) × HasNewest place job job seat.old }
+        requires calm { (seat.old.known.unshown ≡ 0) × (seat.old.known.owes ≡ 0) }
+        ensures { seat.new ≡ record seat.old { known = rousing result (worker_of (place / 4096)) (readying seat.old.known); slots = rest seat.old.slots } }
+    {
+        if !self.put_ready(seat, place) {
+            return false;
+        }
+        self.show(seat, place / 64)
+    }
+
+    /// The same of a place that a job was laid into.
+    pub(crate) fn publish_new(&self, seat: &mut CallSeat, place: usize, job: u64) -> bool
+        requires own { seat.old.table ≡ self.now.table }
+        requires place { place < 4096 * self.now.shards }
+        requires newest { HasNewest place 0 job seat.old }
+        requires calm { (seat.old.known.unshown ≡ 0) × (seat.old.known.owes ≡ 0) }
+        ensures { seat.new ≡ record seat.old { known = rousing result (worker_of (place / 4096)) (spawning job seat.old.known); slots = rest seat.old.slots } }
+    {
+        if !self.put_spawned(seat, place, job) {
+            return false;
+        }
+        self.show(seat, place / 64)
+    }
+
+    /// Clears the bit of a block in its summary word, unless it has a ready job. Whether its worker is to be unparked.
+    pub(crate) fn tidy(&self, seat: &mut CallSeat, block: usize) -> bool
+        requires own { seat.old.table ≡ self.now.table }
+        requires block { block < 64 * self.now.shards }
+        requires calm { (seat.old.known.unshown ≡ 0) × (seat.old.known.owes ≡ 0) }
+        ensures { seat.new ≡ record seat.old { known = rousing result (worker_of (block / 64)) seat.old.known } }
+    {
+        self.hide(seat, block);
+        if self.has_none(seat, block) {
+            return false;
+        }
+        self.show(seat, block)
+    }
+}

@@ -1,0 +1,152 @@
+//! One function for each kind of step on the summary words, the idle word and the worker numbers.
+ghost use Rattle.std.specs.Prelude.{◌≡◌, ℕ, ◌+◌, ◌*◌, ◌/◌, ◌%◌, ◌<◌, IsTrue, IsFalse};
+ghost use Rattle.arachne_exec.specs.Layout.{worker_of};
+ghost use Rattle.arachne_exec.specs.Changes.{rousing, unshowing, owing, having_seen, working};
+
+use crate::executor::Executor;
+use crate::layout::{IDLE, NUMBERS, all_but, bit, ready_word, summary_word};
+use crate::seat::CallSeat;
+use crate::steps::{
+    FindShown, Hide, Leave, LookAgain, LookIdle, LookNext, Register, Rest, Rise, Show, Unpark,
+};
+
+impl Executor {
+    /// Whether the bit of the block is set in the summary word: then it is no longer owed.
+    pub(crate) fn finds_shown(&self, seat: &mut CallSeat, block: usize) -> bool
+        requires own { seat.old.table ≡ self.now.table }
+        requires block { block < 64 * self.now.shards }
+        requires owed { seat.old.known.unshown ≡ block + 1 }
+        ensures shown { IsTrue result → seat.new ≡ record seat.old { known = unshowing 0 seat.old.known } }
+        ensures hidden { IsFalse result → seat.new ≡ seat.old }
+    {
+        let _ = self.shards;
+        let shared = &self.table.shared;
+        let found = shared.load::<FindShown>(&mut seat.seat, summary_word(block / 64));
+        found >> (block % 64) as u32 & 1 == 1
+    }
+
+    /// Sets the bit of the block in the summary word. Whether the look at the idle word is owed.
+    pub(crate) fn put_shown(&self, seat: &mut CallSeat, block: usize) -> bool
+        requires own { seat.old.table ≡ self.now.table }
+        requires block { block < 64 * self.now.shards }
+        requires owed { (seat.old.known.unshown ≡ block + 1) × (seat.old.known.owes ≡ 0) }
+        ensures first { IsTrue result → seat.new ≡ record seat.old { known = owing (block / 64 + 1) (unshowing 0 seat.old.known) } }
+        ensures more { IsFalse result → seat.new ≡ record seat.old { known = unshowing 0 seat.old.known } }
+    {
+        let _ = self.shards;
+        let shared = &self.table.shared;
+        shared.fetch_or::<Show>(&mut seat.seat, summary_word(block / 64), bit(block % 64)) == 0
+    }
+
+    /// Clears the bit of the block in the summary word.
+    pub(crate) fn hide(&self, seat: &mut CallSeat, block: usize)
+        requires own { seat.old.table ≡ self.now.table }
+        requires block { block < 64 * self.now.shards }
+        requires shown { seat.old.known.unshown ≡ 0 }
+        ensures seat { seat.new ≡ record seat.old { known = unshowing (block + 1) seat.old.known } }
+    {
+        let _ = self.shards;
+        let shared = &self.table.shared;
+        shared.fetch_and::<Hide>(
+            &mut seat.seat,
+            summary_word(block / 64),
+            all_but(block % 64),
+        );
+    }
+
+    /// Whether the block has no ready job: then its bit in the summary word is no longer owed.
+    pub(crate) fn has_none(&self, seat: &mut CallSeat, block: usize) -> bool
+        requires own { seat.old.table ≡ self.now.table }
+        requires block { block < 64 * self.now.shards }
+        requires owed { seat.old.known.unshown ≡ block + 1 }
+        ensures none { IsTrue result → seat.new ≡ record seat.old { known = unshowing 0 seat.old.known } }
+        ensures some { IsFalse result → seat.new ≡ seat.old }
+    {
+        let _ = self.shards;
+        let shared = &self.table.shared;
+        shared.load::<LookAgain>(&mut seat.seat, ready_word(block)) == 0
+    }
+
+    /// Whether the shard's worker is idle. Where it isn't, nothing is owed any more.
+    pub(crate) fn finds_idle(&self, seat: &mut CallSeat, shard: usize) -> bool
+        requires own { seat.old.table ≡ self.now.table }
+        requires owed { seat.old.known.owes ≡ shard + 1 }
+        ensures idle { IsTrue result → seat.new ≡ seat.old }
+        ensures awake { IsFalse result → seat.new ≡ record seat.old { known = owing 0 seat.old.known } }
+    {
+        let _ = self.shards;
+        let found = self.table.shared.load::<LookIdle>(&mut seat.seat, IDLE);
+        found >> (shard % 64) as u32 & 1 == 1
+    }
+
+    /// Clears the idle bit of the shard's worker. Whether it was set: then the worker is to be unparked.
+    pub(crate) fn unpark(&self, seat: &mut CallSeat, shard: usize) -> bool
+        requires own { seat.old.table ≡ self.now.table }
+        requires owed { seat.old.known.owes ≡ shard + 1 }
+        ensures seat { seat.new ≡ record seat.old { known = rousing result (worker_of shard) (owing 0 seat.old.known) } }
+    {
+        let _ = self.shards;
+        let shared = &self.table.shared;
+        let found = shared.fetch_and::<Unpark>(&mut seat.seat, IDLE, all_but(shard % 64));
+        found >> (shard % 64) as u32 & 1 == 1
+    }
+
+    /// The worker is idle from now on.
+    pub(crate) fn set_idle(&self, seat: &mut CallSeat, worker: usize)
+        requires own { seat.old.table ≡ self.now.table }
+        requires worker { (seat.old.known.worker ≡ worker + 1) × (worker < 64) }
+        ensures seat { seat.new ≡ record seat.old { known = having_seen 0 seat.old.known } }
+    {
+        let _ = self.shards;
+        let shared = &self.table.shared;
+        shared.fetch_or::<Rest>(&mut seat.seat, IDLE, bit(worker));
+    }
+
+    /// The worker is idle no longer.
+    pub(crate) fn clear_idle(&self, seat: &mut CallSeat, worker: usize)
+        requires own { seat.old.table ≡ self.now.table }
+        requires worker { (seat.old.known.worker ≡ worker + 1) × (worker < 64) }
+        ensures seat { seat.new ≡ seat.old }
+    {
+        let _ = self.shards;
+        let shared = &self.table.shared;
+        shared.fetch_and::<Rise>(&mut seat.seat, IDLE, all_but(worker));
+    }
+
+    /// Looks at the worker's next summary word. Whether it is empty.
+    pub(crate) fn sees_none(&self, seat: &mut CallSeat, worker: usize, next: usize) -> bool
+        requires own { seat.old.table ≡ self.now.table }
+        requires worker { (seat.old.known.worker ≡ worker + 1) × (worker + 64 * next < self.now.shards) }
+        requires next { seat.old.known.seen ≡ next }
+        ensures empty { IsTrue result → seat.new ≡ record seat.old { known = having_seen (next + 1) seat.old.known } }
+        ensures full { IsFalse result → seat.new ≡ seat.old }
+    {
+        let _ = self.shards;
+        let shared = &self.table.shared;
+        shared.load::<LookNext>(&mut seat.seat, summary_word(worker + 64 * next)) == 0
+    }
+
+    /// The seat becomes the worker of this number, where no seat is it. Whether it did.
+    pub(crate) fn take_number(&self, seat: &mut CallSeat, worker: usize) -> bool
+        requires own { seat.old.table ≡ self.now.table }
+        requires worker { (seat.old.known.worker ≡ 0) × (worker < 64) }
+        ensures registered { IsTrue result → seat.new ≡ record seat.old { known = working (worker + 1) seat.old.known } }
+        ensures taken { IsFalse result → seat.new ≡ seat.old }
+    {
+        let _ = self.shards;
+        let shared = &self.table.shared;
+        let found = shared.fetch_and::<Register>(&mut seat.seat, NUMBERS, all_but(worker));
+        found >> worker as u32 & 1 == 1
+    }
+
+    /// The seat's number is free again.
+    pub(crate) fn give_number(&self, seat: &mut CallSeat, worker: usize)
+        requires own { seat.old.table ≡ self.now.table }
+        requires worker { (seat.old.known.worker ≡ worker + 1) × (worker < 64) }
+        ensures seat { seat.new ≡ record seat.old { known = working 0 seat.old.known } }
+    {
+        let _ = self.shards;
+        let shared = &self.table.shared;
+        shared.fetch_or::<Leave>(&mut seat.seat, NUMBERS, bit(worker));
+    }
+}

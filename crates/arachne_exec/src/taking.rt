@@ -1,0 +1,64 @@
+//! Several jobs of a block that are taken at once.
+ghost use Rattle.std.specs.Prelude.{◌≡◌, ◌*◌, ◌<◌};
+ghost use Rattle.std.specs.Int.RustNames.{bit_and};
+ghost use Rattle.arachne_exec.specs.Seats.{IsNewest};
+ghost use Rattle.arachne_exec.specs.Calls.{HasTakenMany, HasStarted, HandsMany, KeepsHand};
+
+use crate::answers::Job;
+use crate::executor::Executor;
+use crate::layout::{name_at, ready_word};
+use crate::seat::ExecSeat;
+
+/// So many of the lowest bits that are set in a word, at least one, or all.
+fn lowest(word: u64, most: u32) -> u64
+    requires { 0 < word }
+    ensures some { 0 < result }
+    ensures within { bit_and word result ≡ result }
+{
+    let mut left = word;
+    for _ in 0..most.max(1).min(64) {
+        left &= left.wrapping_sub(1);
+    }
+    let pick = word & (u64::MAX - left);
+    if pick == 0 { word } else { pick }
+}
+
+impl Executor {
+    /// Takes up to so many ready jobs of a block, at least one, into the hand, in one step: one try. The places that came, a
+    /// bit for each: the lowest is the newest.
+    pub fn take_many(&self, seat: &mut ExecSeat, block: usize, most: u32) -> u64
+        requires own { seat.old.table ≡ self.now.table }
+        requires block { block < 64 * self.now.shards }
+        ensures seat { seat.new ≡ record seat.old { known = seat.new.known } }
+        ensures took { HasTakenMany result block seat.old.known seat.new.known }
+        ensures hand { HandsMany result block seat.old.known seat.new.known }
+    {
+        self.few();
+        let ready = self.look(&mut seat.at, ready_word(block));
+        if ready == 0 {
+            return 0;
+        }
+        let pick = lowest(ready, most);
+        self.take_bits(&mut seat.at, block, pick)
+    }
+
+    /// The newest job in hand is about to run, and a wake that has come since it was ready is used up. Its name and number.
+    pub fn start(&self, seat: &mut ExecSeat, place: usize) -> Job
+        requires own { seat.old.table ≡ self.now.table }
+        requires place { place < 4096 * self.now.shards }
+        requires newest { IsNewest place seat.old.known }
+        ensures seat { seat.new ≡ record seat.old { known = seat.new.known } }
+        ensures answer { HasStarted result place seat.old.known seat.new.known }
+        ensures hand { KeepsHand seat.old.known seat.new.known }
+    {
+        self.few();
+        let mark = self.refresh(&mut seat.at, place);
+        let job = self.lay(&mut seat.at, place, 0);
+        self.lay(&mut seat.at, place, job);
+        Job {
+            place,
+            name: name_at(place, mark),
+            job,
+        }
+    }
+}

@@ -1,0 +1,71 @@
+//! Where a search begins, so that jobs which are ready again and again don't keep others waiting.
+ghost use Rattle.std.specs.Prelude.{◌≡◌, ◌⊎◌, ◌<◌};
+
+/// The first index from this one on, round the word, whose bit is set.
+pub(crate) fn first_from(word: u64, from: usize) -> usize
+    ensures { result < 64 }
+{
+    let turned = word.rotate_right((from % 64) as u32);
+    (from % 64 + turned.trailing_zeros() as usize) % 64
+}
+
+/// Whether a bit behind the index is set.
+pub(crate) fn has_more(word: u64, index: usize) -> bool
+    requires { index < 64 }
+{
+    word >> index as u32 > 1
+}
+
+/// The place at which the next search of a worker's blocks begins.
+#[derive(Clone, Copy, Drop)]
+pub(crate) struct Turn {
+    place: usize,
+}
+
+impl Turn {
+    pub(crate) fn start() -> Turn {
+        Turn { place: 0 }
+    }
+
+    /// Behind a place that was taken, with whether its block, and its shard, had another ready place behind it.
+    pub(crate) fn behind(place: usize, in_block: bool, in_shard: bool) -> Turn
+        requires { place < 1048576 }
+    {
+        let place = if in_block {
+            place + 1
+        } else if in_shard {
+            place - place % 64 + 64
+        } else {
+            place - place % 4096 + 4096 * 64
+        };
+        Turn { place }
+    }
+
+    /// Which of a worker's shards comes first, of so many.
+    pub(crate) fn first_shard(&self, count: usize) -> usize
+        ensures { (result ≡ 0) ⊎ (result < count) }
+    {
+        let first = self.place / (4096 * 64);
+        if first < count { first } else { 0 }
+    }
+
+    /// Which block of a shard comes first.
+    pub(crate) fn first_block(&self, shard: usize) -> usize
+        ensures { result < 64 }
+    {
+        if self.place / 4096 == shard {
+            self.place / 64 % 64
+        } else {
+            0
+        }
+    }
+
+    /// Which place of a block comes first.
+    pub(crate) fn first_place(&self, block: usize) -> usize {
+        if self.place / 64 == block {
+            self.place % 64
+        } else {
+            0
+        }
+    }
+}

@@ -1,0 +1,40 @@
+//! What the table's rule sees of a seat. No value of these types is made.
+use arachne_weights::Token;
+use std::collections::LinkedList;
+
+/// What a seat has done, for its answers.
+pub enum Deed {
+    /// It has found a number in a word, or put it there.
+    Looked(usize, u64),
+    /// It has made the job at a place ready, blocked it, or found it blocked and got it.
+    Readied(usize),
+    Blocked(usize),
+    Unblocked(usize),
+}
+
+/// What a seat has and knows. Each list has the newest first.
+pub struct Known {
+    /// The places in its hand, each with its job.
+    pub hand: LinkedList<(u64, u64)>,
+    /// The jobs that were spawned through it, and those that have ended in its hand.
+    pub spawned: LinkedList<u64>,
+    pub ended: LinkedList<u64>,
+    /// The places whose jobs it has marked as woken, and those where it has used up such a mark.
+    pub woken: LinkedList<u64>,
+    pub heard: LinkedList<u64>,
+    /// The workers whose idle bits it has found set, and cleared.
+    pub roused: LinkedList<u64>,
+    /// What it has done.
+    pub deeds: LinkedList<Deed>,
+    /// One more than the block whose bit in the summary word it owes. 0: none.
+    pub unshown: u64,
+    /// One more than the shard for whose worker it owes a look at the idle word. 0: none.
+    pub owes: u64,
+    /// One more than the number of the worker that it is. 0: none.
+    pub worker: u64,
+    /// How many of the worker's summary words, from the first on, it has found empty since its idle bit was set.
+    pub seen: u64,
+}
+
+/// What the table's rule sees of a seat.
+pub type View = Token<Known>;

@@ -1,0 +1,87 @@
+//! Wakes of a job by its name.
+ghost use Rattle.std.specs.Prelude.{◌≡◌, ◌≢◌, ◌⊎◌, ℕ, ◌+◌, ◌*◌, ◌/◌, ◌%◌, ◌^◌, ◌<◌, ◌≤◌, ◌∷◌};
+ghost use Rattle.arachne_exec.specs.Layout.{mark_at, last_generation};
+ghost use Rattle.arachne_exec.specs.Calls.{HasWoken, HasWokenHere, HandsWoken, KeepsHand, IsFound};
+
+use crate::answers::{Job, Woken, WokenHere};
+use crate::executor::Executor;
+use crate::layout::{LAST_GENERATION, mark_word, place_of};
+use crate::seat::{CallSeat, ExecSeat};
+
+/// What a wake found, where the seat may have the place in hand then.
+enum Found {
+    Held(usize),
+    Marked,
+    Already,
+    Gone,
+    Lost,
+}
+
+impl Executor {
+    /// The job of that generation at a place: where it is blocked it comes into the hand.
+    fn rouse(&self, seat: &mut CallSeat, place: usize, generation: u64) -> Found
+        requires own { seat.old.table ≡ self.now.table }
+        ensures answer { IsFound result (4096 * self.now.shards) place generation seat.old seat.new }
+    {
+        self.few();
+        if place >= 4096 * self.shards || generation >= LAST_GENERATION {
+            return Found::Gone;
+        }
+        let mark = self.look(seat, mark_word(place));
+        if mark / 4 != generation {
+            return Found::Gone;
+        }
+        if mark % 2 == 1 {
+            return Found::Already;
+        }
+        if mark % 4 == 2 {
+            if self.wake_mark(seat, place, mark) {
+                return Found::Held(place);
+            }
+            return Found::Lost;
+        }
+        if self.mark(seat, place, mark) {
+            return Found::Marked;
+        }
+        Found::Lost
+    }
+
+    /// Wakes the job of a name, which may be any: one try.
+    pub fn wake(&self, seat: &mut ExecSeat, name: u64) -> Woken
+        requires own { seat.old.table ≡ self.now.table }
+        ensures seat { seat.new ≡ record seat.old { known = seat.new.known } }
+        ensures answer { HasWoken result (4096 * self.now.shards) (name % 2 ^ 20) (name / 2 ^ 20) seat.old.known seat.new.known }
+        ensures hand { KeepsHand seat.old.known seat.new.known }
+    {
+        match self.rouse(&mut seat.at, place_of(name), name >> 20) {
+            Found::Held(place) => {
+                let unpark = self.publish(&mut seat.at, place);
+                Woken::Ready { unpark }
+            }
+            Found::Marked => Woken::Marked,
+            Found::Already => Woken::Already,
+            Found::Gone => Woken::Gone,
+            Found::Lost => Woken::Lost,
+        }
+    }
+
+    /// The same, but a job that was blocked comes into the seat's hand, and nobody else can take it.
+    pub fn wake_here(&self, seat: &mut ExecSeat, name: u64) -> WokenHere
+        requires own { seat.old.table ≡ self.now.table }
+        ensures seat { seat.new ≡ record seat.old { known = seat.new.known } }
+        ensures answer { HasWokenHere result (4096 * self.now.shards) (name % 2 ^ 20) (name / 2 ^ 20) seat.old.known seat.new.known }
+        ensures hand { HandsWoken result (4096 * self.now.shards) seat.old.known seat.new.known }
+    {
+        match self.rouse(&mut seat.at, place_of(name), name >> 20) {
+            Found::Held(place) => {
+                let job = self.lay(&mut seat.at, place, 0);
+                self.lay(&mut seat.at, place, job);
+                WokenHere::Held(Job { place, name, job })
+            }
+            Found::Marked => WokenHere::Marked,
+            Found::Already => WokenHere::Already,
+            Found::Gone => WokenHere::Gone,
+            Found::Lost => WokenHere::Lost,
+        }
+    }
+}

@@ -1,0 +1,231 @@
+//! One function for each kind of step on a place's words. What the seat has and knows after it is what each says.
+ghost use Rattle.std.specs.Prelude.{◌≡◌, ◌≢◌, ℕ, ◌+◌, ◌-◌, ◌*◌, ◌/◌, ◌%◌, ◌^◌, ◌<◌, ◌≤◌, List, ◌∷◌, ◌++◌, map, IsTrue, IsFalse};
+ghost use Rattle.std.specs.Int.{bit_at};
+ghost use Rattle.std.specs.Int.RustNames.{bit_and};
+ghost use Rattle.atomic_table.specs.Table.{rest};
+ghost use Rattle.arachne_exec.specs.Layout.{ready_at, free_at, mark_at, words_of, retired, places_in_word};
+ghost use Rattle.arachne_exec.specs.Changes.{gained, gaining, unblocking, readying, blocking, spawning, beginning, ending, marking, hearing, noted, unshowing};
+ghost use Rattle.arachne_exec.specs.Seats.{HasNewest};
+
+use crate::executor::Executor;
+use crate::layout::{LAST_GENERATION, all_but, bit, free_word, mark_word, ready_word};
+use crate::seat::CallSeat;
+use crate::steps::{
+    Begin, Block, Claim, Hear, Look, Mark, PutFree, PutReady, PutSpawned, Renew, Retire, Take,
+    TakeMany, Wake,
+};
+
+impl Executor {
+    /// Looks at a word.
+    pub(crate) fn look(&self, seat: &mut CallSeat, word: usize) -> u64
+        requires own { seat.old.table ≡ self.now.table }
+        requires inside { word < words_of (64 * self.now.shards) }
+        ensures seat { seat.new ≡ record seat.old { known = noted word result seat.old.known } }
+    {
+        let _ = self.shards;
+        self.table.shared.load::<Look>(&mut seat.seat, word)
+    }
+
+    /// Reads and writes the slot of the newest place.
+    pub(crate) fn lay(&self, seat: &mut CallSeat, place: usize, new: u64) -> u64
+        requires own { seat.old.table ≡ self.now.table }
+        requires out { (old : ℕ) × (seat.old.slots ≡ (place, old) ∷ rest seat.old.slots) }
+        ensures found { seat.old.slots ≡ (place, result) ∷ rest seat.old.slots }
+        ensures seat { seat.new ≡ record seat.old { slots = (place, new) ∷ rest seat.old.slots } }
+    {
+        let _ = self.shards;
+        self.table.shared.exchange(&mut seat.seat, place, new)
+    }
+
+    /// Clears the ready bit of a place. Whether it was set: then the place is in the seat's hand.
+    pub(crate) fn take_bit(&self, seat: &mut CallSeat, place: usize) -> bool
+        requires own { seat.old.table ≡ self.now.table }
+        requires place { place < 4096 * self.now.shards }
+        ensures took { IsTrue result → (job : ℕ) × (seat.new ≡ record seat.old { known = gained place job seat.old.known; slots = (place, job) ∷ seat.old.slots }) }
+        ensures missed { IsFalse result → (n : ℕ) × (bit_at n (place % 64) ≡ 0) × (seat.new ≡ record seat.old { known = noted (ready_at (place / 64)) n seat.old.known }) }
+    {
+        let _ = self.shards;
+        let shared = &self.table.shared;
+        let index = place % 64;
+        let found = shared.fetch_and::<Take>(
+            &mut seat.seat,
+            ready_word(place / 64),
+            all_but(index),
+        );
+        found >> index as u32 & 1 == 1
+    }
+
+    /// Clears the ready bits of several places of a block. Those that were set are in the seat's hand, the lowest as the
+    /// newest.
+    pub(crate) fn take_bits(&self, seat: &mut CallSeat, block: usize, pick: u64) -> u64
+        requires own { seat.old.table ≡ self.now.table }
+        requires block { block < 64 * self.now.shards }
+        ensures took { (jobs : List (ℕ × ℕ)) × (found : ℕ) × (result ≡ bit_and found pick) × (map (λ (x : ℕ × ℕ). x.0) jobs ≡ places_in_word block result)
+            × (seat.new ≡ record seat.old { known = gaining jobs (noted (ready_at block) found seat.old.known); slots = jobs ++ seat.old.slots }) }
+    {
+        let _ = self.shards;
+        let shared = &self.table.shared;
+        let found = shared.fetch_and::<TakeMany>(
+            &mut seat.seat,
+            ready_word(block),
+            u64::MAX - pick,
+        );
+        found & pick
+    }
+
+    /// Clears the free bit of a place. Whether it was set: then the place is in the seat's hand.
+    pub(crate) fn claim_bit(&self, seat: &mut CallSeat, place: usize) -> bool
+        requires own { seat.old.table ≡ self.now.table }
+        requires place { place < 4096 * self.now.shards }
+        ensures took { IsTrue result → seat.new ≡ record seat.old { known = gained place 0 seat.old.known; slots = (place, 0) ∷ seat.old.slots } }
+        ensures missed { IsFalse result → (n : ℕ) × (bit_at n (place % 64) ≡ 0) × (seat.new ≡ record seat.old { known = noted (free_at (place / 64)) n seat.old.known }) }
+    {
+        let _ = self.shards;
+        let shared = &self.table.shared;
+        let index = place % 64;
+        let found = shared.fetch_and::<Claim>(
+            &mut seat.seat,
+            free_word(place / 64),
+            all_but(index),
+        );
+        found >> index as u32 & 1 == 1
+    }
+
+    /// The newest place is free from now on: its job has ended.
+    pub(crate) fn put_free(&self, seat: &mut CallSeat, place: usize)
+        requires own { seat.old.table ≡ self.now.table }
+        requires place { place < 4096 * self.now.shards }
+        requires newest { (job : ℕ) × HasNewest place job 0 seat.old }
+        ensures seat { seat.new ≡ record seat.old { known = ending seat.old.known; slots = rest seat.old.slots } }
+    {
+        let _ = self.shards;
+        let shared = &self.table.shared;
+        shared.fetch_or::<PutFree>(&mut seat.seat, free_word(place / 64), bit(place % 64));
+    }
+
+    /// The newest place is ready from now on. Whether its block has to be shown.
+    pub(crate) fn put_ready(&self, seat: &mut CallSeat, place: usize) -> bool
+        requires own { seat.old.table ≡ self.now.table }
+        requires place { place < 4096 * self.now.shards }
+        requires newest { (job : ℕ) × HasNewest place job job seat.old }
+        requires shown { seat.old.known.unshown ≡ 0 }
+        ensures first { IsTrue result → seat.new ≡ record seat.old { known = unshowing (place / 64 + 1) (readying seat.old.known); slots = rest seat.old.slots } }
+        ensures more { IsFalse result → seat.new ≡ record seat.old { known = readying seat.old.known; slots = rest seat.old.slots } }
+    {
+        let _ = self.shards;
+        let shared = &self.table.shared;
+        shared.fetch_or::<PutReady>(&mut seat.seat, ready_word(place / 64), bit(place % 64)) == 0
+    }
+
+    /// The newest place, which a job was laid into, is ready from now on. Whether its block has to be shown.
+    pub(crate) fn put_spawned(&self, seat: &mut CallSeat, place: usize, job: u64) -> bool
+        requires own { seat.old.table ≡ self.now.table }
+        requires place { place < 4096 * self.now.shards }
+        requires newest { HasNewest place 0 job seat.old }
+        requires shown { seat.old.known.unshown ≡ 0 }
+        ensures first { IsTrue result → seat.new ≡ record seat.old { known = unshowing (place / 64 + 1) (spawning job seat.old.known); slots = rest seat.old.slots } }
+        ensures more { IsFalse result → seat.new ≡ record seat.old { known = spawning job seat.old.known; slots = rest seat.old.slots } }
+    {
+        let _ = self.shards;
+        let shared = &self.table.shared;
+        shared.fetch_or::<PutSpawned>(&mut seat.seat, ready_word(place / 64), bit(place % 64)) == 0
+    }
+
+    /// The newest place has the job that was laid into it from now on, and stays in hand. Its mark.
+    pub(crate) fn begin(&self, seat: &mut CallSeat, place: usize, job: u64) -> u64
+        requires own { seat.old.table ≡ self.now.table }
+        requires place { place < 4096 * self.now.shards }
+        requires newest { HasNewest place 0 job seat.old }
+        ensures seat { seat.new ≡ record seat.old { known = beginning job (noted (mark_at place) result seat.old.known) } }
+    {
+        let _ = self.shards;
+        self.table
+            .shared
+            .load::<Begin>(&mut seat.seat, mark_word(place))
+    }
+
+    /// The newest place is blocked from now on, where its mark is as expected, which says of no wake.
+    pub(crate) fn put_blocked(&self, seat: &mut CallSeat, place: usize, old: u64) -> bool
+        requires own { seat.old.table ≡ self.now.table }
+        requires place { place < 4096 * self.now.shards }
+        requires newest { (job : ℕ) × HasNewest place job job seat.old }
+        requires unwoken { old % 4 ≡ 0 }
+        ensures put { IsTrue result → seat.new ≡ record seat.old { known = blocking seat.old.known; slots = rest seat.old.slots } }
+        ensures missed { IsFalse result → (n : ℕ) × (n ≢ old) × (seat.new ≡ record seat.old { known = noted (mark_at place) n seat.old.known }) }
+    {
+        let _ = self.shards;
+        let shared = &self.table.shared;
+        let found = shared.compare_exchange::<Block>(
+            &mut seat.seat,
+            mark_word(place),
+            old,
+            old + 2,
+        );
+        found == old
+    }
+
+    /// Clears the mark of a wake at the newest place.
+    pub(crate) fn hear(&self, seat: &mut CallSeat, place: usize)
+        requires own { seat.old.table ≡ self.now.table }
+        requires place { place < 4096 * self.now.shards }
+        requires newest { (job : ℕ) × (inside : ℕ) × HasNewest place job inside seat.old }
+        ensures seat { (n : ℕ) × (seat.new ≡ record seat.old { known = hearing (n % 2) place seat.old.known }) }
+    {
+        let _ = self.shards;
+        let shared = &self.table.shared;
+        shared.fetch_and::<Hear>(&mut seat.seat, mark_word(place), u64::MAX - 3);
+    }
+
+    /// The mark of the newest place says of this generation, and of no wake.
+    pub(crate) fn renew(&self, seat: &mut CallSeat, place: usize, generation: u64)
+        requires own { seat.old.table ≡ self.now.table }
+        requires place { place < 4096 * self.now.shards }
+        requires newest { (job : ℕ) × (inside : ℕ) × HasNewest place job inside seat.old }
+        requires generation { generation < 2 ^ 44 }
+        ensures seat { (n : ℕ) × (seat.new ≡ record seat.old { known = noted (mark_at place) (4 * generation) (hearing (n % 2) place seat.old.known) }) }
+    {
+        let _ = self.shards;
+        let shared = &self.table.shared;
+        shared.swap::<Renew>(&mut seat.seat, mark_word(place), 4 * generation);
+    }
+
+    /// The newest place is blocked for ever: its job has ended, and no other comes.
+    pub(crate) fn retire(&self, seat: &mut CallSeat, place: usize)
+        requires own { seat.old.table ≡ self.now.table }
+        requires place { place < 4096 * self.now.shards }
+        requires newest { (job : ℕ) × HasNewest place job 0 seat.old }
+        ensures seat { (n : ℕ) × (seat.new ≡ record seat.old { known = ending (hearing (n % 2) place seat.old.known); slots = rest seat.old.slots }) }
+    {
+        let _ = self.shards;
+        let shared = &self.table.shared;
+        shared.swap::<Retire>(&mut seat.seat, mark_word(place), 4 * LAST_GENERATION + 2);
+    }
+
+    /// The place is in the seat's hand, where its mark is as expected, which is that of a blocked job.
+    pub(crate) fn wake_mark(&self, seat: &mut CallSeat, place: usize, old: u64) -> bool
+        requires own { seat.old.table ≡ self.now.table }
+        requires place { place < 4096 * self.now.shards }
+        requires blocked { old % 4 ≡ 2 }
+        ensures took { IsTrue result → (job : ℕ) × (seat.new ≡ record seat.old { known = unblocking place job seat.old.known; slots = (place, job) ∷ seat.old.slots }) }
+        ensures missed { IsFalse result → (n : ℕ) × (n ≢ old) × (seat.new ≡ record seat.old { known = noted (mark_at place) n seat.old.known }) }
+    {
+        let _ = self.shards;
+        let shared = &self.table.shared;
+        let found = shared.compare_exchange::<Wake>(&mut seat.seat, mark_word(place), old, old - 2);
+        found == old
+    }
+
+    /// The mark says of a wake, where it is as expected, which is that of a job that isn't blocked.
+    pub(crate) fn mark(&self, seat: &mut CallSeat, place: usize, old: u64) -> bool
+        requires own { seat.old.table ≡ self.now.table }
+        requires place { place < 4096 * self.now.shards }
+        requires unwoken { old % 4 ≡ 0 }
+        ensures marked { IsTrue result → seat.new ≡ record seat.old { known = marking place seat.old.known } }
+        ensures missed { IsFalse result → (n : ℕ) × (n ≢ old) × (seat.new ≡ record seat.old { known = noted (mark_at place) n seat.old.known }) }
+    {
+        let _ = self.shards;
+        let shared = &self.table.shared;
+        let found = shared.compare_exchange::<Mark>(&mut seat.seat, mark_word(place), old, old + 1);
+        found == old
+    }
+}

@@ -1,0 +1,21 @@
+-- A seat that was cut in two, or that was not joined.
+use Rattle.std.proofs.Common.{◌≡◌, true, inr, subst, sym, refl}
+use Rattle.std.proofs.lemmas.Bool.{false≢true}
+use Rattle.std.proofs.lemmas.Option.{none-some}
+use Rattle.std.specs.Option.{is_some, IsSomeAnd}
+use Rattle.std.specs.declared.option.Option.{Option}
+use Rattle.std.specs.declared.option.Option.TheVariants.{None, Some}
+use Rattle.arachne_exec_c.specs.Executing.{Exec, IsIdle, first_of, second_of, IsSplit, IsJoined}
+
+-- it was cut, where the first handle held it and the second nothing
+pub is_split : (old other new other_new : Option Exec) → is_some old ≡ true → other ≡ None
+    → ((a : Exec) → old ≡ Some a → (new ≡ Some (first_of a)) × (other_new ≡ Some (second_of a))) → IsSplit old other new other_new 0
+is_split None other new other_new some none made = absurd (false≢true some)
+is_split (Some a) (Some b) new other_new some none made = absurd (none-some b (sym none))
+is_split (Some a) None new other_new some none made = subst (λ (o : Option Exec). IsSplit (Some a) None new o 0) (sym (made a refl).1) (refl, (made a refl).0, refl)
+
+-- nothing is joined where the second has a job in hand, is a worker, or isn't there
+pub not_joined : (old other : Option Exec) → ¬ IsSomeAnd other IsIdle → IsJoined old other old other 1
+not_joined None other busy = (refl, refl, refl)
+not_joined (Some a) None busy = (refl, refl, refl)
+not_joined (Some a) (Some b) busy = inr (refl, busy, refl, refl)

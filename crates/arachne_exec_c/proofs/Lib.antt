@@ -1,0 +1,3 @@
+pub mod AdderCut
+pub mod ExecCut
+pub mod Hands

@@ -1,0 +1,29 @@
+-- What an estimator and a sample in a caller's memory stand for.
+use Rattle.std.specs.Prelude.{◌≡◌, ℕ, ◌≤◌, true}
+use Rattle.arachne_policy.specs.declared.samples.Advice.{Advice}
+use Rattle.arachne_policy.specs.declared.samples.Advice.TheVariants.{Add, Stay, Remove}
+use Rattle.arachne_policy.specs.declared.samples.Sample.{Sample}
+use Rattle.arachne_policy.specs.Sample.{is_good}
+use Rattle.arachne_policy.specs.State.{State, most_cores}
+use Rattle.arachne_exec_c.specs.declared.policy.ArachneEstimator.{ArachneEstimator}
+use Rattle.arachne_exec_c.specs.declared.policy.ArachneSample.{ArachneSample}
+
+abbrev pub state_of : ArachneEstimator → State
+state_of e = record { settings = record { up = e.up; hysteresis = e.hysteresis; max = e.max }; thresholds = e.thresholds }
+
+abbrev pub sample_of : ArachneSample → Sample
+sample_of s = record { cores = s.cores; runnable = s.runnable; scans = s.scans; busy = s.busy; elapsed = s.elapsed }
+
+-- an advice as C is told of it
+abbrev pub number_of : Advice → ℕ
+number_of Stay = 21
+number_of Add = 22
+number_of Remove = 23
+
+-- what C is told where a sample can't be judged
+abbrev pub refused : ℕ
+refused = 1
+
+-- the estimator may judge the sample
+abbrev pub MayJudge : ArachneEstimator → ArachneSample → Type 0
+MayJudge e s = (e.max ≤ most_cores) × (is_good e.max (sample_of s) ≡ true)

@@ -1,0 +1,7 @@
+-- The type of what lies behind a handle. Private to the crate.
+use denote.RattleType.{RattleType}
+use Rattle.std.specs.contracts.option.Option as option
+use Rattle.arachne_exec_c.specs.contracts.executing.Executing as executing
+
+abbrev pub row : RattleType
+row = option.the_row executing.the_row

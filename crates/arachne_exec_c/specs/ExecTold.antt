@@ -1,0 +1,195 @@
+-- How an executor's answers are told in C, and what each call does to what a handle holds.
+use Rattle.std.specs.Prelude.{◌≡◌, ◌⊎◌, ℕ, ◌+◌, ◌*◌, ◌/◌, ◌%◌, ◌^◌, ◌<◌, Bool, true, false, if◌then◌else◌}
+use Rattle.std.specs.Option.{MatchOption}
+use Rattle.std.specs.declared.option.Option.{Option}
+use Rattle.std.specs.declared.option.Option.TheVariants.{None, Some}
+use Rattle.arachne_exec.specs.declared.answers.Job.{Job}
+use Rattle.arachne_exec.specs.declared.answers.Next.{Next}
+use Rattle.arachne_exec.specs.declared.answers.Next.TheVariants as next
+use Rattle.arachne_exec.specs.declared.answers.Rested.{Rested}
+use Rattle.arachne_exec.specs.declared.answers.Rested.TheVariants as rested
+use Rattle.arachne_exec.specs.declared.answers.Spawned.{Spawned}
+use Rattle.arachne_exec.specs.declared.answers.Spawned.TheVariants as spawned
+use Rattle.arachne_exec.specs.declared.answers.SpawnedHere.{SpawnedHere}
+use Rattle.arachne_exec.specs.declared.answers.SpawnedHere.TheVariants as spawned_here
+use Rattle.arachne_exec.specs.declared.answers.Woken.{Woken}
+use Rattle.arachne_exec.specs.declared.answers.Woken.TheVariants as woken
+use Rattle.arachne_exec.specs.declared.answers.WokenHere.{WokenHere}
+use Rattle.arachne_exec.specs.declared.answers.WokenHere.TheVariants as here
+use Rattle.arachne_exec.specs.Calls.{worker_at, HasSpawned, HasSpawnedHere, HasTaken, HasTakenNone, HasTakenMany, HasStarted, HasRested, HasFinished, HasWoken, HasWokenHere, HasAnswered, HasSeenAll}
+use Rattle.arachne_exec.specs.Changes.{readying, noted, rousing, having_seen, working}
+use Rattle.arachne_exec_c.specs.Codes as code
+use Rattle.arachne_exec_c.specs.Executing.{Exec, now, holding, HasBlock, IsEmptyHanded, IsWorker, IsNoWorker}
+use Rattle.arachne_exec_c.specs.declared.exec_told.ArachneExecTold.{ArachneExecTold}
+
+-- the worker of a place, where it is to be unparked
+abbrev pub whom : Bool → ℕ → ℕ
+whom unpark place = if unpark then worker_at place else code.nobody
+
+abbrev pub code_alone : ℕ → ArachneExecTold
+code_alone k = record { name = 0; job = 0; code = k; unpark = code.nobody }
+
+abbrev pub code_unparking : ℕ → ℕ → ArachneExecTold
+code_unparking k worker = record { name = 0; job = 0; code = k; unpark = worker }
+
+abbrev pub told_job : Job → ArachneExecTold
+told_job job = record { name = job.name; job = job.job; code = code.run; unpark = code.nobody }
+
+abbrev pub told_spawned : Spawned → ArachneExecTold
+told_spawned (spawned.Placed at) = record { name = at.name; job = 0; code = code.ready; unpark = whom at.unpark at.place }
+told_spawned spawned.Full = code_alone code.full
+told_spawned spawned.Lost = code_alone code.lost
+
+abbrev pub told_spawned_here : SpawnedHere → ArachneExecTold
+told_spawned_here (spawned_here.Held job) = told_job job
+told_spawned_here spawned_here.Full = code_alone code.full
+told_spawned_here spawned_here.Lost = code_alone code.lost
+
+abbrev pub told_taken : Option Job → ArachneExecTold
+told_taken None = code_alone code.again
+told_taken (Some job) = told_job job
+
+abbrev pub told_next : Next → ArachneExecTold
+told_next (next.Run job) = told_job job
+told_next next.Park = code_alone code.park
+told_next next.Again = code_alone code.again
+
+abbrev pub told_rested : ℕ → Rested → ArachneExecTold
+told_rested place rested.Blocked = code_alone code.blocked
+told_rested place (rested.Ready unpark) = code_unparking code.ready (whom unpark place)
+
+abbrev pub told_woken : ℕ → Woken → ArachneExecTold
+told_woken place (woken.Ready unpark) = code_unparking code.ready (whom unpark place)
+told_woken place woken.Marked = code_alone code.marked
+told_woken place woken.Already = code_alone code.already_marked
+told_woken place woken.Gone = code_alone code.gone
+told_woken place woken.Lost = code_alone code.lost
+
+abbrev pub told_woken_here : WokenHere → ArachneExecTold
+told_woken_here (here.Held job) = told_job job
+told_woken_here here.Marked = code_alone code.marked
+told_woken_here here.Already = code_alone code.already_marked
+told_woken_here here.Gone = code_alone code.gone
+told_woken_here here.Lost = code_alone code.lost
+
+-- ---- what comes into the hand
+
+abbrev pub place_of_job : Option Job → Option ℕ
+place_of_job None = None
+place_of_job (Some job) = Some job.place
+
+abbrev pub job_to_run : Next → Option Job
+job_to_run (next.Run job) = Some job
+job_to_run next.Park = None
+job_to_run next.Again = None
+
+abbrev pub job_spawned : SpawnedHere → Option Job
+job_spawned (spawned_here.Held job) = Some job
+job_spawned spawned_here.Full = None
+job_spawned spawned_here.Lost = None
+
+abbrev pub job_woken : WokenHere → Option Job
+job_woken (here.Held job) = Some job
+job_woken here.Marked = None
+job_woken here.Already = None
+job_woken here.Gone = None
+job_woken here.Lost = None
+
+-- ---- what each call does, as `arachne_exec` defines it
+
+pub record Spawns (block job : ℕ) (old new : Exec) (answer : Spawned) : Type 0 where
+  pub stays : new ≡ now old new.seat.known old.hand
+  pub did : HasSpawned answer block job old.seat.known new.seat.known
+
+pub record SpawnsHere (block job : ℕ) (old new : Exec) (answer : SpawnedHere) : Type 0 where
+  pub stays : new ≡ now old new.seat.known (place_of_job (job_spawned answer))
+  pub did : HasSpawnedHere answer block job old.seat.known new.seat.known
+
+-- a word was looked at
+abbrev pub LooksAt : ℕ → Exec → Exec → ℕ → Type 0
+LooksAt word old new answer = new ≡ now old (noted word answer old.seat.known) old.hand
+
+pub record Takes (block : ℕ) (old new : Exec) (answer : Option Job) : Type 0 where
+  pub stays : new ≡ now old new.seat.known (place_of_job answer)
+  pub did : MatchOption answer (HasTakenNone block old.seat.known new.seat.known) (λ job. HasTaken job block old.seat.known new.seat.known)
+
+pub record TakesMany (block : ℕ) (old new : Exec) (bits : ℕ) : Type 0 where
+  pub stays : new ≡ holding old new.seat.known block bits
+  pub did : HasTakenMany bits block old.seat.known new.seat.known
+
+pub record Starts (place : ℕ) (old new : Exec) (job : Job) : Type 0 where
+  pub stays : new ≡ now old new.seat.known old.hand
+  pub did : HasStarted job place old.seat.known new.seat.known
+
+pub record GoesOn (old new : Exec) (answer : Next) : Type 0 where
+  pub stays : new ≡ now old new.seat.known (place_of_job (job_to_run answer))
+  pub did : (worker : ℕ) → old.worker ≡ worker + 1 → HasAnswered answer old.executor.shards worker old.seat.known new.seat.known
+
+pub record Rests (place : ℕ) (old new : Exec) (answer : Rested) : Type 0 where
+  pub stays : new ≡ holding old new.seat.known (place / 64) old.more
+  pub did : HasRested answer place old.seat.known new.seat.known
+
+-- it is ready again: a rest that says so
+abbrev pub Yields : ℕ → Exec → Exec → Bool → Type 0
+Yields place old new unpark = new ≡ holding old (rousing unpark (worker_at place) (readying old.seat.known)) (place / 64) old.more
+
+pub record Ends (place : ℕ) (old new : Exec) : Type 0 where
+  pub stays : new ≡ holding old new.seat.known (place / 64) old.more
+  pub did : HasFinished place old.seat.known new.seat.known
+
+pub record Wakes (name : ℕ) (old new : Exec) (answer : Woken) : Type 0 where
+  pub stays : new ≡ now old new.seat.known old.hand
+  pub did : HasWoken answer (4096 * old.executor.shards) (name % 2 ^ 20) (name / 2 ^ 20) old.seat.known new.seat.known
+
+pub record WakesHere (name : ℕ) (old new : Exec) (answer : WokenHere) : Type 0 where
+  pub stays : new ≡ now old new.seat.known (place_of_job (job_woken answer))
+  pub did : HasWokenHere answer (4096 * old.executor.shards) (name % 2 ^ 20) (name / 2 ^ 20) old.seat.known new.seat.known
+
+-- the seat is this worker, and one, or none
+abbrev pub as_worker : Exec → ℕ → Exec
+as_worker exec number = record { executor = exec.executor; seat = record exec.seat { known = working number exec.seat.known }; hand = exec.hand; more = exec.more; worker = number }
+
+-- ---- a call on what a handle holds, if it holds anything
+
+-- it was made with this answer, and C is told that
+abbrev pub Tells : {R A : Type 0} → (Exec → Exec → R → Type 0) → (R → A) → Exec → Exec → A → Type 0
+Tells {R} Does tell old new told = (answer : R) × Does old new answer × (told ≡ tell answer)
+
+-- a call that may be made is made, and C is told; else nothing changes, and C is told of that
+abbrev pub IsTold : {A : Type 0} → (Exec → Type 0) → (Exec → Exec → A → Type 0) → A → Option Exec → Option Exec → A → Type 0
+IsTold May Does refusal None new told = (new ≡ None) × (told ≡ refusal)
+IsTold May Does refusal (Some old) new told = (May old → (after : Exec) × (new ≡ Some after) × Does old after told)
+    × ((May old → ⊥) → (new ≡ Some old) × (told ≡ refusal))
+
+-- the same of a call on the job in hand
+abbrev pub IsToldOf : {A : Type 0} → (ℕ → Exec → Exec → A → Type 0) → A → Option Exec → Option Exec → A → Type 0
+IsToldOf Does refusal None new told = (new ≡ None) × (told ≡ refusal)
+IsToldOf Does refusal (Some old) new told = MatchOption old.hand ((new ≡ Some old) × (told ≡ refusal))
+    (λ place. (after : Exec) × (new ≡ Some after) × Does place old after told)
+
+-- Park: all of the worker's summary words were found empty since its idle bit was set
+abbrev pub ParksOrNot : Exec → Exec → ℕ → Type 0
+ParksOrNot old new told = (seen : ℕ) × (new ≡ now old (having_seen seen old.seat.known) old.hand)
+    × (((told ≡ code.park) × HasSeenAll old.executor.shards new.seat.known) ⊎ (told ≡ code.again))
+
+abbrev pub WakesUp : Exec → Exec → ℕ → Type 0
+WakesUp old new told = (new ≡ old) × (told ≡ code.done)
+
+abbrev pub Finishes : ℕ → Exec → Exec → ℕ → Type 0
+Finishes place old new told = Ends place old new × (told ≡ code.done)
+
+-- Lost: another seat has that number
+abbrev pub Registers : ℕ → Exec → Exec → ℕ → Type 0
+Registers worker old new told = ((told ≡ code.done) × (new ≡ as_worker old (worker + 1))) ⊎ ((told ≡ code.lost) × (new ≡ old))
+
+abbrev pub Leaves : Exec → Exec → ℕ → Type 0
+Leaves old new told = (told ≡ code.done) × (new ≡ as_worker old 0)
+
+abbrev pub MayTake : ℕ → Exec → Type 0
+MayTake block old = IsEmptyHanded old × HasBlock block old
+
+abbrev pub MayGoOn : Exec → Type 0
+MayGoOn old = IsEmptyHanded old × IsWorker old
+
+abbrev pub MayRegister : ℕ → Exec → Type 0
+MayRegister worker old = IsNoWorker old × (worker < 64)

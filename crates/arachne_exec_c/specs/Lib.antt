@@ -1,0 +1,14 @@
+pub mod Codes
+pub mod Adder
+pub mod AdderRow
+pub mod AdderHeld
+pub mod Estimating
+pub mod Seating
+pub mod SeatingRow
+pub mod SeatingHeld
+pub mod LockTold
+pub mod Executing
+pub mod ExecRow
+pub mod ExecHeld
+pub mod ExecTold
+pub mod ExecEnd

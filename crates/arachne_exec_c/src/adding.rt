@@ -1,0 +1,146 @@
+//! A share of somebody's ledgers, with the ledgers.
+ghost use Rattle.std.specs.Prelude.{◌≡◌, ◌↔◌, IfOk, IfErr, IfSome, IfNone, IsSome, MatchBool, IsTrue};
+ghost use Rattle.std.specs.Option.{ForSome};
+ghost use Rattle.std.specs.declared.option.Option.TheVariants.{None, Some};
+ghost use Rattle.arachne_exec_c.specs.Adder.{Adder, IsJoined, IsNew, HasLedger, MayRead, total_of, with_amount, with_reading, first_of, second_of, joined_with};
+
+use arachne_ledger::{Ledgers, Share};
+use std::alloc::{AllocError, Global};
+use std::marker::Model;
+use std::sync::Arc;
+
+/// What the memory behind a handle holds while the handle is in use.
+#[derive(Drop)]
+pub struct Adding {
+    ledgers: Arc<Ledgers>,
+    share: Share,
+}
+
+impl Model for Adding {
+    ghost use Rattle.std.specs.Arc.{arc_value};
+    ghost use Rattle.arachne_ledger.specs.Views.{IsShareOf};
+    ghost use Rattle.arachne_exec_c.specs.Adder.{Adder};
+
+    ghost Value = { Adder };
+
+    ghost view = { λ a. record { ledgers = arc_value a.ledgers; share = a.share } };
+
+    ghost invariant = { λ a. IsShareOf (arc_value a.ledgers) a.share };
+}
+
+impl Adding {
+    /// So many ledgers, and the whole share.
+    pub(crate) fn new(alloc: Global, count: usize) -> Result<Adding, AllocError>
+        ensures { IfOk result (IsNew count) }
+    {
+        let (ledgers, share) = Ledgers::new(alloc, count)?;
+        let ledgers = Arc::new(alloc, ledgers)?;
+        Ok(Adding { ledgers, share })
+    }
+
+    pub(crate) fn has(&self, ledger: usize) -> bool
+        ensures { IsTrue result ↔ HasLedger ledger self.now }
+    {
+        ledger < self.ledgers.count()
+    }
+
+    pub(crate) fn add(&mut self, ledger: usize, amount: u64)
+        requires { HasLedger ledger self.old }
+        ensures { self.new ≡ with_amount ledger amount self.old }
+    {
+        self.ledgers.add(&mut self.share, ledger, amount);
+    }
+
+    /// The sum of all that was added to a ledger, where all other shares are back.
+    pub(crate) fn total(&mut self, ledger: usize) -> Option<u64>
+        ensures read { IsSome result ↔ MayRead ledger self.old }
+        ensures some { IfSome result (λ total. (total ≡ total_of ledger self.old) × (self.new ≡ with_reading ledger self.old)) }
+        ensures none { IfNone result (self.new ≡ self.old) }
+    {
+        if !self.has(ledger) || !self.share.is_whole() {
+            return None;
+        }
+        Some(self.ledgers.read(&mut self.share, ledger))
+    }
+
+    /// Cuts the share in two. The ledgers have an owner more then, for which there may be no room.
+    pub(crate) fn split(self) -> Result<(Adding, Adding), Adding>
+        ensures ok { IfOk result (λ parts. (parts.0 ≡ first_of self) × (parts.1 ≡ second_of self)) }
+        ensures err { IfErr result (λ same. same ≡ self) }
+    {
+        let Ok(ledgers) = Arc::try_clone(&self.ledgers) else {
+            return Err(self);
+        };
+        let Adding {
+            ledgers: mine,
+            share,
+        } = self;
+        let (first, second) = mine.split(share);
+        Ok((
+            Adding {
+                ledgers: mine,
+                share: first,
+            },
+            Adding {
+                ledgers,
+                share: second,
+            },
+        ))
+    }
+
+    pub(crate) fn join(self, other: Adding) -> Adding
+        requires { other.ledgers.table ≡ self.ledgers.table }
+        ensures { result ≡ joined_with self other }
+    {
+        let Adding { ledgers, share } = self;
+        let Adding {
+            ledgers: _,
+            share: spent,
+        } = other;
+        let share = ledgers.join_shares(share, spent);
+        Adding { ledgers, share }
+    }
+}
+
+/// Cuts in two what the first holds, and gives the second the second part. False where there is no room for an owner
+/// more.
+pub(crate) fn cut(mine: &mut Option<Adding>, theirs: &mut Option<Adding>) -> bool
+    requires { theirs.old ≡ None }
+    ensures cut { ForSome mine.old (λ old. MatchBool result
+        ((mine.new ≡ Some (first_of old)) × (theirs.new ≡ Some (second_of old)))
+        ((mine.new ≡ mine.old) × (theirs.new ≡ None))) }
+    ensures nothing { mine.old ≡ None → (mine.new ≡ None) × (theirs.new ≡ None) }
+{
+    let Some(adding) = mine.take() else {
+        return false;
+    };
+    match adding.split() {
+        Ok((first, second)) => {
+            *mine = Some(first);
+            *theirs = Some(second);
+            true
+        }
+        Err(same) => {
+            *mine = Some(same);
+            false
+        }
+    }
+}
+
+/// Joins what the second holds into what the first holds, where both hold something.
+pub(crate) fn join_held(mine: &mut Option<Adding>, theirs: &mut Option<Adding>) -> bool
+    requires { (a b : Adder) → mine.old ≡ Some a → theirs.old ≡ Some b → b.ledgers.table ≡ a.ledgers.table }
+    ensures { IsJoined mine.old theirs.old mine.new theirs.new result }
+{
+    match (mine.take(), theirs.take()) {
+        (Some(adding), Some(spent)) => {
+            *mine = Some(adding.join(spent));
+            true
+        }
+        (old, other) => {
+            *mine = old;
+            *theirs = other;
+            false
+        }
+    }
+}

@@ -1,0 +1,160 @@
+//! What C is told of an executor's answers.
+ghost use Rattle.std.specs.Prelude.{◌≡◌, ◌%◌, ◌^◌};
+ghost use Rattle.arachne_exec_c.specs.ExecTold.{code_alone, code_unparking, told_job, told_next, told_rested, told_spawned, told_spawned_here, told_taken, told_woken, told_woken_here, whom};
+
+use crate::codes::{
+    AGAIN, ALREADY_MARKED, BLOCKED, FULL, GONE, LOST, MARKED, NOBODY, PARK, READY, RUN,
+};
+use arachne_exec::{
+    Job, Next, Rested, Spawned, SpawnedHere, Woken, WokenHere, place_of, worker_of_place,
+};
+
+/// The answer of an executor.
+#[repr(C)]
+#[derive(Clone, Copy)]
+pub struct ArachneExecTold {
+    /// The name of the job, where one was spawned or is in hand: 20 bits of its place, and 44 of the place's
+    /// generation.
+    pub name: u64,
+    /// The number of the job that is in hand, as it was spawned.
+    pub job: u64,
+    pub code: u32,
+    /// The worker whose thread is to be unparked, or NOBODY.
+    pub unpark: u32,
+}
+
+/// What is told of the end of an executor.
+#[repr(C)]
+#[derive(Clone, Copy)]
+pub struct ArachneExecLeft {
+    /// How many jobs are left, which were written to the caller's array.
+    pub count: u64,
+    pub code: u32,
+}
+
+pub(crate) fn end_alone(code: u32) -> ArachneExecLeft
+    ensures { result ≡ record { count = 0; code = code } }
+{
+    ArachneExecLeft { count: 0, code }
+}
+
+fn whom(unpark: bool, place: usize) -> u32
+    ensures { result ≡ whom unpark place }
+{
+    if unpark {
+        worker_of_place(place) as u32
+    } else {
+        NOBODY
+    }
+}
+
+fn code_unparking(code: u32, unpark: u32) -> ArachneExecTold
+    ensures { result ≡ code_unparking code unpark }
+{
+    ArachneExecTold {
+        name: 0,
+        job: 0,
+        code,
+        unpark,
+    }
+}
+
+pub(crate) fn code_alone(code: u32) -> ArachneExecTold
+    ensures { result ≡ code_alone code }
+{
+    code_unparking(code, NOBODY)
+}
+
+pub(crate) fn told_job(job: &Job) -> ArachneExecTold
+    ensures { result ≡ told_job job.now }
+{
+    ArachneExecTold {
+        name: job.name,
+        job: job.job,
+        code: RUN,
+        unpark: NOBODY,
+    }
+}
+
+pub(crate) fn told_spawned(answer: &Spawned) -> ArachneExecTold
+    ensures { result ≡ told_spawned answer.now }
+{
+    match answer {
+        Spawned::Placed(placed) => ArachneExecTold {
+            name: placed.name,
+            job: 0,
+            code: READY,
+            unpark: whom(placed.unpark, placed.place),
+        },
+        Spawned::Full => code_alone(FULL),
+        Spawned::Lost => code_alone(LOST),
+    }
+}
+
+pub(crate) fn told_spawned_here(answer: &SpawnedHere) -> ArachneExecTold
+    ensures { result ≡ told_spawned_here answer.now }
+{
+    match answer {
+        SpawnedHere::Held(job) => told_job(job),
+        SpawnedHere::Full => code_alone(FULL),
+        SpawnedHere::Lost => code_alone(LOST),
+    }
+}
+
+pub(crate) fn told_taken(answer: &Option<Job>) -> ArachneExecTold
+    ensures { result ≡ told_taken answer.now }
+{
+    match answer {
+        Some(job) => told_job(job),
+        None => code_alone(AGAIN),
+    }
+}
+
+pub(crate) fn told_next(answer: &Next) -> ArachneExecTold
+    ensures { result ≡ told_next answer.now }
+{
+    match answer {
+        Next::Run(job) => told_job(job),
+        Next::Park => code_alone(PARK),
+        Next::Again => code_alone(AGAIN),
+    }
+}
+
+pub(crate) fn told_ready(place: usize, unpark: bool) -> ArachneExecTold
+    ensures { result ≡ code_unparking 16 (whom unpark place) }
+{
+    code_unparking(READY, whom(unpark, place))
+}
+
+pub(crate) fn told_rested(place: usize, answer: &Rested) -> ArachneExecTold
+    ensures { result ≡ told_rested place answer.now }
+{
+    match answer {
+        Rested::Blocked => code_alone(BLOCKED),
+        Rested::Ready { unpark } => told_ready(place, *unpark),
+    }
+}
+
+pub(crate) fn told_woken(name: u64, answer: &Woken) -> ArachneExecTold
+    ensures { result ≡ told_woken (name % 2 ^ 20) answer.now }
+{
+    match answer {
+        Woken::Ready { unpark } => told_ready(place_of(name), *unpark),
+        Woken::Marked => code_alone(MARKED),
+        Woken::Already => code_alone(ALREADY_MARKED),
+        Woken::Gone => code_alone(GONE),
+        Woken::Lost => code_alone(LOST),
+    }
+}
+
+pub(crate) fn told_woken_here(answer: &WokenHere) -> ArachneExecTold
+    ensures { result ≡ told_woken_here answer.now }
+{
+    match answer {
+        WokenHere::Held(job) => told_job(job),
+        WokenHere::Marked => code_alone(MARKED),
+        WokenHere::Already => code_alone(ALREADY_MARKED),
+        WokenHere::Gone => code_alone(GONE),
+        WokenHere::Lost => code_alone(LOST),
+    }
+}

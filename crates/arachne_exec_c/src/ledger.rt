@@ -1,0 +1,151 @@
+//! The exports for ledgers.
+ghost use Rattle.std.specs.Prelude.{◌≡◌, ◌↔◌, IsTrue, MatchBool};
+ghost use Rattle.std.specs.Option.{option_map, IsSomeAnd};
+ghost use Rattle.std.specs.declared.option.Option.TheVariants.{None};
+ghost use Rattle.arachne_exec_c.specs.Adder.{HasLedger, MayRead, IsMade, IsSplit, IsJoined, with_amount, with_reading, total_of};
+ghost use Rattle.arachne_exec_c.specs.AdderHeld.{held, IsOfOne};
+
+use crate::adder::ArachneAdder;
+use crate::adding::{Adding, cut, join_held};
+use crate::codes::{DONE, NO_MEMORY, REFUSED};
+use std::alloc::Global;
+
+/// Makes so many ledgers, each 0, and gives a handle that holds nothing their whole share. DONE; REFUSED, where it
+/// holds something; NO_MEMORY.
+#[unsafe(no_mangle)]
+pub extern "C" fn arachne_ledgers_new(alloc: Global, adder: &mut ArachneAdder, count: usize) -> u32
+    ensures { IsMade count (held adder.old) (held adder.new) result }
+{
+    if adder.is_in_use(alloc) {
+        return REFUSED;
+    }
+    let Ok(adding) = Adding::new(alloc, count) else {
+        return NO_MEMORY;
+    };
+    let Ok(value) = Box::new(alloc, Some(adding)) else {
+        return NO_MEMORY;
+    };
+    adder.put(value);
+    DONE
+}
+
+/// Adds to a ledger. False, with nothing changed, where the handle holds nothing or there is no such ledger.
+#[unsafe(no_mangle)]
+pub extern "C" fn arachne_ledger_add(
+    alloc: Global,
+    adder: &mut ArachneAdder,
+    ledger: usize,
+    amount: u64,
+) -> bool
+    ensures known { IsTrue result ↔ IsSomeAnd (held adder.old) (HasLedger ledger) }
+    ensures added { MatchBool result (held adder.new ≡ option_map (with_amount ledger amount) (held adder.old)) (held adder.new ≡ held adder.old) }
+{
+    let Some(mut value) = adder.take(alloc) else {
+        return false;
+    };
+    let known = match &mut *value {
+        Some(adding) if adding.has(ledger) => {
+            adding.add(ledger, amount);
+            true
+        }
+        _ => false,
+    };
+    adder.put(value);
+    known
+}
+
+/// The total of a ledger, modulo 2^64, where all other handles are back. False, with nothing changed, where one is not,
+/// where the handle holds nothing, or there is no such ledger.
+#[unsafe(no_mangle)]
+pub extern "C" fn arachne_ledger_total(
+    alloc: Global,
+    adder: &mut ArachneAdder,
+    ledger: usize,
+    total: &mut u64,
+) -> bool
+    ensures read { IsTrue result ↔ IsSomeAnd (held adder.old) (MayRead ledger) }
+    ensures told { MatchBool result
+        (IsSomeAnd (held adder.old) (λ old. total.new ≡ total_of ledger old) × (held adder.new ≡ option_map (with_reading ledger) (held adder.old)))
+        ((total.new ≡ total.old) × (held adder.new ≡ held adder.old)) }
+{
+    let Some(mut value) = adder.take(alloc) else {
+        return false;
+    };
+    let found = match &mut *value {
+        Some(adding) => adding.total(ledger),
+        None => None,
+    };
+    adder.put(value);
+    match found {
+        Some(number) => {
+            *total = number;
+            true
+        }
+        None => false,
+    }
+}
+
+/// Cuts the share in two, as for another thread, and gives the second handle the second part. DONE; REFUSED, where the
+/// first holds nothing or the second something; NO_MEMORY. A share can be cut 127 times in a row.
+#[unsafe(no_mangle)]
+#[tactic(auto, using(crate::proofs::AdderCut::is_split))]
+pub extern "C" fn arachne_ledger_split(
+    alloc: Global,
+    adder: &mut ArachneAdder,
+    other: &mut ArachneAdder,
+) -> u32
+    ensures { IsSplit (held adder.old) (held other.old) (held adder.new) (held other.new) result }
+{
+    if other.is_in_use(alloc) || !adder.is_in_use(alloc) {
+        return REFUSED;
+    }
+    let Some(mut mine) = adder.take(alloc) else {
+        return REFUSED;
+    };
+    let Ok(mut theirs) = Box::new(alloc, None) else {
+        adder.put(mine);
+        return NO_MEMORY;
+    };
+    let is_cut = cut(&mut mine, &mut theirs);
+    adder.put(mine);
+    if !is_cut {
+        return NO_MEMORY;
+    }
+    other.put(theirs);
+    DONE
+}
+
+/// Joins the second handle's share into the first's, so that the second holds nothing then. False, with nothing
+/// changed, where one of them holds nothing. Both have to be of the same ledgers.
+#[unsafe(no_mangle)]
+pub extern "C" fn arachne_ledger_join(
+    alloc: Global,
+    adder: &mut ArachneAdder,
+    other: &mut ArachneAdder,
+) -> bool
+    requires { IsOfOne adder.old other.old }
+    ensures { IsJoined (held adder.old) (held other.old) (held adder.new) (held other.new) result }
+{
+    let Some(mut mine) = adder.take(alloc) else {
+        return false;
+    };
+    let Some(mut theirs) = other.take(alloc) else {
+        adder.put(mine);
+        return false;
+    };
+    let is_joined = join_held(&mut mine, &mut theirs);
+    adder.put(mine);
+    if !is_joined {
+        other.put(theirs);
+    }
+    is_joined
+}
+
+/// Frees what a handle holds. The weight of its share is lost, so that no total can be told any more; the ledgers are
+/// freed with the last of their handles.
+#[unsafe(no_mangle)]
+pub extern "C" fn arachne_ledger_close(alloc: Global, adder: &mut ArachneAdder)
+    ensures { held adder.new ≡ None }
+{
+    drop(adder.take(alloc));
+}

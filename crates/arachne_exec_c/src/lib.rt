@@ -1,0 +1,29 @@
+//! What a host in C or Rust needs of Arachne, as one static library: the executor, locks, ledgers and the core
+//! policy.
+//!
+//! A handle holds a seat or a share, or nothing. One that holds nothing is one null pointer, so C begins with that.
+//! Each call is atomics alone: none waits, sleeps, locks or yields. `scripts/declarations` makes
+//! `examples/c/arachne_exec.h` and `examples/rust/arachne_exec/declared.rs` from these files.
+#![tactic(auto)]
+
+mod adder;
+mod adding;
+mod codes;
+mod exec;
+mod exec_handle;
+mod exec_holding;
+mod exec_told;
+mod executing;
+mod ledger;
+mod lock;
+mod locks_handle;
+mod policy;
+mod seated;
+mod told;
+
+pub use adder::ArachneAdder;
+pub use exec_handle::ArachneExec;
+pub use exec_told::{ArachneExecLeft, ArachneExecTold};
+pub use locks_handle::ArachneLocks;
+pub use policy::{ArachneEstimator, ArachneSample};
+pub use told::ArachneLockTold;

@@ -1,0 +1,106 @@
+//! The exports for the core policy.
+//!
+//! An estimator lies in the caller's memory, and none is taken. Whatever its bytes are, no call can go wrong.
+ghost use Rattle.std.specs.Prelude.{◌≡◌, ◌≢◌, ◌≤◌, ◌↔◌, List, [], ◌∷◌, IsTrue, MatchBool};
+ghost use Rattle.arachne_policy.specs.declared.samples.Sample.{Sample as Past};
+ghost use Rattle.arachne_policy.specs.Advice.{advice};
+ghost use Rattle.arachne_policy.specs.State.{most_cores, StandsFor};
+ghost use Rattle.arachne_exec_c.specs.Estimating.{state_of, sample_of, number_of, refused, MayJudge};
+
+use crate::codes::{ADD, REFUSED, REMOVE, STAY};
+use arachne_policy::{Advice, Estimator, MAX_CORES, Sample};
+
+/// An estimator as C lays it out: its settings, and the threshold of each number of cores from 1.
+#[repr(C)]
+#[derive(Clone, Copy)]
+pub struct ArachneEstimator {
+    pub up: u64,
+    pub hysteresis: u64,
+    pub max: u64,
+    pub thresholds: [u64; MAX_CORES],
+}
+
+/// A sample as C lays it out.
+#[repr(C)]
+#[derive(Clone, Copy)]
+pub struct ArachneSample {
+    pub cores: u64,
+    pub runnable: u64,
+    pub scans: u64,
+    pub busy: u64,
+    pub elapsed: u64,
+}
+
+/// Makes an estimator that has seen no sample. False, with nothing changed, where more than 64 cores are asked for.
+#[unsafe(no_mangle)]
+pub extern "C" fn arachne_estimator_new(
+    up: u64,
+    hysteresis: u64,
+    max: u64,
+    estimator: &mut ArachneEstimator,
+) -> bool
+    ensures most { IsTrue result ↔ (max ≤ most_cores) }
+    ensures made { MatchBool result
+        (((state_of estimator.new).settings ≡ record { up = up; hysteresis = hysteresis; max = max }) × StandsFor (state_of estimator.new) [])
+        (estimator.new ≡ estimator.old) }
+{
+    if max > MAX_CORES as u64 {
+        return false;
+    }
+    *estimator = ArachneEstimator {
+        up,
+        hysteresis,
+        max,
+        thresholds: *Estimator::new(up, hysteresis, max as u8).thresholds(),
+    };
+    true
+}
+
+/// Judges a sample: STAY, ADD or REMOVE. REFUSED, with nothing changed, where the sample can't have been measured, or
+/// the estimator has more than 64 cores.
+#[unsafe(no_mangle)]
+pub extern "C" fn arachne_estimator_judge(
+    estimator: &mut ArachneEstimator,
+    sample: &ArachneSample,
+) -> u32
+    ensures judged { (result ≢ refused) ↔ MayJudge estimator.old sample.now }
+    ensures bad { result ≡ refused → estimator.new ≡ estimator.old }
+    ensures settings { (state_of estimator.new).settings ≡ (state_of estimator.old).settings }
+    // The advice is that after the samples so far, and the estimator stands for them and this one then.
+    ensures history { (past : List Past) → StandsFor (state_of estimator.old) past → MayJudge estimator.old sample.now
+        → (result ≡ number_of (advice (state_of estimator.old).settings past (sample_of sample.now)))
+        × StandsFor (state_of estimator.new) (sample_of sample.now ∷ past) }
+{
+    if estimator.max > MAX_CORES as u64 {
+        return REFUSED;
+    }
+    let (up, hysteresis, max) = (estimator.up, estimator.hysteresis, estimator.max as u8);
+    let mut judging = Estimator::resume(up, hysteresis, max, &estimator.thresholds);
+    let Ok(advice) = judging.estimate(as_sample(sample)) else {
+        return REFUSED;
+    };
+    estimator.thresholds = *judging.thresholds();
+    as_number(advice)
+}
+
+fn as_sample(sample: &ArachneSample) -> Sample
+    ensures { result ≡ sample_of sample.now }
+{
+    Sample {
+        cores: sample.cores,
+        runnable: sample.runnable,
+        scans: sample.scans,
+        busy: sample.busy,
+        elapsed: sample.elapsed,
+    }
+}
+
+fn as_number(advice: Advice) -> u32
+    ensures { result ≡ number_of advice }
+{
+    match advice {
+        Advice::Stay => STAY,
+        Advice::Add => ADD,
+        Advice::Remove => REMOVE,
+    }
+}

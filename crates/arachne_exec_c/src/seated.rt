@@ -1,0 +1,172 @@
+//! A seat at somebody's locks, with the locks.
+ghost use Rattle.std.specs.Prelude.{◌≡◌, ◌↔◌, IsTrue, IfOk, IfSome, MatchBool, OnErr};
+ghost use Rattle.std.specs.declared.option.Option.TheVariants.{None, Some};
+ghost use Rattle.arachne_lock.specs.Calls.{AskAnswer, FreeAnswer, WithdrawAnswer, CheckAnswer};
+ghost use Rattle.arachne_exec_c.specs.LockTold.{IsAskTold, IsFreeTold, IsWithdrawTold, IsCheckTold};
+ghost use Rattle.arachne_exec_c.specs.Seating.{Seating, HasLock, IsNew, IsJoined, with_seat, second_of, joined_of};
+
+use crate::codes::{DONE, REFUSED};
+use crate::told::{
+    ArachneLockTold, code_alone, told_asked, told_checked, told_freed, told_withdrawn,
+};
+use arachne_lock::{AskFault, Asked, Freed, LockSeat, Locks, NotHolder, Tried, Withdrawn};
+use std::alloc::{AllocError, Global};
+use std::marker::Model;
+use std::sync::Arc;
+
+/// What the memory behind a handle on locks holds while the handle is in use.
+#[derive(Drop)]
+pub struct Seated {
+    locks: Arc<Locks>,
+    seat: LockSeat,
+}
+
+impl Model for Seated {
+    ghost use Rattle.std.specs.Arc.{arc_value};
+    ghost use Rattle.arachne_lock.specs.Views.{IsSeatOf};
+    ghost use Rattle.arachne_exec_c.specs.Seating.{Seating};
+
+    ghost Value = { Seating };
+
+    ghost view = { λ s. record { locks = arc_value s.locks; seat = s.seat } };
+
+    ghost invariant = { λ s. IsSeatOf (arc_value s.locks) s.seat };
+}
+
+impl Seated {
+    /// So many locks, and the first seat.
+    pub(crate) fn new(alloc: Global, count: usize) -> Result<Seated, AllocError>
+        ensures { IfOk result (IsNew count) }
+    {
+        let (locks, seat) = Locks::new(alloc, count)?;
+        let locks = Arc::new(alloc, locks)?;
+        Ok(Seated { locks, seat })
+    }
+
+    fn has(&self, lock: usize) -> bool
+        ensures { IsTrue result ↔ HasLock lock self.now }
+    {
+        lock < self.locks.count()
+    }
+
+    fn ask(&mut self, lock: usize, who: u64) -> Tried<Result<Asked, AskFault>>
+        requires { HasLock lock self.old }
+        ensures stays { self.new ≡ with_seat self.old self.new.seat }
+        ensures answer { AskAnswer lock who self.old.seat result self.new.seat }
+    {
+        self.locks.ask(&mut self.seat, lock, who)
+    }
+
+    fn free(&mut self, lock: usize, who: u64) -> Tried<Result<Freed, NotHolder>>
+        requires { HasLock lock self.old }
+        ensures stays { self.new ≡ with_seat self.old self.new.seat }
+        ensures answer { FreeAnswer lock who self.old.seat result self.new.seat }
+    {
+        self.locks.free(&mut self.seat, lock, who)
+    }
+
+    fn withdraw(&mut self, lock: usize, who: u64) -> Tried<Withdrawn>
+        requires { HasLock lock self.old }
+        ensures stays { self.new ≡ with_seat self.old self.new.seat }
+        ensures answer { WithdrawAnswer lock who self.old.seat result self.new.seat }
+    {
+        self.locks.withdraw(&mut self.seat, lock, who)
+    }
+
+    fn check(&mut self, lock: usize, who: u64) -> Tried<Option<u64>>
+        requires { HasLock lock self.old }
+        ensures stays { self.new ≡ with_seat self.old self.new.seat }
+        ensures answer { CheckAnswer lock who self.old.seat result self.new.seat }
+    {
+        self.locks.check(&mut self.seat, lock, who)
+    }
+
+    /// A seat more. The locks have an owner more then, for which there may be no room.
+    fn split(&mut self) -> Result<Seated, AllocError>
+        ensures same { self.new ≡ self.old }
+        ensures ok { IfOk result (λ other. other ≡ second_of self.old) }
+    {
+        let locks = Arc::try_clone(&self.locks)?;
+        let seat = self.locks.split(&mut self.seat);
+        Ok(Seated { locks, seat })
+    }
+
+    fn join(&mut self, other: Seated)
+        requires { other.locks ≡ self.old.locks }
+        ensures { self.new ≡ joined_of self.old other }
+    {
+        let Seated { locks: _, seat } = other;
+        self.locks.join(&mut self.seat, seat);
+    }
+}
+
+/// A seat more of what a handle holds.
+pub(crate) fn split_held(held: &mut Option<Seated>) -> Option<Seated>
+    ensures same { held.new ≡ held.old }
+    ensures other { IfSome result (λ other. IfSome held.old (λ old. other ≡ second_of old)) }
+    ensures nothing { held.old ≡ None → result ≡ None }
+{
+    match held {
+        Some(seated) => seated.split().ok(),
+        None => None,
+    }
+}
+
+/// Joins what the second holds into what the first holds, where both hold something.
+pub(crate) fn join_held(mine: &mut Option<Seated>, theirs: &mut Option<Seated>) -> u32
+    requires { (a b : Seating) → mine.old ≡ Some a → theirs.old ≡ Some b → b.locks ≡ a.locks }
+    ensures { IsJoined mine.old theirs.old mine.new theirs.new result }
+{
+    match (mine.take(), theirs.take()) {
+        (Some(mut seated), Some(spent)) => {
+            seated.join(spent);
+            *mine = Some(seated);
+            DONE
+        }
+        (old, other) => {
+            *mine = old;
+            *theirs = other;
+            REFUSED
+        }
+    }
+}
+
+/// Asks by what a handle holds.
+pub(crate) fn ask_held(held: &mut Option<Seated>, lock: usize, who: u64) -> ArachneLockTold
+    ensures { IsAskTold lock who held.old held.new result }
+{
+    match held {
+        Some(seated) if seated.has(lock) => told_asked(seated.ask(lock, who)),
+        _ => code_alone(REFUSED),
+    }
+}
+
+/// Frees by what a handle holds.
+pub(crate) fn free_held(held: &mut Option<Seated>, lock: usize, who: u64) -> ArachneLockTold
+    ensures { IsFreeTold lock who held.old held.new result }
+{
+    match held {
+        Some(seated) if seated.has(lock) => told_freed(seated.free(lock, who)),
+        _ => code_alone(REFUSED),
+    }
+}
+
+/// Withdraws by what a handle holds.
+pub(crate) fn withdraw_held(held: &mut Option<Seated>, lock: usize, who: u64) -> ArachneLockTold
+    ensures { IsWithdrawTold lock who held.old held.new result }
+{
+    match held {
+        Some(seated) if seated.has(lock) => told_withdrawn(seated.withdraw(lock, who)),
+        _ => code_alone(REFUSED),
+    }
+}
+
+/// Checks by what a handle holds.
+pub(crate) fn check_held(held: &mut Option<Seated>, lock: usize, who: u64) -> ArachneLockTold
+    ensures { IsCheckTold lock who held.old held.new result }
+{
+    match held {
+        Some(seated) if seated.has(lock) => told_checked(seated.check(lock, who)),
+        _ => code_alone(REFUSED),
+    }
+}

@@ -1,0 +1,87 @@
+//! What C is told of a lock's answers.
+ghost use Rattle.std.specs.Prelude.{◌≡◌};
+ghost use Rattle.std.specs.declared.option.Option.{Option};
+ghost use Rattle.arachne_exec_c.specs.LockTold.{code_alone, code_at, told_asked, told_freed, told_withdrawn, told_checked};
+
+use crate::codes::{
+    ALREADY_IN, CONTENDED, FREED, GRANTED, HANDED_ON, LEFT, NO_MEMORY, NOT_HOLDER, QUEUED,
+};
+use arachne_lock::{AskFault, Asked, Freed, NotHolder, Tried, Withdrawn};
+
+/// The answer of a lock. Numbers of events count from 0 for each lock by itself, modulo 2^64.
+#[repr(C)]
+#[derive(Clone, Copy)]
+pub struct ArachneLockTold {
+    /// The number of the event: of the grant, the ask, the free or the leave.
+    pub at: u64,
+    /// To a free that hands the lock on: who holds it now, by the grant with the next number.
+    pub next: u64,
+    pub code: u32,
+}
+
+pub(crate) fn code_alone(code: u32) -> ArachneLockTold
+    ensures { result ≡ code_alone code }
+{
+    code_at(code, 0)
+}
+
+fn code_at(code: u32, at: u64) -> ArachneLockTold
+    ensures { result ≡ code_at code at }
+{
+    ArachneLockTold { at, next: 0, code }
+}
+
+pub(crate) fn told_asked(answer: Tried<Result<Asked, AskFault>>) -> ArachneLockTold
+    ensures { result ≡ told_asked answer }
+{
+    match answer {
+        Tried::Contended => code_alone(CONTENDED),
+        Tried::Answered(Ok(Asked::Granted { at })) => code_at(GRANTED, at),
+        Tried::Answered(Ok(Asked::Queued { at })) => code_at(QUEUED, at),
+        Tried::Answered(Err(AskFault::AlreadyIn)) => code_alone(ALREADY_IN),
+        Tried::Answered(Err(AskFault::Memory)) => code_alone(NO_MEMORY),
+    }
+}
+
+pub(crate) fn told_freed(answer: Tried<Result<Freed, NotHolder>>) -> ArachneLockTold
+    ensures { result ≡ told_freed answer }
+{
+    match answer {
+        Tried::Contended => code_alone(CONTENDED),
+        Tried::Answered(Err(_)) => code_alone(NOT_HOLDER),
+        Tried::Answered(Ok(Freed { next: None, at })) => code_at(FREED, at),
+        Tried::Answered(
+            Ok(
+                Freed {
+                    next: Some(next),
+                    at,
+                },
+            ),
+        ) => ArachneLockTold {
+            at,
+            next,
+            code: HANDED_ON,
+        },
+    }
+}
+
+pub(crate) fn told_withdrawn(answer: Tried<Withdrawn>) -> ArachneLockTold
+    ensures { result ≡ told_withdrawn answer }
+{
+    match answer {
+        Tried::Contended => code_alone(CONTENDED),
+        Tried::Answered(Withdrawn::Left { at }) => code_at(LEFT, at),
+        Tried::Answered(Withdrawn::Holds { at }) => code_at(GRANTED, at),
+        Tried::Answered(Withdrawn::Outside) => code_alone(NOT_HOLDER),
+    }
+}
+
+pub(crate) fn told_checked(answer: Tried<Option<u64>>) -> ArachneLockTold
+    ensures { result ≡ told_checked answer }
+{
+    match answer {
+        Tried::Contended => code_alone(CONTENDED),
+        Tried::Answered(None) => code_alone(NOT_HOLDER),
+        Tried::Answered(Some(at)) => code_at(GRANTED, at),
+    }
+}

@@ -1,0 +1,108 @@
+//! Each call once, on one thread.
+use arachne_exec::{
+    Executor, Job, Next, Placed, Rested, Spawned, SpawnedHere, Woken, WokenHere, place_of,
+    worker_of_place,
+};
+use std::test::Fail;
+
+/// The name of the second job at place 192.
+const SECOND: u64 = 192 + (1 << 20);
+
+const FIRST: Job = Job {
+    place: 192,
+    name: 192,
+    job: 77,
+};
+
+#[test]
+fn a_job_is_spawned_taken_and_ends(rt: HostRuntime) -> Result<(), Fail> {
+    let (executor, mut seat) = Executor::new(rt.alloc(), 1)?;
+    assert!(rt; executor.shards() == 1);
+    assert!(rt; executor.register(&mut seat, 0));
+    let mut other = executor.split(&mut seat);
+    assert!(rt; !executor.register(&mut other, 0));
+    assert!(rt; executor.next(&mut seat, 0) == Next::Park);
+    let placed = Placed {
+        place: 192,
+        name: 192,
+        unpark: true,
+    };
+    assert!(rt; executor.spawn(&mut other, 3, 77) == Spawned::Placed(placed));
+    assert!(rt; !executor.may_park(&mut seat, 0));
+    assert!(rt; place_of(SECOND) == 192 && worker_of_place(192) == 0);
+    let Next::Run(job) = executor.next(&mut seat, 0) else {
+        panic!(rt; "no job")
+    };
+    assert!(rt; job == FIRST);
+    executor.finish(&mut seat, job.place);
+    assert!(rt; executor.wake(&mut other, 192) == Woken::Gone);
+    assert!(rt; executor.next(&mut seat, 0) == Next::Park);
+    executor.wake_up(&mut seat, 0);
+    Ok(())
+}
+
+#[test]
+fn a_job_waits_and_is_woken(rt: HostRuntime) -> Result<(), Fail> {
+    let (executor, mut seat) = Executor::new(rt.alloc(), 1)?;
+    let mut other = executor.split(&mut seat);
+    executor.spawn(&mut other, 3, 77);
+    let Some(job) = executor.take(&mut seat, 3) else {
+        panic!(rt; "no job")
+    };
+    assert!(rt; executor.wake(&mut other, 192) == Woken::Marked);
+    assert!(rt; executor.wake(&mut other, 192) == Woken::Already);
+    assert!(rt; executor.rest_blocked(&mut seat, job.place) == Rested::Ready { unpark: false });
+    let Some(job) = executor.take(&mut seat, 3) else {
+        panic!(rt; "no job")
+    };
+    assert!(rt; executor.rest_blocked(&mut seat, job.place) == Rested::Blocked);
+    assert!(rt; executor.take(&mut other, 3).is_none());
+    assert!(rt; executor.wake(&mut other, SECOND) == Woken::Gone);
+    assert!(rt; executor.wake(&mut other, 4096) == Woken::Gone);
+    assert!(rt; executor.wake(&mut other, 192) == Woken::Ready { unpark: false });
+    let Some(job) = executor.take(&mut seat, 3) else {
+        panic!(rt; "no job")
+    };
+    assert!(rt; executor.rest_blocked(&mut seat, job.place) == Rested::Blocked);
+    assert!(rt; executor.wake_here(&mut other, 192) == WokenHere::Held(FIRST));
+    Ok(())
+}
+
+#[test]
+fn a_job_is_spawned_into_the_hand(rt: HostRuntime) -> Result<(), Fail> {
+    let (executor, mut seat) = Executor::new(rt.alloc(), 1)?;
+    let SpawnedHere::Held(job) = executor.spawn_here(&mut seat, 3, 77) else {
+        panic!(rt; "no place")
+    };
+    assert!(rt; job == FIRST);
+    executor.rest_ready(&mut seat, job.place);
+    assert!(rt; executor.shown(&mut seat, 0) == 8 && executor.ready(&mut seat, 3) == 1);
+    match executor.close(rt.alloc(), seat) {
+        Ok(left) => assert!(rt; left.len() == 1 && left[0] == 77),
+        Err(_) => panic!(rt; "no memory"),
+    }
+    Ok(())
+}
+
+#[test]
+fn a_full_block_and_what_is_left(rt: HostRuntime) -> Result<(), Fail> {
+    let (executor, mut seat) = Executor::new(rt.alloc(), 1)?;
+    assert!(rt; executor.register(&mut seat, 0));
+    let other = executor.split(&mut seat);
+    for _ in 0..64 {
+        executor.spawn(&mut seat, 3, 5);
+    }
+    assert!(rt; executor.spawn(&mut seat, 3, 5) == Spawned::Full);
+    if let Some(job) = executor.take(&mut seat, 3) {
+        executor.rest_ready(&mut seat, job.place);
+    }
+    executor.leave(&mut seat, 0);
+    assert!(rt; !executor.is_whole(&seat));
+    executor.join_seats(&mut seat, other);
+    assert!(rt; executor.is_whole(&seat));
+    match executor.close(rt.alloc(), seat) {
+        Ok(left) => assert!(rt; left.len() == 64),
+        Err(_) => panic!(rt; "no memory"),
+    }
+    Ok(())
+}

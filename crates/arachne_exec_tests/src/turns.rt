@@ -1,0 +1,91 @@
+//! Jobs that are ready again at once don't keep others waiting.
+ghost use Rattle.std.specs.Prelude.{◌≡◌, ◌*◌, ◌<◌};
+
+use arachne_exec::{ExecSeat, Executor, Next};
+use std::test::Fail;
+
+/// Takes a job of a block, which is ready again at once. The bit of its place in the block.
+fn take_again(executor: &Executor, seat: &mut ExecSeat, block: usize) -> u64
+    requires own { seat.old.table ≡ executor.now.table }
+    requires block { block < 64 * executor.now.shards }
+    ensures { seat.new.table ≡ executor.now.table }
+{
+    let Some(job) = executor.take(seat, block) else {
+        return 0;
+    };
+    executor.rest_ready(seat, job.place);
+    1 << (job.place % 64) as u32
+}
+
+/// Runs a job of worker 0, which is ready again at once. Its number.
+fn run_again(executor: &Executor, seat: &mut ExecSeat) -> u64
+    requires own { seat.old.table ≡ executor.now.table }
+    requires worker { seat.old.known.worker ≡ 1 }
+    ensures own { seat.new.table ≡ executor.now.table }
+    ensures worker { seat.new.known.worker ≡ 1 }
+{
+    let Next::Run(job) = executor.next(seat, 0) else {
+        return 0;
+    };
+    executor.rest_ready(seat, job.place);
+    job.job
+}
+
+#[test]
+fn each_of_64_ready_jobs_is_taken_within_64_takes(rt: HostRuntime) -> Result<(), Fail> {
+    let (executor, mut seat) = Executor::new(rt.alloc(), 1)?;
+    for _ in 0..64 {
+        executor.spawn(&mut seat, 3, 7);
+    }
+    let mut taken = 0;
+    for _ in 0..64 {
+        taken |= take_again(&executor, &mut seat, 3);
+    }
+    assert!(rt; taken == u64::MAX);
+    Ok(())
+}
+
+#[test]
+fn each_ready_job_of_a_worker_is_run_in_turn(rt: HostRuntime) -> Result<(), Fail> {
+    let (executor, mut seat) = Executor::new(rt.alloc(), 65)?;
+    assert!(rt; executor.register(&mut seat, 0));
+    for job in 0..4u32 {
+        executor.spawn(&mut seat, 0, 1 << job);
+        executor.spawn(&mut seat, 63, 16 << job);
+        executor.spawn(&mut seat, 4096, 256 << job);
+    }
+    let mut run = 0;
+    for _ in 0..12 {
+        run |= run_again(&executor, &mut seat);
+    }
+    assert!(rt; run == 4095);
+    Ok(())
+}
+
+/// Spawns a job at a block, takes it and ends it, so that the block has its bit in the summary word and no job.
+fn pass_by(executor: &Executor, seat: &mut ExecSeat, block: usize)
+    requires own { seat.old.table ≡ executor.now.table }
+    requires block { block < 64 * executor.now.shards }
+    ensures { seat.new.table ≡ executor.now.table }
+{
+    executor.spawn(seat, block, 4);
+    if let Some(job) = executor.take(seat, block) {
+        executor.finish(seat, job.place);
+    }
+}
+
+#[test]
+fn blocks_that_others_empty_keep_no_shard_waiting(rt: HostRuntime) -> Result<(), Fail> {
+    let (executor, mut seat) = Executor::new(rt.alloc(), 65)?;
+    let mut other = executor.split(&mut seat);
+    assert!(rt; executor.register(&mut seat, 0));
+    executor.spawn(&mut seat, 0, 1);
+    executor.spawn(&mut seat, 4096, 2);
+    let mut run = 0;
+    for _ in 0..12 {
+        pass_by(&executor, &mut other, 5);
+        run |= run_again(&executor, &mut seat);
+    }
+    assert!(rt; run == 3);
+    Ok(())
+}

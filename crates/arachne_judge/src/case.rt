@@ -1,0 +1,452 @@
+//! Goes through a log once, and judges each rule where it comes up.
+//!
+//! An entry is written just after what it tells of was done, or just before. So another core may show what came of it
+//! first: that a thread was moved, that a core was closed or granted, or that a thread was woken. Core 0 is to tell what
+//! it did before its next slice, and each other core at once: until then such a thing is owed.
+use crate::cores::Core;
+use crate::log::{Entry, Log, What};
+use crate::rules::{Broken, Counts, Rule, Run, Verdict};
+use crate::scans::Scans;
+use crate::threads::Thread;
+use arachne_core::ThreadId;
+use arachne_policy::OrderKind;
+use arachne_workers::{Event, SliceEnd};
+use std::alloc::{AllocError, Global};
+
+/// How many moves nobody may be told of: where a thread left its place just before a worker moved it from there, the one
+/// that came after it is moved. A program with an exclusive fork has no such moves.
+const UNTOLD: u32 = 2;
+
+/// What a log has shown so far.
+#[derive(Drop)]
+struct Case<'r> {
+    run: Run<'r>,
+    /// The number of the entry that is looked at.
+    at: usize,
+    cores: Vec<Core>,
+    /// The threads that the contexts had last.
+    threads: Vec<Option<Thread>>,
+    root: Option<ThreadId>,
+    /// Whether the root has ended.
+    is_over: bool,
+    /// How many orders are told to be applied.
+    applied: usize,
+    /// How many slices were told to have ended.
+    ended: u64,
+    /// How many slices of other cores were counted for sure when core 0 last did something.
+    counted: u64,
+    /// Whether a core owes something.
+    owes: bool,
+    /// How many moves nobody was told of.
+    untold: u32,
+    /// How many threads have had a turn after a wait, and were not told to be woken yet.
+    unwoken: u64,
+    scans: Scans,
+    counts: Counts,
+    broken: Option<Broken>,
+    steps: u64,
+}
+
+/// Which rule of a run its log breaks first, and how often each was judged.
+pub fn judge(alloc: Global, log: &Log, run: Run<'_>) -> Result<Verdict, AllocError> {
+    let mut case = Case::new(alloc, run)?;
+    for at in 0..log.count() as usize {
+        let Some(entry) = log.entry(at) else {
+            break;
+        };
+        case.at = at;
+        case.look(entry);
+    }
+    case.settle();
+    if case.unwoken > 0 {
+        case.breaks(Rule::Waits);
+    }
+    Ok(Verdict {
+        counts: case.counts,
+        broken: case.broken,
+        steps: case.steps,
+    })
+}
+
+impl<'r> Case<'r> {
+    fn new(alloc: Global, run: Run<'r>) -> Result<Case<'r>, AllocError> {
+        let mut cores = Vec::new(alloc);
+        for _ in 0..run.cores {
+            cores.push(Core::new())?;
+        }
+        let mut threads = Vec::new(alloc);
+        for _ in 0..u32::from(run.cores) * u32::from(run.slots) {
+            threads.push(None)?;
+        }
+        Ok(Case {
+            run,
+            at: 0,
+            cores,
+            threads,
+            root: None,
+            is_over: false,
+            applied: 0,
+            ended: 0,
+            counted: 0,
+            owes: false,
+            untold: 0,
+            unwoken: 0,
+            scans: Scans::new(run),
+            counts: Counts::new(),
+            broken: None,
+            steps: 0,
+        })
+    }
+
+    fn core(&self, core: u8) -> Core {
+        match self.cores.get(usize::from(core)) {
+            Some(known) => *known,
+            None => Core::new(),
+        }
+    }
+
+    fn set_core(&mut self, core: u8, known: Core) {
+        if let Some(place) = self.cores.get_mut(usize::from(core)) {
+            *place = known;
+        }
+    }
+
+    /// The thread of an id, if that had a turn.
+    fn thread(&self, id: ThreadId) -> Option<Thread> {
+        let thread = (*self.threads.get(id.context as usize)?)?;
+        if thread.id == id { Some(thread) } else { None }
+    }
+
+    fn set_thread(&mut self, thread: Thread) {
+        if let Some(place) = self.threads.get_mut(thread.id.context as usize) {
+            *place = Some(thread);
+        }
+    }
+
+    fn counts(&mut self, rule: Rule) {
+        self.counts.add(rule, 1);
+    }
+
+    fn breaks(&mut self, rule: Rule) {
+        if self.broken.is_none() {
+            self.broken = Some(Broken { rule, at: self.at });
+        }
+    }
+
+    fn look(&mut self, entry: Entry) {
+        let core = entry.core;
+        if !matches!(entry.what, What::Told(Event::Sliced(_, _))) {
+            let mut known = self.core(core);
+            known.counted = known.ended;
+            self.set_core(core, known);
+        }
+        match entry.what {
+            What::Slice(nth) => self.slice(core, nth),
+            What::Turn(id, is_alone) => self.turn(core, id, is_alone),
+            What::Told(event) => self.event(core, event),
+        }
+    }
+
+    fn event(&mut self, core: u8, event: Event) {
+        match event {
+            Event::Sliced(steps, end) => self.sliced(core, steps, end),
+            Event::Woken(id, _) => self.woken(id),
+            Event::Pulled(id, _) => self.pulled(core, id),
+            Event::Spilled => {
+                if self.scans.spilled() {
+                    self.counts(Rule::Places);
+                }
+            }
+            Event::Parks => self.parks(core),
+            Event::Unparked => self.unparked(core),
+            Event::Applied(orders) => return self.applied(core, orders),
+            Event::MovedAway(receivers) => return self.moved_away(core, receivers),
+            Event::Ticket(_) | Event::Overslept => {}
+        }
+        if core == 0 {
+            self.counted = 0;
+            for k in 1..self.run.cores {
+                self.counted = self.counted.saturating_add(self.core(k).counted);
+            }
+        }
+    }
+
+    fn slice(&mut self, core: u8, nth: u64) {
+        let mut known = self.core(core);
+        self.counts(Rule::Numbers);
+        if known.next != nth {
+            self.breaks(Rule::Numbers);
+        }
+        known.next = nth.saturating_add(1);
+        let is_second = known.is_in_slice;
+        known.is_in_slice = true;
+        self.set_core(core, known);
+        self.counts(Rule::InHand);
+        match known.turn.and_then(|id| self.thread(id)) {
+            Some(mut thread)
+                if thread.core == core
+                    && !thread.is_in_slice
+                    && !is_second
+                    && !thread.has_ended() => {
+                thread.is_in_slice = true;
+                self.set_thread(thread);
+            }
+            _ => self.breaks(Rule::InHand),
+        }
+        if core == 0 {
+            self.settle();
+            self.look_due();
+        }
+    }
+
+    /// Core 0 begins a slice: all orders that are due are applied.
+    fn look_due(&mut self) {
+        let Some(order) = self.run.orders.get(self.applied) else {
+            return;
+        };
+        self.counts(Rule::Due);
+        if order.after <= self.counted.saturating_add(self.core(0).ended) {
+            self.breaks(Rule::Due);
+        }
+    }
+
+    /// Core 0 goes on, or the log is at its end: what was owed is broken.
+    fn settle(&mut self) {
+        if !self.owes {
+            return;
+        }
+        self.owes = false;
+        for core in 0..self.run.cores {
+            let mut known = self.core(core);
+            if known.owes_move {
+                known.owes_move = false;
+                self.untold = self.untold.saturating_add(1);
+                if self.run.has_exclusive || self.untold > UNTOLD {
+                    self.breaks(Rule::OwnCore);
+                }
+            }
+            if known.owes_close || known.owes_return {
+                known.owes_close = false;
+                known.owes_return = false;
+                self.breaks(Rule::Parks);
+            }
+            if known.unparks > known.grants.saturating_add(u64::from(self.is_over)) {
+                self.breaks(Rule::Unparks);
+            }
+            self.set_core(core, known);
+        }
+    }
+
+    fn turn(&mut self, core: u8, id: ThreadId, is_alone: bool) {
+        let mut known = self.core(core);
+        if known.is_in_slice || (self.root.is_none() && core > 0) {
+            self.breaks(Rule::InHand);
+        }
+        if self.root.is_none() {
+            self.root = Some(id);
+        }
+        if is_alone {
+            self.counts(Rule::Alone);
+        }
+        if known.alone.is_some_and(|alone| alone != id) {
+            self.breaks(Rule::Alone);
+        }
+        if is_alone {
+            known.alone = Some(id);
+        }
+        known.turn = Some(id);
+        let mut thread = Thread::new(id, core, self.at);
+        let before = self.thread(id);
+        if let Some(before) = before {
+            let (woken, unwoken) = self.waits(before);
+            thread.woken = woken;
+            thread.unwoken = unwoken;
+            self.look_where(&mut known, core, before);
+        }
+        self.scan(id, before.is_none());
+        self.set_thread(thread);
+        self.set_core(core, known);
+    }
+
+    /// A thread that had a turn before has one on a core: was it told to be there?
+    fn look_where(&mut self, known: &mut Core, core: u8, before: Thread) {
+        if before.has_ended() || before.is_in_slice {
+            self.breaks(Rule::InHand);
+        }
+        self.counts(Rule::OwnCore);
+        if before.pulled == Some(core) {
+            return;
+        }
+        if before.core != core && known.moved <= before.turned {
+            known.owes_move = true;
+            self.owes = true;
+        }
+        if before.core == core && before.left > 0 && known.moved <= before.left {
+            known.owes_return = true;
+            self.owes = true;
+        }
+    }
+
+    /// A thread that has a turn again goes on for one time that it was woken, if it has waited. How often it was woken
+    /// besides, and how often it has gone on and was not told to be woken yet: each other core may have woken one just
+    /// now. A wake may also be told just before the turn that it comes in.
+    fn waits(&mut self, before: Thread) -> (u64, u64) {
+        let (woken, unwoken) = (before.woken, before.unwoken);
+        if !matches!(before.end, SliceEnd::AwaitsChild | SliceEnd::Awaits(_)) {
+            return (woken, unwoken);
+        }
+        self.counts(Rule::Waits);
+        if woken > 0 {
+            return (woken.saturating_sub(1), unwoken);
+        }
+        self.unwoken = self.unwoken.saturating_add(1);
+        if self.unwoken >= u64::from(self.run.cores) {
+            self.breaks(Rule::Waits);
+        }
+        (0, unwoken.saturating_add(1))
+    }
+
+    /// What the scan shows of a turn.
+    fn scan(&mut self, id: ThreadId, is_first: bool) {
+        let last = self.scans.last();
+        let goes_on = match last.and_then(|last| *self.threads.get(last as usize)?) {
+            Some(thread) => thread.end == SliceEnd::GoesOn,
+            None => false,
+        };
+        let found = self.scans.turn(id.context, goes_on, is_first);
+        if found.is_judged {
+            self.counts(Rule::Upwards);
+        }
+        if found.is_downward {
+            self.breaks(Rule::Upwards);
+        }
+        if found.was_free {
+            self.breaks(Rule::Places);
+        }
+    }
+
+    fn sliced(&mut self, core: u8, steps: u32, end: SliceEnd) {
+        self.counts(Rule::Quantum);
+        self.steps = self.steps.saturating_add(u64::from(steps));
+        if steps > self.run.quantum {
+            self.breaks(Rule::Quantum);
+        }
+        let mut known = self.core(core);
+        if !known.is_in_slice {
+            self.breaks(Rule::InHand);
+        }
+        known.is_in_slice = false;
+        known.ended = known.ended.saturating_add(1);
+        self.ended = self.ended.saturating_add(1);
+        if let Some(mut thread) = known.turn.and_then(|id| self.thread(id)) {
+            thread.is_in_slice = false;
+            thread.end = end;
+            self.set_thread(thread);
+            if end == SliceEnd::Ended {
+                self.scans.ended();
+                if known.alone == Some(thread.id) {
+                    known.alone = None;
+                }
+                if self.root == Some(thread.id) {
+                    self.is_over = true;
+                }
+            }
+        }
+        self.set_core(core, known);
+    }
+
+    fn woken(&mut self, id: ThreadId) {
+        if self.run.has_exclusive {
+            self.counts(Rule::Stays);
+        }
+        if let Some(mut thread) = self.thread(id) {
+            if thread.unwoken > 0 {
+                thread.unwoken = thread.unwoken.saturating_sub(1);
+                self.unwoken = self.unwoken.saturating_sub(1);
+            } else {
+                thread.woken = thread.woken.saturating_add(1);
+            }
+            self.set_thread(thread);
+        }
+    }
+
+    fn pulled(&mut self, core: u8, id: ThreadId) {
+        if self.run.has_exclusive {
+            self.breaks(Rule::Stays);
+        }
+        if let Some(mut thread) = self.thread(id) {
+            thread.pulled = Some(core);
+            self.set_thread(thread);
+        }
+    }
+
+    fn parks(&mut self, core: u8) {
+        self.counts(Rule::Parks);
+        let mut known = self.core(core);
+        if !known.is_closed {
+            known.owes_close = true;
+            self.owes = true;
+        }
+        self.set_core(core, known);
+        for place in self.threads.iter_mut() {
+            if let Some(thread) = place
+                && thread.core == core
+                && !thread.has_ended()
+            {
+                thread.left = self.at.saturating_add(1);
+            }
+        }
+    }
+
+    fn unparked(&mut self, core: u8) {
+        self.counts(Rule::Unparks);
+        let mut known = self.core(core);
+        known.unparks = known.unparks.saturating_add(1);
+        self.owes = true;
+        self.set_core(core, known);
+    }
+
+    fn applied(&mut self, core: u8, orders: usize) {
+        self.counts(Rule::CoreZero);
+        if core != 0 {
+            self.breaks(Rule::CoreZero);
+        }
+        for nth in self.applied..orders {
+            let Some(order) = self.run.orders.get(nth) else {
+                self.breaks(Rule::Due);
+                break;
+            };
+            self.counts(Rule::Due);
+            if order.after > self.ended {
+                self.breaks(Rule::Due);
+            }
+            let of = u8::try_from(order.core).unwrap_or(u8::MAX);
+            let mut known = self.core(of);
+            if order.kind == OrderKind::Grant {
+                known.grants = known.grants.saturating_add(u64::from(known.is_closed));
+                known.is_closed = false;
+            } else {
+                known.is_closed = true;
+                known.owes_close = false;
+            }
+            self.set_core(of, known);
+        }
+        self.applied = orders;
+    }
+
+    fn moved_away(&mut self, core: u8, receivers: u64) {
+        self.counts(Rule::CoreZero);
+        if core != 0 {
+            self.breaks(Rule::CoreZero);
+        }
+        for receiver in 0..self.run.cores {
+            if receivers.checked_shr(u32::from(receiver)).unwrap_or(0) & 1 == 1 {
+                let mut known = self.core(receiver);
+                known.moved = self.at.saturating_add(1);
+                known.owes_move = false;
+                known.owes_return = false;
+                self.set_core(receiver, known);
+            }
+        }
+    }
+}

@@ -1,0 +1,183 @@
+//! What a gate was told, in one order for all cores.
+use arachne_core::ThreadId;
+use arachne_workers::{Cause, Event, SliceEnd};
+use std::alloc::{AllocError, Global};
+use std::sync::atomic::{AtomicU64, Ordering};
+
+/// What a gate was told of a core.
+#[derive(Clone, Copy, Debug, PartialEq, Eq)]
+pub enum What {
+    /// Its slice of this number is about to begin.
+    Slice(u64),
+    /// It took this thread in hand. Whether that has its core alone.
+    Turn(ThreadId, bool),
+    Told(Event),
+}
+
+#[derive(Clone, Copy, Debug, PartialEq, Eq)]
+pub struct Entry {
+    pub core: u8,
+    pub what: What,
+}
+
+const SLICE: u64 = 1;
+
+const TURN: u64 = 2;
+
+const SLICED: u64 = 3;
+
+const WOKEN: u64 = 4;
+
+const PULLED: u64 = 5;
+
+const SPILLED: u64 = 6;
+
+const TICKET: u64 = 7;
+
+const PARKS: u64 = 8;
+
+const UNPARKED: u64 = 9;
+
+const OVERSLEPT: u64 = 10;
+
+const APPLIED: u64 = 11;
+
+const MOVED_AWAY: u64 = 12;
+
+/// An entry in words: the core, what it is and a small number; and two numbers.
+#[derive(Drop)]
+struct Line {
+    head: AtomicU64,
+    first: AtomicU64,
+    second: AtomicU64,
+}
+
+/// What a gate was told. The kernel threads of all cores write it, each entry at once; what there is no room for is
+/// counted alone.
+#[derive(Drop)]
+pub struct Log {
+    lines: Vec<Line>,
+    count: AtomicU64,
+}
+
+impl Log {
+    /// With room for so many entries.
+    pub fn new(alloc: Global, room: usize) -> Result<Log, AllocError> {
+        let mut lines = Vec::with_capacity(alloc, room)?;
+        for _ in 0..room {
+            lines.push(Line {
+                head: AtomicU64::new(0),
+                first: AtomicU64::new(0),
+                second: AtomicU64::new(0),
+            })?;
+        }
+        Ok(Log {
+            lines,
+            count: AtomicU64::new(0),
+        })
+    }
+
+    /// How many entries there were, with those for which there was no room.
+    pub fn count(&self) -> u64 {
+        self.count.load(Ordering::SeqCst)
+    }
+
+    /// Whether there was room for all.
+    pub fn is_whole(&self) -> bool {
+        self.count() <= self.lines.len() as u64
+    }
+
+    fn note(&self, core: u8, kind: u64, small: u64, first: u64, second: u64) {
+        let at = self.count.fetch_add(1, Ordering::SeqCst);
+        if let Some(line) = self.lines.get(at as usize) {
+            line.first.store(first, Ordering::SeqCst);
+            line.second.store(second, Ordering::SeqCst);
+            let head = u64::from(core) | kind << 8 | small << 16;
+            line.head.store(head, Ordering::SeqCst);
+        }
+    }
+
+    fn note_thread(&self, core: u8, kind: u64, small: u64, id: ThreadId) {
+        self.note(core, kind, small, u64::from(id.context), id.generation);
+    }
+
+    pub fn slice(&self, core: u8, nth: u64) {
+        self.note(core, SLICE, 0, nth, 0);
+    }
+
+    pub fn turn(&self, core: u8, id: ThreadId, is_alone: bool) {
+        self.note_thread(core, TURN, u64::from(is_alone), id);
+    }
+
+    pub fn told(&self, core: u8, event: Event) {
+        match event {
+            Event::Sliced(steps, end) => {
+                let (how, number) = match end {
+                    SliceEnd::GoesOn => (0, 0),
+                    SliceEnd::AwaitsChild => (1, 0),
+                    SliceEnd::Awaits(number) => (2, number),
+                    SliceEnd::Ended => (3, 0),
+                };
+                self.note(core, SLICED, how, u64::from(steps), number);
+            }
+            Event::Woken(id, cause) => {
+                self.note_thread(core, WOKEN, u64::from(cause == Cause::IsServed), id);
+            }
+            Event::Pulled(id, from) => self.note_thread(core, PULLED, u64::from(from), id),
+            Event::Spilled => self.note(core, SPILLED, 0, 0, 0),
+            Event::Ticket(posted) => self.note(core, TICKET, u64::from(posted), 0, 0),
+            Event::Parks => self.note(core, PARKS, 0, 0, 0),
+            Event::Unparked => self.note(core, UNPARKED, 0, 0, 0),
+            Event::Overslept => self.note(core, OVERSLEPT, 0, 0, 0),
+            Event::Applied(orders) => self.note(core, APPLIED, 0, orders as u64, 0),
+            Event::MovedAway(receivers) => self.note(core, MOVED_AWAY, 0, receivers, 0),
+        }
+    }
+
+    /// The entry of this number, from 0. None where there is none.
+    pub fn entry(&self, at: usize) -> Option<Entry> {
+        let line = self.lines.get(at)?;
+        let head = line.head.load(Ordering::SeqCst);
+        let first = line.first.load(Ordering::SeqCst);
+        let second = line.second.load(Ordering::SeqCst);
+        let what = what_of(head >> 8 & 0xFF, head >> 16, first, second)?;
+        Some(Entry {
+            core: (head & 0xFF) as u8,
+            what,
+        })
+    }
+}
+
+/// What the words of an entry say. None where none was written.
+fn what_of(kind: u64, small: u64, first: u64, second: u64) -> Option<What> {
+    let id = ThreadId {
+        context: (first & 0xFFFF_FFFF) as u32,
+        generation: second,
+    };
+    let event = match kind {
+        SLICE => return Some(What::Slice(first)),
+        TURN => return Some(What::Turn(id, small != 0)),
+        SLICED => Event::Sliced((first & 0xFFFF_FFFF) as u32, end_of(small, second)),
+        WOKEN if small == 0 => Event::Woken(id, Cause::ChildEnded),
+        WOKEN => Event::Woken(id, Cause::IsServed),
+        PULLED => Event::Pulled(id, (small & 0xFF) as u8),
+        SPILLED => Event::Spilled,
+        TICKET => Event::Ticket(small != 0),
+        PARKS => Event::Parks,
+        UNPARKED => Event::Unparked,
+        OVERSLEPT => Event::Overslept,
+        APPLIED => Event::Applied(first as usize),
+        MOVED_AWAY => Event::MovedAway(first),
+        _ => return None,
+    };
+    Some(What::Told(event))
+}
+
+fn end_of(how: u64, number: u64) -> SliceEnd {
+    match how {
+        0 => SliceEnd::GoesOn,
+        1 => SliceEnd::AwaitsChild,
+        2 => SliceEnd::Awaits(number),
+        _ => SliceEnd::Ended,
+    }
+}

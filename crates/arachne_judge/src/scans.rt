@@ -1,0 +1,103 @@
+//! What a log shows of scans and places, where there is one core and no lock.
+//!
+//! A context has one index of the core there all the time, so its number is that of its index.
+use crate::rules::Run;
+
+/// What is known of the scans, and of the places that are taken.
+#[derive(Drop)]
+pub(crate) struct Scans {
+    /// Whether scans are judged: there is one core, and no lock has its next holder go on before others.
+    is_judged: bool,
+    /// Whether places are judged: none is kept either.
+    are_places: bool,
+    slots: u64,
+    /// The index that had a turn last.
+    last: Option<u32>,
+    /// An index at which a thread is ready and higher than where this scan has begun.
+    due: Option<u32>,
+    /// How many threads are known to be there.
+    threads: u64,
+    /// How many others have to be there since a child waits: each has its first turn before the next scan is over.
+    unseen: u64,
+    /// How many scans have begun since.
+    scans: u32,
+}
+
+/// What a turn shows.
+#[derive(Clone, Copy)]
+pub(crate) struct Found {
+    /// A scan has begun.
+    pub(crate) is_judged: bool,
+    /// The scan before it has left out a thread that was ready.
+    pub(crate) is_downward: bool,
+    /// A child has waited while a place was free.
+    pub(crate) was_free: bool,
+}
+
+impl Scans {
+    pub(crate) fn new(run: Run<'_>) -> Scans {
+        let is_judged = run.cores == 1 && !run.has_locks;
+        Scans {
+            is_judged,
+            are_places: is_judged && run.has_exclusive,
+            slots: u64::from(run.slots),
+            last: None,
+            due: None,
+            threads: 0,
+            unseen: 0,
+            scans: 0,
+        }
+    }
+
+    /// The index that had a turn last.
+    pub(crate) fn last(&self) -> Option<u32> {
+        self.last
+    }
+
+    /// A thread has ended.
+    pub(crate) fn ended(&mut self) {
+        self.threads = self.threads.saturating_sub(1);
+    }
+
+    /// A child waits for a place. Whether that is judged.
+    pub(crate) fn spilled(&mut self) -> bool {
+        if !self.are_places {
+            return false;
+        }
+        if self.unseen == 0 {
+            self.unseen = self.slots.saturating_sub(self.threads);
+            self.scans = 0;
+        }
+        true
+    }
+
+    /// The thread at an index has a turn, its first one or not. Whether the one that had a turn last is ready.
+    pub(crate) fn turn(&mut self, index: u32, goes_on: bool, is_first: bool) -> Found {
+        let mut found = Found {
+            is_judged: false,
+            is_downward: false,
+            was_free: false,
+        };
+        if !self.is_judged {
+            return found;
+        }
+        if let Some(last) = self.last
+            && index <= last
+        {
+            found.is_judged = true;
+            found.is_downward = self.due.is_some();
+            self.due = if goes_on { Some(last) } else { None };
+            self.scans = self.scans.saturating_add(1);
+            found.was_free = self.unseen > 0 && self.scans > 1;
+        }
+        if is_first {
+            self.threads = self.threads.saturating_add(1);
+            self.unseen = self.unseen.saturating_sub(1);
+        }
+        if self.due == Some(index) {
+            self.due = None;
+        }
+        self.last = Some(index);
+        found
+    }
+}

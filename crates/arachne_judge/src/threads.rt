@@ -1,0 +1,47 @@
+//! What a log has shown of a thread so far.
+use arachne_core::ThreadId;
+use arachne_workers::SliceEnd;
+
+/// What is known of the thread that a context had last.
+#[derive(Clone, Copy)]
+pub(crate) struct Thread {
+    pub(crate) id: ThreadId,
+    /// The core of its last turn.
+    pub(crate) core: u8,
+    /// The number of the entry of its last turn.
+    pub(crate) turned: usize,
+    /// A core that has moved it to itself since.
+    pub(crate) pulled: Option<u8>,
+    pub(crate) is_in_slice: bool,
+    /// How its last slice has ended.
+    pub(crate) end: SliceEnd,
+    /// How often it was woken, and has not gone on for that yet.
+    pub(crate) woken: u64,
+    /// How often it has gone on after a wait, and was not told to be woken yet.
+    pub(crate) unwoken: u64,
+    /// The number of the entry by which its core parked since its last turn, and 1 more: it was moved away from there
+    /// before. Else 0.
+    pub(crate) left: usize,
+}
+
+impl Thread {
+    /// A thread that has its first turn.
+    pub(crate) fn new(id: ThreadId, core: u8, at: usize) -> Thread {
+        Thread {
+            id,
+            core,
+            turned: at,
+            pulled: None,
+            is_in_slice: false,
+            end: SliceEnd::GoesOn,
+            woken: 0,
+            unwoken: 0,
+            left: 0,
+        }
+    }
+
+    /// Whether it has ended.
+    pub(crate) fn has_ended(&self) -> bool {
+        self.end == SliceEnd::Ended
+    }
+}

@@ -1,3 +1,0 @@
-pub mod Adder
-pub mod Row
-pub mod Held

@@ -1,0 +1,12 @@
+pub mod Law
+pub mod History
+pub mod Promises
+pub mod State
+pub mod WaitQueue
+pub mod Deeds
+pub mod Placed
+pub mod Logs
+pub mod Views
+pub mod Rule
+pub mod Steps
+pub mod Calls

@@ -1,0 +1,61 @@
+-- What each kind of step tells the seat that makes it.
+use Rattle.std.specs.Prelude.{◌≡◌, ◌≢◌, ℕ, All, [], ◌∷◌, ◌++◌, List}
+use Rattle.atomic_table.specs.Table.{Me, Step}
+use Rattle.arachne_lock.specs.declared.event.LockEvent.{LockEvent}
+use Rattle.arachne_lock.specs.declared.view.Known.{Known}
+use Rattle.arachne_lock.specs.declared.view.SeatLog.{SeatLog}
+use Rattle.arachne_lock.specs.declared.view.Sight.{Sight}
+use Rattle.arachne_lock.specs.History.{IsSound}
+use Rattle.arachne_lock.specs.State.{IsLeftBy}
+use Rattle.arachne_lock.specs.Placed.{BeginsWith}
+use Rattle.arachne_lock.specs.Logs.{sight, contended_log, taken_log, given_back_log}
+use Rattle.arachne_lock.specs.Views.{Guarded, word_of}
+use Rattle.arachne_lock.specs.Rule.{idle_known, taken_known}
+
+-- a seat's view, and the slots that it has
+abbrev pub Mine : Type 0
+Mine = Me Guarded Known
+
+-- a seat between calls
+abbrev pub idle : SeatLog → Mine
+idle log = (idle_known log, [])
+
+-- a seat that has the lock's guard at this history, and the slot with this in it
+abbrev pub with_guard : ℕ → List LockEvent → SeatLog → Guarded → Mine
+with_guard lock history log guarded = (taken_known (sight lock history) log, (lock, guarded) ∷ [])
+
+-- the history begins with all that was seen of the lock
+abbrev pub GoesOnFrom : ℕ → List LockEvent → SeatLog → Type 0
+GoesOnFrom lock history log = All (λ (s : Sight). s.lock ≡ lock → BeginsWith history s.history) log.seen
+
+-- the lock's state as it came to a seat with this log
+pub record Comes (lock : ℕ) (log : SeatLog) (history : List LockEvent) (guarded : Guarded) : Type 0 where
+  pub sound : IsSound history
+  pub left : IsLeftBy history guarded.lock
+  pub begins : GoesOnFrom lock history log
+
+-- the guard was at home, and the seat has it with the state
+abbrev pub HasTaken : ℕ → SeatLog → Mine → Type 0
+HasTaken lock log me = (history : List LockEvent) × (guarded : Guarded) × (me ≡ with_guard lock history (taken_log log lock history) guarded) × Comes lock log history guarded
+
+-- Where the guard was at home the state came to the seat. Else the guard was found taken.
+abbrev pub Takes : Step Guarded → Mine → ℕ → Mine → Type 0
+Takes step before found after = (lock : ℕ) → step.word ≡ word_of lock
+    → (found ≡ 0 → HasTaken lock before.0.log after) × (found ≢ 0 → after ≡ idle (contended_log before.0.log lock))
+
+-- the state goes home as it is in the seat's slot, with the events that were added
+abbrev pub GivesBack : Step Guarded → Mine → Mine → Type 0
+GivesBack step before after = (lock : ℕ) (history : List LockEvent) (guarded : Guarded) → before ≡ with_guard lock history before.0.log guarded
+    → after ≡ idle (given_back_log before.0.log lock history guarded.events)
+
+-- the state may go home
+pub record IsReturnable (lock : ℕ) (history : List LockEvent) (me : Mine) (guarded : Guarded) : Type 0 where
+  pub mine : me ≡ with_guard lock history me.0.log guarded
+  pub sound : IsSound (history ++ guarded.events)
+  pub left : IsLeftBy (history ++ guarded.events) guarded.lock
+
+-- the slot that is out with the seat was changed, and nothing else
+pub record Visits (lock : ℕ) (before after : Mine) (old new : Guarded) : Type 0 where
+  pub was : before.1 ≡ (lock, old) ∷ []
+  pub view : after.0 ≡ before.0
+  pub is : after.1 ≡ (lock, new) ∷ []

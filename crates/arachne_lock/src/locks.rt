@@ -1,0 +1,281 @@
+//! A set of locks that kernel threads share, and in whose calls none of them waits.
+ghost use Rattle.std.specs.Prelude.{◌≡◌, ◌<◌, ℕ, List, MatchBool, IfOk, Option, [], ◌∷◌, ◌^◌, vec_len, slice_index};
+ghost use Rattle.arachne_lock.specs.declared.event.LockEvent.{LockEvent};
+ghost use Rattle.arachne_lock.specs.State.{IsAsked, IsFreed, IsWithdrawn, IsChecked};
+ghost use Rattle.arachne_lock.specs.Deeds.{asked_events, freed_events, withdrawn_events};
+ghost use Rattle.arachne_lock.specs.Logs.{contended_log, given_back_log};
+ghost use Rattle.arachne_lock.specs.Views.{Guarded, IsSeatOf, first_seat, second_half, joined_with, word_of};
+ghost use Rattle.arachne_lock.specs.Rule.{AreFirstSlots};
+ghost use Rattle.arachne_lock.specs.Steps.{idle, HasTaken, Visits, IsReturnable};
+ghost use Rattle.arachne_lock.specs.Calls.{AskAnswer, FreeAnswer, WithdrawAnswer, CheckAnswer};
+
+use crate::answer::{AskFault, Asked, Freed, NotHolder, Tried, Withdrawn};
+use crate::guarded_state::GuardedState;
+use crate::lock_seat::LockSeat;
+use crate::steps::{Deal, GiveBack, LockRule, Take};
+use crate::view::Known;
+use atomic_table::{Seat, Table};
+use std::alloc::{AllocError, Global};
+use std::marker::Model;
+
+/// The words of two cache lines, since processors fetch lines in pairs.
+const SPACING: usize = 16;
+
+/// A guard word while the lock's state is at home.
+const HOME: u64 = 0;
+
+/// A guard word while the lock's state is with a seat.
+const TAKEN: u64 = 1;
+
+/// Some number of locks, each a word and a slot: the word is 0 while the lock's state is at home in the slot, and 1
+/// while it is with a seat.
+///
+/// Each kernel thread uses all of them through one seat of its own. Who asks for a lock is told apart by a number, as
+/// the name of a task. `ask`, `free`, `withdraw` and `check` try the lock's guard word once. Where it is taken they
+/// return `Contended`, and nothing has changed; else they give the answer of the lock's state.
+#[derive(Drop)]
+pub struct Locks {
+    table: Table<GuardedState, Known, usize, LockRule, Global>,
+    count: usize,
+}
+
+// Clauses see the table, and how many locks it has.
+impl Model for Locks {
+    ghost use Rattle.arachne_lock.specs.Views.{LocksView, IsLaidOut};
+
+    ghost Value = { LocksView };
+
+    ghost view = { λ l. record { table = l.table.shared.table_id; count = l.count } };
+
+    ghost invariant = { λ l. IsLaidOut l.table.shared.table_id l.table.shared.key l.count };
+}
+
+/// A lock's guard word.
+fn guard_word(lock: usize) -> usize
+    requires { word_of lock < 2 ^ 64 }
+    ensures { result ≡ word_of lock }
+{
+    SPACING * (lock + 1)
+}
+
+/// The words of so many locks, each 0.
+fn first_words(alloc: Global, count: usize) -> Result<Vec<u64>, AllocError>
+    ensures { IfOk result (λ v. (vec_len v ≡ word_of count) × ((i : ℕ) → slice_index v.items i ≡ 0)) }
+{
+    let room = SPACING.saturating_mul(count.saturating_add(1));
+    let mut words = Vec::with_capacity(alloc, room)?;
+    words.extend_from_slice(&[HOME; SPACING])?;
+    for _ in 0..count {
+        words.extend_from_slice(&[HOME; SPACING])?;
+    }
+    Ok(words)
+}
+
+/// The slots of so many locks.
+fn first_slots(alloc: Global, count: usize) -> Result<Vec<GuardedState>, AllocError>
+    ensures { IfOk result (λ slots. AreFirstSlots count slots.items) }
+{
+    let mut slots = Vec::with_capacity(alloc, count)?;
+    for _ in 0..count {
+        slots.push(GuardedState::new(alloc))?;
+    }
+    Ok(slots)
+}
+
+impl Locks {
+    /// So many locks, of which there may be none, each of which nobody has asked for yet, and the first seat.
+    pub fn new(alloc: Global, count: usize) -> Result<(Locks, LockSeat), AllocError>
+        ensures count { IfOk result (λ made. made.0.count ≡ count) }
+        ensures seat { IfOk result (λ made. made.1 ≡ first_seat made.0) }
+    {
+        let words = first_words(alloc, count)?;
+        let slots = first_slots(alloc, count)?;
+        let Ok((table, seat)) = Table::new(alloc, words.as_slice(), slots, &count) else {
+            return Err(AllocError);
+        };
+        Ok((Locks { table, count }, LockSeat { seat }))
+    }
+
+    /// The number of locks.
+    pub fn count(&self) -> usize
+        ensures { result ≡ self.now.count }
+    {
+        self.count
+    }
+
+    /// Asks for a lock. It is held at once where nobody owns it, and waited for otherwise.
+    ///
+    /// One that is in already is told so. Memory is taken only where it has to wait; where it is refused nothing
+    /// changes.
+    pub fn ask(&self, seat: &mut LockSeat, lock: usize, who: u64) -> Tried<Result<Asked, AskFault>>
+        requires own { IsSeatOf self.now seat.old }
+        requires lock { lock < self.now.count }
+        ensures own { IsSeatOf self.now seat.new }
+        ensures answer { AskAnswer lock who seat.old result seat.new }
+    {
+        if !self.take(&mut seat.seat, lock) {
+            return Tried::Contended;
+        }
+        let answer = self.ask_guarded(&mut seat.seat, lock, who);
+        self.give_back(&mut seat.seat, lock);
+        Tried::Answered(answer)
+    }
+
+    /// Frees a lock, which goes to the one that has waited longest, if any waits. One that doesn't own it is told so.
+    pub fn free(
+        &self,
+        seat: &mut LockSeat,
+        lock: usize,
+        who: u64,
+    ) -> Tried<Result<Freed, NotHolder>>
+        requires own { IsSeatOf self.now seat.old }
+        requires lock { lock < self.now.count }
+        ensures own { IsSeatOf self.now seat.new }
+        ensures answer { FreeAnswer lock who seat.old result seat.new }
+    {
+        if !self.take(&mut seat.seat, lock) {
+            return Tried::Contended;
+        }
+        let answer = self.free_guarded(&mut seat.seat, lock, who);
+        self.give_back(&mut seat.seat, lock);
+        Tried::Answered(answer)
+    }
+
+    /// Leaves the queue of a lock, as where a future is dropped that waits. One that was granted the lock meanwhile is
+    /// told so, and has to free it.
+    pub fn withdraw(&self, seat: &mut LockSeat, lock: usize, who: u64) -> Tried<Withdrawn>
+        requires own { IsSeatOf self.now seat.old }
+        requires lock { lock < self.now.count }
+        ensures own { IsSeatOf self.now seat.new }
+        ensures answer { WithdrawAnswer lock who seat.old result seat.new }
+    {
+        if !self.take(&mut seat.seat, lock) {
+            return Tried::Contended;
+        }
+        let answer = self.withdraw_guarded(&mut seat.seat, lock, who);
+        self.give_back(&mut seat.seat, lock);
+        Tried::Answered(answer)
+    }
+
+    /// The number of the grant by which it holds a lock, and `None` where it doesn't.
+    pub fn check(&self, seat: &mut LockSeat, lock: usize, who: u64) -> Tried<Option<u64>>
+        requires own { IsSeatOf self.now seat.old }
+        requires lock { lock < self.now.count }
+        ensures own { IsSeatOf self.now seat.new }
+        ensures answer { CheckAnswer lock who seat.old result seat.new }
+    {
+        if !self.take(&mut seat.seat, lock) {
+            return Tried::Contended;
+        }
+        let answer = self.check_guarded(&mut seat.seat, lock, who);
+        self.give_back(&mut seat.seat, lock);
+        Tried::Answered(answer)
+    }
+
+    /// A seat for another kernel thread, which has seen what this one has and done nothing.
+    pub fn split(&self, seat: &mut LockSeat) -> LockSeat
+        requires { IsSeatOf self.now seat.old }
+        ensures first { seat.new ≡ seat.old }
+        ensures second { result ≡ second_half seat.old }
+    {
+        let other = self.table.shared.split_seat::<Deal>(&mut seat.seat);
+        LockSeat { seat: other }
+    }
+
+    /// Takes in another seat, with what it has done and seen.
+    pub fn join(&self, seat: &mut LockSeat, other: LockSeat)
+        requires seat { IsSeatOf self.now seat.old }
+        requires other { IsSeatOf self.now other }
+        ensures { seat.new ≡ joined_with seat.old other }
+    {
+        let LockSeat { seat: spent } = other;
+        self.table.shared.join_seat::<Deal>(&mut seat.seat, spent);
+    }
+
+    /// Tries a guard once. Won, the lock's state has come to the seat.
+    fn take(&self, seat: &mut Seat<GuardedState, Known>, lock: usize) -> bool
+        requires own { seat.old.table_id ≡ self.now.table }
+        requires lock { lock < self.now.count }
+        requires idle { seat.old.me ≡ idle seat.old.me.0.log }
+        ensures own { seat.new.table_id ≡ seat.old.table_id }
+        ensures told { MatchBool result
+            (HasTaken lock seat.old.me.0.log seat.new.me)
+            (seat.new.me ≡ idle (contended_log seat.old.me.0.log lock)) }
+    {
+        let shared = &self.table.shared;
+        shared.compare_exchange::<Take>(seat, guard_word(lock), HOME, TAKEN) == HOME
+    }
+
+    /// Gives a guard back, and with it the lock's state.
+    fn give_back(&self, seat: &mut Seat<GuardedState, Known>, lock: usize)
+        requires own { seat.old.table_id ≡ self.now.table }
+        requires lock { lock < self.now.count }
+        requires guarded { (history : List LockEvent) × (guarded : Guarded) × IsReturnable lock history seat.old.me guarded }
+        ensures own { seat.new.table_id ≡ seat.old.table_id }
+        ensures told { (history : List LockEvent) (guarded : Guarded) → IsReturnable lock history seat.old.me guarded
+            → seat.new.me ≡ idle (given_back_log seat.old.me.0.log lock history guarded.events) }
+    {
+        let shared = &self.table.shared;
+        shared.store::<GiveBack>(seat, guard_word(lock), HOME);
+    }
+
+    fn ask_guarded(
+        &self,
+        seat: &mut Seat<GuardedState, Known>,
+        lock: usize,
+        who: u64,
+    ) -> Result<Asked, AskFault>
+        requires own { seat.old.table_id ≡ self.now.table }
+        requires held { (guarded : Guarded) × (seat.old.me.1 ≡ (lock, guarded) ∷ []) }
+        ensures own { seat.new.table_id ≡ seat.old.table_id }
+        ensures asked { (old new : Guarded) × Visits lock seat.old.me seat.new.me old new × IsAsked old.lock new.lock who result
+            × (new.events ≡ asked_events who result) }
+    {
+        seat.slot_mut(&self.table.shared, lock).ask(who)
+    }
+
+    fn free_guarded(
+        &self,
+        seat: &mut Seat<GuardedState, Known>,
+        lock: usize,
+        who: u64,
+    ) -> Result<Freed, NotHolder>
+        requires own { seat.old.table_id ≡ self.now.table }
+        requires held { (guarded : Guarded) × (seat.old.me.1 ≡ (lock, guarded) ∷ []) }
+        ensures own { seat.new.table_id ≡ seat.old.table_id }
+        ensures freed { (old new : Guarded) × Visits lock seat.old.me seat.new.me old new × IsFreed old.lock new.lock who result
+            × (new.events ≡ freed_events who result) }
+    {
+        seat.slot_mut(&self.table.shared, lock).free(who)
+    }
+
+    fn withdraw_guarded(
+        &self,
+        seat: &mut Seat<GuardedState, Known>,
+        lock: usize,
+        who: u64,
+    ) -> Withdrawn
+        requires own { seat.old.table_id ≡ self.now.table }
+        requires held { (guarded : Guarded) × (seat.old.me.1 ≡ (lock, guarded) ∷ []) }
+        ensures own { seat.new.table_id ≡ seat.old.table_id }
+        ensures withdrawn { (old new : Guarded) × Visits lock seat.old.me seat.new.me old new × IsWithdrawn old.lock new.lock who result
+            × (new.events ≡ withdrawn_events who result) }
+    {
+        seat.slot_mut(&self.table.shared, lock).withdraw(who)
+    }
+
+    fn check_guarded(
+        &self,
+        seat: &mut Seat<GuardedState, Known>,
+        lock: usize,
+        who: u64,
+    ) -> Option<u64>
+        requires own { seat.old.table_id ≡ self.now.table }
+        requires held { (guarded : Guarded) × (seat.old.me.1 ≡ (lock, guarded) ∷ []) }
+        ensures own { seat.new.table_id ≡ seat.old.table_id }
+        ensures checked { (old new : Guarded) × Visits lock seat.old.me seat.new.me old new × IsChecked old.lock new.lock who result
+            × (new.events ≡ []) }
+    {
+        seat.slot_mut(&self.table.shared, lock).check(who)
+    }
+}

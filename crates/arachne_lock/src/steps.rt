@@ -1,0 +1,51 @@
+//! The rule of the table, and the kinds of step on it. These types are for proofs alone.
+use crate::guarded_state::GuardedState;
+use crate::view::Known;
+use atomic_table::{Join, Play, Split, TableRule};
+
+/// Each lock has one history. The table is told how many locks there are.
+pub struct LockRule;
+
+impl TableRule<GuardedState, Known, usize> for LockRule {
+    ghost use Rattle.arachne_lock.specs.Rule.{IsKept, first_view};
+
+    ghost holds = { IsKept };
+
+    ghost first = { first_view };
+}
+
+/// One try to take a lock's guard.
+pub(crate) struct Take;
+
+impl Play<GuardedState, Known> for Take {
+    ghost use Rattle.arachne_lock.specs.Steps.{Takes};
+
+    ghost then = { Takes };
+}
+
+/// A lock's guard is given back.
+pub(crate) struct GiveBack;
+
+impl Play<GuardedState, Known> for GiveBack {
+    ghost use Rattle.arachne_lock.specs.Steps.{GivesBack};
+
+    ghost then = { λ step before found after. GivesBack step before after };
+}
+
+pub(crate) struct Deal;
+
+impl Split<Known> for Deal {
+    ghost use Rattle.arachne_lock.specs.Rule.{second_view};
+
+    ghost left = { λ v. v };
+
+    ghost right = { second_view };
+}
+
+impl Join<Known> for Deal {
+    ghost use Rattle.arachne_lock.specs.Rule.{blank, joined_view};
+
+    ghost both = { joined_view };
+
+    ghost spent = { blank };
+}

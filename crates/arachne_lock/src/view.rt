@@ -1,0 +1,38 @@
+//! What a seat knows of a set of locks. These types are for proofs alone: no value of them is made.
+use crate::LockEvent;
+use std::collections::LinkedList;
+
+/// An event that a seat made, with its lock and its place in that lock's history.
+pub struct PlacedEvent {
+    pub lock: usize,
+    pub at: usize,
+    pub event: LockEvent,
+}
+
+/// A lock's history, as a seat saw it.
+pub struct Sight {
+    pub lock: usize,
+    pub history: LinkedList<LockEvent>,
+}
+
+/// One try to take a lock's guard, and what stood in its word.
+pub struct Try {
+    pub lock: usize,
+    pub found: u64,
+}
+
+/// What a seat has done and seen.
+pub struct SeatLog {
+    /// The events that it made, oldest first.
+    pub made: LinkedList<PlacedEvent>,
+    /// The histories that it saw, the newest first.
+    pub seen: LinkedList<Sight>,
+    /// The tries that it made, the newest first.
+    pub tries: LinkedList<Try>,
+}
+
+/// A seat's log, and the lock whose state is out with it, if one is.
+pub struct Known {
+    pub out: Option<Sight>,
+    pub log: SeatLog,
+}

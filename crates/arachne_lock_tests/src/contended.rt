@@ -1,0 +1,133 @@
+//! Two kernel threads that contend for two locks.
+ghost use Rattle.std.specs.Prelude.{◌<◌};
+ghost use Rattle.arachne_lock.specs.Views.{IsSeatOf};
+
+use arachne_lock::{AskFault, LockSeat, Locks, Tried};
+use std::alloc::{AllocError, Global};
+use std::thread;
+use std::thread::Threads;
+
+/// How often each thread holds a lock.
+const ROUNDS: u64 = 10_000;
+
+/// How many calls each thread makes at most that don't bring it on.
+const MOST_POLLS: u64 = 100_000_000;
+
+/// Lets other kernel threads run. None where there were too many polls.
+fn poll(polls_left: &mut u64) -> Option<()> {
+    *polls_left = polls_left.checked_sub(1)?;
+    thread::yield_now();
+    Some(())
+}
+
+/// Asks for a lock, and looks until it is held. The number of the grant.
+fn enter(
+    locks: &Locks,
+    seat: &mut LockSeat,
+    lock: usize,
+    who: u64,
+    polls_left: &mut u64,
+) -> Option<u64>
+    requires own { IsSeatOf locks.now seat.old }
+    requires lock { lock < locks.now.count }
+    ensures { IsSeatOf locks.now seat.new }
+{
+    for _ in 0..MOST_POLLS {
+        match locks.ask(seat, lock, who) {
+            Tried::Answered(Ok(_)) => break,
+            Tried::Answered(Err(AskFault::AlreadyIn)) => return None,
+            Tried::Answered(Err(AskFault::Memory)) | Tried::Contended => poll(polls_left)?,
+        }
+    }
+    for _ in 0..MOST_POLLS {
+        if let Tried::Answered(Some(at)) = locks.check(seat, lock, who) {
+            return Some(at);
+        }
+        poll(polls_left)?;
+    }
+    None
+}
+
+/// Frees a lock. None where it wasn't held.
+fn leave(
+    locks: &Locks,
+    seat: &mut LockSeat,
+    lock: usize,
+    who: u64,
+    polls_left: &mut u64,
+) -> Option<()>
+    requires own { IsSeatOf locks.now seat.old }
+    requires lock { lock < locks.now.count }
+    ensures { IsSeatOf locks.now seat.new }
+{
+    for _ in 0..MOST_POLLS {
+        if let Tried::Answered(freed) = locks.free(seat, lock, who) {
+            return freed.ok().map(|_| ());
+        }
+        poll(polls_left)?;
+    }
+    None
+}
+
+/// Holds each of two locks in turn, so many times as there are rounds. How often it held one, by grants whose numbers
+/// rise.
+fn hold_each(locks: &Locks, seat: &mut LockSeat, who: u64) -> Option<u64>
+    requires own { IsSeatOf locks.now seat.old }
+    ensures { IsSeatOf locks.now seat.new }
+{
+    let (mut polls_left, mut held) = (MOST_POLLS, 0u64);
+    let (mut last, mut before) = (0u64, 0u64);
+    for k in 0..2 * ROUNDS {
+        let lock = if k % 2 == 0 { 0 } else { 1 };
+        if lock >= locks.count() {
+            return None;
+        }
+        let at = enter(locks, seat, lock, who, &mut polls_left)?;
+        if at <= before {
+            return None;
+        }
+        (before, last) = (last, at);
+        held = held.wrapping_add(1);
+        leave(locks, seat, lock, who, &mut polls_left)?;
+    }
+    Some(held)
+}
+
+fn work(locks: &Locks, mut seat: LockSeat, who: u64) -> (LockSeat, Option<u64>)
+    requires own { IsSeatOf locks.now seat }
+    ensures { IsSeatOf locks.now result.0 }
+{
+    let held = hold_each(locks, &mut seat, who);
+    (seat, held)
+}
+
+/// Two threads contend for two locks. How often each held one, and how many events a lock had then.
+fn contend<R: Threads + Sync>(
+    rt: &R,
+    alloc: Global,
+) -> Result<(Option<u64>, Option<u64>, Option<u64>), AllocError> {
+    let (locks, mut seat) = Locks::new(alloc, 2)?;
+    let other = locks.split(&mut seat);
+    let shared = &locks;
+    let ((mut seat, first), (other, second)) = thread::join(
+        rt,
+        move || work(shared, seat, 7),
+        move || work(shared, other, 8),
+    );
+    locks.join(&mut seat, other);
+    let mut polls_left = MOST_POLLS;
+    Ok((
+        first,
+        second,
+        enter(&locks, &mut seat, 1, 9, &mut polls_left),
+    ))
+}
+
+#[test]
+fn two_kernel_threads_contend_for_two_locks(rt: HostRuntime) -> Result<(), AllocError> {
+    let (first, second, last) = contend(&rt, rt.alloc())?;
+    assert_eq!(rt; first, Some(2 * ROUNDS));
+    assert_eq!(rt; second, Some(2 * ROUNDS));
+    assert_eq!(rt; last, Some(6 * ROUNDS + 1));
+    Ok(())
+}

@@ -1,0 +1,126 @@
+//! One run of calls on two locks, a call a row with its answer.
+ghost use Rattle.std.specs.Prelude.{◌<◌};
+ghost use Rattle.arachne_lock.specs.Views.{IsSeatOf};
+
+use arachne_lock::{AskFault, Asked, Freed, LockSeat, Locks, NotHolder, Tried, Withdrawn};
+use std::alloc::AllocError;
+
+/// What is called.
+#[derive(Clone, Copy)]
+enum Call {
+    Ask,
+    Check,
+    Free,
+    Withdraw,
+}
+
+/// What is told, the number of the event, and who is next.
+type Answer = (&'static str, u64, Option<u64>);
+
+/// A call on a lock by somebody, and what it answers.
+type Row = (Call, usize, u64, Answer);
+
+/// 7 holds lock 0, 8 and 9 wait, 8 leaves, so that 9 is next; lock 1 counts for itself.
+const ROWS: &[Row] = &[
+    (Call::Ask, 0, 7, ("granted", 1, None)),
+    (Call::Ask, 0, 8, ("queued", 2, None)),
+    (Call::Ask, 0, 9, ("queued", 3, None)),
+    (Call::Ask, 0, 7, ("already in", 0, None)),
+    (Call::Ask, 0, 8, ("already in", 0, None)),
+    (Call::Ask, 1, 8, ("granted", 1, None)),
+    (Call::Free, 0, 8, ("not its holder", 0, None)),
+    (Call::Withdraw, 0, 7, ("holds", 1, None)),
+    (Call::Withdraw, 0, 8, ("left", 4, None)),
+    (Call::Withdraw, 0, 8, ("outside", 0, None)),
+    (Call::Check, 0, 7, ("holds", 1, None)),
+    (Call::Check, 0, 9, ("outside", 0, None)),
+    (Call::Free, 0, 7, ("freed", 5, Some(9))),
+    (Call::Check, 0, 9, ("holds", 6, None)),
+    (Call::Withdraw, 0, 9, ("holds", 6, None)),
+    (Call::Free, 0, 9, ("freed", 7, None)),
+    (Call::Ask, 0, 8, ("granted", 9, None)),
+    (Call::Free, 1, 8, ("freed", 2, None)),
+];
+
+fn told_ask(asked: Result<Asked, AskFault>) -> Answer {
+    match asked {
+        Ok(Asked::Granted { at }) => ("granted", at, None),
+        Ok(Asked::Queued { at }) => ("queued", at, None),
+        Err(AskFault::AlreadyIn) => ("already in", 0, None),
+        Err(AskFault::Memory) => ("no memory", 0, None),
+    }
+}
+
+fn told_free(freed: Result<Freed, NotHolder>) -> Answer {
+    match freed {
+        Ok(Freed { next, at }) => ("freed", at, next),
+        Err(NotHolder) => ("not its holder", 0, None),
+    }
+}
+
+fn told_withdraw(withdrawn: Withdrawn) -> Answer {
+    match withdrawn {
+        Withdrawn::Left { at } => ("left", at, None),
+        Withdrawn::Holds { at } => ("holds", at, None),
+        Withdrawn::Outside => ("outside", 0, None),
+    }
+}
+
+fn told_check(checked: Option<u64>) -> Answer {
+    match checked {
+        Some(at) => ("holds", at, None),
+        None => ("outside", 0, None),
+    }
+}
+
+/// The answer to a call. None where the lock was found taken.
+fn answer_to(
+    locks: &Locks,
+    seat: &mut LockSeat,
+    call: Call,
+    lock: usize,
+    who: u64,
+) -> Option<Answer>
+    requires own { IsSeatOf locks.now seat.old }
+    requires lock { lock < locks.now.count }
+    ensures { IsSeatOf locks.now seat.new }
+{
+    match call {
+        Call::Ask => match locks.ask(seat, lock, who) {
+            Tried::Answered(asked) => Some(told_ask(asked)),
+            Tried::Contended => None,
+        },
+        Call::Check => match locks.check(seat, lock, who) {
+            Tried::Answered(checked) => Some(told_check(checked)),
+            Tried::Contended => None,
+        },
+        Call::Free => match locks.free(seat, lock, who) {
+            Tried::Answered(freed) => Some(told_free(freed)),
+            Tried::Contended => None,
+        },
+        Call::Withdraw => match locks.withdraw(seat, lock, who) {
+            Tried::Answered(withdrawn) => Some(told_withdraw(withdrawn)),
+            Tried::Contended => None,
+        },
+    }
+}
+
+/// The first row that is answered otherwise, if one is.
+fn first_wrong(locks: &Locks, seat: &mut LockSeat) -> Option<usize>
+    requires own { IsSeatOf locks.now seat.old }
+    ensures { IsSeatOf locks.now seat.new }
+{
+    for (k, &(made, lock, who, answer)) in ROWS.iter().enumerate() {
+        if lock >= locks.count() || answer_to(locks, seat, made, lock, who) != Some(answer) {
+            return Some(k);
+        }
+    }
+    None
+}
+
+#[test]
+fn each_call_answers_as_its_row_says(rt: HostRuntime) -> Result<(), AllocError> {
+    let (locks, mut seat) = Locks::new(rt.alloc(), 2)?;
+    assert_eq!(rt; first_wrong(&locks, &mut seat), None);
+    Ok(())
+}

@@ -1,0 +1,102 @@
+//! Locks where there is no memory: a free one is held and freed, a wanted one stays as it was for those that are
+//! refused.
+ghost use Rattle.std.specs.Prelude.{◌≡◌, ◌<◌, IfOk};
+ghost use Rattle.arachne_lock.specs.Views.{IsSeatOf};
+
+use arachne_lock::{AskFault, Asked, Freed, LockSeat, Locks, Tried, Withdrawn};
+use arachne_shortage::Hoard;
+use std::alloc::{AllocError, Global};
+
+/// How many bytes are given back where a growth was refused: so few that the next growth of the same call is refused
+/// too.
+const FEW: usize = 40;
+
+/// How often one asks at most.
+const TRIES: u64 = 100_000;
+
+/// How many wait for the lock.
+const CROWD: u64 = 900;
+
+/// Holds a lock that is free, and frees it.
+fn is_held_and_freed(locks: &Locks, seat: &mut LockSeat, lock: usize) -> bool
+    requires own { IsSeatOf locks.now seat.old }
+    requires lock { lock < locks.now.count }
+    ensures { IsSeatOf locks.now seat.new }
+{
+    let Tried::Answered(Ok(Asked::Granted { at: _ })) = locks.ask(seat, lock, 7) else {
+        return false;
+    };
+    matches!(
+        locks.free(seat, lock, 7),
+        Tried::Answered(Ok(Freed { next: None, at: _ }))
+    )
+}
+
+/// The crowd asks for a lock, each until there is memory for it. How often there was none, if the lock was as before
+/// each time.
+fn all_ask(locks: &Locks, seat: &mut LockSeat, lock: usize, hoard: &mut Hoard) -> Option<u64>
+    requires own { IsSeatOf locks.now seat.old }
+    requires lock { lock < locks.now.count }
+    ensures { IsSeatOf locks.now seat.new }
+{
+    let (mut who, mut refused) = (0u64, 0u64);
+    for _ in 0..TRIES {
+        if who == CROWD {
+            return Some(refused);
+        }
+        match locks.ask(seat, lock, who) {
+            Tried::Answered(Ok(_)) => {
+                who = who.wrapping_add(1);
+                hoard.take_again().ok()?;
+            }
+            Tried::Answered(Err(AskFault::Memory)) => {
+                let Tried::Answered(Withdrawn::Outside) = locks.withdraw(seat, lock, who) else {
+                    return None;
+                };
+                refused = refused.wrapping_add(1);
+                hoard.give_back(FEW);
+            }
+            _ => return None,
+        }
+    }
+    None
+}
+
+/// The crowd frees the lock in turn, for which no memory is wanted. How many did.
+fn all_free(locks: &Locks, seat: &mut LockSeat, lock: usize) -> u64
+    requires own { IsSeatOf locks.now seat.old }
+    requires lock { lock < locks.now.count }
+    ensures { IsSeatOf locks.now seat.new }
+{
+    let mut freed = 0u64;
+    for who in 0..CROWD {
+        if let Tried::Answered(Ok(_)) = locks.free(seat, lock, who) {
+            freed = freed.wrapping_add(1);
+        }
+    }
+    freed
+}
+
+// Under `rt try --test --fail-alloc N` the Nth allocation is refused. A call that answers so is made once more.
+fn make(alloc: Global) -> Result<(Locks, LockSeat), AllocError>
+    ensures { IfOk result (λ made. IsSeatOf made.0 made.1 × (made.0.count ≡ 1)) }
+{
+    match Locks::new(alloc, 1) {
+        Ok(made) => Ok(made),
+        Err(_) => Locks::new(alloc, 1),
+    }
+}
+
+#[test]
+fn a_free_lock_takes_no_memory_and_a_wanted_one_stays(rt: HostRuntime) -> Result<(), AllocError> {
+    let (locks, mut seat) = make(rt.alloc())?;
+    let mut hoard = Hoard::take(rt.alloc())?;
+    let is_free = is_held_and_freed(&locks, &mut seat, 0);
+    let refused = all_ask(&locks, &mut seat, 0, &mut hoard);
+    let freed = all_free(&locks, &mut seat, 0);
+    let is_free_again = is_held_and_freed(&locks, &mut seat, 0);
+    drop(hoard);
+    assert!(rt; is_free && is_free_again && freed == CROWD);
+    assert!(rt; matches!(refused, Some(refused) if refused > 0));
+    Ok(())
+}

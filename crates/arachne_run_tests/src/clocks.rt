@@ -1,0 +1,55 @@
+//! A clock that says that each yield has given a turn away to other work, or can't be read.
+use std::io::{self, ErrorKind};
+use std::sync::Wait;
+use std::sync::atomic::{AtomicU64, Ordering};
+use std::thread::Threads;
+use std::time::{Clock, Duration};
+
+/// How many milliseconds pass from one look at the clock to the next.
+const PASS: u64 = 10;
+
+/// What a run is given in place of its own: the same but for the clock, which goes on by 10 ms at each look.
+#[derive(Drop)]
+pub struct SlowClock<'a, R> {
+    rt: &'a R,
+    looks: AtomicU64,
+    /// Each look whose number, from 1, is a multiple of this one fails; none where it is 0.
+    fails: u64,
+}
+
+impl<'a, R> SlowClock<'a, R> {
+    pub fn new(rt: &'a R, fails: u64) -> SlowClock<'a, R> {
+        SlowClock {
+            rt,
+            looks: AtomicU64::new(0),
+            fails,
+        }
+    }
+
+    /// How often it was looked at.
+    pub fn looks(&self) -> u64 {
+        self.looks.load(Ordering::SeqCst)
+    }
+}
+
+impl<'a, R: Threads> Threads for SlowClock<'a, R> {}
+
+impl<'a, R: Wait> Wait for SlowClock<'a, R> {}
+
+impl<'a, R: Clock> Clock for SlowClock<'a, R> {
+    fn monotonic(&self) -> io::Result<Duration> {
+        let looks = self.looks.fetch_add(1, Ordering::SeqCst).wrapping_add(1);
+        if self.fails > 0 && looks % self.fails == 0 {
+            return Err(io::Error::from(ErrorKind::Other));
+        }
+        Ok(Duration::from_millis(looks.wrapping_mul(PASS)))
+    }
+
+    fn since_1970(&self) -> io::Result<Duration> {
+        self.rt.since_1970()
+    }
+
+    fn sleep(&self, duration: Duration) {
+        self.rt.sleep(duration);
+    }
+}

@@ -1,0 +1,85 @@
+//! How workers wait on a machine whose yields give a turn away to other work, by counts and no time.
+use super::facts::{Fact, Telling};
+use super::rows::{Row, rows_hold};
+use super::{FORMS, Source};
+use crate::choosers::{CORE_ONE, SPREAD};
+use crate::clocks::SlowClock;
+use crate::gates::Watching;
+use arachne_core::SLOTS;
+use arachne_policy::{CoreOrder, OrderKind};
+use std::test::Fail;
+
+/// A thousand threads hold a lock.
+const HOLDS: Row = Row {
+    shows: "who sleeps is told of what it may run",
+    source: Source {
+        ledgers: 0,
+        locks: 1,
+        forks: 0,
+        expr: "(sweep add 1 (num 0) (num 1000) (hold 0 (num 1)))",
+    },
+    forms: FORMS,
+    slots: SLOTS,
+    machines: &[(4, 100, 4)],
+    draws: SPREAD,
+    orders: &[],
+    watching: Watching::Nothing,
+    facts: &[
+        (Fact::Value, 1000),
+        (Fact::Grants, 1000),
+        (Fact::OversleepsUpTo(4), 1),
+    ],
+    telling: Telling::Nothing,
+    told: "",
+};
+
+/// A worker that has yielded once doesn't do so in the next 4,096 rounds that find something, and a run of a thousand
+/// holds has fewer. So each of the four workers may yield once in each of the two runs, and looks twice at the clock: one
+/// that can be read at each look, at none, or at every other one.
+#[test]
+fn who_yields_in_vain_yields_no_more(rt: HostRuntime) -> Result<(), Fail> {
+    for fails in 0..3 {
+        let clock = SlowClock::new(&rt, fails);
+        rows_hold(&clock, rt.alloc(), &[HOLDS])?;
+        let looks = clock.looks();
+        if looks > 16 {
+            return Err(Fail::new(format_args!("the clock was looked at {looks} times")));
+        }
+    }
+    Ok(())
+}
+
+/// Core 1's worker has run a child, has nothing to run any more, and sleeps when its core is taken back. By the slice in
+/// which it gets time for that, five slices have ended at most.
+const TAKEN_BACK: Row = Row {
+    shows: "who sleeps is told that its core is taken back",
+    source: Source {
+        ledgers: 0,
+        locks: 0,
+        forks: 0,
+        expr: "(fork n (num 1) (fold (num 0) (num 1000) (num 0) (var 1)) (var 0))",
+    },
+    forms: FORMS,
+    slots: SLOTS,
+    machines: &[(2, 1, 2), (2, 7, 2), (2, 100, 2)],
+    draws: CORE_ONE,
+    orders: &[CoreOrder {
+        after: 6,
+        kind: OrderKind::Release,
+        core: 1,
+    }],
+    watching: Watching::Parking(2),
+    facts: &[
+        (Fact::Applied, 1),
+        (Fact::IsOver, 1),
+        (Fact::OversleepsUpTo(0), 1),
+    ],
+    telling: Telling::Nothing,
+    told: "",
+};
+
+#[test]
+fn who_sleeps_is_told_of_orders(rt: HostRuntime) -> Result<(), Fail> {
+    let clock = SlowClock::new(&rt, 0);
+    rows_hold(&clock, rt.alloc(), &[TAKEN_BACK])
+}

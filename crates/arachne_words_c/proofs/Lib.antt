@@ -1,2 +1,0 @@
-pub mod InHand
-pub mod Cut

@@ -1,0 +1,172 @@
+//! What a worker does next: a scan of what may be ready, a ticket, a look at all, and else it waits.
+ghost use Rattle.std.specs.Prelude.{◌≡◌};
+
+use crate::desk::{Desk, Event, Grip, Halt, Ticket, give_all_back, thin_out};
+use crate::execute::Worker;
+use crate::policy;
+use crate::waiting::stay_awake;
+use crate::wake::{posted, tell};
+use arachne_core::SLOTS;
+use std::sync::Wait;
+use std::time::{Clock, Duration};
+
+impl<'a, H: Wait + Clock, D: Desk> Worker<'a, H, D> {
+    /// Runs threads until all workers stop, and gives back the places that it keeps.
+    pub fn work(&mut self) -> Result<(), Halt>
+        ensures { self.new.desk ≡ self.old.desk }
+    {
+        // How many rounds in turn have found nothing.
+        let mut idle: u32 = 0;
+        for _ in self.rt.forever() {
+            if self.shared.is_stopped() {
+                return give_all_back(&mut self.desk);
+            }
+            if self.round(idle)? {
+                idle = 0;
+            } else {
+                self.rest_for(idle);
+                idle = idle.saturating_add(1);
+            }
+        }
+        unreachable!()
+    }
+
+    /// A round: each thread that may be ready has a turn, and then one that waits for a place gets one. Whether there
+    /// was anything, after so many rounds in turn that found nothing.
+    pub fn round(&mut self, idle: u32) -> Result<bool, Halt>
+        ensures { self.new.desk ≡ self.old.desk }
+    {
+        let sleeps = idle > policy::last_awake(self.pace.may_yield());
+        let looks = idle == 0 || sleeps;
+        // Nothing has told it to look: its sleep ended by its time.
+        let overslept = sleeps && self.shared.hints().is_asleep(self.core);
+        let found = self.scan()? || looks && self.scan_all()?;
+        if found {
+            self.pace.found();
+            if overslept {
+                self.desk.told(Event::Overslept);
+            }
+        }
+        Ok(found)
+    }
+
+    /// What is done after so many rounds in turn that found nothing: orders that are due are applied, and it waits.
+    pub fn rest_for(&mut self, idle: u32)
+        ensures { self.new.desk ≡ self.old.desk }
+    {
+        self.tend();
+        if idle > policy::last_awake(self.pace.may_yield()) {
+            let spell = Duration::from_micros(policy::sleep_of(self.desk.is_waited_for()));
+            self.shared.sleep(self.rt, self.core, spell);
+        } else {
+            let hints = self.shared.hints();
+            stay_awake(self.rt, &mut self.pace, hints, self.core, idle);
+        }
+    }
+
+    /// Runs each thread that may be ready as far as is known, once, and then takes a ticket. Whether there was anything.
+    fn scan(&mut self) -> Result<bool, Halt>
+        ensures { self.new.desk ≡ self.old.desk }
+    {
+        thin_out(&mut self.desk, self.slots)?;
+        let mut indexes = self.shared.hints().take(self.core);
+        if self.agenda.is_look_due() {
+            indexes |= self.desk.look().mask();
+        }
+        self.agenda.begin_scan(indexes);
+        let found = self.run_each()?;
+        Ok(self.take_ticket()? || found)
+    }
+
+    /// The same for all that is occupied, and parks where the core is closed and nothing is on it. Before it waits for
+    /// anything the places that it keeps are given back, and all that it has posted is told of.
+    fn scan_all(&mut self) -> Result<bool, Halt>
+        ensures { self.new.desk ≡ self.old.desk }
+    {
+        let occupied = self.desk.look().mask();
+        self.agenda.begin_scan(occupied);
+        if self.run_each()? {
+            return Ok(true);
+        }
+        give_all_back(&mut self.desk)?;
+        tell(&mut self.agenda, self.shared);
+        let drained = !self.desk.is_waited_for() && self.desk.is_drained();
+        if drained {
+            self.desk.told(Event::Parks);
+            self.shared.park(self.rt, self.core);
+            self.desk.told(Event::Unparked);
+        }
+        Ok(drained)
+    }
+
+    /// Runs each thread that is ready at the indexes of the scan, upwards, unless all workers stop. Whether there was
+    /// one.
+    fn run_each(&mut self) -> Result<bool, Halt>
+        ensures { self.new.desk ≡ self.old.desk }
+    {
+        let mut found = false;
+        for _ in 0..SLOTS {
+            if self.shared.is_stopped() {
+                break;
+            }
+            let Some(index) = self.agenda.next_index() else {
+                break;
+            };
+            if self.run_at(index)? {
+                found = true;
+            }
+        }
+        self.agenda.end_scan();
+        Ok(found)
+    }
+
+    /// Runs the thread at an index of the core for a turn, if it is ready, and then each that is to go on before all
+    /// others. None begins once all workers stop. Whether there was one that was ready.
+    fn run_at(&mut self, index: u8) -> Result<bool, Halt>
+        ensures { self.new.desk ≡ self.old.desk }
+    {
+        let mut index = index;
+        let mut found = false;
+        for _ in 0..policy::MOST_IN_TURN {
+            if self.shared.is_stopped() {
+                break;
+            }
+            self.tend();
+            let mut waits = false;
+            match self.desk.take(index) {
+                Grip::Taken => {
+                    found = true;
+                    waits = self.turn(index)?;
+                }
+                Grip::None => {}
+                Grip::Lost => self.agenda.note(index),
+            }
+            match self.next(waits) {
+                Some(next) => index = next,
+                None => return Ok(found),
+            }
+        }
+        self.agenda.note(index);
+        Ok(found)
+    }
+
+    /// Takes a ticket, if a place of the core is free or kept for its child. Whether there was one.
+    fn take_ticket(&mut self) -> Result<bool, Halt>
+        ensures { self.new.desk ≡ self.old.desk }
+    {
+        if !self.desk.may_take_ticket() {
+            return Ok(false);
+        }
+        let ticket = self.desk.take_ticket()?;
+        let Ticket::Posted(post) = ticket else {
+            let found = matches!(ticket, Ticket::Gone);
+            if found {
+                self.desk.told(Event::Ticket(false));
+            }
+            return Ok(found);
+        };
+        self.desk.told(Event::Ticket(true));
+        posted(&mut self.agenda, self.shared, self.core, post);
+        Ok(true)
+    }
+}

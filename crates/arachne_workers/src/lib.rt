@@ -1,0 +1,21 @@
+//! A scheduler: what the kernel thread of a core does next, over whatever it does at its table and with the thread in
+//! hand.
+#![tactic(auto)]
+
+mod desk;
+mod execute;
+mod find;
+mod hints;
+mod policy;
+mod queue;
+mod sleep;
+mod waiting;
+mod wake;
+
+pub use desk::{Cause, Desk, Event, Grip, Halt, SliceEnd, Stop, Ticket, give_all_back};
+pub use execute::Worker;
+pub use hints::Hints;
+pub use policy::{keeps_place, may_keep_places, may_take_ticket};
+pub use queue::{Agenda, Post};
+pub use sleep::Shared;
+pub use waiting::stand_by;

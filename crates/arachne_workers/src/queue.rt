@@ -1,0 +1,163 @@
+//! What a worker remembers: where threads of its core may be ready, which is to go on next, and what it has posted on
+//! other cores.
+//!
+//! Plain data: it touches no word that another worker sees.
+ghost use Rattle.std.specs.Prelude.{◌≤◌};
+
+use crate::hints::bit_of;
+use crate::policy;
+use arachne_core::{Place, SLOTS, ThreadId};
+use std::alloc::Global;
+
+/// A thread that was posted, and where it was then.
+#[derive(Clone, Copy)]
+pub struct Post {
+    pub id: ThreadId,
+    pub place: Place,
+}
+
+/// What a worker remembers.
+#[derive(Drop)]
+pub struct Agenda {
+    /// The indexes of this scan that are still to be looked at, a bit for each.
+    scan: u64,
+    /// The indexes at which a thread may be ready, for the next scan.
+    ready: u64,
+    /// The index at which a thread is to go on before all others.
+    next: Option<u8>,
+    /// What it has posted on other cores and not told of, the newest last.
+    posts: Vec<Post>,
+    /// After how many steps more it tells of all of them.
+    patience: u32,
+    /// How many threads it has posted on other cores.
+    posted: u32,
+    /// How many scans have begun since one of all that is occupied.
+    scans: u32,
+}
+
+impl Agenda {
+    /// Nothing is remembered but the index of the root, if that begins here. It takes no memory.
+    pub fn new(alloc: Global, root: Option<u8>) -> Agenda {
+        Agenda {
+            scan: 0,
+            ready: match root {
+                Some(index) => bit_of(index),
+                None => 0,
+            },
+            next: None,
+            posts: Vec::new(alloc),
+            patience: policy::PATIENCE,
+            posted: 0,
+            scans: 0,
+        }
+    }
+
+    /// The thread at an index may be ready.
+    pub fn note(&mut self, index: u8) {
+        self.ready |= bit_of(index);
+    }
+
+    /// A scan begins at these indexes and those that were noted.
+    pub(crate) fn begin_scan(&mut self, indexes: u64) {
+        self.scan = self.ready | indexes;
+        self.ready = 0;
+        self.scans = self.scans.saturating_add(1);
+    }
+
+    /// Whether the next scan is to be one of all that is occupied.
+    pub(crate) fn is_look_due(&mut self) -> bool {
+        let is_due = self.scans >= policy::SCANS_BETWEEN_LOOKS;
+        if is_due {
+            self.scans = 0;
+        }
+        is_due
+    }
+
+    /// The lowest index that is left of the scan, and is left no longer.
+    pub(crate) fn next_index(&mut self) -> Option<u8> {
+        if self.scan == 0 {
+            return None;
+        }
+        let index = self.scan.trailing_zeros() as u8;
+        self.scan &= self.scan - 1;
+        Some(index)
+    }
+
+    /// The scan ends before all was looked at.
+    pub(crate) fn end_scan(&mut self) {
+        self.ready |= self.scan;
+        self.scan = 0;
+    }
+
+    /// Whether a thread beside the one in hand may be ready.
+    pub(crate) fn is_any(&self) -> bool {
+        self.scan | self.ready != 0 || self.next.is_some()
+    }
+
+    /// The thread at an index goes on before all others, unless another does. Whether it will.
+    pub(crate) fn goes_next(&mut self, index: u8) -> bool {
+        if self.next.is_some() || index >= SLOTS {
+            return false;
+        }
+        self.next = Some(index);
+        true
+    }
+
+    /// Whether a thread goes on before all others.
+    pub(crate) fn has_next(&self) -> bool {
+        self.next.is_some()
+    }
+
+    /// The index at which a thread goes on before all others, and does no longer.
+    pub(crate) fn take_next(&mut self) -> Option<u8> {
+        self.next.take()
+    }
+
+    /// A thread was posted on another core. What is to be told of at once: it, or the oldest that was kept back.
+    pub(crate) fn keep_back(&mut self, post: Post) -> Option<Post> {
+        let before = self.posted;
+        self.posted = before.saturating_add(1);
+        if !policy::keeps_back(before) {
+            return Some(post);
+        }
+        if self.posts.len() < policy::MOST_KEPT_BACK && self.posts.try_reserve(1).is_ok() {
+            self.posts.push_reserved(post);
+            return None;
+        }
+        if self.posts.is_empty() {
+            return Some(post);
+        }
+        let oldest = self.posts.remove(0);
+        self.posts.push_reserved(post);
+        Some(oldest)
+    }
+
+    /// The newest that is kept back, and is no longer.
+    pub(crate) fn take_newest(&mut self) -> Option<Post> {
+        self.posts.pop()
+    }
+
+    /// A slice begins. If nothing is kept back, what is posted from now on may be for as long as anything.
+    pub(crate) fn begin_slice(&mut self) {
+        if self.posts.is_empty() {
+            self.patience = policy::PATIENCE;
+        }
+    }
+
+    /// After how many steps at most the worker is to tell of what is kept back.
+    pub(crate) fn most_steps(&self) -> u32
+        ensures { 1 ≤ result }
+    {
+        self.patience.max(1)
+    }
+
+    /// The worker has made so many steps. Whether it is to tell now of all that is kept back.
+    pub(crate) fn spend(&mut self, steps: u32) -> bool {
+        if self.patience <= steps {
+            self.patience = policy::PATIENCE;
+            return true;
+        }
+        self.patience -= steps;
+        false
+    }
+}

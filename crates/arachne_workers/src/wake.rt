@@ -1,0 +1,102 @@
+//! Threads that a worker posts or wakes, and how the workers of their cores learn of them.
+ghost use Rattle.std.specs.Prelude.{◌≡◌};
+
+use crate::desk::{Cause, Desk, Event};
+use crate::execute::Worker;
+use crate::queue::{Agenda, Post};
+use crate::sleep::Shared;
+use crate::{desk, policy};
+use arachne_core::{Mark, MarkWord, Place, ThreadId};
+use std::sync::Wait;
+use std::time::Clock;
+
+impl<'a, H: Wait + Clock, D: Desk> Worker<'a, H, D> {
+    /// Wakes the thread of this id, if it has not ended, and has it go on. One that holds a lock goes on here, as
+    /// others may wait for it; another one too where its core's worker sleeps: moving it takes less than waking a
+    /// kernel thread. If the thread is moved meanwhile, the arbiter says so of its new core.
+    pub(crate) fn wake(&mut self, id: ThreadId, cause: Cause)
+        ensures { self.new.desk ≡ self.old.desk }
+    {
+        if !desk::wake(self.rt, &mut self.desk, id) {
+            return;
+        }
+        self.desk.told(Event::Woken(id, cause));
+        let Some(mark) = self.desk.mark_of(id.context) else {
+            return;
+        };
+        let mut place = mark.place();
+        if place.core != self.core
+            && (cause == Cause::IsServed || self.shared.hints().is_asleep(place.core))
+            && self.desk.pull(place)
+            && let Some(here) = self.desk.mark_of(id.context)
+        {
+            if here.place().core == self.core {
+                self.desk.told(Event::Pulled(id, place.core));
+            }
+            place = here.place();
+        }
+        if place.core != self.core {
+            self.shared.hint(place);
+        } else if cause != Cause::IsServed || !self.agenda.goes_next(place.index) {
+            self.agenda.note(place.index);
+        }
+    }
+
+    /// The index of the core at which a thread is to go on next: one that holds a lock now, or, where a thread came to
+    /// wait and nothing here may be ready, the newest that the worker has posted and not told of, which is moved here.
+    /// Those that can't be are told of, and those that went on meanwhile are forgotten.
+    pub(crate) fn next(&mut self, waits: bool) -> Option<u8>
+        ensures { self.new.desk ≡ self.old.desk }
+    {
+        if let Some(index) = self.agenda.take_next() {
+            return Some(index);
+        }
+        if !waits || self.agenda.is_any() {
+            return None;
+        }
+        for _ in 0..policy::MOST_KEPT_BACK {
+            let Post { id, .. } = self.agenda.take_newest()?;
+            if let Some(mark) = self.desk.mark_of(id.context)
+                && let Some(place) = ready_place(mark, id)
+            {
+                if self.desk.pull(place)
+                    && let Some(here) = self.desk.mark_of(id.context)
+                    && here.place().core == self.core
+                {
+                    self.desk.told(Event::Pulled(id, place.core));
+                    return Some(here.place().index);
+                }
+                self.shared.hint(place);
+            }
+        }
+        None
+    }
+}
+
+/// Where a thread is by its context's mark, if it is ready and has not been taken since.
+fn ready_place(mark: MarkWord, id: ThreadId) -> Option<Place> {
+    if mark.mark() != Mark::Ready || mark.generation() != id.generation {
+        return None;
+    }
+    Some(mark.place())
+}
+
+/// A thread was posted by the worker of a core. The worker of another core is told of it later, unless it is taken back
+/// until then.
+pub(crate) fn posted(agenda: &mut Agenda, shared: &Shared, core: u8, post: Post) {
+    if post.place.core == core {
+        agenda.note(post.place.index);
+    } else if let Some(told) = agenda.keep_back(post) {
+        shared.hint(told.place);
+    }
+}
+
+/// Tells of all that was kept back.
+pub(crate) fn tell(agenda: &mut Agenda, shared: &Shared) {
+    for _ in 0..policy::MOST_KEPT_BACK {
+        let Some(post) = agenda.take_newest() else {
+            break;
+        };
+        shared.hint(post.place);
+    }
+}

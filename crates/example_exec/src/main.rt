@@ -1,0 +1,30 @@
+//! Jobs that wait for one another, run by two and by four kernel threads over the core of an executor.
+#![tactic(auto)]
+
+mod relay;
+
+use crate::relay::Relay;
+use anyhow::{Result, bail};
+use arachne_team::work_together;
+
+/// How many jobs there are for each kernel thread.
+const JOBS: usize = 500;
+
+fn main(rt: HostRuntime) -> Result<()> {
+    for team in [2, 4] {
+        let Ok((relay, seat)) = Relay::new(rt.alloc(), team, JOBS) else {
+            bail!("memory was refused");
+        };
+        let Some(seat) = work_together(&rt, rt.alloc(), &relay, seat) else {
+            bail!("a kernel thread was refused");
+        };
+        let ended = relay.ended();
+        let Some(left) = relay.close(rt.alloc(), seat) else {
+            bail!("memory was refused");
+        };
+        println!(rt;
+            "{team} kernel threads: {ended} jobs ended, each after the one before it; {left} are left"
+        )?;
+    }
+    Ok(())
+}

@@ -1,0 +1,143 @@
+//! Work that blocks its kernel thread, on a bounded pool of such threads beside the workers.
+
+use crate::shared::{entered, here, Shared};
+use crate::task::{self, About, JoinHandle, Raw};
+use std::collections::VecDeque;
+use std::future::Future;
+use std::panic::Location;
+use std::pin::Pin;
+use std::sync::{Condvar, Mutex};
+use std::task::{Context, Poll, RawWaker, RawWakerVTable, Waker};
+use std::thread;
+use std::time::Duration;
+
+/// How long a thread of the pool waits for more work before it ends.
+const PATIENCE: Duration = Duration::from_secs(5);
+
+#[derive(Default)]
+struct State {
+    work: VecDeque<Raw>,
+    threads: usize,
+    idle: usize,
+    most: usize,
+    stop: bool,
+}
+
+#[derive(Default)]
+pub(crate) struct Pool {
+    state: Mutex<State>,
+    changed: Condvar,
+}
+
+/// A closure as a future that is ready at its first poll.
+struct Once<F>(Option<F>);
+impl<F> Unpin for Once<F> {}
+impl<F: FnOnce() -> T, T> Future for Once<F> {
+    type Output = T;
+    fn poll(mut self: Pin<&mut Self>, _: &mut Context<'_>) -> Poll<T> {
+        Poll::Ready((self.0.take().expect("polled once"))())
+    }
+}
+
+const NO_WAKER: RawWakerVTable =
+    RawWakerVTable::new(|_| RawWaker::new(std::ptr::null(), &NO_WAKER), |_| {}, |_| {}, |_| {});
+
+/// A waker that wakes nobody.
+pub(crate) fn no_waker() -> Waker {
+    // SAFETY: its functions do nothing.
+    unsafe { Waker::from_raw(RawWaker::new(std::ptr::null(), &NO_WAKER)) }
+}
+
+impl Pool {
+    pub(crate) fn open(&self, most: usize) {
+        let mut state = self.state.lock().unwrap();
+        (state.most, state.stop) = (most.max(1), false);
+    }
+
+    fn push(&self, shared: &'static Shared, raw: Raw) {
+        let mut state = self.state.lock().unwrap();
+        state.work.push_back(raw);
+        if state.idle >= state.work.len() {
+            self.changed.notify_one();
+        } else if state.threads < state.most {
+            let started =
+                thread::Builder::new().name("arachne-blocking".into()).spawn(move || shared.blocking.work(shared));
+            if started.is_ok() {
+                state.threads += 1;
+            } else {
+                assert!(state.threads != 0, "no kernel thread for blocking work");
+            }
+        }
+    }
+
+    fn work(&self, shared: &'static Shared) {
+        let waker = no_waker();
+        let mut state = self.state.lock().unwrap();
+        loop {
+            if let Some(raw) = state.work.pop_front() {
+                drop(state);
+                let cx = &mut Context::from_waker(&waker);
+                // SAFETY: `raw` is from `new`, and nobody else has it. It ends in its one poll.
+                let ended = entered(shared, || unsafe { task::run(raw, 0, crate::waker::NOBODY, cx) });
+                debug_assert!(ended);
+                state = self.state.lock().unwrap();
+                continue;
+            }
+            if state.stop {
+                break;
+            }
+            state.idle += 1;
+            let (next, waited) = self.changed.wait_timeout(state, PATIENCE).unwrap();
+            state = next;
+            state.idle -= 1;
+            if waited.timed_out() && state.work.is_empty() {
+                break;
+            }
+        }
+        state.threads -= 1;
+        self.changed.notify_all();
+    }
+
+    /// What has not begun is cancelled; what runs is waited for, at most so long. True where all threads have ended.
+    pub(crate) fn close(&self, most: Option<Duration>) -> bool {
+        let mut state = self.state.lock().unwrap();
+        state.stop = true;
+        let left = std::mem::take(&mut state.work);
+        self.changed.notify_all();
+        drop(state);
+        // SAFETY: nobody else has them, and none was begun.
+        left.into_iter().for_each(|raw| unsafe { task::end(raw) });
+        let state = self.state.lock().unwrap();
+        match most {
+            None => {
+                drop(self.changed.wait_while(state, |state| state.threads != 0).unwrap());
+                true
+            }
+            Some(most) => {
+                !self.changed.wait_timeout_while(state, most, |state| state.threads != 0).unwrap().1.timed_out()
+            }
+        }
+    }
+}
+
+impl Shared {
+    pub(crate) fn spawn_blocking<T: Send + 'static>(
+        &'static self,
+        work: impl FnOnce() -> T + Send + 'static,
+        about: About,
+    ) -> JoinHandle<T> {
+        let (raw, handle) = task::new(Once(Some(work)), about);
+        self.blocking.push(self, raw);
+        handle
+    }
+}
+
+/// Runs a closure that may block on a kernel thread of the runtime's pool. What has begun there can't be aborted.
+///
+/// # Panics
+/// Outside of a runtime.
+#[track_caller]
+pub fn spawn_blocking<T: Send + 'static>(work: impl FnOnce() -> T + Send + 'static) -> JoinHandle<T> {
+    let about = About { spawned: Location::caller(), name: None };
+    here().expect("spawn_blocking outside of a runtime").spawn_blocking(work, about)
+}

@@ -1,0 +1,287 @@
+//! A bounded channel whose sender waits while it is full. Both ends may be cloned.
+
+use crate::reactor::Slot;
+use crate::shared::here;
+use std::collections::VecDeque;
+use std::fmt;
+use std::future::Future;
+use std::pin::Pin;
+use std::sync::atomic::{AtomicBool, Ordering::*};
+use std::sync::{Arc, Mutex};
+use std::task::{Context, Poll, Waker};
+
+struct Node {
+    /// It left the line because it was its turn.
+    called: AtomicBool,
+    slot: Slot,
+}
+
+impl Node {
+    fn new(waker: &Waker) -> Arc<Node> {
+        let table = here().map_or(usize::MAX, |shared| shared.table);
+        let node = Arc::new(Node { called: AtomicBool::new(false), slot: Slot::new(table) });
+        node.slot.set(waker);
+        node
+    }
+}
+
+struct State<T> {
+    values: VecDeque<T>,
+    room: usize,
+    senders: usize,
+    receivers: usize,
+    sending: VecDeque<Arc<Node>>,
+    receiving: VecDeque<Arc<Node>>,
+}
+
+impl<T> State<T> {
+    fn next_sender(&mut self) -> Option<Arc<Node>> {
+        call(&mut self.sending)
+    }
+
+    fn next_receiver(&mut self) -> Option<Arc<Node>> {
+        call(&mut self.receiving)
+    }
+}
+
+fn call(line: &mut VecDeque<Arc<Node>>) -> Option<Arc<Node>> {
+    let node = line.pop_front()?;
+    node.called.store(true, SeqCst);
+    Some(node)
+}
+
+fn wake(node: Option<Arc<Node>>) {
+    if let Some(node) = node {
+        node.slot.wake();
+    }
+}
+
+/// One that was woken and takes nothing hands its turn on.
+fn leave(line: &mut VecDeque<Arc<Node>>, node: &Arc<Node>) -> Option<Arc<Node>> {
+    match line.iter().position(|other| Arc::ptr_eq(other, node)) {
+        Some(at) => {
+            line.remove(at);
+            None
+        }
+        None => call(line),
+    }
+}
+
+/// The receivers are gone, or the channel is full: the value comes back.
+#[derive(Clone, Copy, PartialEq, Eq, Debug)]
+pub enum SendError<T> {
+    Closed(T),
+    Full(T),
+}
+
+impl<T> fmt::Display for SendError<T> {
+    fn fmt(&self, f: &mut fmt::Formatter<'_>) -> fmt::Result {
+        f.write_str(match self {
+            SendError::Closed(_) => "the channel's receivers are gone",
+            SendError::Full(_) => "the channel is full",
+        })
+    }
+}
+impl<T: fmt::Debug> std::error::Error for SendError<T> {}
+
+/// The end that sends.
+pub struct Sender<T>(Arc<Mutex<State<T>>>);
+/// The end that receives. Each value goes to one receiver.
+pub struct Receiver<T>(Arc<Mutex<State<T>>>);
+
+/// A channel with room for so many values, at least one.
+pub fn channel<T>(room: usize) -> (Sender<T>, Receiver<T>) {
+    let state = State {
+        values: VecDeque::new(),
+        room: room.max(1),
+        senders: 1,
+        receivers: 1,
+        sending: VecDeque::new(),
+        receiving: VecDeque::new(),
+    };
+    let state = Arc::new(Mutex::new(state));
+    (Sender(state.clone()), Receiver(state))
+}
+
+impl<T> Sender<T> {
+    /// Sends once there is room. Dropped before, the value is not sent.
+    pub fn send(&self, value: T) -> Send<'_, T> {
+        Send { channel: &self.0, value: Some(value), node: None }
+    }
+
+    pub fn try_send(&self, value: T) -> Result<(), SendError<T>> {
+        let mut state = self.0.lock().unwrap();
+        if state.receivers == 0 {
+            return Err(SendError::Closed(value));
+        }
+        if state.values.len() == state.room {
+            return Err(SendError::Full(value));
+        }
+        state.values.push_back(value);
+        let next = state.next_receiver();
+        drop(state);
+        wake(next);
+        Ok(())
+    }
+}
+
+impl<T> Receiver<T> {
+    /// The next value; None once all senders are gone and it is empty.
+    pub fn recv(&self) -> Recv<'_, T> {
+        Recv { channel: &self.0, node: None }
+    }
+
+    /// The next value, where one is there.
+    pub fn try_recv(&self) -> Option<T> {
+        let mut state = self.0.lock().unwrap();
+        let value = state.values.pop_front()?;
+        let next = state.next_sender();
+        drop(state);
+        wake(next);
+        Some(value)
+    }
+
+    pub fn len(&self) -> usize {
+        self.0.lock().unwrap().values.len()
+    }
+
+    pub fn is_empty(&self) -> bool {
+        self.len() == 0
+    }
+}
+
+/// See `Sender::send`. Err(the value) where the receivers are gone.
+#[must_use = "a value is sent once its future is awaited"]
+pub struct Send<'a, T> {
+    channel: &'a Mutex<State<T>>,
+    value: Option<T>,
+    node: Option<Arc<Node>>,
+}
+impl<T> Unpin for Send<'_, T> {}
+
+impl<T> Future for Send<'_, T> {
+    type Output = Result<(), T>;
+    fn poll(mut self: Pin<&mut Self>, cx: &mut Context<'_>) -> Poll<Result<(), T>> {
+        let channel = self.channel;
+        let mut state = channel.lock().unwrap();
+        if let Some(node) = &self.node {
+            if !node.called.load(SeqCst) && state.receivers != 0 {
+                node.slot.set(cx.waker());
+                return Poll::Pending;
+            }
+        }
+        let called = self.node.take().is_some();
+        let value = self.value.take().expect("polled after it was ready");
+        if state.receivers == 0 {
+            return Poll::Ready(Err(value));
+        }
+        if state.values.len() < state.room {
+            state.values.push_back(value);
+            let next = state.next_receiver();
+            drop(state);
+            wake(next);
+            return Poll::Ready(Ok(()));
+        }
+        let node = Node::new(cx.waker());
+        if called {
+            state.sending.push_front(node.clone());
+        } else {
+            state.sending.push_back(node.clone());
+        }
+        drop(state);
+        (self.value, self.node) = (Some(value), Some(node));
+        Poll::Pending
+    }
+}
+
+impl<T> Drop for Send<'_, T> {
+    fn drop(&mut self) {
+        if let Some(node) = self.node.take() {
+            let next = leave(&mut self.channel.lock().unwrap().sending, &node);
+            wake(next);
+        }
+    }
+}
+
+/// See `Receiver::recv`.
+#[must_use = "a value is received once its future is awaited"]
+pub struct Recv<'a, T> {
+    channel: &'a Mutex<State<T>>,
+    node: Option<Arc<Node>>,
+}
+
+impl<T> Future for Recv<'_, T> {
+    type Output = Option<T>;
+    fn poll(mut self: Pin<&mut Self>, cx: &mut Context<'_>) -> Poll<Option<T>> {
+        let channel = self.channel;
+        let mut state = channel.lock().unwrap();
+        if let Some(node) = &self.node {
+            if !node.called.load(SeqCst) && state.senders != 0 {
+                node.slot.set(cx.waker());
+                return Poll::Pending;
+            }
+        }
+        let called = self.node.take().is_some();
+        if let Some(value) = state.values.pop_front() {
+            let next = state.next_sender();
+            drop(state);
+            wake(next);
+            return Poll::Ready(Some(value));
+        }
+        if state.senders == 0 {
+            return Poll::Ready(None);
+        }
+        let node = Node::new(cx.waker());
+        if called {
+            state.receiving.push_front(node.clone());
+        } else {
+            state.receiving.push_back(node.clone());
+        }
+        drop(state);
+        self.node = Some(node);
+        Poll::Pending
+    }
+}
+
+impl<T> Drop for Recv<'_, T> {
+    fn drop(&mut self) {
+        if let Some(node) = self.node.take() {
+            let next = leave(&mut self.channel.lock().unwrap().receiving, &node);
+            wake(next);
+        }
+    }
+}
+
+impl<T> Clone for Sender<T> {
+    fn clone(&self) -> Sender<T> {
+        self.0.lock().unwrap().senders += 1;
+        Sender(self.0.clone())
+    }
+}
+impl<T> Clone for Receiver<T> {
+    fn clone(&self) -> Receiver<T> {
+        self.0.lock().unwrap().receivers += 1;
+        Receiver(self.0.clone())
+    }
+}
+
+impl<T> Drop for Sender<T> {
+    fn drop(&mut self) {
+        let mut state = self.0.lock().unwrap();
+        state.senders -= 1;
+        let all = if state.senders == 0 { std::mem::take(&mut state.receiving) } else { VecDeque::new() };
+        drop(state);
+        all.iter().for_each(|node| node.called.store(true, SeqCst));
+        all.iter().for_each(|node| node.slot.wake());
+    }
+}
+impl<T> Drop for Receiver<T> {
+    fn drop(&mut self) {
+        let mut state = self.0.lock().unwrap();
+        state.receivers -= 1;
+        let all = if state.receivers == 0 { std::mem::take(&mut state.sending) } else { VecDeque::new() };
+        drop(state);
+        all.iter().for_each(|node| node.called.store(true, SeqCst));
+        all.iter().for_each(|node| node.slot.wake());
+    }
+}

@@ -1,0 +1,517 @@
+//! The proved core: each call of a handle is one of `libarachne_exec_c.a`, as `arachne_exec.h` declares it.
+//!
+//! The rules of the header, and who keeps them here. *A handle is null at first, its pointer is written by the library
+//! alone, and it is never copied*: `Handle` is made by `Handle::empty`, moved and never cloned. *One thread at a time
+//! with each handle*: a type that has one is `Send` and not `Sync`, and no call of the library calls back. *Two handles
+//! where two are asked for, of one origin*: `Root` splits and joins its own alone. *Pointers that are not null*: all are
+//! from references. *No call from a signal handler or behind a fork*: this crate makes none.
+//!
+//! A handle has at most one job in hand, so a thread has several.
+
+use super::{Asked, Freed, Job, Rested, Spawned, Woken, BLOCK, MOST_SHARDS, NUMBERS};
+use crate::cores::{Advice, Sample};
+use std::cell::{RefCell, UnsafeCell};
+use std::ptr;
+use std::sync::atomic::{AtomicBool, AtomicU64, Ordering::*};
+use std::sync::Mutex;
+
+/// Ready jobs that are taken at once, of one block; then it is the next block's turn.
+pub(crate) const BATCH: usize = 8;
+
+/// Declarations as in the header. `tests/header.rs` compares them with it.
+#[path = "declarations.rs"]
+#[allow(non_camel_case_types, dead_code)]
+mod declarations;
+use declarations::*;
+
+#[repr(transparent)]
+struct Handle(UnsafeCell<arachne_exec>);
+// SAFETY: the header: a handle may go from thread to thread, over a thread's start or join, or a lock.
+unsafe impl Send for Handle {}
+
+impl Handle {
+    fn empty() -> Handle {
+        Handle(UnsafeCell::new(arachne_exec { opaque: ptr::null_mut() }))
+    }
+
+    #[inline]
+    fn at(&self) -> *mut arachne_exec {
+        self.0.get()
+    }
+
+    /// Another seat of the same executor.
+    fn split(&self) -> Option<Handle> {
+        let other = Handle::empty();
+        // SAFETY: two handles, the second of which holds nothing.
+        (unsafe { arachne_exec_split(self.at(), other.at()) } == ARACHNE_DONE).then(|| other)
+    }
+}
+
+impl Drop for Handle {
+    fn drop(&mut self) {
+        // SAFETY: a handle, which nobody uses any more.
+        unsafe { arachne_exec_close(self.at()) }
+    }
+}
+
+/// A runtime's executor, from which threads get their seats.
+pub(crate) struct Root(Handle);
+
+/// What a kernel thread has of an executor, to take and lay down jobs: a seat for each job that it may have in hand.
+pub(crate) struct Hands {
+    seats: Vec<Handle>,
+    free: RefCell<Vec<u8>>,
+}
+
+/// The right to sleep in the name of the shards of one number.
+pub(crate) struct Parking(Handle);
+
+impl Root {
+    /// An executor of so many shards, at most 256. None where memory is refused.
+    pub(crate) fn new(shards: usize) -> Option<Root> {
+        let handle = Handle::empty();
+        // SAFETY: a handle that holds nothing.
+        let made = shards <= MOST_SHARDS && unsafe { arachne_exec_new(handle.at(), shards) } == ARACHNE_DONE;
+        made.then(|| Root(handle))
+    }
+
+    /// Seats for a thread that has at most so many jobs in hand.
+    pub(crate) fn hands(&mut self, most: usize) -> Option<Hands> {
+        let seats = (0..most).map(|_| self.0.split()).collect::<Option<Vec<_>>>()?;
+        Some(Hands { seats, free: RefCell::new((0..most as u8).collect()) })
+    }
+
+    /// Gets a thread's seats back, with nothing in hand.
+    pub(crate) fn join(&mut self, hands: Hands) {
+        for seat in hands.seats {
+            // SAFETY: two handles of one origin.
+            let code = unsafe { arachne_exec_join(self.0.at(), seat.at()) };
+            debug_assert_eq!(code, ARACHNE_DONE);
+        }
+    }
+
+    pub(crate) fn parking(&mut self, number: usize) -> Option<Parking> {
+        let seat = self.0.split()?;
+        // SAFETY: a handle.
+        let registered = unsafe { arachne_exec_register(seat.at(), number as u32) } == ARACHNE_DONE;
+        registered.then(|| Parking(seat))
+    }
+}
+
+impl Parking {
+    /// The core's leave to sleep: its idle bit is set, and each ready word was found empty since.
+    ///
+    /// It is asked by `next`, which also hides blocks that were found empty; a job that this finds is ready again.
+    pub(crate) fn park(&self) -> bool {
+        // SAFETY, here and below: a handle.
+        let told = unsafe { arachne_exec_next(self.0.at()) };
+        match told.code {
+            ARACHNE_PARK => true,
+            ARACHNE_AGAIN => false,
+            ARACHNE_RUN => {
+                let rested = unsafe { arachne_exec_rest_ready(self.0.at()) };
+                if rested.code != ARACHNE_READY {
+                    broken("rest_ready", rested.code);
+                }
+                false
+            }
+            code => broken("next", code),
+        }
+    }
+
+    /// Whoever looks after the number sleeps no more.
+    pub(crate) fn wake_up(&self) {
+        // SAFETY: a handle.
+        unsafe { arachne_exec_wake_up(self.0.at()) };
+    }
+}
+
+fn broken(call: &str, code: u32) -> ! {
+    eprintln!("arachne: {call} answered {code}, which this crate rules out");
+    std::process::abort()
+}
+
+impl Hands {
+    #[inline]
+    fn seat(&self, seat: u8) -> *mut arachne_exec {
+        self.seats[seat as usize].at()
+    }
+
+    /// A seat for a call that leaves its hand as it was: any, as those with a job in hand wake and spawn too.
+    #[inline]
+    fn any(&self) -> *mut arachne_exec {
+        self.seats[0].at()
+    }
+
+    /// Puts a job into a place of the block; with `keep` it stays in this thread's hand.
+    #[inline]
+    pub(crate) fn spawn(&self, block: usize, job: u64, keep: bool) -> Spawned {
+        let own = if keep { self.free.borrow_mut().pop() } else { None };
+        loop {
+            // SAFETY, here and below: a handle.
+            let told = match own {
+                Some(seat) => unsafe { arachne_exec_spawn_here(self.seat(seat), block, job) },
+                None => unsafe { arachne_exec_spawn(self.any(), block, job) },
+            };
+            match (told.code, own) {
+                (ARACHNE_LOST, _) => std::hint::spin_loop(),
+                (ARACHNE_RUN, Some(seat)) => return Spawned::Kept(Job { name: told.name, job, seat }),
+                (ARACHNE_READY, None) => {
+                    return Spawned::Ready { name: told.name, unpark: told.unpark != ARACHNE_NOBODY };
+                }
+                (ARACHNE_FULL, _) => {
+                    own.map(|seat| self.is_free(seat));
+                    return Spawned::Full;
+                }
+                (code, _) => broken("spawn", code),
+            }
+        }
+    }
+
+    /// A job that was kept is about to run.
+    #[inline]
+    pub(crate) fn begin(&self, _job: &Job) {}
+
+    /// One ready job of a block: the library goes round it. Where no other thread takes, None means that there is none.
+    #[inline]
+    pub(crate) fn take_any(&self, block: usize) -> Option<Job> {
+        let seat = self.free.borrow_mut().pop()?;
+        // SAFETY: a handle.
+        let told = unsafe { arachne_exec_take(self.seat(seat), block) };
+        if told.code == ARACHNE_RUN {
+            return Some(Job { name: told.name, job: told.job, seat });
+        }
+        self.is_free(seat);
+        if told.code != ARACHNE_AGAIN && told.code != ARACHNE_LOST {
+            broken("take", told.code);
+        }
+        None
+    }
+
+    /// Takes ready jobs of a block: at most `out.len()`.
+    #[inline]
+    pub(crate) fn take(&self, block: usize, _from: u32, out: &mut [Job]) -> usize {
+        let most = out.len().min(self.count(block) as usize);
+        for (count, job) in out[..most].iter_mut().enumerate() {
+            match self.take_any(block) {
+                Some(taken) => *job = taken,
+                None => return count,
+            }
+        }
+        most
+    }
+
+    /// The index of a block from which on it is looked at next, where this job was the last that was taken of it: none,
+    /// as the library goes round by itself.
+    #[inline]
+    pub(crate) fn behind(&self, _job: &Job) -> u32 {
+        BLOCK as u32
+    }
+
+    /// How many jobs are ready in a block.
+    #[inline]
+    pub(crate) fn count(&self, block: usize) -> u32 {
+        // SAFETY: a handle.
+        unsafe { arachne_exec_ready(self.any(), block) }.count_ones()
+    }
+
+    /// The blocks of a shard that may have ready jobs, as bits.
+    #[inline]
+    pub(crate) fn shown(&self, shard: usize) -> u64 {
+        // SAFETY: a handle.
+        unsafe { arachne_exec_shown(self.any(), shard) }
+    }
+
+    /// The block was found empty. Whether it is shown on: `Parking::park` hides it.
+    #[inline]
+    pub(crate) fn hide(&self, _block: usize) -> bool {
+        true
+    }
+
+    #[inline]
+    fn is_free(&self, seat: u8) {
+        self.free.borrow_mut().push(seat);
+    }
+
+    /// Makes a job in hand ready; whether the shard's thread has to be woken.
+    #[inline]
+    pub(crate) fn rest_ready(&self, job: &Job) -> bool {
+        // SAFETY: a handle.
+        let told = unsafe { arachne_exec_rest_ready(self.seat(job.seat)) };
+        if told.code != ARACHNE_READY {
+            broken("rest_ready", told.code);
+        }
+        self.is_free(job.seat);
+        told.unpark != ARACHNE_NOBODY
+    }
+
+    /// A job in hand waits for a wake, unless it was woken since it was taken.
+    #[inline]
+    pub(crate) fn rest_blocked(&self, job: &Job) -> Rested {
+        // SAFETY: a handle.
+        let told = unsafe { arachne_exec_rest_blocked(self.seat(job.seat)) };
+        self.is_free(job.seat);
+        match told.code {
+            ARACHNE_BLOCKED => Rested::Blocked,
+            ARACHNE_READY => Rested::Ready { unpark: told.unpark != ARACHNE_NOBODY },
+            code => broken("rest_blocked", code),
+        }
+    }
+
+    /// A job in hand has ended; its place is free, and its name means nobody.
+    #[inline]
+    pub(crate) fn finish(&self, job: &Job) {
+        // SAFETY: a handle.
+        let code = unsafe { arachne_exec_finish(self.seat(job.seat)) };
+        if code != ARACHNE_DONE {
+            broken("finish", code);
+        }
+        self.is_free(job.seat);
+    }
+
+    /// Wakes the job of this name; with `keep` it comes into this thread's hand where it waited.
+    #[inline]
+    pub(crate) fn wake(&self, name: u64, keep: bool) -> Woken {
+        let own = if keep { self.free.borrow_mut().pop() } else { None };
+        loop {
+            // SAFETY, here and below: a handle.
+            let told = match own {
+                Some(seat) => unsafe { arachne_exec_wake_here(self.seat(seat), name) },
+                None => unsafe { arachne_exec_wake(self.any(), name) },
+            };
+            let woken = match told.code {
+                ARACHNE_LOST => {
+                    std::hint::spin_loop();
+                    continue;
+                }
+                ARACHNE_RUN => return Woken::Kept(Job { name, job: told.job, seat: own.unwrap_or(0) }),
+                ARACHNE_READY => Woken::Ready { unpark: told.unpark != ARACHNE_NOBODY },
+                ARACHNE_MARKED | ARACHNE_ALREADY_MARKED => Woken::Marked,
+                ARACHNE_GONE => Woken::Gone,
+                code => broken("wake", code),
+            };
+            if let Some(seat) = own {
+                self.is_free(seat);
+            }
+            return woken;
+        }
+    }
+}
+
+// ---------------------------------------------------------------------------------------------- locks
+
+/// Locks of a set. Sets are made as they are needed, and kept.
+const LOCKS: usize = 1024;
+
+struct LockHandle(UnsafeCell<arachne_locks>);
+// SAFETY: as of `Handle`.
+unsafe impl Send for LockHandle {}
+
+impl LockHandle {
+    fn empty() -> LockHandle {
+        LockHandle(UnsafeCell::new(arachne_locks { opaque: ptr::null_mut() }))
+    }
+}
+
+impl Drop for LockHandle {
+    fn drop(&mut self) {
+        // SAFETY: a handle, which nobody uses any more.
+        unsafe { arachne_locks_close(self.0.get()) }
+    }
+}
+
+#[derive(Default)]
+struct Sets {
+    roots: Vec<LockHandle>,
+    /// Locks that nobody has: set and number.
+    free: Vec<(usize, usize)>,
+}
+
+static SETS: Mutex<Option<Sets>> = Mutex::new(None);
+
+/// This thread's seats, by set.
+struct LockSeats(Vec<Option<LockHandle>>);
+
+thread_local! {
+    static SEATS: RefCell<LockSeats> = const { RefCell::new(LockSeats(Vec::new())) };
+    static ASKED: std::cell::Cell<u64> = const { std::cell::Cell::new(0) };
+}
+
+impl Drop for LockSeats {
+    fn drop(&mut self) {
+        let mut sets = SETS.lock().unwrap_or_else(|e| e.into_inner());
+        for (set, seat) in self.0.drain(..).enumerate() {
+            if let (Some(sets), Some(seat)) = (sets.as_mut(), seat) {
+                // SAFETY: two handles of one origin.
+                unsafe { arachne_locks_join(sets.roots[set].0.get(), seat.0.get()) };
+            }
+        }
+    }
+}
+
+fn split_locks(set: usize) -> LockHandle {
+    let sets = SETS.lock().unwrap_or_else(|e| e.into_inner());
+    let other = LockHandle::empty();
+    let root = &sets.as_ref().expect("a set").roots[set];
+    // SAFETY: two handles, the second of which holds nothing.
+    let code = unsafe { arachne_locks_split(root.0.get(), other.0.get()) };
+    assert_eq!(code, ARACHNE_DONE, "no memory for a lock's seat");
+    other
+}
+
+/// A number that no other thread asks with, and odd: numbers of threads that have ended go to later ones.
+fn odd_number() -> u64 {
+    static NEXT: AtomicU64 = AtomicU64::new(0);
+    ASKED.with(|asked| {
+        if asked.get() == 0 {
+            asked.set(NEXT.fetch_add(1, Relaxed) << 40 | 1);
+        }
+        asked.set(asked.get() + 2);
+        asked.get()
+    })
+}
+
+/// Who holds a lock and who is next.
+pub(crate) struct LockCore {
+    set: usize,
+    lock: usize,
+    /// It was held when somebody last asked: then it isn't tried without a place in the line.
+    held: AtomicBool,
+}
+
+impl Default for LockCore {
+    fn default() -> LockCore {
+        let mut sets = SETS.lock().unwrap_or_else(|e| e.into_inner());
+        let sets = sets.get_or_insert_with(Sets::default);
+        if sets.free.is_empty() {
+            let root = LockHandle::empty();
+            // SAFETY: a handle that holds nothing.
+            let code = unsafe { arachne_locks_new(root.0.get(), LOCKS) };
+            assert_eq!(code, ARACHNE_DONE, "no memory for a set of locks");
+            let set = sets.roots.len();
+            sets.roots.push(root);
+            sets.free.extend((0..LOCKS).rev().map(|lock| (set, lock)));
+        }
+        let (set, lock) = sets.free.pop().expect("a set has locks");
+        LockCore { set, lock, held: AtomicBool::new(false) }
+    }
+}
+
+impl Drop for LockCore {
+    fn drop(&mut self) {
+        // One whose guard was forgotten is held for ever, and is not used again.
+        self.held.store(false, Relaxed);
+        if let Some(who) = self.try_ask() {
+            self.free(who);
+            if let Some(sets) = SETS.lock().unwrap_or_else(|e| e.into_inner()).as_mut() {
+                sets.free.push((self.set, self.lock));
+            }
+        }
+    }
+}
+
+impl LockCore {
+    #[inline]
+    fn call<R>(&self, call: impl Fn(*mut arachne_locks) -> R) -> R {
+        let called = SEATS.try_with(|seats| {
+            let mut seats = seats.borrow_mut();
+            if seats.0.len() <= self.set {
+                seats.0.resize_with(self.set + 1, || None);
+            }
+            let seat = seats.0[self.set].get_or_insert_with(|| split_locks(self.set));
+            call(seat.0.get())
+        });
+        called.unwrap_or_else(|_| call(split_locks(self.set).0.get()))
+    }
+
+    /// Asks again while another thread was at it.
+    #[inline]
+    fn insist(&self, call: impl Fn(*mut arachne_locks) -> arachne_lock_told) -> arachne_lock_told {
+        loop {
+            let told = self.call(&call);
+            if told.code != ARACHNE_CONTENDED {
+                return told;
+            }
+            std::hint::spin_loop();
+        }
+    }
+
+    /// Takes the lock where it is free; the name in which it is held.
+    #[inline]
+    pub(crate) fn try_ask(&self) -> Option<u64> {
+        if self.held.load(Relaxed) {
+            return None;
+        }
+        let who = odd_number();
+        match self.ask(who) {
+            Asked::Granted => Some(who),
+            Asked::Queued => (!self.withdraw(who)).then(|| who),
+        }
+    }
+
+    /// Asks in a name that nobody else has in this lock.
+    #[inline]
+    pub(crate) fn ask(&self, who: u64) -> Asked {
+        // SAFETY: a handle.
+        let told = self.insist(|seat| unsafe { arachne_lock_ask(seat, self.lock, who) });
+        self.held.store(true, Relaxed);
+        match told.code {
+            ARACHNE_GRANTED => Asked::Granted,
+            ARACHNE_QUEUED => Asked::Queued,
+            ARACHNE_NO_MEMORY => panic!("no memory to wait for a lock"),
+            code => broken("lock_ask", code),
+        }
+    }
+
+    #[inline]
+    pub(crate) fn free(&self, who: u64) -> Freed {
+        // SAFETY: a handle.
+        let told = self.insist(|seat| unsafe { arachne_lock_free(seat, self.lock, who) });
+        match told.code {
+            ARACHNE_FREED => {
+                self.held.store(false, Relaxed);
+                Freed::Free
+            }
+            ARACHNE_HANDED_ON => Freed::HandedOn(told.next),
+            code => broken("lock_free", code),
+        }
+    }
+
+    /// One that waits leaves the line. False where it holds the lock by now.
+    pub(crate) fn withdraw(&self, who: u64) -> bool {
+        // SAFETY: a handle.
+        let told = self.insist(|seat| unsafe { arachne_lock_withdraw(seat, self.lock, who) });
+        match told.code {
+            ARACHNE_LEFT => true,
+            ARACHNE_GRANTED => false,
+            code => broken("lock_withdraw", code),
+        }
+    }
+}
+
+// ---------------------------------------------------------------------------------------------- the policy
+
+/// When to ask for a core and when to give one back.
+pub(crate) struct Estimator(arachne_estimator);
+
+impl Estimator {
+    pub(crate) fn new(load: u64, hysteresis: u64, most: u64) -> Option<Estimator> {
+        let mut estimator = arachne_estimator { up: 0, hysteresis: 0, max: 0, thresholds: [0; 64] };
+        let right = most as usize <= NUMBERS;
+        // SAFETY: a pointer to an estimator's room.
+        (right && unsafe { arachne_estimator_new(load, hysteresis, most, &mut estimator) })
+            .then(|| Estimator(estimator))
+    }
+
+    pub(crate) fn judge(&mut self, sample: Sample) -> Option<Advice> {
+        let Sample { cores, runnable, scans, busy, elapsed } = sample;
+        let sample = arachne_sample { cores, runnable, scans, busy, elapsed };
+        // SAFETY: pointers to an estimator and a sample.
+        match unsafe { arachne_estimator_judge(&mut self.0, &sample) } {
+            ARACHNE_STAY => Some(Advice::Stay),
+            ARACHNE_ADD => Some(Advice::Add),
+            ARACHNE_REMOVE => Some(Advice::Remove),
+            _ => None,
+        }
+    }
+}

@@ -1,0 +1,426 @@
+//! The core's steps on Rust's atomics: a stand-in for the proved library, for tests, ThreadSanitizer and comparison.
+//!
+//! The ready word is the mark: a job is ready by its bit in the ready word of its block, and by nothing else. Whoever
+//! clears the bit has the job. A place's mark is four times its generation, plus 1 where its job was woken since it was
+//! taken, plus 2 where it is blocked. Each shard has a summary word, with a bit for a block that may have ready jobs.
+
+use super::{
+    place_of, Asked, Freed, Job, Line, Rested, Spawned, Woken, BLOCK, MOST_SHARDS, NUMBERS, PLACE_BITS, SHARD,
+};
+use crate::cores::{Advice, Sample};
+use std::cell::{Cell, UnsafeCell};
+use std::collections::VecDeque;
+use std::sync::atomic::{AtomicU64, AtomicU8, Ordering::*};
+use std::sync::{Arc, Mutex};
+
+/// Ready jobs that are taken in one step.
+pub(crate) const BATCH: usize = 8;
+
+const WOKEN: u64 = 1;
+const BLOCKED: u64 = 2;
+
+struct Block {
+    ready: Line<AtomicU64>,
+    free: Line<AtomicU64>,
+    marks: [AtomicU64; BLOCK],
+    slots: [UnsafeCell<u64>; BLOCK],
+}
+
+struct Table {
+    blocks: Box<[Block]>,
+    summary: Box<[Line<AtomicU64>]>,
+    idle: Line<AtomicU64>,
+}
+// SAFETY: a slot is read and written by the seat that has its place in hand alone: the one that cleared its bit in the
+// free or the ready word, or took its mark from blocked. Those steps order the accesses.
+unsafe impl Sync for Table {}
+// SAFETY: as above; the numbers in the slots belong to no thread.
+unsafe impl Send for Table {}
+
+#[inline]
+fn name_of(place: usize, generation: u64) -> u64 {
+    generation << PLACE_BITS | place as u64
+}
+
+impl Table {
+    #[inline]
+    fn mark(&self, place: usize) -> &AtomicU64 {
+        &self.blocks[place / BLOCK].marks[place % BLOCK]
+    }
+
+    /// # Safety
+    /// The caller's seat has the place in hand.
+    #[inline]
+    unsafe fn slot(&self, place: usize) -> *mut u64 {
+        self.blocks[place / BLOCK].slots[place % BLOCK].get()
+    }
+
+    /// The last steps of what makes ready. Where the word had a bit already, whoever set its first one looks.
+    #[inline]
+    fn publish(&self, place: usize) -> bool {
+        let block = place / BLOCK;
+        if self.blocks[block].ready.0.fetch_or(1 << (place % BLOCK), SeqCst) != 0 {
+            return false;
+        }
+        let (shard, bit) = (block / SHARD, 1 << (block % SHARD));
+        let summary = &self.summary[shard].0;
+        if summary.load(SeqCst) & bit == 0 {
+            summary.fetch_or(bit, SeqCst);
+        }
+        let idle = 1 << (shard % NUMBERS);
+        self.idle.0.load(SeqCst) & idle != 0 && self.idle.0.fetch_and(!idle, SeqCst) & idle != 0
+    }
+
+    /// Clears the summary bit of a block that was found empty, and looks again.
+    fn hide(&self, block: usize) -> bool {
+        let (summary, bit) = (&self.summary[block / SHARD].0, 1 << (block % SHARD));
+        summary.fetch_and(!bit, SeqCst);
+        let empty = self.blocks[block].ready.0.load(SeqCst) == 0;
+        if !empty {
+            summary.fetch_or(bit, SeqCst);
+        }
+        empty
+    }
+
+    fn wake_up(&self, number: usize) {
+        if self.idle.0.load(SeqCst) >> number & 1 == 1 {
+            self.idle.0.fetch_and(!(1 << number), SeqCst);
+        }
+    }
+}
+
+/// A runtime's table, from which threads get their seats.
+pub(crate) struct Root(Arc<Table>);
+
+/// What a kernel thread has of a table, to take and lay down jobs. It may go to another thread, and is used by one at
+/// a time.
+pub(crate) struct Hands {
+    table: Arc<Table>,
+    /// Keeps it from being shared between threads.
+    _one_thread: Cell<()>,
+}
+
+/// The right to sleep in the name of the shards of one number.
+pub(crate) struct Parking {
+    table: Arc<Table>,
+    number: usize,
+    _one_thread: Cell<()>,
+}
+
+impl Root {
+    /// A table of so many shards, at most 256. None where memory is refused.
+    pub(crate) fn new(shards: usize) -> Option<Root> {
+        if shards == 0 || shards > MOST_SHARDS {
+            return None;
+        }
+        let block = || Block {
+            ready: Line(AtomicU64::new(0)),
+            free: Line(AtomicU64::new(u64::MAX)),
+            marks: std::array::from_fn(|_| AtomicU64::new(0)),
+            slots: std::array::from_fn(|_| UnsafeCell::new(0)),
+        };
+        Some(Root(Arc::new(Table {
+            blocks: (0..shards * SHARD).map(|_| block()).collect(),
+            summary: (0..shards).map(|_| Line(AtomicU64::new(0))).collect(),
+            idle: Line(AtomicU64::new(0)),
+        })))
+    }
+
+    /// Seats for a thread that has at most so many jobs in hand.
+    pub(crate) fn hands(&mut self, _most: usize) -> Option<Hands> {
+        Some(Hands { table: self.0.clone(), _one_thread: Cell::new(()) })
+    }
+
+    /// Gets a thread's seats back, with nothing in hand.
+    pub(crate) fn join(&mut self, hands: Hands) {
+        debug_assert!(Arc::ptr_eq(&self.0, &hands.table));
+    }
+
+    pub(crate) fn parking(&mut self, number: usize) -> Option<Parking> {
+        Some(Parking { table: self.0.clone(), number, _one_thread: Cell::new(()) })
+    }
+}
+
+impl Parking {
+    /// Sets the number's idle bit and then looks at all its ready words: true where each was empty.
+    pub(crate) fn park(&self) -> bool {
+        let table = &*self.table;
+        table.idle.0.fetch_or(1 << self.number, SeqCst);
+        for shard in (self.number..table.summary.len()).step_by(NUMBERS) {
+            let mut bits = table.summary[shard].0.load(SeqCst);
+            while bits != 0 {
+                let block = shard * SHARD + bits.trailing_zeros() as usize;
+                bits &= bits - 1;
+                if table.blocks[block].ready.0.load(SeqCst) != 0 || !table.hide(block) {
+                    table.wake_up(self.number);
+                    return false;
+                }
+            }
+        }
+        true
+    }
+
+    /// Whoever looks after the number sleeps no more.
+    pub(crate) fn wake_up(&self) {
+        self.table.wake_up(self.number);
+    }
+}
+
+impl Hands {
+    /// Puts a job into a place of the block; with `keep` it stays in this thread's hand.
+    #[inline]
+    pub(crate) fn spawn(&self, block: usize, job: u64, keep: bool) -> Spawned {
+        let free = &self.table.blocks[block].free.0;
+        let mut seen = free.load(SeqCst);
+        loop {
+            if seen == 0 {
+                return Spawned::Full;
+            }
+            let bit = seen & seen.wrapping_neg();
+            let before = free.fetch_and(!bit, SeqCst);
+            if before & bit == 0 {
+                seen = before;
+                continue;
+            }
+            let place = block * BLOCK + bit.trailing_zeros() as usize;
+            let name = name_of(place, self.table.mark(place).load(SeqCst) >> 2);
+            if keep {
+                return Spawned::Kept(Job { name, job, seat: 0 });
+            }
+            // SAFETY: the bit of the free word was cleared by this thread.
+            unsafe { *self.table.slot(place) = job };
+            return Spawned::Ready { name, unpark: self.table.publish(place) };
+        }
+    }
+
+    /// A job that was kept is about to run: wakes that came since are answered by that run.
+    #[inline]
+    pub(crate) fn begin(&self, job: &Job) {
+        let mark = self.table.mark(job.place());
+        let seen = mark.load(SeqCst);
+        if seen & WOKEN != 0 {
+            mark.store(seen & !WOKEN, SeqCst);
+        }
+    }
+
+    /// Takes ready jobs of a block: at most `out.len()`, those from index `from` on.
+    #[inline]
+    pub(crate) fn take(&self, block: usize, from: u32, out: &mut [Job]) -> usize {
+        let ready = &self.table.blocks[block].ready.0;
+        let mut left = ready.load(SeqCst) & u64::MAX << from;
+        let mut bits = 0;
+        for _ in 0..out.len() {
+            bits |= left & left.wrapping_neg();
+            left &= left.wrapping_sub(1);
+        }
+        if bits == 0 {
+            return 0;
+        }
+        let mut got = ready.fetch_and(!bits, SeqCst) & bits;
+        let mut count = 0;
+        while got != 0 {
+            let place = block * BLOCK + got.trailing_zeros() as usize;
+            got &= got - 1;
+            let mark = self.table.mark(place);
+            let seen = mark.load(SeqCst);
+            if seen & WOKEN != 0 {
+                mark.store(seen & !WOKEN, SeqCst);
+            }
+            // SAFETY: the bit of the ready word was cleared by this thread.
+            out[count] = Job { name: name_of(place, seen >> 2), job: unsafe { *self.table.slot(place) }, seat: 0 };
+            count += 1;
+        }
+        count
+    }
+
+    /// One ready job of a block. Where no other thread takes, None means that there is none.
+    pub(crate) fn take_any(&self, block: usize) -> Option<Job> {
+        let mut job = [Job { name: 0, job: 0, seat: 0 }];
+        (self.take(block, 0, &mut job) != 0).then(|| job[0])
+    }
+
+    /// How many jobs seem ready in a block.
+    #[inline]
+    pub(crate) fn count(&self, block: usize) -> u32 {
+        self.table.blocks[block].ready.0.load(Relaxed).count_ones()
+    }
+
+    /// The blocks of a shard that may have ready jobs, as bits.
+    #[inline]
+    pub(crate) fn shown(&self, shard: usize) -> u64 {
+        self.table.summary[shard].0.load(SeqCst)
+    }
+
+    /// The block was found empty: it isn't shown any more, unless it has jobs by now. False: nothing is left to hide.
+    pub(crate) fn hide(&self, block: usize) -> bool {
+        self.table.hide(block);
+        false
+    }
+
+    /// The index of a block from which on it is looked at next, where this job was the last that was taken of it.
+    #[inline]
+    pub(crate) fn behind(&self, job: &Job) -> u32 {
+        (job.place() % BLOCK) as u32 + 1
+    }
+
+    /// Makes a job in hand ready; whether the shard's thread has to be woken.
+    #[inline]
+    pub(crate) fn rest_ready(&self, job: &Job) -> bool {
+        // SAFETY: the job is in this thread's hand.
+        unsafe { *self.table.slot(job.place()) = job.job };
+        self.table.publish(job.place())
+    }
+
+    /// A job in hand waits for a wake, unless it was woken since it was taken.
+    #[inline]
+    pub(crate) fn rest_blocked(&self, job: &Job) -> Rested {
+        let mark = self.table.mark(job.place());
+        let quiet = job.name >> PLACE_BITS << 2;
+        if mark.load(SeqCst) == quiet {
+            // SAFETY: the job is in this thread's hand.
+            unsafe { *self.table.slot(job.place()) = job.job };
+            if mark.compare_exchange(quiet, quiet | BLOCKED, SeqCst, SeqCst).is_ok() {
+                return Rested::Blocked;
+            }
+        }
+        Rested::InHand
+    }
+
+    /// A job in hand has ended; its place is free, and its name means nobody.
+    #[inline]
+    pub(crate) fn finish(&self, job: &Job) {
+        let next = (job.name >> PLACE_BITS) + 1;
+        self.table.mark(job.place()).store(next << 2, SeqCst);
+        if next >> (64 - PLACE_BITS) == 0 {
+            self.table.blocks[job.place() / BLOCK].free.0.fetch_or(1 << (job.place() % BLOCK), SeqCst);
+        }
+    }
+
+    /// Wakes the job of this name; with `keep` it comes into this thread's hand where it waited.
+    #[inline]
+    pub(crate) fn wake(&self, name: u64, keep: bool) -> Woken {
+        let (place, generation) = (place_of(name), name >> PLACE_BITS);
+        if place / BLOCK >= self.table.blocks.len() {
+            return Woken::Gone;
+        }
+        let mark = self.table.mark(place);
+        let mut seen = mark.load(SeqCst);
+        loop {
+            if seen >> 2 != generation {
+                return Woken::Gone;
+            }
+            if seen & WOKEN != 0 {
+                return Woken::Marked;
+            }
+            let next = if seen & BLOCKED != 0 { seen - BLOCKED } else { seen + WOKEN };
+            match mark.compare_exchange(seen, next, SeqCst, SeqCst) {
+                Err(now) => seen = now,
+                Ok(_) if seen & BLOCKED == 0 => return Woken::Marked,
+                Ok(_) if keep => {
+                    // SAFETY: this thread took the mark from blocked.
+                    return Woken::Kept(Job { name, job: unsafe { *self.table.slot(place) }, seat: 0 });
+                }
+                Ok(_) => return Woken::Ready { unpark: self.table.publish(place) },
+            }
+        }
+    }
+}
+
+const FREE: u8 = 0;
+const HELD: u8 = 1;
+const QUEUED: u8 = 2;
+
+/// Who holds a lock and who is next: whoever waits longest.
+#[derive(Default)]
+pub(crate) struct LockCore {
+    /// Free, held with nobody in line, or held with somebody.
+    state: AtomicU8,
+    line: Mutex<VecDeque<u64>>,
+}
+
+impl LockCore {
+    /// Takes the lock where it is free; the name in which it is held.
+    #[inline]
+    pub(crate) fn try_ask(&self) -> Option<u64> {
+        self.state.compare_exchange(FREE, HELD, SeqCst, SeqCst).is_ok().then(|| 1)
+    }
+
+    /// Asks in a name that nobody else has in this lock: an even number.
+    #[inline]
+    pub(crate) fn ask(&self, who: u64) -> Asked {
+        let mut line = self.line.lock().unwrap();
+        loop {
+            match self.state.load(SeqCst) {
+                FREE if self.try_ask().is_some() => return Asked::Granted,
+                FREE => {}
+                QUEUED => break,
+                _ if self.state.compare_exchange(HELD, QUEUED, SeqCst, SeqCst).is_ok() => break,
+                _ => {}
+            }
+        }
+        line.push_back(who);
+        Asked::Queued
+    }
+
+    #[inline]
+    pub(crate) fn free(&self, _who: u64) -> Freed {
+        if self.state.compare_exchange(HELD, FREE, SeqCst, SeqCst).is_ok() {
+            return Freed::Free;
+        }
+        let mut line = self.line.lock().unwrap();
+        let next = line.pop_front();
+        self.settle(&line, next.is_some());
+        next.map_or(Freed::Free, Freed::HandedOn)
+    }
+
+    /// One that waits leaves the line. False where it holds the lock by now.
+    pub(crate) fn withdraw(&self, who: u64) -> bool {
+        let mut line = self.line.lock().unwrap();
+        let found = line.iter().position(|&w| w == who);
+        if let Some(at) = found {
+            line.remove(at);
+            self.settle(&line, true);
+        }
+        found.is_some()
+    }
+
+    fn settle(&self, line: &VecDeque<u64>, held: bool) {
+        let state = if !held {
+            FREE
+        } else if line.is_empty() {
+            HELD
+        } else {
+            QUEUED
+        };
+        self.state.store(state, SeqCst);
+    }
+}
+
+/// A stand-in of the proved estimator: it keeps the use at which the last core was added, as that one does, and no more.
+pub(crate) struct Estimator {
+    load: u64,
+    hysteresis: u64,
+    most: u64,
+    /// By number of cores, the use (thousandths of a core) when that many were first held.
+    used: Vec<u64>,
+}
+
+impl Estimator {
+    pub(crate) fn new(load: u64, hysteresis: u64, most: u64) -> Option<Estimator> {
+        (most as usize <= NUMBERS).then(|| Estimator { load, hysteresis, most, used: vec![0; most as usize + 2] })
+    }
+
+    pub(crate) fn judge(&mut self, sample: Sample) -> Option<Advice> {
+        if sample.scans == 0 || sample.elapsed == 0 || sample.cores == 0 || sample.cores > self.most {
+            return None;
+        }
+        let use_now = sample.busy * 1000 / sample.elapsed;
+        if sample.runnable * 1000 / sample.scans > self.load && sample.cores < self.most {
+            self.used[sample.cores as usize + 1] = use_now;
+            return Some(Advice::Add);
+        }
+        let wanted = self.used[sample.cores as usize].min((sample.cores - 1) * 1000);
+        let falls = sample.cores > 1 && use_now + self.hysteresis < wanted.max((sample.cores - 1) * 800);
+        Some(if falls { Advice::Remove } else { Advice::Stay })
+    }
+}

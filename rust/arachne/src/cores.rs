@@ -1,0 +1,206 @@
+//! How many cores a runtime holds: what the machine gives it, and what the load wants.
+
+use crate::core::Estimator;
+use crate::shared::{Context, Shared};
+use crate::sys;
+use crate::timer::now;
+use crate::worker::Turn;
+use std::fs;
+use std::os::unix::fs::FileExt;
+use std::sync::atomic::Ordering::*;
+use std::time::Duration;
+
+/// Load and use of all cores between two judgements.
+#[derive(Clone, Copy, Default, Debug)]
+pub(crate) struct Sample {
+    pub(crate) cores: u64,
+    pub(crate) runnable: u64,
+    pub(crate) scans: u64,
+    pub(crate) busy: u64,
+    pub(crate) elapsed: u64,
+}
+
+#[derive(Clone, Copy, PartialEq, Eq, Debug)]
+pub(crate) enum Advice {
+    Stay,
+    Add,
+    Remove,
+}
+
+/// How cores follow the load. In thousandths: of a ready task a scan from which a core is asked for, and of a core that
+/// the use has to have fallen before one is given back.
+#[derive(Clone, Copy, Debug)]
+pub struct Policy {
+    pub load: u64,
+    pub hysteresis: u64,
+    pub every: Duration,
+    pub min_cores: usize,
+}
+
+impl Default for Policy {
+    fn default() -> Policy {
+        Policy { load: 1500, hysteresis: 90, every: Duration::from_millis(10), min_cores: 1 }
+    }
+}
+
+/// Whole processors that this process may use: by its affinity, and by its control group's `cpu.max` (of version 1:
+/// `cpu.cfs_quota_us`), rounded up.
+pub fn available_cores() -> usize {
+    let mask = sys::affinity().len().max(1);
+    mask.min(quota().map_or(mask, |quota| (quota + 999) / 1000)).max(1)
+}
+
+/// What this process's control group, or one above it, allows, in thousandths of a processor.
+fn quota() -> Option<usize> {
+    let groups = fs::read_to_string("/proc/self/cgroup").ok()?;
+    let mut least = None;
+    for line in groups.lines() {
+        let mut words = line.splitn(3, ':').skip(1);
+        let (controllers, path) = (words.next()?, words.next()?);
+        let top = match controllers {
+            "" => "/sys/fs/cgroup".to_string(),
+            _ if controllers.split(',').any(|it| it == "cpu") => format!("/sys/fs/cgroup/{controllers}"),
+            _ => continue,
+        };
+        let mut path = format!("{top}{}", path.trim_end_matches('/'));
+        while path.starts_with(&top) {
+            if let Some(here) = quota_of(&path) {
+                least = Some(least.map_or(here, |least: usize| least.min(here)));
+            }
+            path.truncate(path.rfind('/').unwrap_or(0));
+        }
+    }
+    least
+}
+
+fn quota_of(group: &str) -> Option<usize> {
+    let read = |file: &str| fs::read_to_string(format!("{group}/{file}"));
+    let text = read("cpu.max").or_else(|_| Ok(read("cpu.cfs_quota_us")? + &read("cpu.cfs_period_us")?));
+    let text = text.map_err(|_: std::io::Error| ()).ok()?;
+    let mut words = text.split_whitespace().map(|word| word.parse::<usize>().ok());
+    Some(words.next()?? * 1000 / words.next()??.max(1))
+}
+
+/// What one worker judges for all.
+pub(crate) struct Judge {
+    estimator: Estimator,
+    policy: Policy,
+    last: Totals,
+    at: u64,
+    looked: u64,
+    most: usize,
+}
+
+#[derive(Clone, Copy, Default)]
+struct Totals {
+    runnable: u64,
+    scans: u64,
+    idle: u64,
+    waited: u64,
+}
+
+impl Judge {
+    pub(crate) fn new(policy: Policy, shared: &Shared) -> Option<Judge> {
+        let most = shared.workers.len();
+        let estimator = Estimator::new(policy.load, policy.hysteresis, most as u64)?;
+        Some(Judge { estimator, policy, last: Totals::default(), at: now(), looked: 0, most })
+    }
+
+    /// Milliseconds between two judgements, at most 20.
+    pub(crate) fn millis(&self) -> i32 {
+        (self.policy.every.as_millis() as i32).clamp(1, 20)
+    }
+
+    pub(crate) fn judge(&mut self, shared: &'static Shared) {
+        let now = now();
+        let elapsed = now - self.at;
+        if elapsed < self.policy.every.as_nanos() as u64 {
+            return;
+        }
+        if now - self.looked > 1_000_000_000 {
+            self.looked = now;
+            self.most = available_cores().clamp(1, shared.workers.len());
+        }
+        let active = shared.active.0.load(Relaxed);
+        shared.counts.core_time.fetch_add(elapsed * active as u64, Relaxed);
+        let total = totals(shared, active, now);
+        let sample = sample(self.last, total, active as u64, elapsed);
+        let (adds, removes) = (&shared.counts.adds, &shared.counts.removes);
+        let advice = self.estimator.judge(sample);
+        if active > self.most || advice == Some(Advice::Remove) && active > self.policy.min_cores {
+            removes.fetch_add(1, Relaxed);
+            shared.set_active(active - 1);
+        } else if advice == Some(Advice::Add) && active < self.most {
+            adds.fetch_add(1, Relaxed);
+            shared.set_active(active + 1);
+        }
+        self.last = totals(shared, shared.active.0.load(Relaxed), now);
+        self.at = now;
+    }
+}
+
+fn totals(shared: &Shared, active: usize, now: u64) -> Totals {
+    shared.workers[..active].iter().fold(Totals::default(), |sum, worker| Totals {
+        runnable: sum.runnable + worker.0.runnable.load(Relaxed),
+        scans: sum.scans + worker.0.scans.load(Relaxed),
+        idle: sum.idle + worker.0.idle_time(now),
+        waited: sum.waited + waited(&worker.0.account),
+    })
+}
+
+/// Nanoseconds that a worker's kernel thread was ready and had no processor.
+fn waited(account: &std::sync::Mutex<Option<fs::File>>) -> u64 {
+    let mut text = [0; 64];
+    let len = account.lock().unwrap().as_ref().and_then(|file| file.read_at(&mut text, 0).ok()).unwrap_or(0);
+    let text = std::str::from_utf8(&text[..len]).unwrap_or("");
+    text.split_whitespace().nth(1).and_then(|word| word.parse().ok()).unwrap_or(0)
+}
+
+/// Time that was waited for a processor is no use of a core, and what was ready meanwhile asks for none.
+fn sample(last: Totals, total: Totals, cores: u64, elapsed: u64) -> Sample {
+    let span = elapsed * cores;
+    let waited = (total.waited.saturating_sub(last.waited)).min(span);
+    let idle = (total.idle.saturating_sub(last.idle)).min(span - waited);
+    let busy = span - idle - waited;
+    let runnable = total.runnable.saturating_sub(last.runnable);
+    let scaled = (runnable as u128 * (span - waited) as u128 / span.max(1) as u128) as u64;
+    let scans = total.scans.saturating_sub(last.scans).max(1);
+    Sample { cores, runnable: scaled, scans, busy, elapsed }
+}
+
+impl Shared {
+    /// A worker's core is given back: its kernel thread waits until the core is asked for again.
+    pub(crate) fn give_back(&self, context: &Context, turn: &mut Turn) {
+        self.lay_down(context, turn);
+        let (gate, waits) = &self.workers[context.me].0.given_back;
+        self.workers[self.keeper(context.me)].0.reactor.notify();
+        let mut given_back = gate.lock().unwrap();
+        while *given_back && !self.stop.load(SeqCst) {
+            given_back = waits.wait(given_back).unwrap();
+        }
+    }
+
+    pub(crate) fn set_active(&self, active: usize) {
+        let before = self.active.0.load(Relaxed);
+        let all = |from: usize, to: usize| self.workers[from..to].iter().map(|line| &line.0).enumerate();
+        // Who looks after a lodger depends on how many are active: all that don't hold their cores move.
+        let count = self.workers.len();
+        for (i, worker) in all(before, count) {
+            self.workers[(before + i) % before].0.reactor.let_go(&worker.reactor);
+        }
+        for (_, worker) in all(active.min(before), before) {
+            *worker.given_back.0.lock().unwrap() = true;
+        }
+        for (_, worker) in all(before.min(active), active) {
+            *worker.given_back.0.lock().unwrap() = false;
+        }
+        self.active.0.store(active, SeqCst);
+        for (i, worker) in all(active, count) {
+            self.workers[(active + i) % active].0.reactor.look_after(active + i, &worker.reactor);
+        }
+        for (_, worker) in all(0, count) {
+            worker.given_back.1.notify_all();
+            worker.reactor.notify();
+        }
+    }
+}

@@ -1,0 +1,164 @@
+//! An orderly end, and a limit of what is accepted.
+
+use crate::runtime::Runtime;
+use crate::shared::{here, Shared};
+use crate::sys;
+use std::collections::BTreeMap;
+use std::future::Future;
+use std::io;
+use std::pin::Pin;
+use std::sync::atomic::{AtomicBool, AtomicUsize, Ordering::*};
+use std::sync::{Arc, Mutex};
+use std::task::{Context, Poll, Waker};
+use std::thread;
+use std::time::{Duration, Instant};
+
+/// Who waits for the end of a runtime.
+#[derive(Default)]
+pub(crate) struct Draining {
+    begun: AtomicBool,
+    waiting: Mutex<(u64, BTreeMap<u64, Waker>)>,
+}
+
+impl Draining {
+    pub(crate) fn reset(&self) {
+        self.begun.store(false, SeqCst);
+    }
+
+    pub(crate) fn begin(&self) {
+        self.begun.store(true, SeqCst);
+        let waiting = std::mem::take(&mut self.waiting.lock().unwrap().1);
+        waiting.into_values().for_each(Waker::wake);
+    }
+
+    #[inline]
+    pub(crate) fn has_begun(&self) -> bool {
+        self.begun.load(SeqCst)
+    }
+}
+
+/// Whether this task's runtime is about to end: what is in flight may still end, and nothing new is begun.
+pub fn is_stopping() -> bool {
+    here().map_or(false, |shared| shared.draining.has_begun())
+}
+
+/// A future that is ready once the runtime is about to end.
+#[must_use = "it waits once it is awaited"]
+pub struct Stopping {
+    shared: Option<&'static Shared>,
+    key: Option<u64>,
+}
+
+/// Waits until `Runtime::shutdown_within` is called: a connection that has nothing in flight ends then.
+pub fn stopping() -> Stopping {
+    Stopping { shared: None, key: None }
+}
+
+impl Future for Stopping {
+    type Output = ();
+    fn poll(mut self: Pin<&mut Self>, cx: &mut Context<'_>) -> Poll<()> {
+        let shared = match self.shared.or_else(here) {
+            Some(shared) => shared,
+            None => return Poll::Pending,
+        };
+        self.shared = Some(shared);
+        if shared.draining.has_begun() {
+            return Poll::Ready(());
+        }
+        {
+            let mut waiting = shared.draining.waiting.lock().unwrap();
+            let key = self.key.unwrap_or(waiting.0);
+            waiting.0 += u64::from(self.key.is_none());
+            waiting.1.insert(key, cx.waker().clone());
+            self.key = Some(key);
+        }
+        // Whoever begins the end sets the word, and then takes the wakers.
+        if shared.draining.has_begun() {
+            return Poll::Ready(());
+        }
+        Poll::Pending
+    }
+}
+
+impl Drop for Stopping {
+    fn drop(&mut self) {
+        if let (Some(shared), Some(key)) = (self.shared, self.key) {
+            shared.draining.waiting.lock().unwrap().1.remove(&key);
+        }
+    }
+}
+
+/// What `Runtime::shutdown_within` found.
+#[derive(Clone, Copy, PartialEq, Eq, Debug)]
+pub struct Ended {
+    /// Tasks that had not ended by the deadline, and were dropped.
+    pub aborted: u64,
+}
+
+impl Runtime {
+    /// Tasks that were spawned and have not ended.
+    pub fn live(&self) -> u64 {
+        self.shared().live()
+    }
+
+    /// Stops accepting (once nobody waits to be accepted `TcpListener::accept` answers an error), `stopping` is ready,
+    /// waits until every task has ended, and at the deadline drops those that have not. Returns once all kernel threads
+    /// are joined: a poll, or work on the blocking pool, that runs at the deadline is waited for.
+    pub fn shutdown_within(self, deadline: Duration) -> Ended {
+        let until = Instant::now() + deadline;
+        self.shared().draining.begin();
+        while self.live() != 0 && Instant::now() < until {
+            thread::sleep(Duration::from_micros(500));
+        }
+        let aborted = self.live();
+        self.shutdown();
+        Ended { aborted }
+    }
+}
+
+/// A signal that this process hears from now on, in place of what it did at it.
+pub struct Signal(i32);
+
+impl Signal {
+    /// 15 is SIGTERM. One that was heard before is heard by this one alone from then on.
+    pub fn heard(number: i32) -> io::Result<Signal> {
+        let event = sys::new_blocking_event()?;
+        sys::raise_at(number, event)?;
+        Ok(Signal(event))
+    }
+
+    /// Blocks this kernel thread until the signal has come since the last wait.
+    pub fn wait(&self) -> bool {
+        sys::await_event(self.0)
+    }
+}
+
+/// So many of something at once, and no more: the next one is told at once.
+#[derive(Clone)]
+pub struct Limit(Arc<(AtomicUsize, usize)>);
+
+/// A place under a limit, given back when this is dropped.
+pub struct Ticket(Limit);
+
+impl Limit {
+    pub fn new(most: usize) -> Limit {
+        Limit(Arc::new((AtomicUsize::new(0), most)))
+    }
+
+    /// None where there are so many already.
+    pub fn enter(&self) -> Option<Ticket> {
+        let (count, most) = &*self.0;
+        let entered = count.fetch_update(SeqCst, SeqCst, |count| (count < *most).then(|| count + 1));
+        entered.is_ok().then(|| Ticket(self.clone()))
+    }
+
+    pub fn count(&self) -> usize {
+        self.0 .0.load(SeqCst)
+    }
+}
+
+impl Drop for Ticket {
+    fn drop(&mut self) {
+        self.0 .0 .0.fetch_sub(1, SeqCst);
+    }
+}

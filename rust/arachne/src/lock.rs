@@ -1,0 +1,169 @@
+//! A lock for tasks and threads: the core says who holds it and who is next, which is whoever waits longest.
+
+use crate::core::{Asked, Freed, LockCore};
+use crate::reactor::Slot;
+use crate::shared::here;
+use std::cell::UnsafeCell;
+use std::fmt;
+use std::future::Future;
+use std::ops::{Deref, DerefMut};
+use std::pin::Pin;
+use std::sync::atomic::{AtomicBool, Ordering::*};
+use std::sync::Arc;
+use std::task::{Context, Poll};
+
+/// One that waits. The line has a count of it, as a number.
+struct Node {
+    granted: AtomicBool,
+    slot: Slot,
+}
+
+/// A value that one holder at a time has.
+pub struct Lock<T: ?Sized> {
+    core: LockCore,
+    value: UnsafeCell<T>,
+}
+
+// SAFETY: the value goes with the lock, and the core has one holder at a time.
+unsafe impl<T: ?Sized + Send> Send for Lock<T> {}
+// SAFETY: the same; a shared lock gives the value to one holder at a time, on any thread.
+unsafe impl<T: ?Sized + Send> Sync for Lock<T> {}
+
+impl<T> Lock<T> {
+    pub fn new(value: T) -> Lock<T> {
+        Lock { core: LockCore::default(), value: UnsafeCell::new(value) }
+    }
+
+    pub fn into_inner(self) -> T {
+        self.value.into_inner()
+    }
+}
+
+impl<T: Default> Default for Lock<T> {
+    fn default() -> Lock<T> {
+        Lock::new(T::default())
+    }
+}
+
+impl<T: ?Sized> fmt::Debug for Lock<T> {
+    fn fmt(&self, f: &mut fmt::Formatter<'_>) -> fmt::Result {
+        f.write_str("Lock")
+    }
+}
+
+impl<T: ?Sized> Lock<T> {
+    /// Waits for the lock. A future that is dropped while it waits leaves the line.
+    pub fn lock(&self) -> Locking<'_, T> {
+        Locking { lock: self, node: None }
+    }
+
+    /// The lock, where it is free.
+    pub fn try_lock(&self) -> Option<Guard<'_, T>> {
+        self.core.try_ask().map(|who| Guard { lock: self, who, _node: None })
+    }
+
+    pub fn get_mut(&mut self) -> &mut T {
+        self.value.get_mut()
+    }
+
+    fn free(&self, who: u64) {
+        if let Freed::HandedOn(next) = self.core.free(who) {
+            if next % 2 == 1 {
+                // One that didn't want to wait, and is about to see that it has the lock.
+                return;
+            }
+            // SAFETY: whoever was queued left a count of its node for whoever hands the lock on to it.
+            let node = unsafe { Arc::from_raw(next as usize as *const Node) };
+            node.granted.store(true, SeqCst);
+            node.slot.wake();
+        }
+    }
+}
+
+/// A future of a lock's guard.
+#[must_use = "a lock is taken once its future is awaited"]
+pub struct Locking<'a, T: ?Sized> {
+    lock: &'a Lock<T>,
+    node: Option<Arc<Node>>,
+}
+
+impl<'a, T: ?Sized> Future for Locking<'a, T> {
+    type Output = Guard<'a, T>;
+    fn poll(mut self: Pin<&mut Self>, cx: &mut Context<'_>) -> Poll<Guard<'a, T>> {
+        let lock = self.lock;
+        if let Some(node) = &self.node {
+            if !node.granted.load(SeqCst) {
+                node.slot.set(cx.waker());
+                if !node.granted.load(SeqCst) {
+                    return Poll::Pending;
+                }
+            }
+            let who = Arc::as_ptr(node) as usize as u64;
+            return Poll::Ready(Guard { lock, who, _node: self.node.take() });
+        }
+        if let Some(who) = lock.core.try_ask() {
+            return Poll::Ready(Guard { lock, who, _node: None });
+        }
+        let table = here().map_or(usize::MAX, |shared| shared.table);
+        let node = Arc::new(Node { granted: AtomicBool::new(false), slot: Slot::new(table) });
+        node.slot.set(cx.waker());
+        let who = Arc::into_raw(node.clone());
+        match lock.core.ask(who as usize as u64) {
+            Asked::Queued => {
+                self.node = Some(node);
+                Poll::Pending
+            }
+            Asked::Granted => {
+                // SAFETY: the count that was left above, which nobody was told of.
+                drop(unsafe { Arc::from_raw(who) });
+                Poll::Ready(Guard { lock, who: who as usize as u64, _node: Some(node) })
+            }
+        }
+    }
+}
+
+impl<T: ?Sized> Drop for Locking<'_, T> {
+    fn drop(&mut self) {
+        if let Some(node) = self.node.take() {
+            let who = Arc::as_ptr(&node);
+            if self.lock.core.withdraw(who as usize as u64) {
+                // SAFETY: the count that the line had, which has left it.
+                drop(unsafe { Arc::from_raw(who) });
+            } else {
+                // It was handed the lock meanwhile.
+                self.lock.free(who as usize as u64);
+            }
+        }
+    }
+}
+
+/// The lock is held until this is dropped.
+pub struct Guard<'a, T: ?Sized> {
+    lock: &'a Lock<T>,
+    who: u64,
+    /// Its address is the holder's name, so nobody else may get it.
+    _node: Option<Arc<Node>>,
+}
+// SAFETY: it is the value's one holder, on whatever thread.
+unsafe impl<T: ?Sized + Send> Send for Guard<'_, T> {}
+// SAFETY: a shared guard gives shared access to the value alone.
+unsafe impl<T: ?Sized + Sync> Sync for Guard<'_, T> {}
+
+impl<T: ?Sized> Deref for Guard<'_, T> {
+    type Target = T;
+    fn deref(&self) -> &T {
+        // SAFETY: the lock is held.
+        unsafe { &*self.lock.value.get() }
+    }
+}
+impl<T: ?Sized> DerefMut for Guard<'_, T> {
+    fn deref_mut(&mut self) -> &mut T {
+        // SAFETY: the lock is held, and the guard is not shared.
+        unsafe { &mut *self.lock.value.get() }
+    }
+}
+impl<T: ?Sized> Drop for Guard<'_, T> {
+    fn drop(&mut self) {
+        self.lock.free(self.who);
+    }
+}

@@ -1,0 +1,370 @@
+//! TCP over the workers' reactors. A socket belongs to the reactor of the worker on which it first has to wait.
+
+use crate::block_on::poll_fn;
+use crate::reactor::{Io, Key, READ, READ_CLOSED, WRITE, WRITE_CLOSED};
+use crate::shared::{here, Context as Current, Shared};
+use crate::sys;
+use crate::waker::NOBODY;
+use std::future::Future;
+use std::io::{self, ErrorKind::WouldBlock, IoSlice, Read, Write};
+use std::net::{Shutdown, SocketAddr, ToSocketAddrs};
+use std::os::unix::io::{AsRawFd, FromRawFd};
+use std::pin::Pin;
+use std::sync::atomic::Ordering::*;
+use std::sync::{Arc, Mutex};
+use std::task::{Context, Poll};
+
+#[derive(Clone)]
+struct Registered {
+    shared: &'static Shared,
+    worker: usize,
+    io: Arc<Io>,
+    key: Key,
+}
+
+/// A socket, and its reactor once it has one.
+struct Source<S: AsRawFd> {
+    socket: S,
+    at: once::Once<Registered>,
+    registering: Mutex<()>,
+}
+
+/// A value that is written once.
+mod once {
+    use std::ptr;
+    use std::sync::atomic::{AtomicPtr, Ordering::*};
+
+    pub(super) struct Once<T>(AtomicPtr<T>);
+
+    // SAFETY: as of a `Box<T>` that is shared once it is written.
+    unsafe impl<T: Send + Sync> Sync for Once<T> {}
+    // SAFETY: the same.
+    unsafe impl<T: Send> Send for Once<T> {}
+
+    impl<T> Once<T> {
+        pub(super) fn new() -> Once<T> {
+            Once(AtomicPtr::new(ptr::null_mut()))
+        }
+
+        #[inline]
+        pub(super) fn get(&self) -> Option<&T> {
+            // SAFETY: what was written stays until the drop.
+            unsafe { self.0.load(Acquire).as_ref() }
+        }
+
+        /// The value, where none was written before.
+        pub(super) fn set(&self, value: T) {
+            let value = Box::into_raw(Box::new(value));
+            if self.0.compare_exchange(ptr::null_mut(), value, AcqRel, Acquire).is_err() {
+                // SAFETY: from `into_raw` above, and not stored.
+                drop(unsafe { Box::from_raw(value) });
+            }
+        }
+    }
+
+    impl<T> Drop for Once<T> {
+        fn drop(&mut self) {
+            let value = *self.0.get_mut();
+            if !value.is_null() {
+                // SAFETY: from `into_raw` in `set`, and freed here alone.
+                drop(unsafe { Box::from_raw(value) });
+            }
+        }
+    }
+}
+
+/// Where a socket that waits now belongs: to the worker whose task this is.
+fn reactor_here() -> io::Result<(&'static Shared, usize)> {
+    let shared = here().ok_or_else(|| io::Error::new(io::ErrorKind::Other, "a socket outside of a runtime"))?;
+    let worker = Current::with(|worker| {
+        let worker = worker.filter(|w| std::ptr::eq(w.shared, shared))?;
+        let name = worker.current.get();
+        Some(if name == NOBODY { worker.me } else { shared.home(crate::core::place_of(name)) })
+    });
+    Ok((shared, worker.unwrap_or(0)))
+}
+
+impl<S: AsRawFd> Source<S> {
+    fn new(socket: S) -> Source<S> {
+        Source { socket, at: once::Once::new(), registering: Mutex::new(()) }
+    }
+
+    fn registered(&self) -> io::Result<&Registered> {
+        if let Some(at) = self.at.get() {
+            return Ok(at);
+        }
+        let _one = self.registering.lock().unwrap_or_else(|e| e.into_inner());
+        if self.at.get().is_none() {
+            let (shared, worker) = reactor_here()?;
+            let (io, key) = shared.workers[worker].0.reactor.add(self.socket.as_raw_fd(), shared.table)?;
+            self.at.set(Registered { shared, worker, io, key });
+        }
+        Ok(self.at.get().expect("registered"))
+    }
+
+    /// Tries until the descriptor isn't ready. `len` is the room of the try: one that moved less has emptied it, as
+    /// epoll's page has it.
+    #[inline]
+    fn poll<T>(
+        &self,
+        cx: &mut Context<'_>,
+        reads: bool,
+        len: usize,
+        mut attempt: impl FnMut(&S) -> io::Result<T>,
+        moved: impl Fn(&T) -> usize,
+    ) -> Poll<io::Result<T>> {
+        let io = match self.at.get() {
+            Some(at) => &at.io,
+            None => match attempt(&self.socket) {
+                Err(error) if error.kind() == WouldBlock => &self.registered()?.io,
+                Err(error) if error.kind() == io::ErrorKind::Interrupted => {
+                    cx.waker().wake_by_ref();
+                    return Poll::Pending;
+                }
+                done => return Poll::Ready(done),
+            },
+        };
+        let (ready, closed, slot) =
+            if reads { (READ, READ_CLOSED, &io.reader) } else { (WRITE, WRITE_CLOSED, &io.writer) };
+        let mut state = io.state.load(Acquire);
+        loop {
+            if state & (ready | closed) == 0 {
+                slot.set(cx.waker());
+                state = io.state.load(SeqCst);
+                if state & (ready | closed) == 0 {
+                    return Poll::Pending;
+                }
+            }
+            match attempt(&self.socket) {
+                Ok(done) => {
+                    let moved = moved(&done);
+                    if moved != 0 && moved < len && state & closed == 0 {
+                        io.clear(state, ready);
+                    }
+                    return Poll::Ready(Ok(done));
+                }
+                Err(error) if error.kind() == WouldBlock => state = io.clear(state, ready | closed),
+                Err(error) if error.kind() == io::ErrorKind::Interrupted => {}
+                Err(error) => return Poll::Ready(Err(error)),
+            }
+        }
+    }
+}
+
+impl<S: AsRawFd> Drop for Source<S> {
+    fn drop(&mut self) {
+        if let Some(at) = self.at.get() {
+            at.shared.workers[at.worker].0.reactor.remove(self.socket.as_raw_fd(), at.key);
+        }
+    }
+}
+
+/// A socket that listens.
+pub struct TcpListener(Source<std::net::TcpListener>);
+
+impl TcpListener {
+    pub fn bind(at: impl ToSocketAddrs) -> io::Result<TcpListener> {
+        TcpListener::from_std(std::net::TcpListener::bind(at)?)
+    }
+
+    pub fn from_std(listener: std::net::TcpListener) -> io::Result<TcpListener> {
+        listener.set_nonblocking(true)?;
+        Ok(TcpListener(Source::new(listener)))
+    }
+
+    pub fn local_addr(&self) -> io::Result<SocketAddr> {
+        self.0.socket.local_addr()
+    }
+
+    pub async fn accept(&self) -> io::Result<(TcpStream, SocketAddr)> {
+        let mut stopping = crate::drain::stopping();
+        let (stream, from) = poll_fn(|cx: &mut Context<'_>| {
+            let polled = self.poll_std(cx);
+            if polled.is_pending() && Pin::new(&mut stopping).poll(cx).is_ready() {
+                return self.poll_std(cx);
+            }
+            polled
+        })
+        .await?;
+        Ok((TcpStream::from_std(stream)?, from))
+    }
+
+    pub fn poll_accept(&self, cx: &mut Context<'_>) -> Poll<io::Result<(TcpStream, SocketAddr)>> {
+        match self.poll_std(cx) {
+            Poll::Ready(Ok((stream, from))) => Poll::Ready(TcpStream::from_std(stream).map(|stream| (stream, from))),
+            Poll::Ready(Err(error)) => Poll::Ready(Err(error)),
+            Poll::Pending => Poll::Pending,
+        }
+    }
+
+    fn poll_std(&self, cx: &mut Context<'_>) -> Poll<io::Result<(std::net::TcpStream, SocketAddr)>> {
+        let polled = self.0.poll(cx, true, usize::MAX, |listener| listener.accept(), |_| usize::MAX);
+        if polled.is_pending() && crate::drain::is_stopping() {
+            // Whoever had connected before was accepted.
+            return Poll::Ready(Err(io::Error::new(io::ErrorKind::Other, "the runtime is about to end")));
+        }
+        polled
+    }
+}
+
+/// A connection. Reads and writes take `&self`: one task may read while another writes.
+pub struct TcpStream(Source<std::net::TcpStream>);
+
+impl TcpStream {
+    pub fn from_std(stream: std::net::TcpStream) -> io::Result<TcpStream> {
+        stream.set_nonblocking(true)?;
+        Ok(TcpStream(Source::new(stream)))
+    }
+
+    /// Connects to the first address that answers.
+    pub async fn connect(to: impl ToSocketAddrs) -> io::Result<TcpStream> {
+        let mut last = io::Error::new(io::ErrorKind::InvalidInput, "no address");
+        for to in to.to_socket_addrs()? {
+            match TcpStream::connect_to(&to).await {
+                Ok(stream) => return Ok(stream),
+                Err(error) => last = error,
+            }
+        }
+        Err(last)
+    }
+
+    async fn connect_to(to: &SocketAddr) -> io::Result<TcpStream> {
+        let fd = sys::start_connect(to)?;
+        // SAFETY: a descriptor of a stream socket, which nobody else has.
+        let stream = TcpStream(Source::new(unsafe { std::net::TcpStream::from_raw_fd(fd) }));
+        let connected = |socket: &std::net::TcpStream| match socket.take_error()? {
+            Some(error) => Err(error),
+            None => match socket.peer_addr() {
+                Err(error) if error.kind() == io::ErrorKind::NotConnected => Err(WouldBlock.into()),
+                other => other.map(drop),
+            },
+        };
+        poll_fn(|cx: &mut Context<'_>| stream.0.poll(cx, false, 0, connected, |_| 0)).await?;
+        Ok(stream)
+    }
+
+    pub fn peer_addr(&self) -> io::Result<SocketAddr> {
+        self.0.socket.peer_addr()
+    }
+
+    pub fn local_addr(&self) -> io::Result<SocketAddr> {
+        self.0.socket.local_addr()
+    }
+
+    pub fn set_nodelay(&self, nodelay: bool) -> io::Result<()> {
+        self.0.socket.set_nodelay(nodelay)
+    }
+
+    pub fn shutdown(&self, how: Shutdown) -> io::Result<()> {
+        self.0.socket.shutdown(how)
+    }
+
+    pub fn poll_read(&self, cx: &mut Context<'_>, buffer: &mut [u8]) -> Poll<io::Result<usize>> {
+        let len = buffer.len();
+        self.0.poll(cx, true, len, |mut socket| socket.read(buffer), |&n| n)
+    }
+
+    pub fn poll_write(&self, cx: &mut Context<'_>, bytes: &[u8]) -> Poll<io::Result<usize>> {
+        self.0.poll(cx, false, bytes.len(), |mut socket| socket.write(bytes), |&n| n)
+    }
+
+    pub fn poll_write_vectored(&self, cx: &mut Context<'_>, bytes: &[IoSlice<'_>]) -> Poll<io::Result<usize>> {
+        let len = bytes.iter().map(|slice| slice.len()).sum();
+        self.0.poll(cx, false, len, |mut socket| socket.write_vectored(bytes), |&n| n)
+    }
+
+    /// At most `buffer.len()` bytes; 0 at the end.
+    pub async fn read(&self, buffer: &mut [u8]) -> io::Result<usize> {
+        poll_fn(|cx: &mut Context<'_>| self.poll_read(cx, buffer)).await
+    }
+
+    pub async fn read_exact(&self, mut buffer: &mut [u8]) -> io::Result<()> {
+        while !buffer.is_empty() {
+            match self.read(buffer).await? {
+                0 => return Err(io::ErrorKind::UnexpectedEof.into()),
+                n => buffer = &mut buffer[n..],
+            }
+        }
+        Ok(())
+    }
+
+    pub async fn write(&self, bytes: &[u8]) -> io::Result<usize> {
+        poll_fn(|cx: &mut Context<'_>| self.poll_write(cx, bytes)).await
+    }
+
+    pub async fn write_all(&self, mut bytes: &[u8]) -> io::Result<()> {
+        while !bytes.is_empty() {
+            match self.write(bytes).await? {
+                0 => return Err(io::ErrorKind::WriteZero.into()),
+                n => bytes = &bytes[n..],
+            }
+        }
+        Ok(())
+    }
+}
+
+#[cfg(feature = "futures-io")]
+mod futures_traits {
+    use super::*;
+
+    impl futures_io::AsyncRead for TcpStream {
+        fn poll_read(self: Pin<&mut Self>, cx: &mut Context<'_>, buffer: &mut [u8]) -> Poll<io::Result<usize>> {
+            TcpStream::poll_read(&self, cx, buffer)
+        }
+    }
+    impl futures_io::AsyncWrite for TcpStream {
+        fn poll_write(self: Pin<&mut Self>, cx: &mut Context<'_>, bytes: &[u8]) -> Poll<io::Result<usize>> {
+            TcpStream::poll_write(&self, cx, bytes)
+        }
+        fn poll_flush(self: Pin<&mut Self>, _: &mut Context<'_>) -> Poll<io::Result<()>> {
+            Poll::Ready(Ok(()))
+        }
+        fn poll_close(self: Pin<&mut Self>, _: &mut Context<'_>) -> Poll<io::Result<()>> {
+            Poll::Ready(self.shutdown(Shutdown::Write))
+        }
+    }
+}
+
+#[cfg(feature = "tokio-io")]
+mod tokio_traits {
+    use super::*;
+
+    impl tokio::io::AsyncRead for TcpStream {
+        fn poll_read(
+            self: Pin<&mut Self>,
+            cx: &mut Context<'_>,
+            buffer: &mut tokio::io::ReadBuf<'_>,
+        ) -> Poll<io::Result<()>> {
+            let room = buffer.initialize_unfilled();
+            match TcpStream::poll_read(&self, cx, room) {
+                Poll::Ready(Ok(n)) => {
+                    buffer.advance(n);
+                    Poll::Ready(Ok(()))
+                }
+                Poll::Ready(Err(error)) => Poll::Ready(Err(error)),
+                Poll::Pending => Poll::Pending,
+            }
+        }
+    }
+    impl tokio::io::AsyncWrite for TcpStream {
+        fn poll_write(self: Pin<&mut Self>, cx: &mut Context<'_>, bytes: &[u8]) -> Poll<io::Result<usize>> {
+            TcpStream::poll_write(&self, cx, bytes)
+        }
+        fn poll_write_vectored(
+            self: Pin<&mut Self>,
+            cx: &mut Context<'_>,
+            bytes: &[IoSlice<'_>],
+        ) -> Poll<io::Result<usize>> {
+            TcpStream::poll_write_vectored(&self, cx, bytes)
+        }
+        fn is_write_vectored(&self) -> bool {
+            true
+        }
+        fn poll_flush(self: Pin<&mut Self>, _: &mut Context<'_>) -> Poll<io::Result<()>> {
+            Poll::Ready(Ok(()))
+        }
+        fn poll_shutdown(self: Pin<&mut Self>, _: &mut Context<'_>) -> Poll<io::Result<()>> {
+            Poll::Ready(self.shutdown(Shutdown::Write))
+        }
+    }
+}

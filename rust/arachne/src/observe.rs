@@ -1,0 +1,194 @@
+//! To see a running program: what each task waits for how long, hooks, and how long ready tasks waited to be taken.
+//!
+//! A runtime that is not built with `Builder::observed` keeps none of this, and pays a test of a constant a step.
+
+use crate::core::Job;
+use crate::shared::Shared;
+use crate::task::{About, Label};
+use crate::timer::now;
+use std::panic::Location;
+use std::ptr;
+use std::sync::atomic::{AtomicPtr, AtomicU64, Ordering::*};
+use std::sync::{Arc, RwLock};
+use std::time::Duration;
+
+/// What a host may want to hear of its tasks (a tracing library's spans, say). Each is called on the kernel thread that
+/// makes the step; `id` is a number that no other task of the runtime ever has. None may panic.
+pub trait Hooks: Send + Sync {
+    fn spawned(&self, _about: &About) {}
+    fn poll_begins(&self, _id: u64, _about: &About) {}
+    fn poll_ends(&self, _id: u64) {}
+    fn woken(&self, _place: usize) {}
+    fn ended(&self, _id: u64) {}
+}
+
+/// Times from ready to taken: `counts[i]` are those below 2^i microseconds that are in none before.
+pub const HISTOGRAM: usize = 24;
+
+#[derive(Default)]
+struct Record {
+    spawned: AtomicPtr<Location<'static>>,
+    label: AtomicPtr<Label>,
+    /// The task's name and its time, in one of these three states; the others are 0.
+    name: AtomicU64,
+    waits_since: AtomicU64,
+    ready_since: AtomicU64,
+    runs_since: AtomicU64,
+}
+
+#[derive(Default)]
+pub(crate) struct Observer {
+    records: Box<[Record]>,
+    hooks: RwLock<Option<Arc<dyn Hooks>>>,
+    histogram: [AtomicU64; HISTOGRAM],
+}
+
+/// What a task does at this moment.
+#[derive(Clone, Copy, PartialEq, Eq, Debug)]
+pub enum Doing {
+    Waits,
+    Ready,
+    Runs,
+}
+
+/// A task that has begun and has not ended.
+#[derive(Clone, Copy, Debug)]
+pub struct TaskInfo {
+    pub id: u64,
+    pub about: About,
+    pub doing: Doing,
+    /// For how long it does that.
+    pub age: Duration,
+}
+
+impl Observer {
+    pub(crate) fn new(places: usize) -> Observer {
+        Observer { records: (0..places).map(|_| Record::default()).collect(), ..Observer::default() }
+    }
+
+    #[inline]
+    pub(crate) fn is_on(&self) -> bool {
+        !self.records.is_empty()
+    }
+
+    pub(crate) fn reset(&self) {
+        for record in &*self.records {
+            record.name.store(0, Relaxed);
+        }
+        self.histogram.iter().for_each(|count| count.store(0, Relaxed));
+        *self.hooks.write().unwrap() = None;
+    }
+
+    pub(crate) fn set_hooks(&self, hooks: Option<Arc<dyn Hooks>>) {
+        *self.hooks.write().unwrap() = hooks;
+    }
+
+    fn tell(&self, call: impl FnOnce(&dyn Hooks)) {
+        if let Some(hooks) = &*self.hooks.read().unwrap_or_else(|e| e.into_inner()) {
+            call(&**hooks);
+        }
+    }
+
+    #[inline]
+    pub(crate) fn spawns(&self, about: &About) {
+        if self.is_on() {
+            self.tell(|hooks| hooks.spawned(about));
+        }
+    }
+
+    /// The job's poll begins.
+    #[inline]
+    pub(crate) fn begins(&self, job: &Job, about: &About) {
+        if self.is_on() {
+            self.note_begin(job, about);
+        }
+    }
+
+    fn note_begin(&self, job: &Job, about: &About) {
+        let (record, now) = (&self.records[job.place()], now());
+        let ready = record.ready_since.swap(0, Relaxed);
+        if ready != 0 {
+            let micros = now.saturating_sub(ready) / 1000;
+            let bits = (64 - micros.leading_zeros()) as usize;
+            self.histogram[bits.min(HISTOGRAM - 1)].fetch_add(1, Relaxed);
+        }
+        record.spawned.store(about.spawned as *const _ as *mut _, Relaxed);
+        record.label.store(about.name.map_or(ptr::null_mut(), |l| l as *const _ as *mut _), Relaxed);
+        record.waits_since.store(0, Relaxed);
+        record.runs_since.store(now, Relaxed);
+        record.name.store(job.name + 1, Release);
+        self.tell(|hooks| hooks.poll_begins(job.name, about));
+    }
+
+    /// The job's poll has ended.
+    #[inline]
+    pub(crate) fn stops(&self, job: &Job, ended: bool) {
+        if self.is_on() {
+            let record = &self.records[job.place()];
+            record.runs_since.store(0, Relaxed);
+            record.waits_since.store(now(), Relaxed);
+            if ended {
+                record.name.store(0, Release);
+            }
+            self.tell(|hooks| {
+                hooks.poll_ends(job.name);
+                if ended {
+                    hooks.ended(job.name);
+                }
+            });
+        }
+    }
+
+    /// The job at that place is ready from now on.
+    #[inline]
+    pub(crate) fn ready(&self, place: usize) {
+        if self.is_on() {
+            self.records[place].ready_since.store(now(), Relaxed);
+            self.tell(|hooks| hooks.woken(place));
+        }
+    }
+
+    pub(crate) fn histogram(&self) -> [u64; HISTOGRAM] {
+        std::array::from_fn(|i| self.histogram[i].load(Relaxed))
+    }
+
+    /// All tasks that have begun and have not ended, as they are while the list is made.
+    pub(crate) fn tasks(&self) -> Vec<TaskInfo> {
+        let now = now();
+        self.records.iter().filter_map(|record| record.info(now)).collect()
+    }
+}
+
+impl Record {
+    fn info(&self, now: u64) -> Option<TaskInfo> {
+        let id = self.name.load(Acquire).checked_sub(1)?;
+        // SAFETY: what was stored there lives for ever.
+        let spawned: &'static Location<'static> = unsafe { self.spawned.load(Relaxed).as_ref()? };
+        // SAFETY: the same.
+        let name: Option<&'static Label> = unsafe { self.label.load(Relaxed).as_ref() };
+        let (waits, ready, runs) =
+            (self.waits_since.load(Relaxed), self.ready_since.load(Relaxed), self.runs_since.load(Relaxed));
+        let (doing, since) = if runs != 0 {
+            (Doing::Runs, runs)
+        } else if ready != 0 {
+            (Doing::Ready, ready)
+        } else {
+            (Doing::Waits, waits)
+        };
+        let age = Duration::from_nanos(now.saturating_sub(since));
+        (self.name.load(Acquire) == id + 1).then(|| TaskInfo { id, about: About { spawned, name }, doing, age })
+    }
+}
+
+impl Shared {
+    /// The poll that a worker is in: its task's name and what is known of it.
+    pub(crate) fn running(&self, worker: usize) -> Option<(u64, About)> {
+        let worker = &self.workers[worker].0;
+        let name = worker.running.load(Relaxed);
+        // SAFETY: what was stored there lives for ever.
+        let spawned: &'static Location<'static> = unsafe { worker.site.load(Relaxed).as_ref()? };
+        // SAFETY: the same.
+        let label: Option<&'static Label> = unsafe { worker.label.load(Relaxed).as_ref() };
+        (name != crate::waker::NOBODY).then(|| (name, About { spawned, name: label }))
+    }
+}

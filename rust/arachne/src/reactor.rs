@@ -1,0 +1,218 @@
+//! One epoll a worker: what its sockets tell, and how it is woken.
+
+use crate::sys::{self, Event};
+use crate::waker::{name_in, wake_name, NOBODY};
+use std::io;
+use std::os::unix::io::RawFd;
+use std::sync::atomic::{AtomicU64, AtomicUsize, Ordering::*};
+use std::sync::{Arc, Mutex};
+use std::task::Waker;
+
+pub(crate) const READ: u64 = 1;
+pub(crate) const WRITE: u64 = 2;
+pub(crate) const READ_CLOSED: u64 = 4;
+pub(crate) const WRITE_CLOSED: u64 = 8;
+const TICK: u64 = 256;
+/// A waker that is no task's of this runtime.
+const OTHER: u64 = NOBODY - 1;
+/// The event's number in its own epoll.
+const WOKEN: u64 = 0;
+
+/// Who is to be woken. A task of the runtime is one word, and needs no lock; any other waker has one.
+pub(crate) struct Slot {
+    table: usize,
+    name: AtomicU64,
+    other: Mutex<Option<Waker>>,
+}
+
+impl Slot {
+    pub(crate) fn new(table: usize) -> Slot {
+        Slot { table, name: AtomicU64::new(NOBODY), other: Mutex::new(None) }
+    }
+
+    #[inline]
+    pub(crate) fn set(&self, waker: &Waker) {
+        match name_in(waker, self.table) {
+            Some(name) => {
+                self.name.swap(name, SeqCst);
+            }
+            None => {
+                *self.other.lock().unwrap() = Some(waker.clone());
+                self.name.swap(OTHER, SeqCst);
+            }
+        }
+    }
+
+    #[inline]
+    pub(crate) fn wake(&self) {
+        match self.name.swap(NOBODY, SeqCst) {
+            NOBODY => {}
+            OTHER => {
+                let waker = self.other.lock().unwrap().take();
+                if let Some(waker) = waker {
+                    waker.wake();
+                }
+            }
+            name => wake_name(self.table, name),
+        }
+    }
+}
+
+/// What is known of a descriptor, and who waits for it. The bits above the lowest eight count what was told, so that a
+/// bit is cleared only where nothing was told since it was seen.
+pub(crate) struct Io {
+    pub(crate) state: AtomicU64,
+    pub(crate) reader: Slot,
+    pub(crate) writer: Slot,
+}
+
+impl Io {
+    /// Clears bits, unless something was told since they were seen; the state after that.
+    #[inline]
+    pub(crate) fn clear(&self, seen: u64, bits: u64) -> u64 {
+        match self.state.compare_exchange(seen, seen & !bits, SeqCst, SeqCst) {
+            Ok(_) => seen & !bits,
+            Err(now) => now,
+        }
+    }
+
+    #[inline]
+    fn tell(&self, events: u32) {
+        let mut bits = 0;
+        if events & (sys::IN | sys::RDHUP | sys::HUP | sys::ERR) != 0 {
+            bits |= READ;
+        }
+        if events & (sys::RDHUP | sys::HUP | sys::ERR) != 0 {
+            bits |= READ_CLOSED;
+        }
+        if events & (sys::OUT | sys::HUP | sys::ERR) != 0 {
+            bits |= WRITE;
+        }
+        if events & (sys::HUP | sys::ERR) != 0 {
+            bits |= WRITE_CLOSED;
+        }
+        let _ = self.state.fetch_update(SeqCst, SeqCst, |state| Some((state | bits).wrapping_add(TICK)));
+        if bits & READ != 0 {
+            self.reader.wake();
+        }
+        if bits & WRITE != 0 {
+            self.writer.wake();
+        }
+    }
+}
+
+/// Descriptors by number. The number has a count of its uses, so that an event of one that is gone finds nobody.
+#[derive(Default)]
+struct Sources {
+    all: Vec<(u32, Option<Arc<Io>>)>,
+    free: Vec<u32>,
+}
+
+pub(crate) struct Reactor {
+    epoll: RawFd,
+    event: RawFd,
+    used: AtomicUsize,
+    events: Mutex<Vec<Event>>,
+    sources: Mutex<Sources>,
+}
+
+/// Where a source stands in its reactor.
+#[derive(Clone, Copy)]
+pub(crate) struct Key(u64);
+
+impl Reactor {
+    pub(crate) fn new() -> io::Result<Reactor> {
+        let (epoll, event) = (sys::new_epoll()?, sys::new_event()?);
+        sys::watch(epoll, event, sys::IN | sys::EDGE, WOKEN)?;
+        Ok(Reactor {
+            epoll,
+            event,
+            used: AtomicUsize::new(0),
+            events: Mutex::new(vec![Event { events: 0, data: 0 }; 256]),
+            sources: Mutex::default(),
+        })
+    }
+
+    #[inline]
+    pub(crate) fn is_used(&self) -> bool {
+        self.used.load(Relaxed) != 0
+    }
+
+    /// Ends the wait of its worker, now or at its next.
+    pub(crate) fn notify(&self) {
+        sys::raise(self.event);
+    }
+
+    pub(crate) fn add(&self, fd: RawFd, table: usize) -> io::Result<(Arc<Io>, Key)> {
+        let io = Arc::new(Io { state: AtomicU64::new(0), reader: Slot::new(table), writer: Slot::new(table) });
+        let key = {
+            let mut sources = self.sources.lock().unwrap();
+            let at = sources.free.pop().unwrap_or(sources.all.len() as u32) as usize;
+            if at == sources.all.len() {
+                sources.all.push((0, None));
+            }
+            sources.all[at].1 = Some(io.clone());
+            Key((sources.all[at].0 as u64) << 32 | (at as u64 + 1))
+        };
+        if let Err(error) = sys::watch(self.epoll, fd, sys::IN | sys::OUT | sys::RDHUP | sys::EDGE, key.0) {
+            self.forget(key);
+            return Err(error);
+        }
+        self.used.fetch_add(1, Relaxed);
+        Ok((io, key))
+    }
+
+    fn forget(&self, key: Key) {
+        let mut sources = self.sources.lock().unwrap();
+        let at = (key.0 as u32 - 1) as usize;
+        sources.all[at].0 = sources.all[at].0.wrapping_add(1) & 0x7fff_ffff;
+        sources.all[at].1 = None;
+        sources.free.push(at as u32);
+    }
+
+    pub(crate) fn remove(&self, fd: RawFd, key: Key) {
+        sys::unwatch(self.epoll, fd);
+        self.used.fetch_sub(1, Relaxed);
+        self.forget(key);
+    }
+
+    fn find(&self, data: u64) -> Option<Arc<Io>> {
+        let sources = self.sources.lock().unwrap();
+        let (uses, io) = sources.all.get(data as u32 as usize - 1)?;
+        io.as_ref().filter(|_| *uses as u64 == data >> 32).cloned()
+    }
+
+    /// Its epoll tells of another's too, by that one's number.
+    pub(crate) fn look_after(&self, number: usize, other: &Reactor) {
+        let _ = sys::watch(self.epoll, other.epoll, sys::IN, 1 << 63 | number as u64);
+    }
+
+    pub(crate) fn let_go(&self, other: &Reactor) {
+        sys::unwatch(self.epoll, other.epoll);
+    }
+
+    /// Waits so many milliseconds (-1: for ever), and wakes who is told of. How many descriptors told something, and
+    /// whether `notify` was called since the last wait.
+    /// `other` is called for the number of each other reactor that has something to tell.
+    pub(crate) fn poll(&self, timeout: i32, mut other: impl FnMut(usize) -> usize) -> (usize, bool) {
+        let mut events = match self.events.try_lock() {
+            Ok(events) => events,
+            Err(_) => return (0, false),
+        };
+        let count = sys::wait(self.epoll, &mut events, timeout);
+        let (mut told, mut notified) = (0, false);
+        for event in &events[..count] {
+            let (data, bits) = (event.data, event.events);
+            if data == WOKEN {
+                sys::lower(self.event);
+                notified = true;
+            } else if data >> 63 == 1 {
+                told += other(data as u32 as usize);
+            } else if let Some(io) = self.find(data) {
+                io.tell(bits);
+                told += 1;
+            }
+        }
+        (told, notified)
+    }
+}

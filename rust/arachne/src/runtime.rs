@@ -1,0 +1,378 @@
+//! A runtime: how it is built, what it is asked, and how it ends.
+
+use crate::block_on::block_on;
+use crate::core::{Woken, BLOCK, SHARD};
+use crate::cores::{Judge, Policy};
+use crate::drain::Signal;
+use crate::observe::{Hooks, TaskInfo, HISTOGRAM};
+use crate::shared::{entered, with_hands, Context, Shared};
+use crate::spawn::Refused;
+use crate::task::{self, About, JoinHandle, Label};
+use crate::timer::now;
+use crate::waker::NOBODY;
+use crate::{sys, watch};
+use std::future::Future;
+use std::io;
+use std::panic::Location;
+use std::sync::atomic::Ordering::*;
+use std::sync::Arc;
+use std::thread;
+use std::time::Duration;
+
+/// Jobs that a worker may have in hand: the one that runs, the next one, those that it took in advance, and those that
+/// yielded.
+const HANDS: usize = 2 + crate::worker::BATCHES + crate::worker::HAND;
+
+/// How a runtime is to be.
+pub struct Builder {
+    cores: usize,
+    places: usize,
+    policy: Option<Policy>,
+    pin: bool,
+    blocking: usize,
+    observed: bool,
+    hooks: Option<Arc<dyn Hooks>>,
+    slow: Option<Duration>,
+    log: bool,
+}
+
+impl Builder {
+    /// So many workers (1 to 64), each a kernel thread. `available_cores` says how many processors there are.
+    pub fn new(cores: usize) -> Builder {
+        Builder {
+            cores: cores.clamp(1, 64),
+            places: 65_536,
+            policy: None,
+            pin: false,
+            blocking: 64,
+            observed: false,
+            hooks: None,
+            slow: None,
+            log: true,
+        }
+    }
+
+    /// Room for so many tasks that have begun and not ended: rounded up to 4,096 for each worker, at most 1,048,576.
+    /// Tasks beyond that wait in a queue until one ends, or are refused by `try_spawn`.
+    pub fn places(mut self, places: usize) -> Builder {
+        self.places = places;
+        self
+    }
+
+    /// Cores are given back and asked for by load.
+    pub fn policy(mut self, policy: Policy) -> Builder {
+        self.policy = Some(policy);
+        self
+    }
+
+    /// Keeps each worker on a processor of its own.
+    pub fn pinned(mut self, pin: bool) -> Builder {
+        self.pin = pin;
+        self
+    }
+
+    /// Kernel threads for `spawn_blocking` at most.
+    pub fn blocking_threads(mut self, most: usize) -> Builder {
+        self.blocking = most;
+        self
+    }
+
+    /// Keeps what `Runtime::tasks` and `Stats::ready_to_taken` say: 48 bytes a place, and some 100 ns a poll.
+    pub fn observed(mut self) -> Builder {
+        self.observed = true;
+        self
+    }
+
+    /// As `observed`, and calls these at each step.
+    pub fn hooks(mut self, hooks: Arc<dyn Hooks>) -> Builder {
+        self.observed = true;
+        self.hooks = Some(hooks);
+        self
+    }
+
+    /// A watcher names each poll that takes longer than that on the standard error stream (unless `log` is false), and
+    /// looks after the ready tasks, sockets and timers of a worker that is in one.
+    pub fn watch_polls(mut self, longer: Duration, log: bool) -> Builder {
+        (self.slow, self.log) = (Some(longer), log);
+        self
+    }
+
+    /// Err where memory, descriptors or kernel threads are refused, or the process has 32 runtimes of other shapes.
+    pub fn build(self) -> io::Result<Runtime> {
+        let each = ((self.places + SHARD * BLOCK - 1) / (SHARD * BLOCK) + self.cores - 1) / self.cores;
+        let most = crate::core::MOST_SHARDS / self.cores * self.cores;
+        let shards = (each.max(1) * self.cores).min(most);
+        let shared = Shared::get(self.cores, shards, self.observed)?;
+        shared.observer.set_hooks(self.hooks);
+        shared.blocking.open(self.blocking);
+        let mut runtime = Runtime { shared, threads: Vec::new(), ended: false };
+        let cpus = if self.pin { sys::affinity() } else { Vec::new() };
+        for me in 0..self.cores {
+            let (policy, cpu) = (self.policy.filter(|_| me == 0), cpus.get(me % cpus.len().max(1)).copied());
+            let hands = shared.root.lock().unwrap().hands(HANDS).ok_or(io::ErrorKind::OutOfMemory)?;
+            let work = move || {
+                cpu.map(sys::pin);
+                *shared.workers[me].0.account.lock().unwrap() = std::fs::File::open("/proc/thread-self/schedstat").ok();
+                let context = Context::new(shared, me, hands);
+                let judge = policy.and_then(|policy| Judge::new(policy, shared));
+                let end = EndsTheProcess;
+                context.enter(|| shared.work(&context, judge));
+                std::mem::forget(end);
+                shared.root.lock().unwrap().join(context.hands);
+            };
+            runtime.threads.push(thread::Builder::new().name(format!("arachne-{me}")).spawn(work)?);
+        }
+        if let Some(longer) = self.slow {
+            let log = self.log;
+            let name = "arachne-watch".to_string();
+            runtime.threads.push(thread::Builder::new().name(name).spawn(move || watch::run(shared, longer, log))?);
+        }
+        Ok(runtime)
+    }
+}
+
+/// What the workers have counted.
+#[derive(Clone, Debug, Default)]
+pub struct Stats {
+    /// Cores held now.
+    pub active: usize,
+    pub polls: u64,
+    pub ended: u64,
+    /// Looks at other workers that brought jobs.
+    pub takes: u64,
+    pub parks: u64,
+    /// Tasks that found no place at once.
+    pub queued: u64,
+    pub adds: u64,
+    pub removes: u64,
+    /// The time for which cores were held, added up over the cores; with a policy alone.
+    pub core_time: Duration,
+    /// Polls that took longer than `Builder::watch_polls` says, and jobs that the watcher ran meanwhile.
+    pub slow_polls: u64,
+    pub rescued: u64,
+    pub workers: Vec<WorkerStats>,
+    /// By power of two of microseconds, how long ready tasks waited to be taken; of an observed runtime alone.
+    pub ready_to_taken: Vec<u64>,
+}
+
+#[derive(Clone, Copy, Debug, Default)]
+pub struct WorkerStats {
+    pub polls: u64,
+    pub ended: u64,
+    pub takes: u64,
+    /// Tasks that waited and were made ready here.
+    pub wakes: u64,
+    pub parks: u64,
+    pub idle: Duration,
+}
+
+/// Kernel threads that run tasks. Dropped, it ends as by `shutdown` with no time.
+pub struct Runtime {
+    shared: &'static Shared,
+    threads: Vec<thread::JoinHandle<()>>,
+    ended: bool,
+}
+
+impl Runtime {
+    /// # Panics
+    /// Where `Builder::build` answers an error.
+    pub fn new(cores: usize) -> Runtime {
+        Builder::new(cores).build().expect("a runtime")
+    }
+
+    #[track_caller]
+    pub fn spawn<F>(&self, future: F) -> JoinHandle<F::Output>
+    where
+        F: Future + Send + 'static,
+        F::Output: Send + 'static,
+    {
+        self.shared.spawn_task(future, About { spawned: Location::caller(), name: None }, false)
+    }
+
+    #[track_caller]
+    pub fn spawn_named<F>(&self, name: &str, future: F) -> JoinHandle<F::Output>
+    where
+        F: Future + Send + 'static,
+        F::Output: Send + 'static,
+    {
+        self.shared.spawn_task(future, About { spawned: Location::caller(), name: Some(Label::of(name)) }, false)
+    }
+
+    /// As `spawn`, unless there are tasks that wait for a place: the future comes back.
+    #[track_caller]
+    pub fn try_spawn<F>(&self, future: F) -> Result<JoinHandle<F::Output>, Refused<F>>
+    where
+        F: Future + Send + 'static,
+        F::Output: Send + 'static,
+    {
+        let queued = self.shared.queued.0.load(Relaxed) != 0;
+        let roomy = self.shared.roomy.iter().any(|word| word.0.load(Relaxed) != 0);
+        if queued || !roomy {
+            return Err(Refused(future));
+        }
+        Ok(self.shared.spawn_task(future, About { spawned: Location::caller(), name: None }, false))
+    }
+
+    /// Runs a future on this kernel thread, with this runtime for its spawns, sockets and timers.
+    pub fn block_on<F: Future>(&self, future: F) -> F::Output {
+        entered(self.shared, || block_on(future))
+    }
+
+    /// Runs `f` with this runtime for its spawns, sockets and timers.
+    pub fn enter<T>(&self, f: impl FnOnce() -> T) -> T {
+        entered(self.shared, f)
+    }
+
+    pub fn stats(&self) -> Stats {
+        let (shared, now) = (self.shared, now());
+        let counts = &shared.counts;
+        let worker = |w: &crate::shared::Worker| WorkerStats {
+            polls: w.polls.load(Relaxed),
+            ended: w.ended.load(Relaxed),
+            takes: w.takes.load(Relaxed),
+            wakes: w.wakes.load(Relaxed),
+            parks: w.parks.load(Relaxed),
+            idle: Duration::from_nanos(w.idle_time(now)),
+        };
+        let workers: Vec<_> = shared.workers.iter().map(|line| worker(&line.0)).collect();
+        let sum = |of: fn(&WorkerStats) -> u64| workers.iter().map(of).sum();
+        Stats {
+            active: shared.active.0.load(Relaxed),
+            polls: sum(|w| w.polls),
+            ended: sum(|w| w.ended),
+            takes: sum(|w| w.takes),
+            parks: sum(|w| w.parks),
+            queued: counts.queued.load(Relaxed),
+            adds: counts.adds.load(Relaxed),
+            removes: counts.removes.load(Relaxed),
+            core_time: Duration::from_nanos(counts.core_time.load(Relaxed)),
+            slow_polls: counts.slow_polls.load(Relaxed),
+            rescued: counts.rescued.load(Relaxed),
+            ready_to_taken: if shared.observer.is_on() { shared.observer.histogram().to_vec() } else { Vec::new() },
+            workers,
+        }
+    }
+
+    /// All tasks that have begun and have not ended, with what they do and for how long; of an observed runtime alone.
+    pub fn tasks(&self) -> Vec<TaskInfo> {
+        self.shared.observer.tasks()
+    }
+
+    /// At that signal (10 is SIGUSR1) the list of `tasks` is written to the standard error stream.
+    pub fn list_tasks_at(&self, signal: i32) -> io::Result<()> {
+        let (shared, signal) = (self.shared, Signal::heard(signal)?);
+        let list = move || {
+            while signal.wait() {
+                for task in shared.observer.tasks() {
+                    eprintln!("arachne: {:?} for {:?}: {}", task.doing, task.age, task.about);
+                }
+            }
+        };
+        thread::Builder::new().name("arachne-list".into()).spawn(list).map(drop)
+    }
+
+    pub(crate) fn shared(&self) -> &'static Shared {
+        self.shared
+    }
+
+    /// Stops: no task runs from then on, and each that has not ended is dropped, on this kernel thread; its handle
+    /// tells `Cancelled`. Returns once all workers' kernel threads are joined, and those of the blocking pool, which
+    /// are waited for. For an end within a time see `shutdown_within`.
+    pub fn shutdown(self) {
+        drop(self);
+    }
+
+    fn end(&mut self) {
+        let shared = self.shared;
+        shared.stop.store(true, SeqCst);
+        for worker in &*shared.workers {
+            let _gate = worker.0.given_back.0.lock().unwrap();
+            worker.0.given_back.1.notify_all();
+            worker.0.reactor.notify();
+        }
+        self.threads.drain(..).for_each(|thread| drop(thread.join()));
+        if self.ended {
+            return;
+        }
+        self.ended = true;
+        let active = shared.active.0.load(SeqCst);
+        for worker in active..shared.workers.len() {
+            shared.workers[worker % active].0.reactor.let_go(&shared.workers[worker].0.reactor);
+        }
+        entered(shared, || end_all(shared));
+        shared.blocking.close(None);
+        entered(shared, || end_all(shared));
+        shared.give();
+    }
+}
+
+impl Drop for Runtime {
+    fn drop(&mut self) {
+        self.end();
+    }
+}
+
+/// A panic of the loop itself, not of a task, would leave jobs in a hand that nobody has.
+struct EndsTheProcess;
+impl Drop for EndsTheProcess {
+    fn drop(&mut self) {
+        eprintln!("arachne: a worker's loop panicked");
+        std::process::abort();
+    }
+}
+
+/// Ends each task that has not ended. No worker runs; a kernel thread may be in the midst of a wake or a spawn, so the
+/// tables are gone through until as many have ended as were spawned.
+fn end_all(shared: &'static Shared) {
+    loop {
+        end_queued(shared);
+        end_placed(shared);
+        if shared.live() == 0 {
+            return;
+        }
+        thread::yield_now();
+    }
+}
+
+/// Ends the tasks that found no place.
+fn end_queued(shared: &'static Shared) {
+    loop {
+        let raw = match shared.queue.lock().unwrap().pop_front() {
+            Some(raw) => raw,
+            None => return,
+        };
+        shared.queued.0.fetch_sub(1, SeqCst);
+        // SAFETY: it was never put into a place, and nobody else has it.
+        unsafe { task::end(raw) };
+        shared.counts.ended_elsewhere.fetch_add(1, SeqCst);
+    }
+}
+
+/// Makes each task ready that waits, and ends all that are ready.
+fn end_placed(shared: &'static Shared) {
+    let mut jobs = Vec::new();
+    with_hands(shared, |hands| {
+        for name in shared.names.iter() {
+            let name = name.swap(NOBODY, Relaxed);
+            if name != NOBODY {
+                if let Woken::Kept(job) = hands.wake(name, true) {
+                    hands.rest_ready(&job);
+                }
+            }
+        }
+        for block in 0..shared.roomy.len() * SHARD {
+            // Each block is asked itself: what shows where jobs are ready may have missed one.
+            while let Some(job) = hands.take_any(block) {
+                jobs.push(job.job);
+                hands.finish(&job);
+                shared.show_room(block);
+            }
+            hands.hide(block);
+        }
+    });
+    shared.counts.ended_elsewhere.fetch_add(jobs.len() as u64, SeqCst);
+    // SAFETY: each was taken out of the table, so it is in this thread's hand, and no name leads to it.
+    jobs.into_iter().for_each(|job| unsafe { task::end(job) });
+}
+
+const _: () = assert!(HISTOGRAM < 64);

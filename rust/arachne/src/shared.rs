@@ -1,0 +1,435 @@
+//! What the kernel threads of a runtime share, and what each of them has of its own.
+
+use crate::blocking::Pool;
+use crate::core::{Hands, Job, Line, Parking, Root, BLOCK, MOST_SHARDS, NUMBERS, SHARD};
+use crate::drain::Draining;
+use crate::observe::Observer;
+use crate::reactor::Reactor;
+use crate::task::{About, Label, Raw};
+use crate::timer::{now, Timers};
+use crate::waker::NOBODY;
+use std::cell::{Cell, RefCell};
+use std::collections::VecDeque;
+use std::fs::File;
+use std::io;
+use std::panic::Location;
+use std::ptr;
+use std::sync::atomic::{AtomicBool, AtomicPtr, AtomicU64, AtomicUsize, Ordering::*};
+use std::sync::{Condvar, Mutex};
+
+/// Runtimes of a process at a time, as each has wakers of its own.
+pub(crate) const TABLES: usize = 32;
+
+const NO_TABLE: AtomicPtr<Shared> = AtomicPtr::new(ptr::null_mut());
+static ALL: [AtomicPtr<Shared>; TABLES] = [NO_TABLE; TABLES];
+/// How many of them were made, and those that no runtime has now. They are never freed: a waker may be kept for ever.
+static POOL: Mutex<(usize, Vec<&'static Shared>)> = Mutex::new((0, Vec::new()));
+
+/// About how many nanoseconds a scan takes that finds nothing.
+const SCAN: u64 = 300;
+
+/// What a runtime's kernel threads share.
+pub(crate) struct Shared {
+    pub(crate) table: usize,
+    pub(crate) root: Mutex<Root>,
+    pub(crate) workers: Box<[Line<Worker>]>,
+    /// By shard: blocks that may have a free place.
+    pub(crate) roomy: Box<[Line<AtomicU64>]>,
+    /// By place: the name of the task that first waited there last, to end it when the runtime ends.
+    pub(crate) names: Box<[AtomicU64]>,
+    /// Workers that sleep, and how many look for work: both only say whom it may be worth to wake.
+    pub(crate) sleepers: Line<AtomicU64>,
+    pub(crate) searching: Line<AtomicUsize>,
+    pub(crate) active: Line<AtomicUsize>,
+    /// Workers in a poll that takes long, for whom another looks after words and epoll.
+    pub(crate) stuck: Line<AtomicU64>,
+    /// Tasks that found no place, not yet begun.
+    pub(crate) queue: Mutex<VecDeque<Raw>>,
+    pub(crate) queued: Line<AtomicUsize>,
+    /// There is no place for what is queued until a task ends.
+    pub(crate) clogged: AtomicBool,
+    pub(crate) stop: AtomicBool,
+    pub(crate) next_home: AtomicUsize,
+    pub(crate) blocking: Pool,
+    pub(crate) observer: Observer,
+    pub(crate) draining: Draining,
+    /// Tasks spawned from outside.
+    pub(crate) spawned: Line<AtomicU64>,
+    pub(crate) counts: Counts,
+}
+
+#[derive(Default)]
+pub(crate) struct Counts {
+    pub(crate) queued: AtomicU64,
+    pub(crate) core_time: AtomicU64,
+    pub(crate) adds: AtomicU64,
+    pub(crate) removes: AtomicU64,
+    pub(crate) slow_polls: AtomicU64,
+    pub(crate) rescued: AtomicU64,
+    pub(crate) ended_elsewhere: AtomicU64,
+}
+
+/// What others see of a worker. Its counts are written by itself alone.
+pub(crate) struct Worker {
+    pub(crate) reactor: Reactor,
+    pub(crate) timers: Timers,
+    /// True while the core is given back.
+    pub(crate) given_back: (Mutex<bool>, Condvar),
+    /// Its shards, and the seats that park in the name of their numbers. Whoever looks after them takes the lock.
+    pub(crate) shards: Box<[usize]>,
+    /// How many of its shards, from the first on, ever had a task: the others needn't be looked at. It only grows.
+    pub(crate) used: AtomicUsize,
+    pub(crate) parking: Mutex<Vec<Parking>>,
+    pub(crate) polls: AtomicU64,
+    pub(crate) spawned: AtomicU64,
+    pub(crate) ended: AtomicU64,
+    pub(crate) takes: AtomicU64,
+    pub(crate) wakes: AtomicU64,
+    pub(crate) parks: AtomicU64,
+    pub(crate) scans: AtomicU64,
+    pub(crate) runnable: AtomicU64,
+    /// Nanoseconds without work, and since when (0: it has work).
+    pub(crate) idle: AtomicU64,
+    pub(crate) idle_since: AtomicU64,
+    /// The kernel's account of this thread: how long it ran, and how long it waited for a processor.
+    pub(crate) account: Mutex<Option<File>>,
+    /// The name of the task in whose poll it is, for the watcher, and what is known of it.
+    pub(crate) running: AtomicU64,
+    pub(crate) site: AtomicPtr<Location<'static>>,
+    pub(crate) label: AtomicPtr<Label>,
+}
+
+#[inline]
+pub(crate) fn add(count: &AtomicU64, n: u64) {
+    count.store(count.load(Relaxed) + n, Relaxed);
+}
+
+impl Worker {
+    fn new(shards: Box<[usize]>, parking: Vec<Parking>) -> io::Result<Worker> {
+        let n = || AtomicU64::new(0);
+        Ok(Worker {
+            reactor: Reactor::new()?,
+            timers: Timers::default(),
+            given_back: (Mutex::new(false), Condvar::new()),
+            shards,
+            used: AtomicUsize::new(1),
+            parking: Mutex::new(parking),
+            polls: n(),
+            spawned: n(),
+            ended: n(),
+            takes: n(),
+            wakes: n(),
+            parks: n(),
+            scans: n(),
+            runnable: n(),
+            idle: n(),
+            idle_since: n(),
+            account: Mutex::new(None),
+            running: AtomicU64::new(NOBODY),
+            site: AtomicPtr::new(ptr::null_mut()),
+            label: AtomicPtr::new(ptr::null_mut()),
+        })
+    }
+
+    /// For the watcher: the task whose poll begins.
+    #[inline]
+    pub(crate) fn begins(&self, name: u64, about: &About) {
+        self.site.store(about.spawned as *const _ as *mut _, Relaxed);
+        self.label.store(about.name.map_or(ptr::null_mut(), |label| label as *const _ as *mut _), Relaxed);
+        self.running.store(name, Relaxed);
+    }
+
+    /// The shards that may have tasks.
+    #[inline]
+    pub(crate) fn used_shards(&self) -> &[usize] {
+        &self.shards[..self.used.load(Relaxed)]
+    }
+
+    /// Nanoseconds without work until now.
+    pub(crate) fn idle_time(&self, now: u64) -> u64 {
+        let since = self.idle_since.load(Relaxed);
+        self.idle.load(Relaxed) + if since == 0 { 0 } else { now.saturating_sub(since) }
+    }
+
+    pub(crate) fn ends_idling(&self) {
+        let now = now();
+        let idle = now.saturating_sub(self.idle_since.swap(0, Relaxed));
+        add(&self.idle, idle);
+        // A worker that never slept would have scanned all that time and found nothing: the policy wants those scans.
+        add(&self.scans, idle / SCAN);
+    }
+
+    fn reset(&self) {
+        *self.given_back.0.lock().unwrap() = false;
+        let counts = [&self.polls, &self.ended, &self.takes, &self.wakes, &self.parks, &self.scans, &self.runnable];
+        counts.iter().for_each(|count| count.store(0, Relaxed));
+        [&self.idle, &self.idle_since].iter().for_each(|count| count.store(0, Relaxed));
+        self.running.store(NOBODY, Relaxed);
+        self.spawned.store(0, Relaxed);
+    }
+}
+
+/// The runtime of this number, if one was ever made.
+#[inline]
+pub(crate) fn shared_of(table: usize) -> Option<&'static Shared> {
+    // SAFETY: what was stored there once is never freed.
+    unsafe { ALL[table].load(Acquire).as_ref() }
+}
+
+impl Shared {
+    /// One that nobody has, of this shape: an old one, or a new one. Err where there are 32 of other shapes or in use,
+    /// or memory or descriptors are refused.
+    pub(crate) fn get(workers: usize, shards: usize, observed: bool) -> io::Result<&'static Shared> {
+        let mut pool = POOL.lock().unwrap();
+        let alike =
+            |s: &&Shared| s.workers.len() == workers && s.roomy.len() == shards && s.observer.is_on() == observed;
+        if let Some(at) = pool.1.iter().position(|s| alike(s)) {
+            let shared = pool.1.swap_remove(at);
+            shared.reset();
+            return Ok(shared);
+        }
+        let refused = || io::Error::new(io::ErrorKind::Other, "too many runtimes, or no memory for one");
+        if pool.0 == TABLES || shards > MOST_SHARDS {
+            return Err(refused());
+        }
+        let shared = Shared::make(pool.0, workers, shards, observed)?.ok_or_else(refused)?;
+        shared.reset();
+        ALL[pool.0].store(shared as *const Shared as *mut Shared, Release);
+        pool.0 += 1;
+        Ok(shared)
+    }
+
+    /// A new one, for ever. None where memory for its table is refused.
+    fn make(table: usize, workers: usize, shards: usize, observed: bool) -> io::Result<Option<&'static Shared>> {
+        let mut root = match Root::new(shards) {
+            Some(root) => root,
+            None => return Ok(None),
+        };
+        let mut made = Vec::new();
+        for me in 0..workers {
+            let numbers = (me..NUMBERS.min(shards)).step_by(workers);
+            let parking = match numbers.map(|n| root.parking(n)).collect::<Option<Vec<_>>>() {
+                Some(parking) => parking,
+                None => return Ok(None),
+            };
+            let mine = (0..shards).filter(|shard| shard % NUMBERS % workers == me).collect();
+            made.push(Line(Worker::new(mine, parking)?));
+        }
+        let places = shards * SHARD * BLOCK;
+        Ok(Some(Box::leak(Box::new(Shared {
+            table,
+            root: Mutex::new(root),
+            workers: made.into(),
+            roomy: (0..shards).map(|_| Line::default()).collect(),
+            names: (0..places).map(|_| AtomicU64::new(NOBODY)).collect(),
+            sleepers: Line::default(),
+            searching: Line::default(),
+            active: Line::default(),
+            stuck: Line::default(),
+            queue: Mutex::default(),
+            queued: Line::default(),
+            clogged: AtomicBool::new(false),
+            stop: AtomicBool::new(false),
+            next_home: AtomicUsize::new(0),
+            blocking: Pool::default(),
+            observer: Observer::new(if observed { places } else { 0 }),
+            draining: Draining::default(),
+            spawned: Line::default(),
+            counts: Counts::default(),
+        }))))
+    }
+
+    fn reset(&self) {
+        self.workers.iter().for_each(|worker| worker.0.reset());
+        self.roomy.iter().for_each(|word| word.0.store(u64::MAX, Relaxed));
+        let counts = &self.counts;
+        let all =
+            [&counts.queued, &counts.core_time, &counts.adds, &counts.removes, &counts.slow_polls, &counts.rescued];
+        counts.ended_elsewhere.store(0, Relaxed);
+        all.iter().for_each(|count| count.store(0, Relaxed));
+        self.sleepers.0.store(0, SeqCst);
+        self.stuck.0.store(0, SeqCst);
+        self.searching.0.store(0, SeqCst);
+        self.active.0.store(self.workers.len(), SeqCst);
+        self.clogged.store(false, SeqCst);
+        self.stop.store(false, SeqCst);
+        self.observer.reset();
+        self.draining.reset();
+        self.spawned.0.store(0, SeqCst);
+    }
+
+    /// Tasks that were spawned and have not ended.
+    pub(crate) fn live(&self) -> u64 {
+        let sum = |count: fn(&Worker) -> &AtomicU64| self.workers.iter().map(|w| count(&w.0).load(SeqCst)).sum::<u64>();
+        let ended = sum(|w| &w.ended) + self.counts.ended_elsewhere.load(SeqCst);
+        (self.spawned.0.load(SeqCst) + sum(|w| &w.spawned)).saturating_sub(ended)
+    }
+
+    /// A worker has woken a task that waited.
+    #[inline]
+    pub(crate) fn woke(&self, worker: usize) {
+        add(&self.workers[worker].0.wakes, 1);
+    }
+
+    /// Nobody uses it any more.
+    pub(crate) fn give(&'static self) {
+        POOL.lock().unwrap().1.push(self);
+    }
+
+    /// The worker whose place that is.
+    #[inline]
+    pub(crate) fn home(&self, place: usize) -> usize {
+        place / (BLOCK * SHARD) % NUMBERS % self.workers.len()
+    }
+
+    /// The worker that looks after this one's words and epoll: itself, or where its core is given back, another.
+    #[inline]
+    pub(crate) fn keeper(&self, worker: usize) -> usize {
+        let active = self.active.0.load(SeqCst);
+        if worker < active {
+            worker
+        } else {
+            worker % active
+        }
+    }
+}
+
+/// What a worker's kernel thread has of its own, for calls from within a task.
+pub(crate) struct Context {
+    pub(crate) shared: &'static Shared,
+    pub(crate) me: usize,
+    pub(crate) hands: Hands,
+    /// The job that runs next. It is in this worker's hand.
+    pub(crate) next: Cell<Option<Job>>,
+    /// The name of the task that runs here, and whether it woke itself.
+    pub(crate) current: Cell<u64>,
+    pub(crate) woken: Cell<bool>,
+    /// What a wake makes ready runs next here; and a wake that makes ready wakes no other worker.
+    pub(crate) keeps: Cell<bool>,
+    pub(crate) quiet: Cell<bool>,
+    pub(crate) block: Cell<usize>,
+    random: Cell<u64>,
+}
+
+thread_local! {
+    static CONTEXT: Cell<*const Context> = const { Cell::new(ptr::null()) };
+    static ENTERED: Cell<Option<&'static Shared>> = const { Cell::new(None) };
+    static SEATS: RefCell<Visitor> = const { RefCell::new(Visitor { seats: Vec::new() }) };
+}
+
+impl Context {
+    pub(crate) fn new(shared: &'static Shared, me: usize, hands: Hands) -> Context {
+        let random = Cell::new((me as u64 + 1).wrapping_mul(0x9e37_79b9_7f4a_7c15));
+        Context {
+            shared,
+            me,
+            hands,
+            next: Cell::new(None),
+            current: Cell::new(NOBODY),
+            woken: Cell::new(false),
+            keeps: Cell::new(true),
+            quiet: Cell::new(false),
+            block: Cell::new(shared.workers[me].0.shards[0] * SHARD),
+            random,
+        }
+    }
+
+    /// This thread's context while it is a worker.
+    #[inline]
+    pub(crate) fn with<R>(call: impl FnOnce(Option<&Context>) -> R) -> R {
+        let context = CONTEXT.with(Cell::get);
+        // SAFETY: `enter` clears the pointer before the context is gone.
+        call(unsafe { context.as_ref() })
+    }
+
+    /// Runs `f` as this worker.
+    pub(crate) fn enter<R>(&self, f: impl FnOnce() -> R) -> R {
+        struct Leave;
+        impl Drop for Leave {
+            fn drop(&mut self) {
+                CONTEXT.with(|context| context.set(ptr::null()));
+            }
+        }
+        CONTEXT.with(|context| context.set(self));
+        let _leave = Leave;
+        f()
+    }
+
+    pub(crate) fn random(&self) -> u64 {
+        let x = next_random(self.random.get());
+        self.random.set(x);
+        x
+    }
+}
+
+fn next_random(mut x: u64) -> u64 {
+    x ^= x << 13;
+    x ^= x >> 7;
+    x ^ x << 17
+}
+
+/// The runtime whose worker this thread is, or that it has entered.
+pub(crate) fn here() -> Option<&'static Shared> {
+    Context::with(|worker| worker.map(|w| w.shared)).or_else(|| ENTERED.with(Cell::get))
+}
+
+/// Runs `f` with this runtime as that of spawns, sockets and timers.
+pub(crate) fn entered<R>(shared: &'static Shared, f: impl FnOnce() -> R) -> R {
+    struct Leave(Option<&'static Shared>);
+    impl Drop for Leave {
+        fn drop(&mut self) {
+            ENTERED.with(|entered| entered.set(self.0));
+        }
+    }
+    let _leave = Leave(ENTERED.with(|entered| entered.replace(Some(shared))));
+    f()
+}
+
+/// A kernel thread that is no worker: its seat at each table that it came to, and the block where it last found room.
+struct Visitor {
+    seats: Vec<Option<(Hands, Cell<usize>)>>,
+}
+
+impl Drop for Visitor {
+    fn drop(&mut self) {
+        for (table, seat) in self.seats.drain(..).enumerate() {
+            if let (Some(shared), Some((hands, _))) = (shared_of(table), seat) {
+                shared.root.lock().unwrap_or_else(|e| e.into_inner()).join(hands);
+            }
+        }
+    }
+}
+
+/// Calls with a seat of this thread, which is no worker of that runtime.
+pub(crate) fn with_hands<R>(shared: &'static Shared, call: impl FnOnce(&Hands) -> R) -> R {
+    visit(shared, |hands, _| call(hands))
+}
+
+/// As `with_hands`, with the block at which this thread last found room.
+pub(crate) fn visit<R>(shared: &'static Shared, call: impl FnOnce(&Hands, &Cell<usize>) -> R) -> R {
+    let mut call = Some(call);
+    let visited = SEATS.try_with(|visitor| {
+        let mut visitor = visitor.try_borrow_mut().ok()?;
+        if visitor.seats.len() <= shared.table {
+            visitor.seats.resize_with(shared.table + 1, || None);
+        }
+        if visitor.seats[shared.table].is_none() {
+            let hands = shared.root.lock().unwrap_or_else(|e| e.into_inner()).hands(1)?;
+            visitor.seats[shared.table] = Some((hands, Cell::new(0)));
+        }
+        let (hands, block) = visitor.seats[shared.table].as_ref()?;
+        call.take().map(|call| call(hands, block))
+    });
+    match (visited, call) {
+        (Ok(Some(result)), _) => result,
+        (_, Some(call)) => {
+            // The thread ends: seats for this one call.
+            let mut root = shared.root.lock().unwrap_or_else(|e| e.into_inner());
+            let hands = root.hands(1).expect("no memory for a seat");
+            let result = call(&hands, &Cell::new(0));
+            root.join(hands);
+            result
+        }
+        (_, None) => unreachable!("a call was made and had no result"),
+    }
+}

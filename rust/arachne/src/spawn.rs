@@ -1,0 +1,196 @@
+//! Where a new task is put, and the functions that make one.
+
+use crate::core::{Hands, Spawned, SHARD};
+use crate::shared::{add, here, visit, Context, Shared};
+use crate::task::{self, About, JoinHandle, Label, Raw};
+use std::cell::Cell;
+use std::fmt;
+use std::future::Future;
+use std::panic::Location;
+use std::sync::atomic::Ordering::*;
+
+/// Tasks from outside that go to one worker before the next one gets some.
+const IN_A_ROW: usize = 16;
+
+/// Tasks that are spawned one after the other stand in so many blocks in turn: the marks of neighbours in a block share a
+/// cache line, on which workers that wake them would meet.
+const SPREAD: usize = 8;
+
+/// No place is free, or the runtime's limit is met: the future comes back.
+pub struct Refused<F>(pub F);
+
+impl<F> fmt::Debug for Refused<F> {
+    fn fmt(&self, f: &mut fmt::Formatter<'_>) -> fmt::Result {
+        f.write_str("Refused")
+    }
+}
+
+impl Shared {
+    /// Puts a task into a free place of a worker's blocks, at first where `block` says.
+    pub(crate) fn spawn_at(&self, hands: &Hands, worker: usize, block: &Cell<usize>, raw: Raw, keep: bool) -> Spawned {
+        let shards = &*self.workers[worker].0.shards;
+        let hint = block.get();
+        let roomy = self.roomy[hint / SHARD].0.load(Relaxed) >> (hint % SHARD) & 1 == 1;
+        if roomy && self.home(hint * crate::core::BLOCK) == worker {
+            match hands.spawn(hint, raw, keep) {
+                Spawned::Full => {}
+                spawned => {
+                    block.set(hint / SPREAD * SPREAD + (hint + 1) % SPREAD);
+                    return spawned;
+                }
+            }
+        }
+        for (index, &shard) in shards.iter().enumerate() {
+            let roomy = &self.roomy[shard].0;
+            let mut bits = roomy.load(SeqCst);
+            if bits != 0 && self.workers[worker].0.used.load(Relaxed) <= index {
+                self.workers[worker].0.used.fetch_max(index + 1, SeqCst);
+            }
+            while bits != 0 {
+                let (bit, at) = (bits & bits.wrapping_neg(), shard * SHARD + bits.trailing_zeros() as usize);
+                let mut spawned = hands.spawn(at, raw, keep);
+                if spawned == Spawned::Full {
+                    // Whoever frees a place sets the bit after that; so it is cleared first, and the block tried again.
+                    roomy.fetch_and(!bit, SeqCst);
+                    spawned = hands.spawn(at, raw, keep);
+                    if spawned != Spawned::Full {
+                        roomy.fetch_or(bit, SeqCst);
+                    }
+                }
+                if spawned != Spawned::Full {
+                    block.set(at);
+                    return spawned;
+                }
+                bits &= bits - 1;
+            }
+        }
+        Spawned::Full
+    }
+
+    /// A new task: at this worker, or from outside at each in turn. Where no place is free, it waits in the queue.
+    #[inline]
+    pub(crate) fn spawn(&'static self, raw: Raw, balanced: bool) {
+        let placed = Context::with(|worker| match worker {
+            Some(worker) if std::ptr::eq(worker.shared, self) => {
+                add(&self.workers[worker.me].0.spawned, 1);
+                self.spawn_here(worker, raw, balanced)
+            }
+            _ => visit(self, |hands, block| {
+                self.spawned.0.fetch_add(1, Relaxed);
+                let active = self.active.0.load(Relaxed);
+                let home = self.next_home.fetch_add(1, Relaxed) / IN_A_ROW % active;
+                self.spawn_among(hands, home, block, raw)
+            }),
+        });
+        if !placed {
+            self.enqueue(raw);
+        }
+    }
+
+    #[inline]
+    fn spawn_here(&'static self, worker: &Context, raw: Raw, balanced: bool) -> bool {
+        if self.queued.0.load(Relaxed) != 0 {
+            return false;
+        }
+        if balanced {
+            let home = self.next_home.fetch_add(IN_A_ROW, Relaxed) / IN_A_ROW % self.active.0.load(Relaxed);
+            if home != worker.me {
+                let block = Cell::new(self.workers[home].0.shards[0] * SHARD);
+                return self.spawn_among(&worker.hands, home, &block, raw);
+            }
+        }
+        match self.spawn_at(&worker.hands, worker.me, &worker.block, raw, true) {
+            Spawned::Kept(job) => {
+                if let Some(before) = worker.next.replace(Some(job)) {
+                    self.make_ready(worker, &before);
+                }
+                true
+            }
+            Spawned::Ready { name, unpark } => {
+                self.published(name, unpark, false);
+                true
+            }
+            Spawned::Full => self.spawn_among(&worker.hands, worker.me + 1, &worker.block, raw),
+        }
+    }
+
+    /// At the first worker from `home` on that has room.
+    fn spawn_among(&self, hands: &Hands, home: usize, block: &Cell<usize>, raw: Raw) -> bool {
+        if self.queued.0.load(Relaxed) != 0 {
+            return false;
+        }
+        let count = self.workers.len();
+        (0..count).any(|i| match self.spawn_at(hands, (home + i) % count, block, raw, false) {
+            Spawned::Ready { name, unpark } => {
+                self.published(name, unpark, false);
+                true
+            }
+            _ => false,
+        })
+    }
+
+    fn enqueue(&self, raw: Raw) {
+        {
+            let mut queue = self.queue.lock().unwrap();
+            queue.push_back(raw);
+            self.queued.0.fetch_add(1, SeqCst);
+        }
+        self.counts.queued.fetch_add(1, Relaxed);
+        self.rouse_any();
+    }
+
+    #[inline]
+    pub(crate) fn spawn_task<F>(&'static self, future: F, about: About, balanced: bool) -> JoinHandle<F::Output>
+    where
+        F: Future + Send + 'static,
+        F::Output: Send + 'static,
+    {
+        let (raw, handle) = task::new(future, about);
+        self.observer.spawns(&about);
+        self.spawn(raw, balanced);
+        handle
+    }
+}
+
+/// Spawns on the runtime whose task or `block_on` this is.
+///
+/// # Panics
+/// Outside of a runtime.
+#[inline]
+#[track_caller]
+pub fn spawn<F>(future: F) -> JoinHandle<F::Output>
+where
+    F: Future + Send + 'static,
+    F::Output: Send + 'static,
+{
+    let about = About { spawned: Location::caller(), name: None };
+    here().expect("spawn outside of a runtime").spawn_task(future, about, false)
+}
+
+/// As `spawn`, with a name.
+///
+/// # Panics
+/// Outside of a runtime.
+#[track_caller]
+pub fn spawn_named<F>(name: &str, future: F) -> JoinHandle<F::Output>
+where
+    F: Future + Send + 'static,
+    F::Output: Send + 'static,
+{
+    let about = About { spawned: Location::caller(), name: Some(Label::of(name)) };
+    here().expect("spawn outside of a runtime").spawn_task(future, about, false)
+}
+
+/// As `spawn`, at the workers in turn: for tasks that live long, such as a connection's.
+///
+/// # Panics
+/// Outside of a runtime.
+#[track_caller]
+pub fn spawn_balanced<F>(future: F) -> JoinHandle<F::Output>
+where
+    F: Future + Send + 'static,
+    F::Output: Send + 'static,
+{
+    let about = About { spawned: Location::caller(), name: None };
+    here().expect("spawn outside of a runtime").spawn_task(future, about, true)
+}

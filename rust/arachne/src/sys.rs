@@ -1,0 +1,173 @@
+//! Linux's calls that the crate needs, declared by hand: epoll, eventfd, sockets, affinity.
+//!
+//! Every `unsafe` block here keeps one rule: the declarations are those of Linux's C library on 64 bits, and each
+//! pointer is to memory that lives through the call. The functions around them are safe.
+
+use std::io;
+use std::os::unix::io::RawFd;
+use std::sync::atomic::{AtomicI32, Ordering::SeqCst};
+
+#[derive(Clone, Copy)]
+#[cfg_attr(target_arch = "x86_64", repr(C, packed))]
+#[cfg_attr(not(target_arch = "x86_64"), repr(C))]
+pub(crate) struct Event {
+    pub(crate) events: u32,
+    pub(crate) data: u64,
+}
+
+extern "C" {
+    fn epoll_create1(flags: i32) -> i32;
+    fn epoll_ctl(epoll: i32, operation: i32, fd: i32, event: *mut Event) -> i32;
+    fn epoll_wait(epoll: i32, events: *mut Event, most: i32, timeout: i32) -> i32;
+    fn eventfd(count: u32, flags: i32) -> i32;
+    fn close(fd: i32) -> i32;
+    fn read(fd: i32, bytes: *mut u8, count: usize) -> isize;
+    fn write(fd: i32, bytes: *const u8, count: usize) -> isize;
+    fn socket(domain: i32, kind: i32, protocol: i32) -> i32;
+    fn connect(fd: i32, address: *const u8, len: u32) -> i32;
+    fn sched_getaffinity(thread: i32, len: usize, mask: *mut u64) -> i32;
+    fn sched_setaffinity(thread: i32, len: usize, mask: *const u64) -> i32;
+    fn clock_gettime(clock: i32, time: *mut [i64; 2]) -> i32;
+    fn signal(number: i32, handler: usize) -> usize;
+}
+
+pub(crate) const IN: u32 = 1;
+pub(crate) const OUT: u32 = 4;
+pub(crate) const ERR: u32 = 8;
+pub(crate) const HUP: u32 = 16;
+pub(crate) const RDHUP: u32 = 0x2000;
+pub(crate) const EDGE: u32 = 1 << 31;
+const ADD: i32 = 1;
+const DELETE: i32 = 2;
+const CLOSE_ON_EXEC: i32 = 0o2000000;
+const NON_BLOCKING: i32 = 0o4000;
+const IN_PROGRESS: i32 = 115;
+
+fn checked(result: i32) -> io::Result<i32> {
+    if result < 0 {
+        Err(io::Error::last_os_error())
+    } else {
+        Ok(result)
+    }
+}
+
+pub(crate) fn new_epoll() -> io::Result<RawFd> {
+    checked(unsafe { epoll_create1(CLOSE_ON_EXEC) })
+}
+
+pub(crate) fn new_event() -> io::Result<RawFd> {
+    checked(unsafe { eventfd(0, CLOSE_ON_EXEC | NON_BLOCKING) })
+}
+
+pub(crate) fn close_fd(fd: RawFd) {
+    unsafe { close(fd) };
+}
+
+pub(crate) fn watch(epoll: RawFd, fd: RawFd, events: u32, data: u64) -> io::Result<()> {
+    checked(unsafe { epoll_ctl(epoll, ADD, fd, &mut Event { events, data }) }).map(drop)
+}
+
+pub(crate) fn unwatch(epoll: RawFd, fd: RawFd) {
+    unsafe { epoll_ctl(epoll, DELETE, fd, &mut Event { events: 0, data: 0 }) };
+}
+
+/// How many of `events` were told; none where the call was interrupted. `timeout` is in milliseconds, -1 for ever.
+pub(crate) fn wait(epoll: RawFd, events: &mut [Event], timeout: i32) -> usize {
+    unsafe { epoll_wait(epoll, events.as_mut_ptr(), events.len() as i32, timeout) }.max(0) as usize
+}
+
+/// Raises the event, which makes its descriptor readable.
+pub(crate) fn raise(event: RawFd) {
+    let one = 1u64.to_ne_bytes();
+    unsafe { write(event, one.as_ptr(), 8) };
+}
+
+/// Clears an event.
+pub(crate) fn lower(event: RawFd) {
+    let mut count = [0; 8];
+    unsafe { read(event, count.as_mut_ptr(), 8) };
+}
+
+/// A socket that doesn't block, and whose connection may still be in progress.
+pub(crate) fn start_connect(to: &std::net::SocketAddr) -> io::Result<RawFd> {
+    let mut bytes = [0u8; 28];
+    bytes[2..4].copy_from_slice(&to.port().to_be_bytes());
+    let (family, len) = match to {
+        std::net::SocketAddr::V4(to) => {
+            bytes[4..8].copy_from_slice(&to.ip().octets());
+            (2u16, 16)
+        }
+        std::net::SocketAddr::V6(to) => {
+            bytes[4..8].copy_from_slice(&to.flowinfo().to_be_bytes());
+            bytes[8..24].copy_from_slice(&to.ip().octets());
+            bytes[24..28].copy_from_slice(&to.scope_id().to_ne_bytes());
+            (10, 28)
+        }
+    };
+    bytes[..2].copy_from_slice(&family.to_ne_bytes());
+    let fd = checked(unsafe { socket(family as i32, 1 | CLOSE_ON_EXEC | NON_BLOCKING, 0) })?;
+    match checked(unsafe { connect(fd, bytes.as_ptr(), len) }) {
+        Err(error) if error.raw_os_error() != Some(IN_PROGRESS) => {
+            close_fd(fd);
+            Err(error)
+        }
+        _ => Ok(fd),
+    }
+}
+
+/// Nanoseconds of the system's monotonic clock.
+#[inline]
+pub(crate) fn now() -> u64 {
+    let mut time = [0i64; 2];
+    unsafe { clock_gettime(1, &mut time) };
+    time[0] as u64 * 1_000_000_000 + time[1] as u64
+}
+
+/// The processors that this kernel thread may run on.
+pub(crate) fn affinity() -> Vec<usize> {
+    let mut mask = [0u64; 16];
+    let len = unsafe { sched_getaffinity(0, 128, mask.as_mut_ptr()) };
+    if len < 0 {
+        return Vec::new();
+    }
+    (0..1024).filter(|cpu| mask[cpu / 64] >> (cpu % 64) & 1 == 1).collect()
+}
+
+/// Keeps this kernel thread on one processor.
+pub(crate) fn pin(cpu: usize) -> bool {
+    let mut mask = [0u64; 16];
+    mask[cpu / 64 % 16] = 1 << (cpu % 64);
+    unsafe { sched_setaffinity(0, 128, mask.as_ptr()) == 0 }
+}
+
+const NO_EVENT: AtomicI32 = AtomicI32::new(-1);
+/// By signal, the event to raise.
+static SIGNALLED: [AtomicI32; 65] = [NO_EVENT; 65];
+
+extern "C" fn handler(number: i32) {
+    // In a signal's context this may raise an event, and nothing else.
+    if let Some(event) = SIGNALLED.get(number as usize) {
+        raise(event.load(SeqCst));
+    }
+}
+
+/// Raises the event at that signal, in place of what the process did at it. One event a signal: the last that was given.
+pub(crate) fn raise_at(number: i32, event: RawFd) -> io::Result<()> {
+    let kept = SIGNALLED.get(number as usize).ok_or(io::ErrorKind::InvalidInput)?;
+    kept.store(event, SeqCst);
+    match unsafe { signal(number, handler as extern "C" fn(i32) as usize) } {
+        usize::MAX => Err(io::Error::last_os_error()),
+        _ => Ok(()),
+    }
+}
+
+/// Waits until the event is raised, and clears it.
+pub(crate) fn await_event(event: RawFd) -> bool {
+    let mut count = [0; 8];
+    unsafe { read(event, count.as_mut_ptr(), 8) == 8 }
+}
+
+/// As `new_event`, one that blocks who waits for it.
+pub(crate) fn new_blocking_event() -> io::Result<RawFd> {
+    checked(unsafe { eventfd(0, CLOSE_ON_EXEC) })
+}

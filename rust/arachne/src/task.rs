@@ -1,0 +1,349 @@
+//! A task: its future, then its output, behind one pointer. The runtime owns it until it has ended, and the handle on
+//! its output until that is dropped; whoever is last frees it.
+
+use crate::waker::{wake_name, NOBODY};
+use std::any::Any;
+use std::cell::UnsafeCell;
+use std::fmt;
+use std::future::Future;
+use std::marker::PhantomData;
+use std::panic::{catch_unwind, AssertUnwindSafe, Location};
+use std::pin::Pin;
+use std::ptr::NonNull;
+use std::sync::atomic::{AtomicU32, AtomicU64, Ordering::*};
+use std::sync::Mutex;
+use std::task::{Context, Poll, Waker};
+
+/// The output is there.
+const COMPLETE: u32 = 1;
+/// A handle on the output is there.
+const JOINED: u32 = 2;
+/// `join_waker` is set, and the ender's to read.
+const WAITING: u32 = 4;
+/// The ender no longer touches the task.
+const SETTLED: u32 = 8;
+/// It is to end at its next turn.
+const ABORTED: u32 = 16;
+
+/// Why a task has no output.
+pub enum JoinError {
+    /// It panicked with this.
+    Panicked(Box<dyn Any + Send>),
+    /// `JoinHandle::abort` ended it.
+    Aborted,
+    /// The runtime ended before it did.
+    Cancelled,
+}
+
+impl JoinError {
+    pub fn is_panic(&self) -> bool {
+        matches!(self, JoinError::Panicked(_))
+    }
+}
+
+impl fmt::Debug for JoinError {
+    fn fmt(&self, f: &mut fmt::Formatter<'_>) -> fmt::Result {
+        f.write_str(match self {
+            JoinError::Panicked(_) => "Panicked",
+            JoinError::Aborted => "Aborted",
+            JoinError::Cancelled => "Cancelled",
+        })
+    }
+}
+
+impl fmt::Display for JoinError {
+    fn fmt(&self, f: &mut fmt::Formatter<'_>) -> fmt::Result {
+        f.write_str(match self {
+            JoinError::Panicked(_) => "the task panicked",
+            JoinError::Aborted => "the task was aborted",
+            JoinError::Cancelled => "the runtime ended before the task did",
+        })
+    }
+}
+
+impl std::error::Error for JoinError {}
+
+struct VTable {
+    /// Polls the future; true where it has ended, and the output is laid down.
+    poll: unsafe fn(*mut Header, &mut Context<'_>) -> bool,
+    /// Drops the future, with an error for its output.
+    cancel: unsafe fn(*mut Header, JoinError),
+    take_output: unsafe fn(*mut Header, *mut ()),
+    free: unsafe fn(*mut Header),
+}
+
+pub(crate) struct Header {
+    state: AtomicU32,
+    /// The runtime's number and the task's name there, once it has been polled.
+    table: AtomicU32,
+    name: AtomicU64,
+    vtable: &'static VTable,
+    join_waker: UnsafeCell<Option<Waker>>,
+    about: About,
+}
+
+/// What is known of a task: where it was spawned, and the name that it was given.
+#[derive(Clone, Copy, PartialEq, Eq, Debug)]
+pub struct About {
+    pub spawned: &'static Location<'static>,
+    pub name: Option<&'static Label>,
+}
+
+/// A name for tasks. Equal names are one label, and a label is kept for good, so a program has a bounded number.
+#[derive(PartialEq, Eq, Debug)]
+pub struct Label(String);
+
+static LABELS: Mutex<Vec<&'static Label>> = Mutex::new(Vec::new());
+
+impl Label {
+    pub fn of(text: &str) -> &'static Label {
+        let mut labels = LABELS.lock().unwrap();
+        if let Some(label) = labels.iter().find(|label| label.0 == text) {
+            return label;
+        }
+        let label: &'static Label = Box::leak(Box::new(Label(text.to_string())));
+        labels.push(label);
+        label
+    }
+
+    pub fn as_str(&self) -> &str {
+        &self.0
+    }
+}
+
+impl fmt::Display for About {
+    fn fmt(&self, f: &mut fmt::Formatter<'_>) -> fmt::Result {
+        match self.name {
+            Some(name) => write!(f, "{} ({})", name.0, self.spawned),
+            None => write!(f, "task of {}", self.spawned),
+        }
+    }
+}
+
+enum Stage<F: Future> {
+    Running(F),
+    Done(Result<F::Output, JoinError>),
+    Spent,
+}
+
+#[repr(C)]
+struct Task<F: Future> {
+    header: Header,
+    stage: UnsafeCell<Stage<F>>,
+}
+
+/// The runtime's part of a task, as the number that the core keeps: made by `new`, used by `run`, spent by its end.
+pub(crate) type Raw = u64;
+
+pub(crate) fn new<F>(future: F, about: About) -> (Raw, JoinHandle<F::Output>)
+where
+    F: Future + Send + 'static,
+    F::Output: Send + 'static,
+{
+    let task = Box::new(Task {
+        header: Header {
+            state: AtomicU32::new(JOINED),
+            table: AtomicU32::new(0),
+            name: AtomicU64::new(NOBODY),
+            vtable: &VTable { poll: poll::<F>, cancel: cancel::<F>, take_output: take_output::<F>, free: free::<F> },
+            join_waker: UnsafeCell::new(None),
+            about,
+        },
+        stage: UnsafeCell::new(Stage::Running(future)),
+    });
+    let at = NonNull::from(Box::leak(task)).cast::<Header>();
+    (at.as_ptr() as usize as Raw, JoinHandle { at, of: PhantomData })
+}
+
+#[inline]
+fn at(raw: Raw) -> *mut Header {
+    raw as usize as *mut Header
+}
+
+/// Polls a task; true where it has ended, which its handle has been told, and `raw` is spent.
+///
+/// # Safety
+/// `raw` is from `new` and not spent, and the caller has it in hand.
+#[inline]
+pub(crate) unsafe fn run(raw: Raw, table: usize, name: u64, cx: &mut Context<'_>) -> bool {
+    let header = at(raw);
+    if (*header).name.load(Relaxed) == NOBODY {
+        // Whoever aborts sets its bit and then reads the name; here the name is written and then the bit is read.
+        (*header).table.store(table as u32, Relaxed);
+        (*header).name.store(name, SeqCst);
+    }
+    if (*header).state.load(SeqCst) & ABORTED != 0 {
+        ((*header).vtable.cancel)(header, JoinError::Aborted);
+    } else if !((*header).vtable.poll)(header, cx) {
+        return false;
+    }
+    complete(header);
+    true
+}
+
+/// Ends a task that has not ended, without its output.
+///
+/// # Safety
+/// As of `run`.
+pub(crate) unsafe fn end(raw: Raw) {
+    let header = at(raw);
+    ((*header).vtable.cancel)(header, JoinError::Cancelled);
+    complete(header);
+}
+
+/// # Safety
+/// As of `run`.
+#[inline]
+pub(crate) unsafe fn about(raw: Raw) -> About {
+    (*at(raw)).about
+}
+
+unsafe fn complete(header: *mut Header) {
+    let before = (*header).state.fetch_or(COMPLETE, AcqRel);
+    if before & JOINED == 0 {
+        ((*header).vtable.free)(header);
+    } else if before & WAITING != 0 {
+        // The handle's side leaves the waker alone while COMPLETE is set and SETTLED is not.
+        let waker = (*(*header).join_waker.get()).take();
+        if let Some(waker) = waker {
+            let _ = catch_unwind(AssertUnwindSafe(|| waker.wake()));
+        }
+        if (*header).state.fetch_or(SETTLED, AcqRel) & JOINED == 0 {
+            ((*header).vtable.free)(header);
+        }
+    }
+    // With neither, the handle has the task for itself from the moment that it sees COMPLETE.
+}
+
+unsafe fn poll<F: Future>(header: *mut Header, cx: &mut Context<'_>) -> bool {
+    let task = header.cast::<Task<F>>();
+    let stage = (*task).stage.get();
+    let polled = catch_unwind(AssertUnwindSafe(|| match &mut *stage {
+        // SAFETY: the future stays in its box until it is dropped there.
+        Stage::Running(future) => Pin::new_unchecked(future).poll(cx),
+        _ => unreachable!("a task was polled after its end"),
+    }));
+    let output = match polled {
+        Ok(Poll::Pending) => return false,
+        Ok(Poll::Ready(output)) => Ok(output),
+        Err(payload) => Err(JoinError::Panicked(payload)),
+    };
+    lay(stage, output);
+    true
+}
+
+unsafe fn cancel<F: Future>(header: *mut Header, why: JoinError) {
+    let task = header.cast::<Task<F>>();
+    lay((*task).stage.get(), Err(why));
+}
+
+/// Drops the future in place, and lays the output down.
+unsafe fn lay<F: Future>(stage: *mut Stage<F>, output: Result<F::Output, JoinError>) {
+    let dropped = catch_unwind(AssertUnwindSafe(|| std::ptr::drop_in_place(stage)));
+    let output = match (dropped, output) {
+        (Err(payload), Ok(output)) => {
+            let _ = catch_unwind(AssertUnwindSafe(|| drop(output)));
+            Err(JoinError::Panicked(payload))
+        }
+        (_, output) => output,
+    };
+    std::ptr::write(stage, Stage::Done(output));
+}
+
+unsafe fn take_output<F: Future>(header: *mut Header, to: *mut ()) {
+    let task = header.cast::<Task<F>>();
+    let stage = (*task).stage.get();
+    match std::mem::replace(&mut *stage, Stage::Spent) {
+        Stage::Done(output) => to.cast::<Poll<Result<F::Output, JoinError>>>().write(Poll::Ready(output)),
+        _ => panic!("a task's handle was polled after it was ready"),
+    }
+}
+
+unsafe fn free<F: Future>(header: *mut Header) {
+    let task = Box::from_raw(header.cast::<Task<F>>());
+    let _ = catch_unwind(AssertUnwindSafe(|| drop(task)));
+}
+
+/// A handle on a task's output: a future of it. Dropped, it leaves the task to run on its own.
+pub struct JoinHandle<T> {
+    at: NonNull<Header>,
+    of: PhantomData<T>,
+}
+// SAFETY: the handle reads the output, and drops it, on the thread that has it; all else of the task is atomic.
+unsafe impl<T: Send> Send for JoinHandle<T> {}
+// SAFETY: what a shared handle can do is atomic.
+unsafe impl<T: Send> Sync for JoinHandle<T> {}
+impl<T> Unpin for JoinHandle<T> {}
+
+impl<T> JoinHandle<T> {
+    #[inline]
+    fn header(&self) -> &Header {
+        // SAFETY: a task with a handle is not freed.
+        unsafe { self.at.as_ref() }
+    }
+
+    pub fn is_finished(&self) -> bool {
+        self.header().state.load(Acquire) & COMPLETE != 0
+    }
+
+    /// Ends the task at its next turn: its future is dropped, and the handle's output is `JoinError::Aborted`. A task
+    /// that has ended, or ends in the turn that runs, has its output as before.
+    pub fn abort(&self) {
+        let header = self.header();
+        header.state.fetch_or(ABORTED, SeqCst);
+        let name = header.name.load(SeqCst);
+        if name != NOBODY {
+            wake_name(header.table.load(Relaxed) as usize, name);
+        }
+    }
+
+    /// Where the task was spawned, and its name.
+    pub fn about(&self) -> About {
+        self.header().about
+    }
+}
+
+impl<T> Future for JoinHandle<T> {
+    type Output = Result<T, JoinError>;
+    fn poll(self: Pin<&mut Self>, cx: &mut Context<'_>) -> Poll<Self::Output> {
+        let header = self.header();
+        let mut state = header.state.load(Acquire);
+        if state & (COMPLETE | WAITING) == WAITING {
+            // Take the waker back, unless the task ends first.
+            state = header.state.fetch_and(!WAITING, AcqRel);
+            if state & COMPLETE != 0 {
+                header.state.fetch_or(WAITING, AcqRel);
+            }
+        }
+        if state & COMPLETE == 0 {
+            let place = header.join_waker.get();
+            // SAFETY: with WAITING clear, and COMPLETE clear when that was seen, the waker is the handle's.
+            unsafe {
+                if !matches!(&*place, Some(waker) if waker.will_wake(cx.waker())) {
+                    *place = Some(cx.waker().clone());
+                }
+            }
+            if header.state.fetch_or(WAITING, AcqRel) & COMPLETE == 0 {
+                return Poll::Pending;
+            }
+            // It ended before it could see who waits, so nobody else reads the waker.
+            header.state.fetch_and(!WAITING, AcqRel);
+        }
+        let mut output: Poll<Self::Output> = Poll::Pending;
+        let to: *mut Poll<Self::Output> = &mut output;
+        // SAFETY: the output is laid down, and of this type; the handle alone takes it.
+        unsafe { (header.vtable.take_output)(self.at.as_ptr(), to.cast()) };
+        output
+    }
+}
+
+impl<T> Drop for JoinHandle<T> {
+    fn drop(&mut self) {
+        let before = self.header().state.fetch_and(!JOINED, AcqRel);
+        // Not ended: the ender frees it. Ended and telling: the ender frees it too.
+        if before & COMPLETE != 0 && (before & WAITING == 0 || before & SETTLED != 0) {
+            // SAFETY: the ender no longer touches it, and the handle is gone.
+            unsafe { (self.header().vtable.free)(self.at.as_ptr()) };
+        }
+    }
+}

@@ -1,0 +1,194 @@
+//! Sleeping and time limits: each worker has its timers, which it looks at when it looks at its epoll.
+
+use crate::shared::{here, Context as Worker, Shared};
+use std::collections::BTreeMap;
+use std::fmt;
+use std::future::Future;
+use std::pin::Pin;
+use std::sync::atomic::{AtomicU64, Ordering::*};
+use std::sync::Mutex;
+use std::task::{Context, Poll, Waker};
+use std::time::{Duration, Instant};
+
+/// Nanoseconds of the system's monotonic clock.
+pub(crate) use crate::sys::now;
+
+type Key = (u64, u64);
+
+#[derive(Default)]
+struct Queue {
+    waiting: BTreeMap<Key, Waker>,
+    made: u64,
+}
+
+/// The timers of one worker.
+pub(crate) struct Timers {
+    /// When the first is due; `u64::MAX` where there is none.
+    next: AtomicU64,
+    queue: Mutex<Queue>,
+}
+
+impl Default for Timers {
+    fn default() -> Timers {
+        Timers { next: AtomicU64::new(u64::MAX), queue: Mutex::default() }
+    }
+}
+
+impl Timers {
+    #[inline]
+    pub(crate) fn next(&self) -> u64 {
+        self.next.load(Relaxed)
+    }
+
+    /// Adds one; true where it is the first that is due.
+    fn add(&self, at: u64, waker: Waker) -> (Key, bool) {
+        let mut queue = self.queue.lock().unwrap();
+        queue.made += 1;
+        let key = (at, queue.made);
+        queue.waiting.insert(key, waker);
+        let first = at < self.next.load(Relaxed);
+        if first {
+            self.next.store(at, SeqCst);
+        }
+        (key, first)
+    }
+
+    /// Another waker for one that waits. False where it was woken.
+    fn renew(&self, key: Key, waker: &Waker) -> bool {
+        let mut queue = self.queue.lock().unwrap();
+        match queue.waiting.get_mut(&key) {
+            Some(old) => {
+                if !old.will_wake(waker) {
+                    *old = waker.clone();
+                }
+                true
+            }
+            None => false,
+        }
+    }
+
+    fn remove(&self, key: Key) {
+        let mut queue = self.queue.lock().unwrap();
+        if queue.waiting.remove(&key).is_some() {
+            self.settle(&queue);
+        }
+    }
+
+    fn settle(&self, queue: &Queue) {
+        self.next.store(queue.waiting.keys().next().map_or(u64::MAX, |key| key.0), SeqCst);
+    }
+
+    /// Wakes those that are due; how many.
+    pub(crate) fn fire(&self, now: u64) -> usize {
+        let due = {
+            let mut queue = self.queue.lock().unwrap();
+            let later = queue.waiting.split_off(&(now + 1, 0));
+            let due = std::mem::replace(&mut queue.waiting, later);
+            self.settle(&queue);
+            due
+        };
+        let count = due.len();
+        due.into_iter().for_each(|(_, waker)| waker.wake());
+        count
+    }
+}
+
+/// A future that is ready at its time; see `sleep`.
+#[must_use = "a sleep does nothing unless it is awaited"]
+pub struct Sleep {
+    at: u64,
+    waits: Option<(&'static Timers, Key)>,
+}
+
+/// Waits for at least so long; a worker looks at its timers once a millisecond at best.
+pub fn sleep(duration: Duration) -> Sleep {
+    let nanos = duration.as_nanos().min(u64::MAX as u128 / 4) as u64;
+    Sleep { at: now().saturating_add(nanos), waits: None }
+}
+
+/// As `sleep`, until a moment.
+pub fn sleep_until(moment: Instant) -> Sleep {
+    sleep(moment.saturating_duration_since(Instant::now()))
+}
+
+impl Sleep {
+    fn start(&mut self, waker: &Waker) {
+        let shared = here().expect("a sleep outside of a runtime");
+        let me = Worker::with(|worker| worker.filter(|w| std::ptr::eq(w.shared, shared)).map(|w| w.me));
+        let worker = &shared.workers[me.unwrap_or(0)].0;
+        let (key, first) = worker.timers.add(self.at, waker.clone());
+        if first && me.is_none() {
+            worker.reactor.notify();
+        }
+        self.waits = Some((&worker.timers, key));
+    }
+}
+
+impl Future for Sleep {
+    type Output = ();
+    fn poll(mut self: Pin<&mut Self>, cx: &mut Context<'_>) -> Poll<()> {
+        if now() >= self.at {
+            return Poll::Ready(());
+        }
+        match self.waits {
+            Some((timers, key)) if timers.renew(key, cx.waker()) => {}
+            _ => self.start(cx.waker()),
+        }
+        Poll::Pending
+    }
+}
+
+impl Drop for Sleep {
+    fn drop(&mut self) {
+        if let Some((timers, key)) = self.waits {
+            timers.remove(key);
+        }
+    }
+}
+
+/// The time was over before the future was ready.
+#[derive(Clone, Copy, PartialEq, Eq, Debug)]
+pub struct Elapsed;
+
+impl fmt::Display for Elapsed {
+    fn fmt(&self, f: &mut fmt::Formatter<'_>) -> fmt::Result {
+        f.write_str("the time was over")
+    }
+}
+impl std::error::Error for Elapsed {}
+
+/// See `timeout`.
+#[must_use = "a timeout does nothing unless it is awaited"]
+pub struct Timeout<F> {
+    future: F,
+    sleep: Sleep,
+}
+
+/// The future's output, or `Elapsed` once so much time is over.
+pub fn timeout<F: Future>(duration: Duration, future: F) -> Timeout<F> {
+    Timeout { future, sleep: sleep(duration) }
+}
+
+impl<F: Future> Future for Timeout<F> {
+    type Output = Result<F::Output, Elapsed>;
+    fn poll(self: Pin<&mut Self>, cx: &mut Context<'_>) -> Poll<Self::Output> {
+        // SAFETY: the future is not moved out of `self`, which has no Drop of its own; a sleep may move.
+        let (future, sleep) = unsafe {
+            let this = self.get_unchecked_mut();
+            (Pin::new_unchecked(&mut this.future), &mut this.sleep)
+        };
+        if let Poll::Ready(output) = future.poll(cx) {
+            return Poll::Ready(Ok(output));
+        }
+        Pin::new(sleep).poll(cx).map(|()| Err(Elapsed))
+    }
+}
+
+/// How long a worker that looks after these may sleep, in milliseconds, -1 for ever.
+pub(crate) fn rest(shared: &Shared, workers: impl Iterator<Item = usize>) -> i32 {
+    let next = workers.map(|worker| shared.workers[worker].0.timers.next()).min().unwrap_or(u64::MAX);
+    if next == u64::MAX {
+        return -1;
+    }
+    (next.saturating_sub(now()).saturating_add(999_999) / 1_000_000).min(60_000) as i32
+}

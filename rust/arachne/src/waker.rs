@@ -1,0 +1,84 @@
+//! Wakers of tasks: a task's name in the one word that a waker has, and a table of functions for each runtime.
+//!
+//! So a waker is copied and dropped for nothing, and one of a task that has ended finds nobody.
+
+use crate::core::{place_of, Woken};
+use crate::shared::{shared_of, with_hands, Context as Worker, TABLES};
+use std::mem::ManuallyDrop;
+use std::task::{RawWaker, RawWakerVTable, Waker};
+
+/// No task's name.
+pub(crate) const NOBODY: u64 = u64::MAX;
+
+unsafe fn clone<const TABLE: usize>(data: *const ()) -> RawWaker {
+    RawWaker::new(data, &VTABLES[TABLE])
+}
+unsafe fn wake<const TABLE: usize>(data: *const ()) {
+    wake_name(TABLE, data as usize as u64);
+}
+unsafe fn nothing(_: *const ()) {}
+
+const fn of<const TABLE: usize>() -> RawWakerVTable {
+    RawWakerVTable::new(clone::<TABLE>, wake::<TABLE>, wake::<TABLE>, nothing)
+}
+
+macro_rules! tables {
+    ($($n:literal)*) => { [$(of::<$n>()),*] };
+}
+static VTABLES: [RawWakerVTable; TABLES] =
+    tables!(0 1 2 3 4 5 6 7 8 9 10 11 12 13 14 15 16 17 18 19 20 21 22 23 24 25 26 27 28 29 30 31);
+
+/// The waker of a task, which must not be dropped, and needs no drop.
+#[inline]
+pub(crate) fn waker_of(table: usize, name: u64) -> ManuallyDrop<Waker> {
+    // SAFETY: the functions of VTABLES take any word.
+    ManuallyDrop::new(unsafe { Waker::from_raw(RawWaker::new(name as usize as *const (), &VTABLES[table])) })
+}
+
+/// The name of the running task, where this waker is the task's and of this runtime.
+#[inline]
+pub(crate) fn name_in(waker: &Waker, table: usize) -> Option<u64> {
+    Worker::with(|worker| {
+        let worker = worker.filter(|w| w.shared.table == table)?;
+        let name = worker.current.get();
+        (name != NOBODY && waker.will_wake(&waker_of(table, name))).then(|| name)
+    })
+}
+
+/// Wakes the task of this name, if there is one.
+pub(crate) fn wake_name(table: usize, name: u64) {
+    let shared = match shared_of(table) {
+        Some(shared) => shared,
+        None => return,
+    };
+    Worker::with(|worker| match worker {
+        Some(worker) if worker.shared.table == table => {
+            if worker.current.get() == name {
+                // It is in this worker's hand: it rests as ready once its poll returns.
+                worker.woken.set(true);
+                return;
+            }
+            match worker.hands.wake(name, worker.keeps.get()) {
+                Woken::Kept(job) => {
+                    shared.woke(worker.me);
+                    shared.observer.ready(place_of(name));
+                    if let Some(before) = worker.next.replace(Some(job)) {
+                        shared.make_ready(worker, &before);
+                    }
+                }
+                Woken::Ready { unpark } => {
+                    shared.woke(worker.me);
+                    shared.observer.ready(place_of(name));
+                    shared.published(name, unpark, worker.quiet.get());
+                }
+                Woken::Marked | Woken::Gone => {}
+            }
+        }
+        _ => {
+            if let Woken::Ready { unpark } = with_hands(shared, |hands| hands.wake(name, false)) {
+                shared.observer.ready(place_of(name));
+                shared.published(name, unpark, false);
+            }
+        }
+    })
+}

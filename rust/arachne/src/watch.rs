@@ -1,0 +1,153 @@
+//! The watcher of slow polls: names them, and looks after the ready tasks, sockets and timers of a worker that is in one.
+
+use crate::core::{Hands, Job, Rested, SHARD};
+use crate::shared::Shared;
+use crate::task;
+use crate::timer::now;
+use crate::waker::{waker_of, NOBODY};
+use std::sync::atomic::Ordering::*;
+use std::thread;
+use std::time::Duration;
+
+/// For so many nanoseconds it looks after workers that are stuck, before it looks who else is.
+const TURN: u64 = 2_000_000;
+
+struct Seen {
+    polls: u64,
+    name: u64,
+    since: u64,
+    told: bool,
+}
+
+/// Looks at all workers until the runtime stops.
+pub(crate) fn run(shared: &'static Shared, longer: Duration, log: bool) {
+    let tick = (longer / 8).clamp(Duration::from_micros(500), Duration::from_millis(5));
+    let longer = longer.as_nanos() as u64;
+    let mut seen: Vec<Seen> =
+        shared.workers.iter().map(|_| Seen { polls: 0, name: NOBODY, since: 0, told: false }).collect();
+    let hands = shared.root.lock().unwrap().hands(4).expect("no memory for a seat");
+    while !shared.stop.load(SeqCst) {
+        if shared.stuck.0.load(Relaxed) == 0 {
+            thread::sleep(tick);
+        }
+        let now = now();
+        let mut stuck = 0;
+        for (worker, seen) in seen.iter_mut().enumerate() {
+            let age = age_of_poll(shared, worker, seen, now);
+            // A worker is relieved before its poll is one to be named.
+            if age > longer / 4 {
+                stuck |= 1 << worker;
+            }
+            if age > longer && !seen.told {
+                seen.told = true;
+                shared.counts.slow_polls.fetch_add(1, Relaxed);
+                tell(shared, worker, age, log);
+            }
+        }
+        shared.stuck.0.store(stuck, SeqCst);
+        if stuck != 0 {
+            rescue(shared, &hands, stuck);
+        }
+    }
+    shared.stuck.0.store(0, SeqCst);
+    shared.root.lock().unwrap().join(hands);
+}
+
+/// For how long the worker has been in one poll, as far as was seen; 0 where it is in none.
+fn age_of_poll(shared: &Shared, worker: usize, seen: &mut Seen, now: u64) -> u64 {
+    let counts = &shared.workers[worker].0;
+    let (polls, name) = (counts.polls.load(Relaxed), counts.running.load(Relaxed));
+    if name == NOBODY || polls != seen.polls || name != seen.name {
+        *seen = Seen { polls, name, since: now, told: false };
+    }
+    if name == NOBODY {
+        0
+    } else {
+        now - seen.since
+    }
+}
+
+fn tell(shared: &Shared, worker: usize, age: u64, log: bool) {
+    if let (true, Some((_, about))) = (log, shared.running(worker)) {
+        eprintln!("arachne: worker {worker} is in a poll for {} ms: {about}", age / 1_000_000);
+    }
+}
+
+/// In place of workers that are stuck: looks at their epolls and timers, and wakes another worker or, where each is
+/// stuck, runs what is ready. Until each that was stuck gets on, or a while is over and others may be.
+fn rescue(shared: &'static Shared, hands: &Hands, stuck: u64) {
+    let polls: Vec<u64> = shared.workers.iter().map(|w| w.0.polls.load(Relaxed)).collect();
+    let all = u64::MAX >> (64 - shared.active.0.load(Relaxed));
+    let (mut left, until) = (stuck, now() + TURN);
+    while left != 0 && now() < until && !shared.stop.load(SeqCst) {
+        let mut found = 0;
+        for worker in 0..polls.len() {
+            if left >> worker & 1 == 0 {
+                continue;
+            }
+            let at = &shared.workers[worker].0;
+            found += shared.poll_for(worker);
+            found += shared.fire(worker);
+            if at.polls.load(Relaxed) != polls[worker] || at.running.load(Relaxed) == NOBODY {
+                left &= !(1 << worker);
+            }
+        }
+        for worker in (0..polls.len()).filter(|w| left >> w & 1 == 1) {
+            if all & !left == 0 {
+                found += run_some(shared, hands, worker);
+            } else if shared.ready(hands, worker) != 0 {
+                shared.rouse_any();
+            }
+        }
+        if found == 0 {
+            thread::sleep(Duration::from_micros(200));
+        }
+    }
+}
+
+/// Runs what is ready at a worker's places; how many ran.
+fn run_some(shared: &'static Shared, hands: &Hands, worker: usize) -> usize {
+    let mut ran = 0;
+    let mut job = [Job { name: 0, job: 0, seat: 0 }];
+    for &shard in &*shared.workers[worker].0.shards {
+        let mut bits = hands.shown(shard);
+        while bits != 0 {
+            let block = shard * SHARD + bits.trailing_zeros() as usize;
+            bits &= bits - 1;
+            while ran < 64 && hands.take(block, 0, &mut job) != 0 {
+                run_one(shared, hands, &job[0]);
+                ran += 1;
+            }
+        }
+    }
+    ran
+}
+
+fn run_one(shared: &'static Shared, hands: &Hands, job: &Job) {
+    let waker = waker_of(shared.table, job.name);
+    // SAFETY: the job is in this thread's hand until it is laid down or spent below.
+    let about = unsafe { task::about(job.job) };
+    shared.observer.begins(job, &about);
+    shared.counts.rescued.fetch_add(1, Relaxed);
+    // SAFETY: as above.
+    let ended = crate::shared::entered(shared, || unsafe {
+        task::run(job.job, shared.table, job.name, &mut std::task::Context::from_waker(&waker))
+    });
+    shared.observer.stops(job, ended);
+    if ended {
+        hands.finish(job);
+        shared.counts.ended_elsewhere.fetch_add(1, SeqCst);
+        shared.show_room(job.place() / crate::core::BLOCK);
+        shared.clogged.store(false, SeqCst);
+        return;
+    }
+    shared.names[job.place()].store(job.name, Relaxed);
+    match hands.rest_blocked(job) {
+        Rested::Blocked => {}
+        Rested::Ready { unpark } => shared.published(job.name, unpark, false),
+        Rested::InHand => {
+            let unpark = hands.rest_ready(job);
+            shared.published(job.name, unpark, false);
+        }
+    }
+}

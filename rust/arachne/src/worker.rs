@@ -1,0 +1,657 @@
+//! A worker's loop: runs what is ready, looks at its epoll and its timers, helps others, and sleeps.
+//!
+//! Who has a task and whether a worker may sleep is the core's to say. What is decided here is where a worker looks
+//! next, and whom it is worth to wake.
+
+use crate::core::{place_of, Hands, Job, Rested, Spawned, BATCH, BLOCK, SHARD};
+use crate::cores::Judge;
+use crate::shared::{add, Context, Shared};
+use crate::task::{self, Raw};
+use crate::timer::{self, now};
+use crate::waker::{waker_of, NOBODY};
+use std::collections::VecDeque;
+use std::sync::atomic::Ordering::*;
+
+/// How often an idle worker looks around before it sleeps.
+const SPINS: usize = 24;
+/// How many tasks in a row may run that each was made ready by the one before.
+const NEXTS: u32 = 128;
+/// After so many polls a worker looks at its epoll, its timers and others, whatever is next.
+const LOOK_OUT: u32 = 64;
+/// After so many of these looks at which another worker had not got on, its epoll is looked at too.
+const LONG: u32 = 8;
+/// After so many looks at blocks that are shown and have nothing, they are hidden.
+const STALE: u32 = 16;
+/// Ready jobs taken at once while somebody has nothing to do.
+const FEW: usize = 8;
+/// Jobs that woke themselves, and stay with the worker that runs them.
+pub(crate) const HAND: usize = 16;
+/// Jobs taken in advance, and two more that are between hands.
+pub(crate) const BATCHES: usize = BATCH + 2;
+/// From so many events of one look on another worker is woken to help.
+const MANY: usize = 4;
+
+const NO_JOB: Job = Job { name: 0, job: 0, seat: 0 };
+
+/// Where a worker is in its rounds.
+pub(crate) struct Turn {
+    batch: [Job; BATCH],
+    at: usize,
+    count: usize,
+    /// Jobs in hand that woke themselves, and how many of them run before the words are looked at again.
+    hand: VecDeque<Job>,
+    hand_left: usize,
+    /// The next block and index to look at.
+    block: usize,
+    index: u32,
+    /// How many looks at its blocks were at ones that are shown and have nothing.
+    stale: u32,
+    chain: u32,
+    polls: u32,
+    /// By worker: its polls at the last look, and at how many looks in a row it had not got on.
+    seen: Vec<u64>,
+    stood: Vec<u32>,
+}
+
+impl Turn {
+    pub(crate) fn new(shared: &Shared) -> Turn {
+        Turn {
+            batch: [NO_JOB; BATCH],
+            at: 0,
+            count: 0,
+            hand: VecDeque::with_capacity(HAND),
+            hand_left: 0,
+            block: 0,
+            index: 0,
+            stale: 0,
+            chain: 0,
+            polls: 0,
+            seen: vec![0; shared.workers.len()],
+            stood: vec![0; shared.workers.len()],
+        }
+    }
+}
+
+impl Shared {
+    // --------------------------------------------------------------------------------------- whom to wake
+
+    /// A job became ready in its block: the core has said which worker it is to wake, and where that one is awake,
+    /// another may help.
+    #[inline]
+    pub(crate) fn published(&self, name: u64, unpark: bool, quiet: bool) {
+        if unpark {
+            self.rouse(self.keeper(self.home(place_of(name))));
+        } else if !quiet {
+            self.rouse_any();
+        }
+    }
+
+    /// Makes a job in this worker's hand ready for all.
+    #[inline]
+    pub(crate) fn make_ready(&self, context: &Context, job: &Job) {
+        let unpark = context.hands.rest_ready(job);
+        self.published(job.name, unpark, false);
+    }
+
+    fn rouse(&self, worker: usize) -> bool {
+        let bit = 1 << worker;
+        if self.sleepers.0.load(SeqCst) & bit == 0 || self.sleepers.0.fetch_and(!bit, SeqCst) & bit == 0 {
+            return false;
+        }
+        // It counts as looking around from now on, so that nobody else is woken until it is awake.
+        self.searching.0.fetch_add(1, SeqCst);
+        self.workers[worker].0.reactor.notify();
+        true
+    }
+
+    /// Wakes a worker that sleeps, unless one looks around.
+    #[inline]
+    pub(crate) fn rouse_any(&self) {
+        let sleepers = self.sleepers.0.load(SeqCst);
+        if sleepers != 0 && self.searching.0.load(SeqCst) == 0 {
+            self.rouse(sleepers.trailing_zeros() as usize);
+        }
+    }
+
+    /// The last one that looked around, and stays awake, sees that what nobody was woken for is looked at.
+    fn stop_looking(&self, hands: &Hands) {
+        if self.searching.0.fetch_sub(1, SeqCst) != 1 {
+            return;
+        }
+        let sleepers = self.sleepers.0.load(SeqCst);
+        if sleepers == 0 {
+            return;
+        }
+        let overlooked = |worker| self.ready(hands, worker) > if sleepers >> worker & 1 == 1 { 0 } else { 1 };
+        if (0..self.workers.len()).any(overlooked) || self.has_queued() {
+            self.rouse_any();
+        }
+    }
+
+    /// A worker that was about to sleep, or slept, is awake.
+    fn awake(&self, context: &Context) {
+        let bit = 1 << context.me;
+        if self.sleepers.0.load(SeqCst) & bit == 0 || self.sleepers.0.fetch_and(!bit, SeqCst) & bit == 0 {
+            self.stop_looking(&context.hands);
+        }
+    }
+
+    #[inline]
+    fn all_busy(&self) -> bool {
+        self.sleepers.0.load(Relaxed) == 0 && self.searching.0.load(Relaxed) == 0
+    }
+
+    #[inline]
+    fn has_queued(&self) -> bool {
+        self.queued.0.load(SeqCst) != 0 && !self.clogged.load(SeqCst)
+    }
+
+    /// How many jobs seem ready at a worker's places, where that are few.
+    pub(crate) fn ready(&self, hands: &Hands, worker: usize) -> u32 {
+        let mut count = 0;
+        for &shard in self.workers[worker].0.used_shards() {
+            let mut bits = hands.shown(shard);
+            while bits != 0 && count < 8 {
+                let block = shard * SHARD + bits.trailing_zeros() as usize;
+                bits &= bits - 1;
+                count += hands.count(block);
+            }
+        }
+        count
+    }
+
+    // --------------------------------------------------------------------------------------- one task
+
+    /// Runs a job in hand, and lays it down.
+    #[inline]
+    fn run(&self, context: &Context, turn: &mut Turn, job: Job) {
+        let name = job.name;
+        let waker = waker_of(self.table, name);
+        let mut cx = std::task::Context::from_waker(&waker);
+        let worker = &self.workers[context.me].0;
+        // SAFETY: the job is in this worker's hand until it is laid down or spent below.
+        let about = unsafe { task::about(job.job) };
+        worker.begins(name, &about);
+        self.observer.begins(&job, &about);
+        context.current.set(name);
+        context.woken.set(false);
+        // SAFETY: as above.
+        let ended = unsafe { task::run(job.job, self.table, name, &mut cx) };
+        context.current.set(NOBODY);
+        worker.running.store(NOBODY, Relaxed);
+        add(&worker.polls, 1);
+        self.observer.stops(&job, ended);
+        if ended {
+            return self.finish(context, &job);
+        }
+        self.rest(context, turn, job);
+    }
+
+    /// Lays a job down that has not ended: it waits, or is behind all that is ready here.
+    #[inline]
+    fn rest(&self, context: &Context, turn: &mut Turn, job: Job) {
+        let name = job.name;
+        if !context.woken.get() {
+            let kept = &self.names[job.place()];
+            if kept.load(Relaxed) != name {
+                kept.store(name, Relaxed);
+            }
+            match context.hands.rest_blocked(&job) {
+                Rested::Blocked => return,
+                Rested::Ready { unpark } => {
+                    self.observer.ready(job.place());
+                    return self.published(name, unpark, false);
+                }
+                Rested::InHand => {}
+            }
+        }
+        self.observer.ready(job.place());
+        if turn.hand.len() < if self.all_busy() { HAND } else { 1 } {
+            turn.hand.push_back(job);
+        } else {
+            self.make_ready(context, &job);
+        }
+    }
+
+    #[inline]
+    fn finish(&self, context: &Context, job: &Job) {
+        context.hands.finish(job);
+        self.show_room(job.place() / BLOCK);
+        add(&self.workers[context.me].0.ended, 1);
+        if self.clogged.load(SeqCst) {
+            self.clogged.store(false, SeqCst);
+        }
+    }
+
+    /// The block may have a free place.
+    #[inline]
+    pub(crate) fn show_room(&self, block: usize) {
+        let (word, bit) = (&self.roomy[block / SHARD].0, 1 << (block % SHARD));
+        if word.load(SeqCst) & bit == 0 {
+            word.fetch_or(bit, SeqCst);
+        }
+    }
+
+    // --------------------------------------------------------------------------------------- what is next
+
+    /// The next job to run, in this worker's hand.
+    #[inline]
+    fn pick(&'static self, context: &Context, turn: &mut Turn) -> Option<Job> {
+        turn.polls += 1;
+        if turn.polls >= LOOK_OUT {
+            turn.polls = 0;
+            self.look_out(context, turn);
+        }
+        self.pick_next(context, turn).or_else(|| self.pick_ready(context, turn))
+    }
+
+    /// The job that the last one made ready, unless there were many in a row.
+    #[inline]
+    fn pick_next(&self, context: &Context, turn: &mut Turn) -> Option<Job> {
+        if let Some(job) = context.next.take() {
+            if turn.chain < NEXTS {
+                turn.chain += 1;
+                context.hands.begin(&job);
+                return Some(job);
+            }
+            self.make_ready(context, &job);
+        }
+        turn.chain = 0;
+        None
+    }
+
+    #[inline]
+    fn pick_ready(&'static self, context: &Context, turn: &mut Turn) -> Option<Job> {
+        loop {
+            if turn.at < turn.count {
+                if turn.count - turn.at > FEW && !self.all_busy() {
+                    self.lay_down_batch(context, turn);
+                    continue;
+                }
+                turn.at += 1;
+                return Some(turn.batch[turn.at - 1]);
+            }
+            if turn.hand_left == 0 && self.refill(context, turn) {
+                continue;
+            }
+            if turn.hand_left == 0 && !turn.hand.is_empty() {
+                turn.hand_left = turn.hand.len();
+                add(&self.workers[context.me].0.scans, 1);
+                add(&self.workers[context.me].0.runnable, turn.hand_left as u64);
+            }
+            if turn.hand_left != 0 {
+                turn.hand_left -= 1;
+                if let Some(job) = turn.hand.pop_front() {
+                    context.hands.begin(&job);
+                    return Some(job);
+                }
+            }
+            if self.has_queued() {
+                match self.begin_queued(context) {
+                    Some(Some(job)) => return Some(job),
+                    Some(None) => continue,
+                    None => {}
+                }
+            }
+            return None;
+        }
+    }
+
+    /// Takes ready jobs of this worker's blocks, in turn. At the end of a round over them what is in hand goes first.
+    #[inline]
+    fn refill(&self, context: &Context, turn: &mut Turn) -> bool {
+        if turn.stale >= STALE {
+            turn.stale = 0;
+            self.tidy(context.me);
+        }
+        for _ in 0..2 {
+            let most = if self.all_busy() { BATCH } else { FEW };
+            if self.take_from(&context.hands, context.me, turn, most) {
+                let worker = &self.workers[context.me].0;
+                let left = context.hands.count(turn.batch[0].place() / BLOCK);
+                add(&worker.scans, 1);
+                add(&worker.runnable, turn.count as u64 + left as u64);
+                return true;
+            }
+            let began = turn.block != 0 || turn.index != 0;
+            (turn.block, turn.index) = (0, 0);
+            if !turn.hand.is_empty() || self.has_queued() {
+                return false;
+            }
+            if !began {
+                return false;
+            }
+        }
+        false
+    }
+
+    /// Takes jobs of a worker's blocks from the turn's block and index on.
+    #[inline]
+    fn take_from(&self, hands: &Hands, owner: usize, turn: &mut Turn, most: usize) -> bool {
+        let first = turn.block / SHARD;
+        for (i, &shard) in self.workers[owner].0.used_shards().iter().enumerate().skip(first) {
+            let mut bits = hands.shown(shard);
+            if i == first {
+                bits &= u64::MAX << (turn.block % SHARD);
+            }
+            while bits != 0 {
+                let bit = bits.trailing_zeros() as usize;
+                bits &= bits - 1;
+                let (block, at) = (shard * SHARD + bit, i * SHARD + bit);
+                let from = if at == turn.block { turn.index } else { 0 };
+                let got = if from < 64 { hands.take(block, from, &mut turn.batch[..most]) } else { 0 };
+                if got != 0 {
+                    let index = hands.behind(&turn.batch[got - 1]);
+                    (turn.at, turn.count, turn.block, turn.index) = (0, got, at, index);
+                    return true;
+                }
+                if hands.count(block) == 0 && hands.hide(block) {
+                    turn.stale += 1;
+                }
+            }
+        }
+        false
+    }
+
+    /// Puts a task that found no place into one of this worker, or of another, and keeps it in hand if that may be.
+    /// None where there is no place.
+    fn begin_queued(&'static self, context: &Context) -> Option<Option<Job>> {
+        let raw = self.pop_queued()?;
+        if let Some(job) = self.place(context, raw) {
+            return Some(job);
+        }
+        // Whoever ends a task from now on sees that there is room again; a place that was freed before is seen here.
+        self.clogged.store(true, SeqCst);
+        if let Some(job) = self.place(context, raw) {
+            self.clogged.store(false, SeqCst);
+            return Some(job);
+        }
+        self.queue.lock().unwrap().push_front(raw);
+        self.queued.0.fetch_add(1, SeqCst);
+        None
+    }
+
+    fn pop_queued(&self) -> Option<Raw> {
+        let mut queue = self.queue.lock().unwrap();
+        let raw = queue.pop_front()?;
+        self.queued.0.fetch_sub(1, SeqCst);
+        if queue.is_empty() && queue.capacity() > 1024 {
+            queue.shrink_to_fit();
+        }
+        Some(raw)
+    }
+
+    fn place(&'static self, context: &Context, raw: Raw) -> Option<Option<Job>> {
+        let count = self.workers.len();
+        (0..count).find_map(|i| {
+            let worker = (context.me + i) % count;
+            match self.spawn_at(&context.hands, worker, &context.block, raw, true) {
+                Spawned::Kept(job) => Some(Some(job)),
+                Spawned::Ready { name, unpark } => {
+                    self.published(name, unpark, true);
+                    Some(None)
+                }
+                Spawned::Full => None,
+            }
+        })
+    }
+
+    // --------------------------------------------------------------------------------------- others
+
+    /// The workers whose cores were given back and after whom this one looks.
+    fn lodgers(&self, me: usize) -> impl Iterator<Item = usize> {
+        let active = self.active.0.load(SeqCst);
+        (active..self.workers.len()).filter(move |&other| other % active == me)
+    }
+
+    /// Looks at epoll and timers, and takes a job of one that doesn't get on or has nobody: whatever is next here.
+    fn look_out(&self, context: &Context, turn: &mut Turn) {
+        self.look_at_events(context, 0);
+        let active = self.active.0.load(Relaxed);
+        for other in 0..self.workers.len() {
+            let polls = self.workers[other].0.polls.load(Relaxed);
+            let stands = other >= active || polls == turn.seen[other];
+            turn.seen[other] = polls;
+            turn.stood[other] = if stands && other < active && other != context.me { turn.stood[other] + 1 } else { 0 };
+            if turn.stood[other] == LONG {
+                // In a long poll, or without a processor: its sockets and timers would wait for it.
+                turn.stood[other] = 0;
+                self.look_at_events_of(context, other);
+            }
+            if other != context.me && stands && turn.at == turn.count && self.ready(&context.hands, other) != 0 {
+                self.help(context, turn, other, 2);
+            }
+        }
+    }
+
+    /// Takes up to `most` jobs of another worker's blocks into the empty batch.
+    fn help(&self, context: &Context, turn: &mut Turn, other: usize, most: usize) -> bool {
+        let (kept, stale, most) = ((turn.block, turn.index), turn.stale, most.min(BATCH));
+        let start = context.random() as usize % (self.workers[other].0.used_shards().len() * SHARD);
+        (turn.block, turn.index) = (start, 0);
+        let mut got = self.take_from(&context.hands, other, turn, most);
+        if !got && start != 0 {
+            (turn.block, turn.index) = (0, 0);
+            got = self.take_from(&context.hands, other, turn, most);
+        }
+        (turn.block, turn.index) = kept;
+        turn.stale = stale;
+        if got {
+            add(&self.workers[context.me].0.takes, 1);
+        }
+        got
+    }
+
+    /// Waits for events for so many milliseconds, and fires timers; how many there were.
+    fn look_at_events(&self, context: &Context, timeout: i32) -> usize {
+        let worker = &self.workers[context.me].0;
+        context.keeps.set(false);
+        context.quiet.set(true);
+        let mut found = 0;
+        if timeout != 0 || worker.reactor.is_used() || self.active.0.load(Relaxed) < self.workers.len() {
+            found += worker.reactor.poll(timeout, |other| self.poll_for(other)).0;
+        }
+        for owner in std::iter::once(context.me).chain(self.lodgers(context.me)) {
+            found += self.fire(owner);
+        }
+        context.keeps.set(true);
+        context.quiet.set(false);
+        if found >= MANY {
+            self.rouse_any();
+        }
+        found
+    }
+
+    /// Looks at the events and timers of a worker that doesn't get on.
+    fn look_at_events_of(&self, context: &Context, other: usize) {
+        if self.sleepers.0.load(Relaxed) >> other & 1 == 1 {
+            return;
+        }
+        context.keeps.set(false);
+        self.poll_for(other);
+        self.fire(other);
+        context.keeps.set(true);
+    }
+
+    /// Looks at a worker's epoll in its place.
+    pub(crate) fn poll_for(&self, worker: usize) -> usize {
+        let reactor = &self.workers[worker].0.reactor;
+        let (found, notified) = reactor.poll(0, |lodger| self.workers[lodger].0.reactor.poll(0, |_| 0).0);
+        if notified && worker < self.active.0.load(SeqCst) {
+            // It may be about to sleep: the call that ends its sleep is its own to see.
+            reactor.notify();
+        }
+        found
+    }
+
+    pub(crate) fn fire(&self, owner: usize) -> usize {
+        let timers = &self.workers[owner].0.timers;
+        if timers.next() == u64::MAX {
+            return 0;
+        }
+        let now = now();
+        if timers.next() <= now {
+            timers.fire(now)
+        } else {
+            0
+        }
+    }
+
+    /// Runs some of what is ready at other workers' places: half of what one has, where that is more than one job;
+    /// else one, where its worker sleeps or doesn't get on.
+    fn steal(&self, context: &Context, turn: &mut Turn, last: bool) -> bool {
+        let count = self.workers.len();
+        let offset = context.random() as usize % count;
+        for i in 0..count {
+            let other = (i + offset) % count;
+            let ready = if other == context.me { 0 } else { self.ready(&context.hands, other) };
+            let stands = || {
+                self.sleepers.0.load(Relaxed) >> other & 1 == 1
+                    || last && self.workers[other].0.polls.load(Relaxed) == turn.seen[other]
+            };
+            if ready > 1 || ready == 1 && stands() {
+                if self.help(context, turn, other, (ready as usize + 1) / 2) {
+                    return true;
+                }
+            }
+        }
+        false
+    }
+
+    /// With nothing of its own to do: takes from others, or sleeps until it is woken.
+    fn look_around(&'static self, context: &Context, turn: &mut Turn, judge: &mut Option<Judge>) {
+        self.searching.0.fetch_add(1, SeqCst);
+        turn.seen.iter_mut().zip(self.workers.iter()).for_each(|(seen, w)| *seen = w.0.polls.load(Relaxed));
+        for spin in 0..SPINS {
+            if self.stop.load(Relaxed) || context.me >= self.active.0.load(Relaxed) {
+                break;
+            }
+            if self.has_queued() || context.next.get().is_some() || self.mine(context) {
+                self.stop_looking(&context.hands);
+                return;
+            }
+            if self.steal(context, turn, spin + 1 == SPINS) {
+                self.stop_looking(&context.hands);
+                return;
+            }
+            (0..8).for_each(|_| std::hint::spin_loop());
+        }
+        let bit = 1 << context.me;
+        self.sleepers.0.fetch_or(bit, SeqCst);
+        self.searching.0.fetch_sub(1, SeqCst);
+        let busy = self.has_queued()
+            || (0..self.workers.len()).any(|other| {
+                let ready = self.ready(&context.hands, other);
+                ready > 1 || ready == 1 && self.sleepers.0.load(SeqCst) >> other & 1 == 1
+            })
+            || context.next.get().is_some()
+            || self.stop.load(SeqCst)
+            || context.me >= self.active.0.load(SeqCst);
+        if !busy && self.may_park(context) {
+            self.sleep(context, judge);
+        }
+        self.wake_up(context);
+        self.awake(context);
+    }
+
+    /// Whether this worker's own words, or those of one after whom it looks, show something.
+    fn mine(&self, context: &Context) -> bool {
+        let me = context.me;
+        self.ready(&context.hands, me) != 0 || self.lodgers(me).any(|other| self.ready(&context.hands, other) != 0)
+    }
+
+    /// The core's leave to sleep: for this worker's numbers, and for those of each after whom it looks.
+    fn may_park(&self, context: &Context) -> bool {
+        std::iter::once(context.me).chain(self.lodgers(context.me)).all(|owner| {
+            let parking = self.workers[owner].0.parking.lock().unwrap();
+            parking.iter().all(|seat| seat.park())
+        })
+    }
+
+    /// Hides this worker's blocks that are shown and have nothing.
+    fn tidy(&self, me: usize) {
+        for seat in self.workers[me].0.parking.lock().unwrap().iter() {
+            if seat.park() {
+                seat.wake_up();
+            }
+        }
+    }
+
+    fn wake_up(&self, context: &Context) {
+        for owner in std::iter::once(context.me).chain(self.lodgers(context.me)) {
+            let parking = self.workers[owner].0.parking.lock().unwrap();
+            // Looked at with the lock: whoever looks after those numbers by now may have parked in their name.
+            if self.keeper(owner) == context.me {
+                parking.iter().for_each(|seat| seat.wake_up());
+            }
+        }
+    }
+
+    fn sleep(&self, context: &Context, judge: &mut Option<Judge>) {
+        add(&self.workers[context.me].0.parks, 1);
+        let owners = std::iter::once(context.me).chain(self.lodgers(context.me));
+        let mut timeout = timer::rest(self, owners);
+        if let Some(judge) = judge {
+            if timeout < 0 || timeout > judge.millis() {
+                timeout = judge.millis();
+            }
+        }
+        self.look_at_events(context, timeout);
+    }
+
+    // --------------------------------------------------------------------------------------- the loop
+
+    pub(crate) fn work(&'static self, context: &Context, mut judge: Option<Judge>) {
+        let mut turn = Turn::new(self);
+        let worker = &self.workers[context.me].0;
+        while !self.stop.load(Relaxed) {
+            if context.me >= self.active.0.load(SeqCst) {
+                self.give_back(context, &mut turn);
+                continue;
+            }
+            let mut ran = 0u32;
+            while let Some(job) = self.pick(context, &mut turn) {
+                self.run(context, &mut turn, job);
+                ran += 1;
+                if ran == LOOK_OUT || self.stop.load(Relaxed) {
+                    break;
+                }
+            }
+            if ran == 0 && self.look_at_events(context, 0) == 0 && !self.help_lodgers(context, &mut turn) {
+                worker.idle_since.store(now(), Relaxed);
+                self.look_around(context, &mut turn, &mut judge);
+                worker.ends_idling();
+            }
+            if let Some(judge) = &mut judge {
+                judge.judge(self);
+            }
+        }
+        self.lay_down(context, &mut turn);
+    }
+
+    fn help_lodgers(&self, context: &Context, turn: &mut Turn) -> bool {
+        self.lodgers(context.me)
+            .any(|other| self.ready(&context.hands, other) != 0 && self.help(context, turn, other, BATCH))
+    }
+
+    /// Somebody has nothing to do: what was taken in advance is ready again, for all.
+    fn lay_down_batch(&self, context: &Context, turn: &mut Turn) {
+        for job in &turn.batch[turn.at..turn.count] {
+            let unpark = context.hands.rest_ready(job);
+            self.published(job.name, unpark, true);
+        }
+        (turn.at, turn.count) = (0, 0);
+        self.rouse_any();
+    }
+
+    /// Makes all ready that is in this worker's hand.
+    pub(crate) fn lay_down(&self, context: &Context, turn: &mut Turn) {
+        let batch = turn.at..turn.count;
+        let jobs = context.next.take().into_iter().chain(turn.batch[batch].iter().copied());
+        for job in jobs.chain(turn.hand.drain(..)) {
+            let unpark = context.hands.rest_ready(&job);
+            self.published(job.name, unpark, true);
+        }
+        (turn.at, turn.count, turn.hand_left) = (0, 0, 0);
+    }
+}

@@ -1,0 +1,512 @@
+//! Each part of the crate on its own: abort, time, channel, semaphore, limits, the end, blocking work, what is observed.
+use arachne::{
+    block_on, channel, net, sleep, spawn, spawn_blocking, spawn_named, stopping, timeout, yield_now, Builder, Doing,
+    Elapsed, Hooks, JoinError, Limit, Lock, Policy, Runtime, Semaphore, SendError, Signal,
+};
+use std::future::Future;
+use std::io::{Read, Write};
+use std::sync::atomic::{AtomicBool, AtomicUsize, Ordering::*};
+use std::sync::Arc;
+use std::task::{Context, Poll, Wake};
+use std::thread;
+use std::time::{Duration, Instant};
+
+const MS: Duration = Duration::from_millis(1);
+/// Longer than a machine with much else to do keeps anything waiting.
+const LONG: Duration = Duration::from_secs(120);
+
+struct Nobody;
+impl Wake for Nobody {
+    fn wake(self: Arc<Self>) {}
+}
+
+/// One poll, with a waker of nobody's.
+fn poll_once<F: Future + Unpin>(future: &mut F) -> Poll<F::Output> {
+    let waker = Arc::new(Nobody).into();
+    std::pin::Pin::new(future).poll(&mut Context::from_waker(&waker))
+}
+
+struct OnDrop(Arc<AtomicUsize>);
+impl Drop for OnDrop {
+    fn drop(&mut self) {
+        self.0.fetch_add(1, SeqCst);
+    }
+}
+
+#[test]
+fn an_aborted_task_is_dropped_and_says_so() {
+    let runtime = Runtime::new(2);
+    let dropped = Arc::new(AtomicUsize::new(0));
+    let tasks: Vec<_> = (0..500)
+        .map(|_| {
+            let at = OnDrop(dropped.clone());
+            runtime.spawn(async move {
+                let _at = at;
+                std::future::pending::<()>().await
+            })
+        })
+        .collect();
+    // Half of them wait by then.
+    while runtime.stats().polls < 250 {
+        thread::yield_now();
+    }
+    tasks.iter().for_each(|task| task.abort());
+    for task in tasks {
+        assert!(matches!(block_on(task), Err(JoinError::Aborted)));
+    }
+    assert_eq!(dropped.load(SeqCst), 500);
+    // One that has ended has its output.
+    let task = runtime.spawn(async { 7 });
+    while !task.is_finished() {
+        thread::yield_now();
+    }
+    task.abort();
+    assert_eq!(block_on(task).unwrap(), 7);
+}
+
+#[test]
+fn a_wake_in_the_midst_of_a_poll_is_heard() {
+    let runtime = Runtime::new(2);
+    let mut polls = 0;
+    let task = runtime.spawn(arachne::poll_fn(move |cx| {
+        polls += 1;
+        if polls == 20 {
+            return Poll::Ready(());
+        }
+        let waker = cx.waker().clone();
+        thread::spawn(move || waker.wake()).join().unwrap();
+        Poll::Pending
+    }));
+    block_on(task).unwrap();
+}
+
+#[test]
+fn a_worker_that_sleeps_is_woken() {
+    let runtime = Runtime::new(1);
+    for i in 0..20 {
+        thread::sleep(2 * MS);
+        let task = runtime.spawn(async move {
+            yield_now().await;
+            i
+        });
+        assert_eq!(block_on(task).unwrap(), i);
+    }
+}
+
+#[test]
+fn sleeps_end_in_order_and_not_early() {
+    let runtime = Runtime::new(2);
+    let start = Instant::now();
+    let tasks: Vec<_> = (0..50u32)
+        .map(|i| {
+            runtime.spawn(async move {
+                let wanted = MS * (50 - i);
+                sleep(wanted).await;
+                assert!(start.elapsed() >= wanted);
+            })
+        })
+        .collect();
+    tasks.into_iter().for_each(|task| block_on(task).unwrap());
+    // From outside, by block_on.
+    let start = Instant::now();
+    runtime.block_on(sleep(5 * MS));
+    assert!(start.elapsed() >= 5 * MS);
+}
+
+#[test]
+fn a_timeout_gives_the_output_or_elapsed() {
+    let runtime = Runtime::new(1);
+    assert_eq!(runtime.block_on(timeout(LONG, async { 3 })), Ok(3));
+    assert_eq!(runtime.block_on(timeout(5 * MS, std::future::pending::<()>())), Err(Elapsed));
+    let task = runtime.spawn(async { timeout(5 * MS, sleep(LONG)).await });
+    assert_eq!(block_on(task).unwrap(), Err(Elapsed));
+}
+
+#[test]
+fn a_full_channel_keeps_its_senders_waiting() {
+    let runtime = Runtime::new(3);
+    let (sender, receiver) = channel(4);
+    let most = Arc::new(AtomicUsize::new(0));
+    let senders: Vec<_> = (0..8u64)
+        .map(|s| {
+            let sender = sender.clone();
+            runtime.spawn(async move {
+                for i in 0..500 {
+                    sender.send(s * 500 + i).await.unwrap();
+                }
+            })
+        })
+        .collect();
+    drop(sender);
+    let receivers: Vec<_> = (0..3)
+        .map(|_| {
+            let (receiver, most) = (receiver.clone(), most.clone());
+            runtime.spawn(async move {
+                let mut sum = 0;
+                while let Some(n) = receiver.recv().await {
+                    most.fetch_max(receiver.len(), SeqCst);
+                    sum += n;
+                    if n % 7 == 0 {
+                        yield_now().await;
+                    }
+                }
+                sum
+            })
+        })
+        .collect();
+    senders.into_iter().for_each(|task| block_on(task).unwrap());
+    let sum: u64 = receivers.into_iter().map(|task| block_on(task).unwrap()).sum();
+    assert_eq!(sum, 4000 * 3999 / 2);
+    assert!(most.load(SeqCst) <= 4);
+}
+
+#[test]
+fn a_channel_tells_of_a_missing_end() {
+    let (sender, receiver) = channel(1);
+    assert_eq!(sender.try_send(1), Ok(()));
+    assert_eq!(sender.try_send(2), Err(SendError::Full(2)));
+    // A send that is dropped while it waits is not made, and one that waits behind it is.
+    let mut first = sender.send(3);
+    let mut second = sender.send(4);
+    assert!(poll_once(&mut first).is_pending() && poll_once(&mut second).is_pending());
+    drop(first);
+    assert_eq!(receiver.try_recv(), Some(1));
+    assert_eq!(poll_once(&mut second), Poll::Ready(Ok(())));
+    drop(second);
+    assert_eq!(receiver.try_recv(), Some(4));
+    drop(receiver);
+    assert_eq!(sender.try_send(5), Err(SendError::Closed(5)));
+    assert_eq!(block_on(sender.send(6)), Err(6));
+}
+
+#[test]
+fn permits_are_given_in_order_and_come_back() {
+    let semaphore = Semaphore::new(3);
+    let one = semaphore.try_acquire(2).unwrap();
+    let mut large = semaphore.acquire(3);
+    let mut small = semaphore.acquire(1);
+    assert!(poll_once(&mut large).is_pending());
+    assert!(poll_once(&mut small).is_pending(), "the small one went before the large one");
+    drop(large);
+    assert!(poll_once(&mut small).is_ready(), "one that left held the line up");
+    drop(one);
+    assert_eq!(semaphore.available(), 3);
+    let runtime = Runtime::new(4);
+    let (semaphore, inside) = (Arc::new(Semaphore::new(5)), Arc::new(AtomicUsize::new(0)));
+    let tasks: Vec<_> = (0..100)
+        .map(|_| {
+            let (semaphore, inside) = (semaphore.clone(), inside.clone());
+            runtime.spawn(async move {
+                let _permit = semaphore.acquire(1).await;
+                assert!(inside.fetch_add(1, SeqCst) < 5);
+                yield_now().await;
+                inside.fetch_sub(1, SeqCst);
+            })
+        })
+        .collect();
+    tasks.into_iter().for_each(|task| block_on(task).unwrap());
+    assert_eq!(semaphore.available(), 5);
+}
+
+#[test]
+fn a_lock_is_tried_and_left() {
+    let lock = Lock::new(1);
+    let guard = lock.try_lock().unwrap();
+    assert!(lock.try_lock().is_none());
+    let mut waits = lock.lock();
+    assert!(poll_once(&mut waits).is_pending());
+    drop(waits);
+    drop(guard);
+    assert_eq!(*block_on(lock.lock()), 1);
+    assert!(lock.try_lock().is_some());
+}
+
+#[test]
+fn a_connection_is_made_without_blocking_and_refused() {
+    let runtime = Runtime::new(2);
+    let listener = net::TcpListener::bind("127.0.0.1:0").unwrap();
+    let at = listener.local_addr().unwrap();
+    let server = runtime.spawn(async move {
+        let (stream, _) = listener.accept().await.unwrap();
+        let mut bytes = [0; 5];
+        stream.read_exact(&mut bytes).await.unwrap();
+        stream.write_all(&bytes).await.unwrap();
+        bytes
+    });
+    let client = runtime.spawn(async move {
+        let stream = net::TcpStream::connect(at).await.unwrap();
+        stream.write_all(b"hello").await.unwrap();
+        let mut bytes = [0; 5];
+        stream.read_exact(&mut bytes).await.unwrap();
+        assert_eq!(stream.read(&mut [0; 8]).await.unwrap(), 0);
+        bytes
+    });
+    assert_eq!(&block_on(client).unwrap(), b"hello");
+    assert_eq!(&block_on(server).unwrap(), b"hello");
+    let refused = runtime.spawn(async move { net::TcpStream::connect(at).await.map(drop) });
+    assert!(block_on(refused).unwrap().is_err());
+}
+
+#[test]
+fn work_that_blocks_has_threads_of_its_own() {
+    let runtime = Builder::new(1).blocking_threads(3).build().unwrap();
+    let start = Instant::now();
+    let all: Vec<_> = runtime.block_on(async {
+        (0..6)
+            .map(|i| {
+                spawn_blocking(move || {
+                    thread::sleep(20 * MS);
+                    i
+                })
+            })
+            .collect()
+    });
+    let quick = runtime.spawn(async {});
+    block_on(quick).unwrap();
+    let sum: i32 = all.into_iter().map(|task| block_on(task).unwrap()).sum();
+    assert_eq!(sum, 15);
+    assert!(start.elapsed() >= 40 * MS, "more threads than were allowed");
+    // Such work may spawn tasks.
+    let inner = runtime.block_on(async { spawn_blocking(|| spawn(async { 7 })).await.unwrap() });
+    assert_eq!(block_on(inner).unwrap(), 7);
+}
+
+#[test]
+fn what_has_no_place_is_refused_or_waits() {
+    let runtime = Builder::new(1).places(1).build().unwrap();
+    let gate = Arc::new(Semaphore::new(0));
+    let places = 4096;
+    let waiting: Vec<_> = (0..places)
+        .map(|_| {
+            let gate = gate.clone();
+            runtime.spawn(async move { gate.acquire(1).await.forget() })
+        })
+        .collect();
+    while runtime.stats().polls < places as u64 {
+        thread::yield_now();
+    }
+    let queued: Vec<_> = (0..100).map(|i| runtime.spawn(async move { i })).collect();
+    assert!(runtime.try_spawn(async {}).is_err());
+    thread::sleep(5 * MS);
+    assert!(queued.iter().all(|task| !task.is_finished()));
+    gate.release(places);
+    let sum: i32 = queued.into_iter().map(|task| block_on(task).unwrap()).sum();
+    assert_eq!(sum, 99 * 100 / 2);
+    waiting.into_iter().for_each(|task| block_on(task).unwrap());
+}
+
+/// A listener whose connections each bring a byte back 30 ms after it came.
+async fn slow_echo(listener: net::TcpListener, accepted: Arc<AtomicUsize>) {
+    while let Ok((stream, _)) = listener.accept().await {
+        accepted.fetch_add(1, SeqCst);
+        spawn(async move {
+            let mut byte = [0];
+            stream.read_exact(&mut byte).await.unwrap();
+            sleep(30 * MS).await;
+            stream.write_all(&byte).await.unwrap();
+        });
+    }
+}
+
+#[test]
+fn the_end_lets_what_is_in_flight_end() {
+    let runtime = Runtime::new(2);
+    let listener = net::TcpListener::bind("127.0.0.1:0").unwrap();
+    let at = listener.local_addr().unwrap();
+    let accepted = Arc::new(AtomicUsize::new(0));
+    runtime.spawn(slow_echo(listener, accepted.clone()));
+    runtime.spawn(async { stopping().await });
+    let mut clients: Vec<_> = (0..10).map(|_| std::net::TcpStream::connect(at).unwrap()).collect();
+    clients.iter_mut().for_each(|client| client.write_all(b"x").unwrap());
+    while accepted.load(SeqCst) < 10 {
+        thread::yield_now();
+    }
+    assert_eq!(runtime.shutdown_within(LONG).aborted, 0);
+    for mut client in clients {
+        let mut byte = [0];
+        client.read_exact(&mut byte).unwrap();
+    }
+}
+
+#[test]
+fn what_has_not_ended_by_the_deadline_is_dropped() {
+    let runtime = Runtime::new(2);
+    let stuck = runtime.spawn(std::future::pending::<()>());
+    let start = Instant::now();
+    assert_eq!(runtime.shutdown_within(50 * MS).aborted, 1);
+    assert!(start.elapsed() >= 50 * MS);
+    assert!(matches!(block_on(stuck), Err(JoinError::Cancelled)));
+}
+
+#[test]
+fn a_signal_is_heard() {
+    let signal = Signal::heard(12).unwrap();
+    let kill = format!("kill -USR2 {}", std::process::id());
+    assert!(std::process::Command::new("sh").args(["-c", &kill]).status().unwrap().success());
+    assert!(signal.wait());
+}
+
+#[test]
+fn a_limit_tells_the_next_one_at_once() {
+    let limit = Limit::new(2);
+    let (one, two) = (limit.enter().unwrap(), limit.enter().unwrap());
+    assert!(limit.enter().is_none());
+    drop(one);
+    assert!(limit.enter().is_some());
+    drop(two);
+    assert_eq!(limit.count(), 0);
+}
+
+#[derive(Default)]
+struct Counting([AtomicUsize; 5]);
+impl Hooks for Counting {
+    fn spawned(&self, _: &arachne::About) {
+        self.0[0].fetch_add(1, SeqCst);
+    }
+    fn poll_begins(&self, _: u64, _: &arachne::About) {
+        self.0[1].fetch_add(1, SeqCst);
+    }
+    fn poll_ends(&self, _: u64) {
+        self.0[2].fetch_add(1, SeqCst);
+    }
+    fn woken(&self, _: usize) {
+        self.0[3].fetch_add(1, SeqCst);
+    }
+    fn ended(&self, _: u64) {
+        self.0[4].fetch_add(1, SeqCst);
+    }
+}
+
+#[test]
+fn an_observed_runtime_lists_its_tasks() {
+    let counts = Arc::new(Counting::default());
+    let runtime = Builder::new(2).places(8192).hooks(counts.clone()).build().unwrap();
+    let tasks: Vec<_> = (0..5).map(|_| runtime.spawn_named("waits", async { sleep(LONG).await })).collect();
+    let waits = |task: &arachne::TaskInfo| task.doing == Doing::Waits && task.age >= 2 * MS;
+    while runtime.tasks().iter().filter(|task| waits(task)).count() < 5 {
+        thread::sleep(MS);
+    }
+    for task in runtime.tasks() {
+        assert_eq!(task.about.name.unwrap().as_str(), "waits");
+        assert!(task.about.spawned.file().ends_with("parts.rs"));
+    }
+    tasks.iter().for_each(|task| task.abort());
+    tasks.into_iter().for_each(|task| assert!(block_on(task).is_err()));
+    let yields = runtime.spawn(async {
+        spawn_named("inner", async { yield_now().await }).await.unwrap();
+    });
+    block_on(yields).unwrap();
+    let stats = runtime.stats();
+    assert!(stats.ready_to_taken.iter().sum::<u64>() > 0);
+    drop(runtime);
+    let seen: Vec<_> = counts.0.iter().map(|count| count.load(SeqCst)).collect();
+    assert_eq!((seen[0], seen[4]), (7, 7));
+    assert!(seen[1] == seen[2] && seen[1] >= 9 && seen[3] >= 1, "{seen:?}");
+}
+
+#[test]
+fn a_slow_poll_is_seen_and_its_worker_relieved() {
+    let runtime = Builder::new(1).watch_polls(5 * MS, false).build().unwrap();
+    let runs = Arc::new(AtomicBool::new(false));
+    let (told, ends) = (runs.clone(), Arc::new(AtomicBool::new(false)));
+    let end = ends.clone();
+    let slow = runtime.spawn(async move {
+        told.store(true, SeqCst);
+        while !end.load(SeqCst) {
+            std::hint::spin_loop();
+        }
+    });
+    while !runs.load(SeqCst) {
+        thread::yield_now();
+    }
+    // The one worker is in a poll that doesn't end before these have.
+    let others: Vec<_> = (0..20)
+        .map(|i| {
+            runtime.spawn(async move {
+                sleep(MS).await;
+                i
+            })
+        })
+        .collect();
+    let sum: i32 = others.into_iter().map(|task| block_on(task).unwrap()).sum();
+    assert_eq!(sum, 190);
+    assert!(!slow.is_finished() && runtime.stats().rescued >= 20);
+    while runtime.stats().slow_polls == 0 {
+        thread::sleep(MS);
+    }
+    ends.store(true, SeqCst);
+    block_on(slow).unwrap();
+}
+
+#[test]
+fn cores_are_given_back_and_asked_for() {
+    let policy = Policy { every: MS, ..Policy::default() };
+    let runtime = Builder::new(4).policy(policy).build().unwrap();
+    let start = Instant::now();
+    while runtime.stats().active > 1 {
+        assert!(start.elapsed() < LONG, "idle cores are not given back");
+        thread::sleep(MS);
+    }
+    let stop = Arc::new(AtomicBool::new(false));
+    let busy: Vec<_> = (0..64)
+        .map(|_| {
+            let stop = stop.clone();
+            runtime.spawn(async move {
+                while !stop.load(Relaxed) {
+                    (0..2000).for_each(|_| std::hint::spin_loop());
+                    yield_now().await;
+                }
+            })
+        })
+        .collect();
+    let start = Instant::now();
+    while runtime.stats().active < 2 {
+        assert!(start.elapsed() < LONG, "no core is asked for");
+        thread::sleep(MS);
+    }
+    stop.store(true, SeqCst);
+    busy.into_iter().for_each(|task| block_on(task).unwrap());
+}
+
+/// What is ready is polled, what is told by epoll is seen, and what is due is woken, beside tasks that never rest.
+#[test]
+fn tasks_that_yield_for_ever_hold_nobody_up() {
+    // One worker alone has nobody that looks at its epoll in its place.
+    [1, 2].into_iter().for_each(echo_beside_yields);
+}
+
+fn echo_beside_yields(cores: usize) {
+    let runtime = Runtime::new(cores);
+    let stop = Arc::new(AtomicBool::new(false));
+    let busy: Vec<_> = (0..80)
+        .map(|_| {
+            let stop = stop.clone();
+            runtime.spawn(async move {
+                while !stop.load(Relaxed) {
+                    yield_now().await;
+                }
+            })
+        })
+        .collect();
+    let listener = net::TcpListener::bind("127.0.0.1:0").unwrap();
+    let at = listener.local_addr().unwrap();
+    runtime.spawn(async move {
+        let (stream, _) = listener.accept().await.unwrap();
+        let mut byte = [0];
+        while stream.read_exact(&mut byte).await.is_ok() {
+            stream.write_all(&byte).await.unwrap();
+        }
+    });
+    let mut client = std::net::TcpStream::connect(at).unwrap();
+    client.set_nodelay(true).unwrap();
+    client.set_read_timeout(Some(LONG)).unwrap();
+    for i in 0..100 {
+        let mut byte = [i];
+        client.write_all(&byte).unwrap();
+        client.read_exact(&mut byte).unwrap();
+        assert_eq!(byte, [i]);
+    }
+    block_on(runtime.spawn(sleep(2 * MS))).unwrap();
+    stop.store(true, SeqCst);
+    busy.into_iter().for_each(|task| block_on(task).unwrap());
+}

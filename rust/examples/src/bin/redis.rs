@@ -1,0 +1,122 @@
+//! GET, SET, INCR, DEL and PING of Redis's protocol on 127.0.0.1: redis CORES PORT [policy]
+//! It ends at SIGTERM or when its standard input ends: what it has read is answered, within a second, and it prints how
+//! many commands were accepted and how many of them answered. With `policy` cores follow the load, and a line each
+//! 10 ms says how many are held.
+use arachne::net::{TcpListener, TcpStream};
+use examples::{wait_for_end, Arguments, Buffer, Store};
+use std::future::Future;
+use std::io;
+use std::pin::Pin;
+use std::sync::atomic::{AtomicU64, Ordering::SeqCst};
+use std::sync::mpsc::{channel, Receiver};
+use std::sync::Arc;
+use std::task::{Context, Poll};
+use std::time::{Duration, Instant};
+
+/// Bytes that were read, or None where the runtime is about to end and nothing was there.
+struct ReadOrStop<'a> {
+    stream: &'a TcpStream,
+    room: &'a mut [u8],
+    stopping: &'a mut arachne::Stopping,
+}
+
+impl Future for ReadOrStop<'_> {
+    type Output = io::Result<Option<usize>>;
+    fn poll(mut self: Pin<&mut Self>, cx: &mut Context<'_>) -> Poll<Self::Output> {
+        let this = &mut *self;
+        match this.stream.poll_read(cx, this.room) {
+            Poll::Ready(result) => Poll::Ready(result.map(Some)),
+            Poll::Pending => Pin::new(&mut *this.stopping).poll(cx).map(|()| Ok(None)),
+        }
+    }
+}
+
+/// Commands that were accepted, and those that were answered, of connections that have ended.
+static COMMANDS: [AtomicU64; 2] = [AtomicU64::new(0), AtomicU64::new(0)];
+
+/// Answers what comes until the other side, or this runtime, is about to end.
+async fn answer(stream: &TcpStream, store: &Store, counts: &mut [u64; 2]) -> io::Result<()> {
+    let (mut buffer, mut out, mut stopping) = (Buffer::new(), Vec::new(), arachne::stopping());
+    while !arachne::is_stopping() {
+        let read = ReadOrStop { stream, room: buffer.room(), stopping: &mut stopping };
+        match read.await? {
+            None | Some(0) => return Ok(()),
+            Some(n) => buffer.len += n,
+        }
+        let count = match store.serve(&buffer.bytes[..buffer.len], &mut out) {
+            Ok((spent, count)) => {
+                buffer.spend(spent);
+                count
+            }
+            Err(()) => return Ok(()),
+        };
+        counts[0] += count;
+        stream.write_all(&out).await?;
+        counts[1] += count;
+        out.clear();
+    }
+    Ok(())
+}
+
+async fn connection(stream: TcpStream, store: Arc<Store>) -> io::Result<()> {
+    stream.set_nodelay(true)?;
+    let mut counts = [0; 2];
+    let answered = answer(&stream, &store, &mut counts).await;
+    for (all, count) in COMMANDS.iter().zip(counts) {
+        all.fetch_add(count, SeqCst);
+    }
+    answered?;
+    // What comes now is not accepted, and read all the same: a socket closed with bytes unread loses the last answers.
+    stream.shutdown(std::net::Shutdown::Write)?;
+    let mut rest = [0; 4096];
+    while stream.read(&mut rest).await? != 0 {}
+    Ok(())
+}
+
+async fn accept(listener: TcpListener, store: Arc<Store>) {
+    while let Ok((stream, _)) = listener.accept().await {
+        let store = store.clone();
+        arachne::spawn_balanced(async move {
+            let _ = connection(stream, store).await;
+        });
+    }
+}
+
+/// Something is received at SIGTERM, or once the standard input ends.
+fn end() -> io::Result<Receiver<()>> {
+    let (sender, ended) = channel();
+    let (other, term) = (sender.clone(), arachne::Signal::heard(15)?);
+    std::thread::spawn(move || {
+        term.wait();
+        other.send(())
+    });
+    std::thread::spawn(move || {
+        wait_for_end();
+        sender.send(())
+    });
+    Ok(ended)
+}
+
+fn show_cores(runtime: &arachne::Runtime, start: Instant) {
+    let stats = runtime.stats();
+    println!("{:.3} {} {} {}", start.elapsed().as_secs_f64(), stats.active, stats.polls, stats.core_time.as_millis());
+}
+
+fn main() -> io::Result<()> {
+    let arguments = Arguments::read().expect("redis CORES PORT [policy]");
+    let runtime = arguments.runtime()?;
+    let listener = TcpListener::bind(("127.0.0.1", arguments.port))?;
+    runtime.spawn(accept(listener, Arc::new(Store::default())));
+    let (ended, start) = (end()?, Instant::now());
+    println!("ready");
+    while ended.recv_timeout(Duration::from_millis(10)).is_err() {
+        if arguments.follows {
+            show_cores(&runtime, start);
+        }
+    }
+    eprintln!("{:?}", runtime.stats());
+    let ended = runtime.shutdown_within(Duration::from_secs(1));
+    let counts = [&COMMANDS[0], &COMMANDS[1]].map(|count| count.load(SeqCst));
+    println!("accepted {} answered {} aborted {}", counts[0], counts[1], ended.aborted);
+    Ok(())
+}

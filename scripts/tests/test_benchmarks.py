@@ -1,0 +1,61 @@
+"""Each benchmark's line of uses.txt names the libraries that its program uses, and bench/run brings them along."""
+import os
+import re
+import shutil
+import subprocess
+import tempfile
+import unittest
+from pathlib import Path
+
+TOP = Path(__file__).resolve().parents[2]
+
+
+def crates() -> set[str]:
+    """The crates of crates.txt."""
+    return set(subprocess.run([TOP / "scripts/below"], stdout=subprocess.PIPE, text=True, check=True).stdout.split())
+
+
+class Benchmarks(unittest.TestCase):
+    def test_each_names_what_its_program_uses(self) -> None:
+        kit = Path(shutil.which("rt") or "").resolve().parents[1] / "rlibs"
+        of_kit = {it.stem for it in kit.glob("*.rlib")}
+        found = sorted(TOP.glob("bench/*/uses.txt"))
+        self.assertTrue(found)
+        for file in found:
+            with self.subTest(file.parent.name):
+                lines = file.read_text().splitlines()
+                self.assertEqual(len(lines), 1, "uses.txt has one line, that of the program")
+                head, _, libraries = lines[0].partition(":")
+                named = set(libraries.split())
+                self.assertEqual(named - crates() - of_kit, set())
+                sources = [it.read_text() for it in (file.parent / head.split()[0]).glob("src/**/*.rt.in")]
+                self.assertTrue(sources)
+                pattern, known = r"(?:\buse |\bRattle\.)([a-z]\w*)(?=::|\.)", crates() | of_kit
+                used = {it for text in sources for it in re.findall(pattern, text)} & known
+                self.assertEqual(used - named - {"std", "core"}, set(), "not named in uses.txt")
+
+    def test_each_runs_in_a_folder_with_all_that_it_stands_on(self) -> None:
+        for file in sorted(TOP.glob("bench/*/uses.txt")):
+            with self.subTest(file.parent.name), tempfile.TemporaryDirectory() as room:
+                tool = Path(room) / "rt"
+                tool.write_text('#!/bin/sh\necho "$1 $PWD" > "$SEEN"\necho "[]"\n')
+                tool.chmod(0o755)
+                work, seen = Path(room) / "work", Path(room) / "seen"
+                place = {"PATH": f"{room}:{os.environ['PATH']}", "HOW": "try", "SEEN": str(seen)}
+                ran = [TOP / "bench/run", file.parent.name, work]
+                # (what is made of the trace, of which there is none here, isn't looked at)
+                how = {"stdin": subprocess.DEVNULL, "stdout": subprocess.DEVNULL, "stderr": subprocess.DEVNULL}
+                subprocess.run(ran, env={**os.environ, **place}, **how)
+                head, _, libraries = file.read_text().partition(":")
+                program = head.split()[0]
+                self.assertEqual(seen.read_text(), f"try {work}/crates/{program}\n")
+                self.assertTrue([*(work / "crates" / program).glob("src/**/*.rt")])
+                lines = [it for it in (work / "crates.txt").read_text().splitlines() if it]
+                named = {it.partition(":")[0].split()[0]: set(it.partition(":")[2].split()) for it in lines}
+                self.assertEqual(len(named), len(lines))
+                self.assertEqual(crates() & set().union(*named.values()), set(named) - {program})
+                self.assertTrue(all((work / "crates" / it / "src").is_dir() for it in named))
+
+
+if __name__ == "__main__":
+    unittest.main()

@@ -1,0 +1,270 @@
+"""The time that scripts/build says is left, over a made-up run, and a build by an `rt` that proves nothing."""
+import os
+import pty
+import signal
+import subprocess
+import tempfile
+import time
+import unittest
+from pathlib import Path
+from unittest import mock
+
+from loading import TOP, load
+
+build = load("build")
+
+# An `rt` that says of each crate that it is proved, or kept where there is a file KEPT, and leaves a program. Where
+# PLAIN is set, it is one of a kit that keeps nothing.
+FAKE = """#!/bin/sh
+if [ "$1" = help ]; then [ -n "$PLAIN" ] || echo "rt ci [--anew]"; exit; fi
+echo "$1 $PWD" >> "$SEEN"
+if [ "$1" = try ]; then echo value 5; echo "run=ended status=0" >&2; exit; fi
+if [ -n "$WAITS" ]; then sleep 60 & echo $! > "$WAITS"; wait; fi
+make() {
+  mkdir -p "$1/out" && printf '#!/bin/sh\\necho value 5\\n' > "$1/out/arachne" && chmod +x "$1/out/arachne"
+}
+case "$1" in
+  lib | run)
+    [ "${PWD##*/}" != "$FAILS" ] || { echo "rt: a goal is open"; exit 1; }
+    [ "$1" = lib ] || make .
+    exit;;
+esac
+for crate in $(sed 's/[ :].*//' crates.txt); do
+  if [ -e "$KEPT" ]; then echo "rt: $crate is kept: an earlier run on this machine proved the same files"; else echo "rt: $crate proved"; fi
+done
+make crates/arachne
+[ -z "$FAILS" ] || { echo "rt: arachne NOT PROVED"; echo "2 passed, 1 failed"; exit 1; }
+echo "3 passed, 0 failed"
+"""
+
+
+class Estimates(unittest.TestCase):
+    def run_of(self, slowness: float, first: tuple[float, float]) -> list[tuple[float, int]]:
+        """The minutes that are left and those that are said, at each crate's end, on a machine of four lanes so many
+        times slower than the table's."""
+        below, table = build.crates(), build.table()
+        seconds = {it: table.get(it, 60) for it in below}
+        estimate, began, ended, now, told = build.Estimate(seconds, below, 4, first), {}, set(), 0.0, []
+        while len(ended) < len(below):
+            for it in sorted(seconds, key=lambda it: -seconds[it]):
+                if it not in began and len(began) - len(ended) < 4 and set(below[it]) <= ended:
+                    began[it] = now
+            name = min(set(began) - ended, key=lambda it: began[it] + slowness * seconds[it])
+            now = began[name] + slowness * seconds[name]
+            ended.add(name)
+            estimate.proved(name, now - began[name])
+            told.append((now, estimate.minutes({it: now - began[it] for it in set(began) - ended})))
+        return [((now - then) / 60, minutes) for then, minutes in told]
+
+    def test_the_time_left_is_near_the_truth_from_the_first_crate_on(self) -> None:
+        for slowness, first in [(1, (60, 60)), (3, (180, 60)), (2, (60, 60)), (1, (180, 60)), (4, (300, 300)), (1, (1200, 300))]:
+            with self.subTest(slowness=slowness, first=first):
+                for left, minutes in self.run_of(slowness, first)[:-1]:
+                    self.assertLess(minutes, 4 * left + 2)
+                    self.assertGreater(minutes, left / 4 - 1)
+
+    def test_a_look_counts_for_three_times_the_usual_at_most(self) -> None:
+        self.assertEqual(build.speed(10_000), (180, 60))
+        self.assertEqual(build.speed(53), (60, 60))
+        self.assertEqual(build.speed(0), (60, 60))
+
+    def test_what_was_proved_here_counts_more_than_a_look_and_not_for_ever(self) -> None:
+        with tempfile.TemporaryDirectory() as out, mock.patch.object(build, "OUT", Path(out)):
+            for kept, speed in [("200 100", (200, 100)), ("4000 1000", (1200, 300)), ("0 0", (180, 60)), ("x", (180, 60))]:
+                (Path(out) / ".speed").write_text(kept)
+                self.assertEqual(build.speed(10_000), speed)
+
+    def test_no_more_lanes_than_processors(self) -> None:
+        self.assertIn(build.lanes(), range(1, len(os.sched_getaffinity(0)) + 1))
+
+    def test_the_table_has_most_of_the_crates(self) -> None:
+        below = build.crates()
+        self.assertEqual([*below][-1], "arachne")
+        self.assertGreater(len(set(below) & set(build.table())), len(below) * 2 / 3)
+
+
+class Builds(unittest.TestCase):
+    def setUp(self) -> None:
+        held = tempfile.TemporaryDirectory()
+        self.addCleanup(held.cleanup)
+        self.top = Path(held.name) / "repository"
+        for name in ("lower", "arachne"):
+            (self.top / "crates" / name / "src").mkdir(parents=True)
+            (self.top / "crates" / name / "src/lib.rt").touch()
+        texts = "crates/arachne_commands_tests/src/commands/help.rt"
+        (self.top / texts).parent.mkdir(parents=True)
+        (self.top / texts).write_bytes((TOP / texts).read_bytes())
+        (self.top / "crates.txt").write_text("lower:\narachne may_wait=1: lower\nunused: lower\n")
+        (self.top / "HANDLES").write_text("Handles allowed: Wait.\n")
+        for name in ("scripts", "docs"):
+            (self.top / name).mkdir()
+        (self.top / "docs/contributing.md").write_text("| `lower` | 100 | 0 | 0 | 100 |\n")
+        for name in ("arachne", "scripts/build", "scripts/below", "scripts/take", "scripts/words"):
+            (self.top / name).write_bytes((TOP / name).read_bytes())
+            (self.top / name).chmod(0o755)
+        (self.top / "rt").write_text(FAKE)
+        (self.top / "rt").chmod(0o755)
+
+    def place(self, **more: str) -> dict[str, str]:
+        """The environment, where `rt` is the one above."""
+        paths = {"PATH": f"{self.top}:{os.environ['PATH']}", "SEEN": f"{self.top}/seen", "KEPT": f"{self.top}/kept"}
+        return {**os.environ, **paths, "FAILS": "", "WAITS": "", "PLAIN": "", **more}
+
+    def call(self, *words: str, text: str = "", **more: str) -> subprocess.CompletedProcess[str]:
+        """Runs a script of the repository."""
+        how = {"input": text, "stdout": subprocess.PIPE, "stderr": subprocess.PIPE, "text": True}
+        return subprocess.run([self.top / words[0], *words[1:]], env=self.place(**more), **how)
+
+    def seen(self) -> list[str]:
+        """What `rt` was called for."""
+        return (self.top / "seen").read_text().splitlines()
+
+    def test_it_proves_elsewhere_and_leaves_the_program(self) -> None:
+        ran = self.call("scripts/build")
+        self.assertEqual(ran.returncode, 0, ran.stderr)
+        self.assertIn("arachne: lower is proved (1 of 2)", ran.stderr)
+        self.assertTrue((self.top / "crates/arachne/out/.speed").exists(), "the next call counts from this one")
+        self.assertTrue((self.top / "crates/arachne/out/arachne").exists())
+        marked = self.top / "crates/arachne/out/.built"
+        self.assertLess(marked.stat().st_mtime, (self.top / "seen").stat().st_mtime, "the mark has the begin's time")
+        room = Path(self.seen()[0].removeprefix("ci "))
+        self.assertNotEqual(room, self.top)
+        self.assertFalse(room.exists())
+
+    def test_what_is_kept_is_not_told_of_as_proved(self) -> None:
+        (self.top / "kept").touch()
+        ran = self.call("scripts/build")
+        self.assertEqual((ran.returncode, ran.stderr.splitlines()[1:]), (0, ["arachne: built"]))
+
+    def test_it_fails_as_the_gate_does(self) -> None:
+        ran = self.call("scripts/build", FAILS="yes")
+        self.assertEqual(ran.returncode, 1)
+        self.assertIn("rt: arachne NOT PROVED", ran.stderr)
+        self.assertFalse((self.top / "crates/arachne/out/.built").exists())
+        Path(ran.stderr.split()[-1]).unlink()
+
+    def test_where_the_gate_keeps_nothing_each_crate_is_proved_in_its_folder(self) -> None:
+        ran = self.call("scripts/build", PLAIN="yes")
+        self.assertEqual(ran.returncode, 0, ran.stderr)
+        crates = self.top / "crates"
+        self.assertEqual(self.seen(), [f"lib {crates}/lower", f"run {crates}/arachne"])
+        self.assertTrue((crates / "arachne/out/.built").exists())
+
+    def test_a_crate_that_fails_in_its_folder_ends_the_build(self) -> None:
+        for name, count in [("lower", 1), ("arachne", 2)]:
+            with self.subTest(name=name):
+                (self.top / "seen").unlink(missing_ok=True)
+                ran = self.call("scripts/build", PLAIN="yes", FAILS=name)
+                self.assertEqual((ran.returncode, len(self.seen())), (1, count))
+                self.assertIn("rt: a goal is open", ran.stderr)
+                self.assertFalse((self.top / "crates/arachne/out/.built").exists())
+                Path(ran.stderr.split()[-1]).unlink()
+
+    def begun(self, *words: str, **more: str) -> tuple[subprocess.Popen[bytes], int]:
+        """A build whose `rt` waits for a process of its own, and that process."""
+        waits = self.top / "waits"
+        waits.unlink(missing_ok=True)
+        how = {"stdin": subprocess.DEVNULL, "stderr": subprocess.DEVNULL}
+        ran = subprocess.Popen(words, cwd=self.top, env=self.place(WAITS=str(waits), **more), **how)
+        while not waits.exists() or not waits.read_text().endswith("\n"):
+            time.sleep(0.05)
+        return ran, int(waits.read_text())
+
+    def has_ended(self, process: int) -> bool:
+        """A process ends within some seconds."""
+        for _ in range(200):
+            state = Path(f"/proc/{process}/stat")
+            if not state.exists() or state.read_text().rpartition(")")[2].split()[0] == "Z":
+                return True
+            time.sleep(0.05)
+        os.kill(process, signal.SIGKILL)
+        return False
+
+    def test_an_interrupt_ends_all_that_was_started(self) -> None:
+        for plain in ("", "yes"):
+            with self.subTest(plain=plain):
+                ran, process = self.begun("scripts/build", PLAIN=plain)
+                ran.terminate()
+                self.assertEqual(ran.wait(), 130)
+                self.assertTrue(self.has_ended(process))
+                self.assertFalse((self.top / "crates/arachne/out/.built").exists())
+
+    def test_the_end_of_the_caller_ends_all_that_was_started(self) -> None:
+        ran, process = self.begun("sh", "-c", "scripts/build & wait")
+        ran.kill()
+        ran.wait()
+        self.assertTrue(self.has_ended(process))
+
+    def test_a_call_that_resumes_makes_no_second_look(self) -> None:
+        first = self.call("arachne", "run", FAILS="yes")
+        self.assertEqual((first.returncode, first.stdout), (1, ""))
+        self.assertIn("a first look, of a build that is not proved:\nvalue 5\n", first.stderr)
+        Path(first.stderr.split()[-1]).unlink()
+        second = self.call("arachne", "run")
+        self.assertEqual((second.returncode, second.stdout), (0, "value 5\n"), second.stderr)
+        self.assertEqual([it.split()[0] for it in self.seen()], ["try", "ci", "ci"])
+        third = self.call("arachne", "run")
+        self.assertEqual((third.returncode, third.stdout, third.stderr), (0, "value 5\n", ""))
+        self.assertEqual(len(self.seen()), 3)
+        (self.top / "crates/lower/src/lib.rt").write_text("changed")
+        self.assertEqual(self.call("arachne", "--first-look", "run").returncode, 0)
+        self.assertEqual([it.split()[0] for it in self.seen()], ["try", "ci", "ci", "try"])
+
+    def test_other_sources_get_a_look(self) -> None:
+        Path(self.call("arachne", "run", FAILS="yes").stderr.split()[-1]).unlink()
+        time.sleep(0.02)
+        (self.top / "crates/lower/src/lib.rt").write_text("changed")
+        self.assertIn("a first look", self.call("arachne", "run").stderr)
+
+
+class Named(unittest.TestCase):
+    """`./arachne --named`, over a program that says what it is to say."""
+
+    def setUp(self) -> None:
+        held = tempfile.TemporaryDirectory()
+        self.addCleanup(held.cleanup)
+        self.top = Path(held.name)
+        (self.top / "crates/arachne/out").mkdir(parents=True)
+        (self.top / "scripts").mkdir()
+        (self.top / "crates.txt").write_text("arachne:\n")
+        for name in ("arachne", "scripts/below", "scripts/explain", "scripts/named"):
+            (self.top / name).write_bytes((TOP / name).read_bytes())
+            (self.top / name).chmod(0o755)
+        program = self.top / "crates/arachne/out/arachne"
+        program.write_text('#!/bin/sh\ncat\n[ -z "$SAYS" ] || { echo "$SAYS" >&2; exit ${STATUS:-1}; }\n')
+        program.chmod(0o755)
+        (self.top / "crates/arachne/out/.built").touch()
+
+    def call(self, text: str, says: str = "", status: int = 1) -> tuple[int, str, str]:
+        how = {"input": text, "text": True, "capture_output": True}
+        place = {**os.environ, "SAYS": says, "STATUS": str(status)}
+        ran = subprocess.run([self.top / "arachne", "--named", "run"], env=place, **how)
+        return ran.returncode, ran.stdout, ran.stderr
+
+    def test_the_program_reads_the_task_text(self) -> None:
+        self.assertEqual(self.call("(add 1 2)"), (0, "arachne 1\nledgers 0\nlocks 0\n(add (num 1) (num 2))\n", ""))
+
+    def test_a_slip_is_answered_by_the_translator_alone(self) -> None:
+        self.assertEqual(self.call("(add 1 b)"), (1, "", "fault 8 at 7\n"))
+
+    def test_a_fault_of_the_program_is_shown_in_the_named_text(self) -> None:
+        text = "(lock l)\n(hold l\n  (hold l 1))"
+        self.assertEqual(self.call(text, "fault 9 node 1")[::2], (1, f"fault 9 at {text.rindex('(hold')}\n"))
+        self.assertEqual(self.call(text, "fault 35")[::2], (1, "fault 35\n"))
+        self.assertEqual(self.call(text, "fault 26 order 0", 2), (2, "", "fault 26 order 0\n"))
+
+    def test_a_terminal_gets_no_control_character_of_a_word(self) -> None:
+        terminal, end = pty.openpty()
+        words = [self.top / "arachne", "\x1b]0;title\x07", self.top / "crates.txt"]
+        place = {**os.environ, "SAYS": "error: \x1b]0;title\x07", "STATUS": "2"}
+        ran = subprocess.run(words, env=place, stdin=subprocess.DEVNULL, stderr=end)
+        os.close(end)
+        told = os.read(terminal, 4096).decode()
+        os.close(terminal)
+        self.assertEqual(ran.returncode, 2)
+        self.assertIn("crates.txt is a file", told)
+        self.assertTrue(all(" " <= it < "\x7f" or it in "\r\n" for it in told), repr(told))
+
+
+if __name__ == "__main__":
+    unittest.main()
