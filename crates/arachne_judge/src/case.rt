@@ -145,6 +145,9 @@ impl<'r> Case<'r> {
             What::Turn(id, is_alone) => self.turn(core, id, is_alone),
             What::Told(event) => self.event(core, event),
         }
+        let mut known = self.core(core);
+        known.was_closed = known.is_closed;
+        self.set_core(core, known);
     }
 
     fn event(&mut self, core: u8, event: Event) {
@@ -380,9 +383,13 @@ impl<'r> Case<'r> {
         }
     }
 
+    /// A core found itself closed with nothing on it, and parks. It may have been granted since, and told so late.
     fn parks(&mut self, core: u8) {
         self.counts(Rule::Parks);
         let mut known = self.core(core);
+        if known.was_closed && !known.is_closed {
+            return;
+        }
         if !known.is_closed {
             known.owes_close = true;
             self.owes = true;
@@ -427,6 +434,7 @@ impl<'r> Case<'r> {
                 known.is_closed = false;
             } else {
                 known.is_closed = true;
+                known.was_closed = true;
                 known.owes_close = false;
             }
             self.set_core(of, known);

@@ -17,6 +17,8 @@ pub(crate) struct Core {
     pub(crate) alone: Option<ThreadId>,
     /// Whether the orders that are told to be applied have closed it.
     pub(crate) is_closed: bool,
+    /// Whether it was closed at some time since its last entry.
+    pub(crate) was_closed: bool,
     /// How often they have opened it.
     pub(crate) grants: u64,
     /// How often it went on after a park.
@@ -42,6 +44,7 @@ impl Core {
             is_in_slice: false,
             alone: None,
             is_closed: false,
+            was_closed: false,
             grants: 0,
             unparks: 0,
             moved: 0,
