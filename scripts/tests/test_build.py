@@ -182,10 +182,10 @@ class Builds(unittest.TestCase):
         return False
 
     def test_an_interrupt_ends_all_that_was_started(self) -> None:
-        for plain in ("", "yes"):
-            with self.subTest(plain=plain):
+        for plain, sent in [("", signal.SIGTERM), ("yes", signal.SIGTERM), ("yes", signal.SIGINT), ("yes", signal.SIGHUP)]:
+            with self.subTest(plain=plain, sent=sent):
                 ran, process = self.begun("scripts/build", PLAIN=plain)
-                ran.terminate()
+                ran.send_signal(sent)
                 self.assertEqual(ran.wait(), 130)
                 self.assertTrue(self.has_ended(process))
                 self.assertFalse((self.top / "crates/arachne/out/.built").exists())
