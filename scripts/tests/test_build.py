@@ -14,11 +14,16 @@ from loading import TOP, load
 build = load("build")
 
 # An `rt` that says of each crate that it is proved, or kept where there is a file KEPT, and leaves a program. Where
-# PLAIN is set, it is one of a kit that keeps nothing; its program has status 0 where it checks a task text alone.
+# PLAIN is set, it is one of a kit that keeps nothing; its program has status 0 where it checks a task text alone. Where
+# LOOK is set, that is the fault of an unproved build.
 FAKE = """#!/bin/sh
 if [ "$1" = help ]; then [ -n "$PLAIN" ] || echo "rt ci [--anew]"; exit; fi
 echo "$1 $PWD" >> "$SEEN"
-if [ "$1" = try ]; then echo value 5; echo "run=ended status=0" >&2; exit; fi
+if [ "$1" = try ]; then
+  if [ -n "$LOOK" ]; then echo "fault $LOOK" >&2; else echo value 5; fi
+  echo "run=ended status=0" >&2
+  [ -z "$LOOK" ]; exit
+fi
 if [ -n "$WAITS" ]; then sleep 60 & echo $! > "$WAITS"; wait; fi
 make() {
   mkdir -p "$1/out" && printf '#!/bin/sh\\necho value 5\\n' > "$1/out/arachne" && chmod +x "$1/out/arachne"
@@ -127,7 +132,7 @@ class Builds(unittest.TestCase):
     def place(self, **more: str) -> dict[str, str]:
         """The environment, where `rt` is the one above."""
         paths = {"PATH": f"{self.top}:{os.environ['PATH']}", "SEEN": f"{self.top}/seen", "KEPT": f"{self.top}/kept"}
-        return {**os.environ, **paths, "FAILS": "", "WAITS": "", "PLAIN": "", **more}
+        return {**os.environ, **paths, "FAILS": "", "WAITS": "", "PLAIN": "", "LOOK": "", **more}
 
     def call(self, *words: str, text: str = "", **more: str) -> subprocess.CompletedProcess[str]:
         """Runs a script of the repository."""
@@ -230,6 +235,15 @@ class Builds(unittest.TestCase):
         self.assertEqual(self.call("arachne", "--first-look", "run").returncode, 0)
         self.assertEqual([it.split()[0] for it in self.seen()], ["try", "ci", "ci", "try"])
 
+    def test_a_look_that_differs_is_an_error_unless_it_lacked_memory(self) -> None:
+        for fault, status in [("9 node 0", 3), ("30", 0)]:
+            with self.subTest(fault):
+                for it in ("built", "looked"):
+                    (self.top / f"crates/arachne/out/.{it}").unlink(missing_ok=True)
+                ran = self.call("arachne", "run", LOOK=fault)
+                self.assertEqual(ran.returncode, status, ran.stderr)
+                self.assertIn(f"a first look, of a build that is not proved:\nfault {fault}\n", ran.stderr)
+
     def test_what_the_gate_built_is_taken_unless_a_source_is_younger(self) -> None:
         crates, then = self.top / "crates", time.time() - 100
         for it in (self.top / "crates.txt", crates / "lower/src/lib.rt", crates / "arachne/src/lib.rt"):
@@ -279,8 +293,11 @@ class Named(unittest.TestCase):
 
     def call(self, text: str, says: str = "", status: int = 1, command: str = "run") -> tuple[int, str, str]:
         how = {"input": text, "text": True, "capture_output": True}
-        place = {**os.environ, "SAYS": says, "STATUS": str(status)}
+        room = self.top / "room"
+        room.mkdir(exist_ok=True)
+        place = {**os.environ, "SAYS": says, "STATUS": str(status), "TMPDIR": str(room)}
         ran = subprocess.run([self.top / "arachne", "--named", command], env=place, **how)
+        self.assertEqual([*room.iterdir()], [], "nothing is left behind")
         return ran.returncode, ran.stdout, ran.stderr
 
     def test_the_program_reads_the_task_text(self) -> None:

@@ -46,6 +46,7 @@ FAULTS = {
     "(add 1 @" + 5000 * "9" + ")": 3,
     "@(add 1 2": 2,
     "@(add 1 (mul 2 3)\n(define x 1)": 2,
+    "@(define (f x) (add x 1)\n(define (g x) x)\n(add (f 1) (g 2)": 2,
     "(add 1 2)@)": 2,
     "(ledger a)\n@": 2,
     "@(sub 1 2 3)": 2,
