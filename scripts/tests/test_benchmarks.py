@@ -50,6 +50,7 @@ class Benchmarks(unittest.TestCase):
                 program = head.split()[0]
                 self.assertEqual(seen.read_text(), f"try {work}/crates/{program}\n")
                 self.assertTrue([*(work / "crates" / program).glob("src/**/*.rt")])
+                self.assertTrue((work / "HANDLES").exists())
                 lines = [it for it in (work / "crates.txt").read_text().splitlines() if it]
                 named = {it.partition(":")[0].split()[0]: set(it.partition(":")[2].split()) for it in lines}
                 self.assertEqual(len(named), len(lines))

@@ -14,11 +14,16 @@ from loading import TOP, load
 build = load("build")
 
 # An `rt` that says of each crate that it is proved, or kept where there is a file KEPT, and leaves a program. Where
-# PLAIN is set, it is one of a kit that keeps nothing; its program has status 0 where it checks a task text alone.
+# PLAIN is set, it is one of a kit that keeps nothing; its program has status 0 where it checks a task text alone. Where
+# LOOK is set, that is the fault of an unproved build.
 FAKE = """#!/bin/sh
 if [ "$1" = help ]; then [ -n "$PLAIN" ] || echo "rt ci [--anew]"; exit; fi
 echo "$1 $PWD" >> "$SEEN"
-if [ "$1" = try ]; then echo value 5; echo "run=ended status=0" >&2; exit; fi
+if [ "$1" = try ]; then
+  if [ -n "$LOOK" ]; then echo "fault $LOOK" >&2; else echo value 5; fi
+  echo "run=ended status=0" >&2
+  [ -z "$LOOK" ]; exit
+fi
 if [ -n "$WAITS" ]; then sleep 60 & echo $! > "$WAITS"; wait; fi
 make() {
   mkdir -p "$1/out" && printf '#!/bin/sh\\necho value 5\\n' > "$1/out/arachne" && chmod +x "$1/out/arachne"
@@ -78,6 +83,24 @@ class Estimates(unittest.TestCase):
     def test_no_more_lanes_than_processors(self) -> None:
         self.assertIn(build.lanes(), range(1, len(os.sched_getaffinity(0)) + 1))
 
+    def test_a_crate_begins_where_a_lane_is_free_and_all_below_it_is_proved(self) -> None:
+        for lanes, proved, may in [(2, {"lower"}, True), (1, {"lower"}, False), (2, set(), False)]:
+            estimate = mock.Mock(lanes=lanes, below={"upper": ["lower"]})
+            of = mock.Mock(status=0, at_work={"other": None}, proved=proved, estimate=estimate)
+            self.assertEqual(build.FolderBuild.may_begin(of, "upper"), may)
+
+    def test_the_crate_in_work_is_found_among_all_that_was_started(self) -> None:
+        prover = 'exec -a /kit/rattle sh -c "sleep 60; :" --crate-name lower'
+        ran = subprocess.Popen(["bash", "-c", f"({prover}) & wait"], start_new_session=True)
+        try:
+            found, end = set(), time.monotonic() + 20
+            while not found and time.monotonic() < end:
+                found = build.in_work(ran.pid)
+        finally:
+            os.killpg(ran.pid, signal.SIGKILL)
+            ran.wait()
+        self.assertEqual(found, {"lower"})
+
     def test_the_table_has_most_of_the_crates(self) -> None:
         below = build.crates()
         self.assertEqual([*below][-1], "arachne")
@@ -109,7 +132,7 @@ class Builds(unittest.TestCase):
     def place(self, **more: str) -> dict[str, str]:
         """The environment, where `rt` is the one above."""
         paths = {"PATH": f"{self.top}:{os.environ['PATH']}", "SEEN": f"{self.top}/seen", "KEPT": f"{self.top}/kept"}
-        return {**os.environ, **paths, "FAILS": "", "WAITS": "", "PLAIN": "", **more}
+        return {**os.environ, **paths, "FAILS": "", "WAITS": "", "PLAIN": "", "LOOK": "", **more}
 
     def call(self, *words: str, text: str = "", **more: str) -> subprocess.CompletedProcess[str]:
         """Runs a script of the repository."""
@@ -149,6 +172,7 @@ class Builds(unittest.TestCase):
         self.assertEqual(ran.returncode, 0, ran.stderr)
         crates = self.top / "crates"
         self.assertEqual(self.seen(), [f"lib {crates}/lower", f"run {crates}/arachne"])
+        self.assertNotIn("is proved", ran.stderr, "what takes no time was built before")
         self.assertTrue((crates / "arachne/out/.built").exists())
 
     def test_a_crate_that_fails_in_its_folder_ends_the_build(self) -> None:
@@ -182,10 +206,10 @@ class Builds(unittest.TestCase):
         return False
 
     def test_an_interrupt_ends_all_that_was_started(self) -> None:
-        for plain in ("", "yes"):
-            with self.subTest(plain=plain):
+        for plain, sent in [("", signal.SIGTERM), ("yes", signal.SIGTERM), ("yes", signal.SIGINT), ("yes", signal.SIGHUP)]:
+            with self.subTest(plain=plain, sent=sent):
                 ran, process = self.begun("scripts/build", PLAIN=plain)
-                ran.terminate()
+                ran.send_signal(sent)
                 self.assertEqual(ran.wait(), 130)
                 self.assertTrue(self.has_ended(process))
                 self.assertFalse((self.top / "crates/arachne/out/.built").exists())
@@ -210,6 +234,37 @@ class Builds(unittest.TestCase):
         (self.top / "crates/lower/src/lib.rt").write_text("changed")
         self.assertEqual(self.call("arachne", "--first-look", "run").returncode, 0)
         self.assertEqual([it.split()[0] for it in self.seen()], ["try", "ci", "ci", "try"])
+
+    def test_a_look_that_differs_is_an_error_unless_it_lacked_memory(self) -> None:
+        for fault, status in [("9 node 0", 3), ("30", 0)]:
+            with self.subTest(fault):
+                for it in ("built", "looked"):
+                    (self.top / f"crates/arachne/out/.{it}").unlink(missing_ok=True)
+                ran = self.call("arachne", "run", LOOK=fault)
+                self.assertEqual(ran.returncode, status, ran.stderr)
+                self.assertIn(f"a first look, of a build that is not proved:\nfault {fault}\n", ran.stderr)
+
+    def test_what_the_gate_built_is_taken_unless_a_source_is_younger(self) -> None:
+        crates, then = self.top / "crates", time.time() - 100
+        for it in (self.top / "crates.txt", crates / "lower/src/lib.rt", crates / "arachne/src/lib.rt"):
+            os.utime(it, (then, then))
+        (crates / "lower/out").mkdir()
+        time.sleep(1.1)
+        (crates / "arachne/out").mkdir()
+        for it in ("stdout", "out/stdout", "out/stdout.by-rattle"):
+            (crates / "arachne" / it).write_text("value 5\n")
+        program = crates / "arachne/out/arachne"
+        program.write_text("#!/bin/sh\necho value 5\n")
+        program.chmod(0o755)
+        born = subprocess.run(["stat", "-c", "%W", program.parent], stdout=subprocess.PIPE, text=True, check=True).stdout
+        if int(born) == 0:
+            self.skipTest("this file system doesn't keep when a folder was made")
+        ran = self.call("arachne", "run")
+        self.assertEqual((ran.returncode, ran.stdout, ran.stderr), (0, "value 5\n", ""))
+        # (changed once the proof of its crate had begun, and before that of the last one)
+        os.utime(crates / "lower/src/lib.rt", (int(born) - 0.01, int(born) - 0.01))
+        self.assertEqual(self.call("arachne", "run").returncode, 0)
+        self.assertEqual([it.split()[0] for it in self.seen()], ["ci"])
 
     def test_other_sources_get_a_look(self) -> None:
         Path(self.call("arachne", "run", FAILS="yes").stderr.split()[-1]).unlink()
@@ -236,10 +291,13 @@ class Named(unittest.TestCase):
         program.chmod(0o755)
         (self.top / "crates/arachne/out/.built").touch()
 
-    def call(self, text: str, says: str = "", status: int = 1) -> tuple[int, str, str]:
+    def call(self, text: str, says: str = "", status: int = 1, command: str = "run") -> tuple[int, str, str]:
         how = {"input": text, "text": True, "capture_output": True}
-        place = {**os.environ, "SAYS": says, "STATUS": str(status)}
-        ran = subprocess.run([self.top / "arachne", "--named", "run"], env=place, **how)
+        room = self.top / "room"
+        room.mkdir(exist_ok=True)
+        place = {**os.environ, "SAYS": says, "STATUS": str(status), "TMPDIR": str(room)}
+        ran = subprocess.run([self.top / "arachne", "--named", command], env=place, **how)
+        self.assertEqual([*room.iterdir()], [], "nothing is left behind")
         return ran.returncode, ran.stdout, ran.stderr
 
     def test_the_program_reads_the_task_text(self) -> None:
@@ -254,9 +312,13 @@ class Named(unittest.TestCase):
         self.assertEqual(self.call(text, "fault 35")[::2], (1, "fault 35\n"))
         self.assertEqual(self.call(text, "fault 26 order 0", 2), (2, "", "fault 26 order 0\n"))
 
+    def test_samples_have_no_names(self) -> None:
+        told = "error: 'policy' reads samples, and --named is for programs\n"
+        self.assertEqual(self.call("1 1 1 1 1\n", command="policy"), (2, "", told))
+
     def test_a_terminal_gets_no_control_character_of_a_word(self) -> None:
         terminal, end = pty.openpty()
-        words = [self.top / "arachne", "\x1b]0;title\x07", self.top / "crates.txt"]
+        words = [self.top / "arachne", "\x1b]0;title\x07", self.top / "crates.txt", "--named"]
         place = {**os.environ, "SAYS": "error: \x1b]0;title\x07", "STATUS": "2"}
         ran = subprocess.run(words, env=place, stdin=subprocess.DEVNULL, stderr=end)
         os.close(end)
@@ -264,6 +326,7 @@ class Named(unittest.TestCase):
         os.close(terminal)
         self.assertEqual(ran.returncode, 2)
         self.assertIn("crates.txt is a file", told)
+        self.assertIn("--named stands before the command", told)
         self.assertTrue(all(" " <= it < "\x7f" or it in "\r\n" for it in told), repr(told))
 
 

@@ -40,6 +40,7 @@ class Explain(unittest.TestCase):
         first, line, caret = explained(text, "fault 2 at 200", "run").splitlines()
         self.assertTrue(first.startswith("line 4, column 173: no text goes on"), first)
         self.assertEqual((line.index("@"), caret), (61, 61 * " " + "^"))
+        self.assertLessEqual(len(line), 112)
 
     def test_the_order_and_the_language_are_named(self) -> None:
         told = explained(b"", "fault 25 order 1", "run", "--cores", "2", "--names", "3:grant:1", "2:grant:1")

@@ -26,6 +26,9 @@ EXPRESSIONS = {
     "(define (five) 5) (define six 6) (add (five) six)": "(add (num 5) (num 6))",
     "(define (f array) (fold (lock sum) 0 array 1 lock)) (f 9)": "(fold (num 0) (num 9) (num 1) (var 0))",
     5000 * "0" + "7": "(num 7)",
+    str(2**64 - 1): "(num 18446744073709551615)",
+    "(define (less a b) (sub a b)) (less (add 1 2) (mul 3 4))": "(let (add (num 1) (num 2)) (let (mul (num 3) (num 4)) "
+    "(sub (var 0) (var 1))))",
     "(define (bound x) (let y 1 (add x y))) (let y 7 (bound y))": "(let (num 7) (let (num 1) (add (var 0) (var 1))))",
 }
 
@@ -36,10 +39,14 @@ FAULTS = {
     "(let a 1 (add a b)) @(add 1 2)": 2,
     "(fork n @a 2 (a b) 3)": 8,
     "(add 1 @-1)": 8,
+    "@; sum\n(add 1 2)": 2,
+    "@\ufeff(add 1 2)": 2,
+    "(define (f x) @y) (let y 1 (f 2))": 8,
     "(add 1 @18446744073709551616)": 3,
     "(add 1 @" + 5000 * "9" + ")": 3,
     "@(add 1 2": 2,
     "@(add 1 (mul 2 3)\n(define x 1)": 2,
+    "@(define (f x) (add x 1)\n(define (g x) x)\n(add (f 1) (g 2)": 2,
     "(add 1 2)@)": 2,
     "(ledger a)\n@": 2,
     "@(sub 1 2 3)": 2,
@@ -93,6 +100,25 @@ class Named(unittest.TestCase):
                 if "@" in marked:
                     self.assertEqual(found.exception.places[0], marked.index("@"), found.exception)
 
+    def test_as_many_nodes_and_levels_as_the_program_takes(self) -> None:
+        doubled = "".join(f"(define d{k} (add d{k - 1} d{k - 1}))" for k in range(1, 12))
+        nodes = f"(array a) (define d0 (len a)) {doubled} (define (f x y) y)"
+        self.assertEqual(len(named.Translation(f"{nodes} (item a d11)".encode()).places), 4096)
+        deep = 62 * "(let a 1 " + "1" + 62 * ")"
+        for expression in [f"(add 1 2 {deep})", f"(f {deep} 1)"]:
+            named.Translation(f"{nodes} {expression}".encode())
+        over = {"(item a (item a d11))": 10, f"(add {deep} 1 2)": 4, f"(f (add 1 2) {deep})": 4, f"(f 1 (f {deep} 2))": 4}
+        for expression, number in over.items():
+            with self.subTest(expression), self.assertRaises(named.Fault) as found:
+                named.Translation(f"{nodes} {expression}".encode())
+            self.assertEqual(found.exception.number, number)
+
+    def test_many_definitions_take_little_memory(self) -> None:
+        text = "".join(f"(define (f{k} x) (add x {k}))" for k in range(20_000)) + "(f7 1)"
+        words = ["bash", "-c", 'ulimit -v 1000000; exec "$0"', TOP / "scripts/named"]
+        ran = subprocess.run(words, input=text, text=True, capture_output=True)
+        self.assertEqual((ran.stdout.splitlines()[-1:], ran.stderr), (["(add (num 1) (num 7))"], ""))
+
     def test_a_fault_of_the_task_text_is_mapped_back(self) -> None:
         text = b"(lock gate)\n(define (guarded x) (hold gate x))\n(hold gate (add 1 (guarded 2)))\n"
         made = named.Translation(text)
@@ -130,10 +156,18 @@ class Named(unittest.TestCase):
         why = "line 2, column 11: within a hold there is no fork, no sweep and no other hold"
         used = "line 3, column 9: the definition is used here"
         self.assertEqual([told.splitlines()[k] for k in (0, 1, 4)], ["fault 9 at 19", why, used])
+        told = self.shown(b"(define (f x) (g x))\n(define (h x) (f x))\n(h 1)\n")
+        self.assertEqual([it[:14] for it in told.splitlines()[1::3]], ["line 1, column", "line 2, column", "line 3, column"])
 
     def test_a_text_that_is_too_large_is_not_cut(self) -> None:
-        ran = subprocess.run([TOP / "scripts/named"], input=b"7 " + 2**25 * b"#", capture_output=True)
-        self.assertEqual((ran.returncode, ran.stdout, ran.stderr), (1, b"", b"fault 36\n"))
+        for more, wanted in [(-1, (0, b"")), (0, (1, b"fault 36\n"))]:
+            ran = subprocess.run([TOP / "scripts/named"], input=b"7 " + (2**25 - 1 + more) * b"#", capture_output=True)
+            self.assertEqual((ran.returncode, ran.stderr), wanted)
+
+    def test_a_full_disk_is_a_fault(self) -> None:
+        with open("/dev/full", "w") as full:
+            ran = subprocess.run([TOP / "scripts/named"], input=b"7", stdout=full, stderr=subprocess.PIPE)
+        self.assertEqual((ran.returncode, ran.stderr), (1, b"fault 38\n"))
 
 
 class Examples(unittest.TestCase):
