@@ -1,4 +1,4 @@
-use Rattle.std.proofs.Common.{◌≡◌, ◌<◌, ℕ, ◌+◌, ◌*◌, ◌%◌, refl, ap, ◌∙◌, arith}
+use Rattle.std.proofs.Common.{◌≡◌, ℕ, ◌+◌, ◌*◌, refl, ap, ◌∙◌, arith}
 use Rattle.arachne_exec.specs.Layout.{summary_at}
 use Rattle.arachne_exec.specs.Changes.{noted}
 use Rattle.arachne_exec.proofs.executor.Executor.lie_down.Goals as goal

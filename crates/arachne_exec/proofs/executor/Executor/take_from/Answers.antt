@@ -1,4 +1,4 @@
-use Rattle.std.proofs.Common.{◌≡◌, ℕ, ◌+◌, ◌*◌, ◌∙◌, List, ◌∷◌, inr, refl, ap, sym}
+use Rattle.std.proofs.Common.{ℕ, ◌+◌, ◌*◌, ◌∙◌, List, ◌∷◌, inr, refl, ap, sym}
 use Rattle.atomic_table.specs.Table.{rest}
 use Rattle.arachne_exec.specs.Layout.{ready_at}
 use Rattle.arachne_exec.specs.Changes.{noted}
