@@ -1,5 +1,6 @@
 mod Bits
 pub mod Places
+mod Counting
 mod Keeping
 mod Balancing
 mod Hearing
@@ -14,3 +15,4 @@ mod Allowed
 mod Told
 mod Leaving
 mod Chains
+mod Crossing

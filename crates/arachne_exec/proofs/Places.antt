@@ -10,12 +10,12 @@ use Rattle.arachne_exec.proofs.Bits.{clear_same, clear_other}
 
 module _ (block : ℕ) where
   -- the index isn't among them
-  skipped : (word i more : ℕ) → bit_at word i ≡ 0 → places_from block word i (suc more) ≡ places_from block word (suc i) more
+  pub skipped : (word i more : ℕ) → bit_at word i ≡ 0 → places_from block word i (suc more) ≡ places_from block word (suc i) more
   skipped word i more clear = ap (λ b. if b then (64 * block + i) ∷ places_from block word (suc i) more else places_from block word (suc i) more)
       (ne_eqb (bit_at word i) 1 (λ e. let wrong : 0 ≡ 1 = sym clear ∙ e in omega (arith, wrong)))
 
   -- it is
-  listed : (word i more : ℕ) → bit_at word i ≡ 1 → places_from block word i (suc more) ≡ (64 * block + i) ∷ places_from block word (suc i) more
+  pub listed : (word i more : ℕ) → bit_at word i ≡ 1 → places_from block word i (suc more) ≡ (64 * block + i) ∷ places_from block word (suc i) more
   listed word i more is = ap (λ b. if b then (64 * block + i) ∷ places_from block word (suc i) more else places_from block word (suc i) more) (eq-eqb (bit_at word i) 1 is)
 
   module _ (word t : ℕ) (low : t < 64) where

@@ -14,7 +14,7 @@ use Rattle.arachne_weights.specs.Tokens.{held, learns}
 use Rattle.arachne_exec.specs.declared.view.Known.{Known}
 use Rattle.arachne_exec.specs.Layout.{idle_at, numbers_at, summary_at, ready_at, free_at, mark_at, worker_of, others, in_word}
 use Rattle.arachne_exec.specs.Board.{is_idle, one, seats_of, owed, Board, HasOneKeeper, IsShown, WakesSleepers, IsLawful}
-use Rattle.arachne_exec.specs.Changes.{rousing, unshowing, owing, having_seen, working}
+use Rattle.arachne_exec.specs.Changes.{noted, rousing, unshowing, owing, having_seen, working}
 use Rattle.arachne_exec.specs.Steps.{Mine, with, knowing, FindsShown, Shows, Hides, LooksAgain, LooksIdle, Unparks, Rises, Rests, LooksNext, Registers, Leaves}
 use Rattle.arachne_exec.proofs.Bits.{one-same, one-apart, same_others, clear_same, clear_other, clear_le, unset, set_same, set_other, not_one, elsewhere, here}
 use Rattle.arachne_weights.proofs.Totals.{total-set}
@@ -24,7 +24,7 @@ use Rattle.arachne_exec.proofs.Hearing.{hears-on}
 use Rattle.arachne_exec.proofs.Debts.{with-same, with-more, with-less, with-others}
 use Rattle.arachne_exec.proofs.KeepsShown.{shows-on, shows-owing, shows-paid}
 use Rattle.arachne_exec.proofs.Sleeping.{seats-same, keeps-sleep, sleeps-on}
-use Rattle.arachne_exec.proofs.Moves.{summary_apart, clash, was_set, some_number, unchanged, stays, same_shown, same_summary, unmarked, sunk, same_ready, quiet-shows}
+use Rattle.arachne_exec.proofs.Moves.{summary_apart, clash, was_set, some_number, unchanged, stays, same_shown, same_summary, unmarked, sunk, same_ready, quiet-shows, noting}
 
 module _ (shards slots id w : ℕ) where
   module _ (s : Board) (h : IsLawful shards s) (k l : Known) (mine : get_elem? s.views id ≡ some (held w k)) (hand : l.hand ≡ k.hand) (spawned : l.spawned ≡ k.spawned) (ended : l.ended ≡ k.ended)
@@ -313,7 +313,7 @@ module _ (shards slots id w : ℕ) where
               (λ ne. let apart : ¬ (c ≡ k.seen) = ne in inl (is, omega (arith, below, apart)))))),
           ((λ _. refl), λ full. absurd (full empty)),
         ))
-        (λ full. (held w k, keeps, tt, stays shards slots id w s h k mine xs i, ((λ empty. absurd (full empty)), λ _. refl)))
+        (λ full. (held w (noted i n k), keeps, tt, noting shards slots id w s h k mine xs i n, ((λ empty. absurd (full empty)), λ _. refl)))
 
     -- ---- worker numbers
 
@@ -346,10 +346,10 @@ module _ (shards slots id w : ℕ) where
           ),
         ))
         (λ other. let clear = not_one n j other in (
-          held w k,
+          held w (noted i n k),
           keeps,
           tt,
-          subst (λ x. IsLawful shards (stepped s i x id xs (held w k) keeps)) (sym (unset n j low small clear)) (stays shards slots id w s h k mine xs i),
+          subst (λ x. IsLawful shards (stepped s i x id xs (held w (noted i n k)) keeps)) (sym (unset n j low small clear)) (noting shards slots id w s h k mine xs i n),
           λ c first below. let same : j ≡ c = same_others j c low below first in (
             λ there. absurd (clash n j (subst (λ x. bit_at n x ≡ 1) (sym same) there) clear),
             λ _. refl,

@@ -1,5 +1,5 @@
 -- What each call answers, by what its seat has and knows then.
-use Rattle.std.specs.Prelude.{◌≡◌, ◌≢◌, ◌⊎◌, ℕ, ◌+◌, ◌*◌, ◌/◌, ◌%◌, ◌<◌, ◌≤◌, List, ◌∷◌, ◌++◌, map}
+use Rattle.std.specs.Prelude.{◌≡◌, ◌≢◌, ◌⊎◌, ℕ, ◌+◌, ◌*◌, ◌/◌, ◌%◌, ◌<◌, ◌≤◌, max, List, ◌∷◌, ◌++◌, map, length}
 use Rattle.std.specs.Int.{bit_at}
 use Rattle.std.specs.Int.RustNames.{bit_and}
 use Rattle.arachne_exec.specs.declared.view.Known.{Known}
@@ -20,12 +20,22 @@ use Rattle.arachne_exec.specs.declared.answers.WokenHere.TheVariants as here
 use Rattle.arachne_exec.specs.declared.waking.Found.{Found}
 use Rattle.arachne_exec.specs.declared.waking.Found.TheVariants as found
 use Rattle.arachne_exec.specs.Seats.{CallView}
-use Rattle.arachne_exec.specs.Layout.{ready_at, free_at, mark_at, places_in_word, worker_of, last_generation, name_of}
-use Rattle.arachne_exec.specs.Changes.{older, gained, gaining, unblocking, readying, blocking, spawning, beginning, ending, marking, hearing, noted, rousing}
+use Rattle.arachne_exec.specs.Layout.{summary_at, ready_at, free_at, mark_at, places_in_word, worker_of, last_generation, name_of}
+use Rattle.arachne_exec.specs.Changes.{older, gained, gaining, unblocking, readying, blocking, spawning, beginning, ending, marking, hearing, noted, rousing, having_seen}
 
 -- the worker of a place
 abbrev pub worker_at : ℕ → ℕ
 worker_at place = worker_of (place / 4096)
+
+-- a bit of a word was found set, and then clear: another seat has cleared it
+pub record HasMissed (word : ℕ) (k after : Known) : Type 0 where
+  pub first : ℕ
+  pub then : ℕ
+  pub index : ℕ
+  pub low : index < 64
+  pub was : bit_at first index ≡ 1
+  pub gone : bit_at then index ≡ 0
+  pub known : after ≡ noted word then (noted word first k)
 
 -- the free bit of a place of the block was found set, and the job was laid there; the name is what its mark says
 pub record HasPlaced (at : Placed) (block job : ℕ) (k after : Known) : Type 0 where
@@ -35,11 +45,11 @@ pub record HasPlaced (at : Placed) (block job : ℕ) (k after : Known) : Type 0 
   pub named : at.name ≡ name_of at.place mark
   pub known : after ≡ rousing at.unpark (worker_at at.place) (spawning job (noted (mark_at at.place) mark (gained at.place 0 (noted (free_at block) free k))))
 
--- Full: the block's free word was found empty. Lost: a bit that was found set was then found clear
+-- Full: the block's free word was found empty. Lost: another seat has claimed a place that was found free
 abbrev pub HasSpawned : Spawned → ℕ → ℕ → Known → Known → Type 0
 HasSpawned (spawned.Placed at) block job k after = HasPlaced at block job k after
 HasSpawned spawned.Full block job k after = after ≡ noted (free_at block) 0 k
-HasSpawned spawned.Lost block job k after = (free then index : ℕ) × (bit_at then index ≡ 0) × (after ≡ noted (free_at block) then (noted (free_at block) free k))
+HasSpawned spawned.Lost block job k after = HasMissed (free_at block) k after
 
 -- the free bit of a place of the block was found set, and the job was laid there and is in hand; the name is what its
 -- mark says
@@ -54,7 +64,7 @@ pub record HasBegun (job : Job) (block number : ℕ) (k after : Known) : Type 0 
 abbrev pub HasSpawnedHere : SpawnedHere → ℕ → ℕ → Known → Known → Type 0
 HasSpawnedHere (spawned_here.Held job) block number k after = HasBegun job block number k after
 HasSpawnedHere spawned_here.Full block number k after = after ≡ noted (free_at block) 0 k
-HasSpawnedHere spawned_here.Lost block number k after = (free then index : ℕ) × (bit_at then index ≡ 0) × (after ≡ noted (free_at block) then (noted (free_at block) free k))
+HasSpawnedHere spawned_here.Lost block number k after = HasMissed (free_at block) k after
 
 -- the ready bit of a place of the block was found set; the name is what its mark says
 pub record HasTaken (job : Job) (block : ℕ) (k after : Known) : Type 0 where
@@ -66,11 +76,11 @@ pub record HasTaken (job : Job) (block : ℕ) (k after : Known) : Type 0 where
   pub known : after ≡ hearing (heard % 2) job.place (noted (mark_at job.place) mark (gained job.place job.job (noted (ready_at block) ready k)))
 
 -- The ready word was found empty; or places of it were picked, and those whose bits were then found set are in hand,
--- with their jobs, the lowest as the newest.
-abbrev pub HasTakenMany : ℕ → ℕ → Known → Known → Type 0
-HasTakenMany bits block k after = ((bits ≡ 0) × (after ≡ noted (ready_at block) 0 k))
+-- with their jobs, the lowest as the newest: at most so many, or one.
+abbrev pub HasTakenMany : ℕ → ℕ → ℕ → Known → Known → Type 0
+HasTakenMany bits block most k after = ((bits ≡ 0) × (after ≡ noted (ready_at block) 0 k))
     ⊎ ((ready pick found : ℕ) × (jobs : List (ℕ × ℕ)) × (0 < pick) × (bit_and ready pick ≡ pick) × (bits ≡ bit_and found pick) × (map (λ (x : ℕ × ℕ). x.0) jobs ≡ places_in_word block bits)
-    × (after ≡ gaining jobs (noted (ready_at block) found (noted (ready_at block) ready k))))
+    × (length jobs ≤ max 1 most) × (after ≡ gaining jobs (noted (ready_at block) found (noted (ready_at block) ready k))))
 
 -- the newest job in hand, with the name that its mark says; a wake that the mark said of is used up
 pub record HasStarted (job : Job) (place : ℕ) (k after : Known) : Type 0 where
@@ -81,10 +91,9 @@ pub record HasStarted (job : Job) (place : ℕ) (k after : Known) : Type 0 where
   pub heard : ℕ
   pub known : after ≡ hearing (heard % 2) place (noted (mark_at place) mark k)
 
--- the ready word was found empty, or a bit that was found set was then found clear
+-- the ready word was found empty, or another seat has taken a job that was found ready
 abbrev pub HasTakenNone : ℕ → Known → Known → Type 0
-HasTakenNone block k after = (after ≡ noted (ready_at block) 0 k)
-    ⊎ ((ready then index : ℕ) × (bit_at then index ≡ 0) × (after ≡ noted (ready_at block) then (noted (ready_at block) ready k)))
+HasTakenNone block k after = (after ≡ noted (ready_at block) 0 k) ⊎ HasMissed (ready_at block) k after
 
 -- Blocked: its mark said of no wake. Ready: it said of one, or became another
 abbrev pub HasRested : Rested → ℕ → Known → Known → Type 0
@@ -110,9 +119,9 @@ IsGone places place generation k after = ((after ≡ k) × ((places ≤ place) �
 abbrev pub IsAlready : ℕ → ℕ → Known → Known → Type 0
 IsAlready place generation k after = (mark : ℕ) × (mark / 4 ≡ generation) × (mark % 2 ≡ 1) × (after ≡ noted (mark_at place) mark k)
 
--- another mark than the one found first was found then
-abbrev pub IsLost : ℕ → Known → Known → Type 0
-IsLost place k after = (mark then : ℕ) × (then ≢ mark) × (after ≡ noted (mark_at place) then (noted (mark_at place) mark k))
+-- the mark was found to be that of a job of the generation which wasn't woken before, and then another
+abbrev pub IsLost : ℕ → ℕ → Known → Known → Type 0
+IsLost place generation k after = (mark then : ℕ) × (mark / 4 ≡ generation) × (mark % 2 ≢ 1) × (then ≢ mark) × (after ≡ noted (mark_at place) then (noted (mark_at place) mark k))
 
 -- the mark was found to be that of a blocked job of the generation, which came into the hand
 abbrev pub HasUnblocked : ℕ → ℕ → ℕ → Known → Known → Type 0
@@ -128,32 +137,36 @@ HasWoken (woken.Ready unpark) places place generation k after = (job : ℕ) × (
 HasWoken woken.Marked places place generation k after = HasMarked place generation k after
 HasWoken woken.Already places place generation k after = IsAlready place generation k after
 HasWoken woken.Gone places place generation k after = IsGone places place generation k after
-HasWoken woken.Lost places place generation k after = IsLost place k after
+HasWoken woken.Lost places place generation k after = IsLost place generation k after
 
 abbrev pub HasWokenHere : WokenHere → ℕ → ℕ → ℕ → Known → Known → Type 0
 HasWokenHere (here.Held job) places place generation k after = (job.place ≡ place) × (job.name ≡ name_of place (4 * generation + 2)) × HasUnblocked place generation job.job k after
 HasWokenHere here.Marked places place generation k after = HasMarked place generation k after
 HasWokenHere here.Already places place generation k after = IsAlready place generation k after
 HasWokenHere here.Gone places place generation k after = IsGone places place generation k after
-HasWokenHere here.Lost places place generation k after = IsLost place k after
+HasWokenHere here.Lost places place generation k after = IsLost place generation k after
 
 -- it has looked at words, and told workers to be unparked
 abbrev pub HasLooked : Known → Known → Type 0
 HasLooked k after = after ≡ record k { deeds = after.deeds; roused = after.roused }
 
--- the same, and it has set its idle bit
-abbrev pub HasLain : Known → Known → Type 0
-HasLain k after = after ≡ record k { deeds = after.deeds; roused = after.roused; seen = after.seen }
-
 -- since its idle bit was set, the worker has found each of its summary words empty
 abbrev pub HasSeenAll : ℕ → Known → Type 0
 HasSeenAll shards k = (worker j : ℕ) → k.worker ≡ worker + 1 → worker + 64 * j < shards → j < k.seen
 
--- Run: a job of a block of the worker's. Park: all of its summary words were found empty
+-- it has set its idle bit, and then found all of its summary words empty
+abbrev pub HasFoundNone : ℕ → Known → Known → Type 0
+HasFoundNone shards k after = (seen : ℕ) × (after ≡ having_seen seen k) × HasSeenAll shards after
+
+-- it has set its idle bit, and then found one of its summary words not empty
+abbrev pub HasFoundSome : ℕ → ℕ → Known → Known → Type 0
+HasFoundSome shards worker k after = (seen shard shown : ℕ) × (shard < shards) × (worker_of shard ≡ worker) × (shown ≢ 0) × (after ≡ noted (summary_at shard) shown (having_seen seen k))
+
+-- Run: a job of a block of the worker's. Park: all of its summary words were found empty. Again: one wasn't
 abbrev pub HasAnswered : Next → ℕ → ℕ → Known → Known → Type 0
 HasAnswered (next.Run job) shards worker k after = (block : ℕ) × (looked : Known) × (block < 64 * shards) × (worker_of (block / 64) ≡ worker) × HasLooked k looked × HasTaken job block looked after
-HasAnswered next.Park shards worker k after = HasLain k after × HasSeenAll shards after
-HasAnswered next.Again shards worker k after = HasLain k after
+HasAnswered next.Park shards worker k after = (looked : Known) × HasLooked k looked × HasFoundNone shards looked after
+HasAnswered next.Again shards worker k after = (looked : Known) × HasLooked k looked × HasFoundSome shards worker looked after
 
 -- what a wake has found, within a call
 abbrev pub IsFound : Found → ℕ → ℕ → ℕ → CallView → CallView → Type 0
@@ -162,7 +175,7 @@ IsFound (found.Held at) places place generation v after = (at ≡ place) × (pla
 IsFound found.Marked places place generation v after = (after ≡ record v { known = after.known }) × HasMarked place generation v.known after.known
 IsFound found.Already places place generation v after = (after ≡ record v { known = after.known }) × IsAlready place generation v.known after.known
 IsFound found.Gone places place generation v after = (after ≡ record v { known = after.known }) × IsGone places place generation v.known after.known
-IsFound found.Lost places place generation v after = (after ≡ record v { known = after.known }) × IsLost place v.known after.known
+IsFound found.Lost places place generation v after = (after ≡ record v { known = after.known }) × IsLost place generation v.known after.known
 
 -- ---- what a call leaves in the hand
 

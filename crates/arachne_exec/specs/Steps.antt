@@ -139,14 +139,15 @@ Rests step before found after = after ≡ knowing before (having_seen 0 before.0
 -- the next one of the worker's summary words: where it is empty, one more was seen
 abbrev pub LooksNext : Step ℕ → Mine → ℕ → Mine → Type 0
 LooksNext step before found after =
-    (found ≡ 0 → after ≡ knowing before (having_seen (before.0.known.seen + 1) before.0.known)) × (found ≢ 0 → after ≡ before)
+    (found ≡ 0 → after ≡ knowing before (having_seen (before.0.known.seen + 1) before.0.known)) × (found ≢ 0 → after ≡ knowing before (noted step.word found before.0.known))
 
 -- ---- worker numbers
 
 -- the bit of a number is cleared: where it was set, the number is the seat's
 abbrev pub Registers : Step ℕ → Mine → ℕ → Mine → Type 0
 Registers step before found after = (worker : ℕ) → step.first ≡ others worker → worker < 64
-    → (bit_at found worker ≡ 1 → after ≡ knowing before (working (worker + 1) before.0.known)) × (bit_at found worker ≡ 0 → after ≡ before)
+    → (bit_at found worker ≡ 1 → after ≡ knowing before (working (worker + 1) before.0.known))
+    × (bit_at found worker ≡ 0 → after ≡ knowing before (noted step.word found before.0.known))
 
 -- the seat has no number any more
 abbrev pub Leaves : Step ℕ → Mine → ℕ → Mine → Type 0

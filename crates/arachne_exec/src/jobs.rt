@@ -10,7 +10,7 @@ use crate::answers::{Job, Placed, Rested, Spawned, SpawnedHere};
 use crate::executor::Executor;
 use crate::layout::{LAST_GENERATION, free_word, mark_word, name_at, ready_word};
 use crate::seat::{CallSeat, ExecSeat};
-use crate::turns::{first_from, has_more};
+use crate::turns::{first_from, has_more, lowest_index};
 
 impl Executor {
     /// The mark of the newest place says of no wake from now on. The mark that was found.
@@ -41,7 +41,7 @@ impl Executor {
         if free == 0 {
             return Spawned::Full;
         }
-        let place = 64 * block + free.trailing_zeros() as usize;
+        let place = 64 * block + lowest_index(free);
         if !self.claim_bit(&mut seat.at, place) {
             return Spawned::Lost;
         }
@@ -68,7 +68,7 @@ impl Executor {
         if free == 0 {
             return SpawnedHere::Full;
         }
-        let place = 64 * block + free.trailing_zeros() as usize;
+        let place = 64 * block + lowest_index(free);
         if !self.claim_bit(&mut seat.at, place) {
             return SpawnedHere::Lost;
         }

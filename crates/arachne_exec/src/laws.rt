@@ -1,5 +1,6 @@
 //! What holds of an executor between any two steps. The functions do nothing: a law is their contract.
 ghost use Rattle.std.specs.Prelude.{◌≡◌, ◌⊎◌, ℕ, ◌+◌, ◌*◌, ◌/◌, ◌<◌, ◌≤◌, ◌%◌, slice_index};
+ghost use Rattle.std.specs.Int.{bit_at};
 ghost use Rattle.arachne_exec.specs.Layout.{numbers_at, summary_at, ready_at, mark_at, in_word};
 ghost use Rattle.arachne_exec.specs.declared.view.Known.{Known};
 ghost use Rattle.arachne_exec.specs.Board.{Board, IsLawful, by_all, times, jobs_in, at_home, is_ready, is_free, is_blocked, in_hands, unshown_by, seats_of};
@@ -47,17 +48,16 @@ pub fn wakes_are_heard()
         → by_all (λ (k : Known). times place k.woken) b.views ≡ by_all (λ (k : Known). times place k.heard) b.views + slice_index b.words (mark_at place) % 2 }
 {}
 
-/// No two seats are one worker.
+/// No two seats are one worker, and a number whose bit isn't set has a seat.
 pub fn workers_are_one()
-    ensures { (shards : ℕ) (b : Board) → IsLawful shards b → (worker : ℕ) → worker < 64 → seats_of worker b.views ≤ 1 }
+    ensures one { (shards : ℕ) (b : Board) → IsLawful shards b → (worker : ℕ) → worker < 64 → seats_of worker b.views ≤ 1 }
+    ensures taken { (shards : ℕ) (b : Board) → IsLawful shards b → (worker : ℕ) → worker < 64 → bit_at (slice_index b.words numbers_at) worker ≡ 0 → seats_of worker b.views ≡ 1 }
 {}
 
 fn may_be_shared<T: Send + Sync>() {}
 
-fn may_be_sent<T: Send>() {}
-
-/// Kernel threads may share an executor, and a seat may be sent to another.
+/// Kernel threads may share an executor, a seat may be sent to another, and several may look at one.
 pub fn executors_cross_threads() {
     may_be_shared::<Executor>();
-    may_be_sent::<ExecSeat>();
+    may_be_shared::<ExecSeat>();
 }

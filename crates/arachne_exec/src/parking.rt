@@ -1,9 +1,10 @@
 //! What a worker does next, and when it may park.
 ghost use Rattle.std.specs.Prelude.{◌≡◌, ℕ, ◌+◌, ◌*◌, ◌/◌, ◌<◌, ◌≤◌, IsTrue, IsFalse, IfSome, IfNone};
+ghost use Rattle.std.specs.Int.{bit_at};
 ghost use Rattle.arachne_exec.specs.declared.view.Known.{Known};
-ghost use Rattle.arachne_exec.specs.Layout.{worker_of};
-ghost use Rattle.arachne_exec.specs.Changes.{having_seen, working};
-ghost use Rattle.arachne_exec.specs.Calls.{HasAnswered, HasLooked, HasSeenAll, HasTaken, HandsNext, HandsOver, KeepsHand};
+ghost use Rattle.arachne_exec.specs.Layout.{numbers_at};
+ghost use Rattle.arachne_exec.specs.Changes.{noted, working};
+ghost use Rattle.arachne_exec.specs.Calls.{HasAnswered, HasFoundNone, HasFoundSome, HasLooked, HasTaken, HandsNext, HandsOver, KeepsHand};
 
 use crate::answers::{Job, Next};
 use crate::executor::Executor;
@@ -25,12 +26,13 @@ fn shards_of(worker: usize, shards: usize) -> usize
 }
 
 impl Executor {
-    /// The seat becomes the worker of this number, where no seat is it. Whether it did.
+    /// The seat becomes the worker of this number, where no seat is it. Whether it did: else another seat has the number.
     pub fn register(&self, seat: &mut ExecSeat, worker: usize) -> bool
         requires own { seat.old.table ≡ self.now.table }
         requires worker { (seat.old.known.worker ≡ 0) × (worker < 64) }
-        ensures registered { IsTrue result → seat.new ≡ record seat.old { known = working (worker + 1) seat.old.known } }
-        ensures taken { IsFalse result → seat.new ≡ seat.old }
+        ensures seat { seat.new ≡ record seat.old { known = seat.new.known } }
+        ensures registered { IsTrue result → seat.new.known ≡ working (worker + 1) seat.old.known }
+        ensures taken { IsFalse result → (numbers : ℕ) × (bit_at numbers worker ≡ 0) × (seat.new.known ≡ noted numbers_at numbers seat.old.known) }
     {
         self.take_number(&mut seat.at, worker)
     }
@@ -56,8 +58,9 @@ impl Executor {
     fn lie_down(&self, seat: &mut CallSeat, worker: usize) -> bool
         requires own { seat.old.table ≡ self.now.table }
         requires worker { (seat.old.known.worker ≡ worker + 1) × (worker < 64) }
-        ensures seat { (seen : ℕ) × (seat.new ≡ record seat.old { known = having_seen seen seat.old.known }) }
-        ensures parks { IsTrue result → HasSeenAll self.now.shards seat.new.known }
+        ensures seat { seat.new ≡ record seat.old { known = seat.new.known } }
+        ensures parks { IsTrue result → HasFoundNone self.now.shards seat.old.known seat.new.known }
+        ensures stays { IsFalse result → HasFoundSome self.now.shards worker seat.old.known seat.new.known }
     {
         self.few();
         self.set_idle(seat, worker);
@@ -74,8 +77,9 @@ impl Executor {
     pub fn may_park(&self, seat: &mut ExecSeat, worker: usize) -> bool
         requires own { seat.old.table ≡ self.now.table }
         requires worker { (seat.old.known.worker ≡ worker + 1) × (worker < 64) }
-        ensures seat { (seen : ℕ) × (seat.new ≡ record seat.old { known = having_seen seen seat.old.known }) }
-        ensures parks { IsTrue result → HasSeenAll self.now.shards seat.new.known }
+        ensures seat { seat.new ≡ record seat.old { known = seat.new.known } }
+        ensures parks { IsTrue result → HasFoundNone self.now.shards seat.old.known seat.new.known }
+        ensures stays { IsFalse result → HasFoundSome self.now.shards worker seat.old.known seat.new.known }
     {
         self.lie_down(&mut seat.at, worker)
     }

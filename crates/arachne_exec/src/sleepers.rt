@@ -1,7 +1,8 @@
 //! One function for each kind of step on the summary words, the idle word and the worker numbers.
-ghost use Rattle.std.specs.Prelude.{◌≡◌, ℕ, ◌+◌, ◌*◌, ◌/◌, ◌%◌, ◌<◌, IsTrue, IsFalse};
-ghost use Rattle.arachne_exec.specs.Layout.{worker_of};
-ghost use Rattle.arachne_exec.specs.Changes.{rousing, unshowing, owing, having_seen, working};
+ghost use Rattle.std.specs.Prelude.{◌≡◌, ◌≢◌, ℕ, ◌+◌, ◌*◌, ◌/◌, ◌%◌, ◌<◌, IsTrue, IsFalse};
+ghost use Rattle.std.specs.Int.{bit_at};
+ghost use Rattle.arachne_exec.specs.Layout.{numbers_at, summary_at, worker_of};
+ghost use Rattle.arachne_exec.specs.Changes.{noted, rousing, unshowing, owing, having_seen, working};
 
 use crate::executor::Executor;
 use crate::layout::{IDLE, NUMBERS, all_but, bit, ready_word, summary_word};
@@ -119,7 +120,7 @@ impl Executor {
         requires worker { (seat.old.known.worker ≡ worker + 1) × (worker + 64 * next < self.now.shards) }
         requires next { seat.old.known.seen ≡ next }
         ensures empty { IsTrue result → seat.new ≡ record seat.old { known = having_seen (next + 1) seat.old.known } }
-        ensures full { IsFalse result → seat.new ≡ seat.old }
+        ensures full { IsFalse result → (n : ℕ) × (n ≢ 0) × (seat.new ≡ record seat.old { known = noted (summary_at (worker + 64 * next)) n seat.old.known }) }
     {
         let _ = self.shards;
         let shared = &self.table.shared;
@@ -131,7 +132,7 @@ impl Executor {
         requires own { seat.old.table ≡ self.now.table }
         requires worker { (seat.old.known.worker ≡ 0) × (worker < 64) }
         ensures registered { IsTrue result → seat.new ≡ record seat.old { known = working (worker + 1) seat.old.known } }
-        ensures taken { IsFalse result → seat.new ≡ seat.old }
+        ensures taken { IsFalse result → (n : ℕ) × (bit_at n worker ≡ 0) × (seat.new ≡ record seat.old { known = noted numbers_at n seat.old.known }) }
     {
         let _ = self.shards;
         let shared = &self.table.shared;

@@ -1,26 +1,34 @@
 //! Several jobs of a block that are taken at once.
-ghost use Rattle.std.specs.Prelude.{◌≡◌, ◌*◌, ◌<◌};
+ghost use Rattle.std.specs.Prelude.{◌≡◌, ℕ, ◌*◌, ◌<◌, ◌≤◌, max, length};
 ghost use Rattle.std.specs.Int.RustNames.{bit_and};
+ghost use Rattle.arachne_exec.specs.Layout.{places_in_word};
 ghost use Rattle.arachne_exec.specs.Seats.{IsNewest};
 ghost use Rattle.arachne_exec.specs.Calls.{HasTakenMany, HasStarted, HandsMany, KeepsHand};
 
 use crate::answers::Job;
 use crate::executor::Executor;
-use crate::layout::{name_at, ready_word};
+use crate::layout::{bit, name_at, ready_word};
 use crate::seat::ExecSeat;
+use crate::turns::lowest_index;
 
 /// So many of the lowest bits that are set in a word, at least one, or all.
 fn lowest(word: u64, most: u32) -> u64
     requires { 0 < word }
     ensures some { 0 < result }
     ensures within { bit_and word result ≡ result }
+    ensures few { (block : ℕ) → length (places_in_word block result) ≤ max 1 most }
 {
-    let mut left = word;
-    for _ in 0..most.max(1).min(64) {
-        left &= left.wrapping_sub(1);
+    let first = lowest_index(word);
+    let mut pick = bit(first);
+    for count in 1..most {
+        let left = word & (u64::MAX - pick);
+        if left == 0 {
+            break;
+        }
+        let index = lowest_index(left);
+        pick |= bit(index);
     }
-    let pick = word & (u64::MAX - left);
-    if pick == 0 { word } else { pick }
+    pick
 }
 
 impl Executor {
@@ -30,7 +38,7 @@ impl Executor {
         requires own { seat.old.table ≡ self.now.table }
         requires block { block < 64 * self.now.shards }
         ensures seat { seat.new ≡ record seat.old { known = seat.new.known } }
-        ensures took { HasTakenMany result block seat.old.known seat.new.known }
+        ensures took { HasTakenMany result block most seat.old.known seat.new.known }
         ensures hand { HandsMany result block seat.old.known seat.new.known }
     {
         self.few();

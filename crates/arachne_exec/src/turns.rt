@@ -1,12 +1,28 @@
 //! Where a search begins, so that jobs which are ready again and again don't keep others waiting.
 ghost use Rattle.std.specs.Prelude.{◌≡◌, ◌⊎◌, ◌<◌};
+ghost use Rattle.std.specs.Int.{bit_at};
+
+/// The lowest index whose bit is set.
+pub(crate) fn lowest_index(word: u64) -> usize
+    requires { 0 < word }
+    ensures low { result < 64 }
+    ensures there { bit_at word result ≡ 1 }
+{
+    word.trailing_zeros() as usize
+}
 
 /// The first index from this one on, round the word, whose bit is set.
 pub(crate) fn first_from(word: u64, from: usize) -> usize
-    ensures { result < 64 }
+    requires { 0 < word }
+    ensures low { result < 64 }
+    ensures there { bit_at word result ≡ 1 }
 {
-    let turned = word.rotate_right((from % 64) as u32);
-    (from % 64 + turned.trailing_zeros() as usize) % 64
+    let ahead = word & (u64::MAX << (from % 64) as u32);
+    if ahead == 0 {
+        lowest_index(word)
+    } else {
+        lowest_index(ahead)
+    }
 }
 
 /// Whether a bit behind the index is set.

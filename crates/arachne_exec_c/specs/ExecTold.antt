@@ -1,5 +1,6 @@
 -- How an executor's answers are told in C, and what each call does to what a handle holds.
 use Rattle.std.specs.Prelude.{◌≡◌, ◌⊎◌, ℕ, ◌+◌, ◌*◌, ◌/◌, ◌%◌, ◌^◌, ◌<◌, Bool, true, false, if◌then◌else◌}
+use Rattle.std.specs.Int.{bit_at}
 use Rattle.std.specs.Option.{MatchOption}
 use Rattle.std.specs.declared.option.Option.{Option}
 use Rattle.std.specs.declared.option.Option.TheVariants.{None, Some}
@@ -16,8 +17,9 @@ use Rattle.arachne_exec.specs.declared.answers.Woken.{Woken}
 use Rattle.arachne_exec.specs.declared.answers.Woken.TheVariants as woken
 use Rattle.arachne_exec.specs.declared.answers.WokenHere.{WokenHere}
 use Rattle.arachne_exec.specs.declared.answers.WokenHere.TheVariants as here
-use Rattle.arachne_exec.specs.Calls.{worker_at, HasSpawned, HasSpawnedHere, HasTaken, HasTakenNone, HasTakenMany, HasStarted, HasRested, HasFinished, HasWoken, HasWokenHere, HasAnswered, HasSeenAll}
-use Rattle.arachne_exec.specs.Changes.{readying, noted, rousing, having_seen, working}
+use Rattle.arachne_exec.specs.Calls.{worker_at, HasSpawned, HasSpawnedHere, HasTaken, HasTakenNone, HasTakenMany, HasStarted, HasRested, HasFinished, HasWoken, HasWokenHere, HasAnswered, HasFoundNone, HasFoundSome}
+use Rattle.arachne_exec.specs.Layout.{numbers_at}
+use Rattle.arachne_exec.specs.Changes.{readying, noted, rousing, working}
 use Rattle.arachne_exec_c.specs.Codes as code
 use Rattle.arachne_exec_c.specs.Executing.{Exec, now, holding, HasBlock, IsEmptyHanded, IsWorker, IsNoWorker}
 use Rattle.arachne_exec_c.specs.declared.exec_told.ArachneExecTold.{ArachneExecTold}
@@ -113,9 +115,9 @@ pub record Takes (block : ℕ) (old new : Exec) (answer : Option Job) : Type 0 w
   pub stays : new ≡ now old new.seat.known (place_of_job answer)
   pub did : MatchOption answer (HasTakenNone block old.seat.known new.seat.known) (λ job. HasTaken job block old.seat.known new.seat.known)
 
-pub record TakesMany (block : ℕ) (old new : Exec) (bits : ℕ) : Type 0 where
+pub record TakesMany (block most : ℕ) (old new : Exec) (bits : ℕ) : Type 0 where
   pub stays : new ≡ holding old new.seat.known block bits
-  pub did : HasTakenMany bits block old.seat.known new.seat.known
+  pub did : HasTakenMany bits block most old.seat.known new.seat.known
 
 pub record Starts (place : ℕ) (old new : Exec) (job : Job) : Type 0 where
   pub stays : new ≡ now old new.seat.known old.hand
@@ -167,10 +169,11 @@ IsToldOf Does refusal None new told = (new ≡ None) × (told ≡ refusal)
 IsToldOf Does refusal (Some old) new told = MatchOption old.hand ((new ≡ Some old) × (told ≡ refusal))
     (λ place. (after : Exec) × (new ≡ Some after) × Does place old after told)
 
--- Park: all of the worker's summary words were found empty since its idle bit was set
+-- Park: all of the worker's summary words were found empty since its idle bit was set. Again: one wasn't
 abbrev pub ParksOrNot : Exec → Exec → ℕ → Type 0
-ParksOrNot old new told = (seen : ℕ) × (new ≡ now old (having_seen seen old.seat.known) old.hand)
-    × (((told ≡ code.park) × HasSeenAll old.executor.shards new.seat.known) ⊎ (told ≡ code.again))
+ParksOrNot old new told = (new ≡ now old new.seat.known old.hand)
+    × (((told ≡ code.park) × HasFoundNone old.executor.shards old.seat.known new.seat.known)
+    ⊎ ((told ≡ code.again) × ((worker : ℕ) → old.worker ≡ worker + 1 → HasFoundSome old.executor.shards worker old.seat.known new.seat.known)))
 
 abbrev pub WakesUp : Exec → Exec → ℕ → Type 0
 WakesUp old new told = (new ≡ old) × (told ≡ code.done)
@@ -178,9 +181,13 @@ WakesUp old new told = (new ≡ old) × (told ≡ code.done)
 abbrev pub Finishes : ℕ → Exec → Exec → ℕ → Type 0
 Finishes place old new told = Ends place old new × (told ≡ code.done)
 
+-- the number's bit was found clear: another seat has it
+abbrev pub IsTaken : ℕ → Exec → Exec → Type 0
+IsTaken worker old new = (numbers : ℕ) × (bit_at numbers worker ≡ 0) × (new ≡ now old (noted numbers_at numbers old.seat.known) old.hand)
+
 -- Lost: another seat has that number
 abbrev pub Registers : ℕ → Exec → Exec → ℕ → Type 0
-Registers worker old new told = ((told ≡ code.done) × (new ≡ as_worker old (worker + 1))) ⊎ ((told ≡ code.lost) × (new ≡ old))
+Registers worker old new told = ((told ≡ code.done) × (new ≡ as_worker old (worker + 1))) ⊎ ((told ≡ code.lost) × IsTaken worker old new)
 
 abbrev pub Leaves : Exec → Exec → ℕ → Type 0
 Leaves old new told = (told ≡ code.done) × (new ≡ as_worker old 0)

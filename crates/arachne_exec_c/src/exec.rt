@@ -246,7 +246,7 @@ pub extern "C" fn arachne_exec_take_many(
     block: usize,
     most: u32,
 ) -> u64
-    ensures { IsTold (MayTake block) (TakesMany block) 0 (held exec.old) (held exec.new) result }
+    ensures { IsTold (MayTake block) (TakesMany block most) 0 (held exec.old) (held exec.new) result }
 {
     let Some(mut value) = exec.take(alloc) else {
         return 0;

@@ -71,7 +71,7 @@ pub(crate) fn take_held(held: &mut Option<Executing>, block: usize) -> ArachneEx
 }
 
 pub(crate) fn take_many_held(held: &mut Option<Executing>, block: usize, most: u32) -> u64
-    ensures { IsTold (MayTake block) (TakesMany block) 0 held.old held.new result }
+    ensures { IsTold (MayTake block) (TakesMany block most) 0 held.old held.new result }
 {
     match held {
         Some(exec) if exec.has_block(block) && exec.is_empty_handed() => {

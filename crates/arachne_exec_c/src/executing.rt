@@ -3,13 +3,12 @@ ghost use Rattle.std.specs.Prelude.{◌≡◌, ◌↔◌, ℕ, ◌+◌, ◌*◌,
 ghost use Rattle.std.specs.declared.option.Option.TheVariants.{None, Some};
 ghost use Rattle.std.specs.Prelude.{◌⊎◌, vec_len};
 ghost use Rattle.arachne_weights.specs.Weight.{whole};
-ghost use Rattle.arachne_exec.specs.Calls.{HasSeenAll};
+ghost use Rattle.arachne_exec.specs.Calls.{HasFoundNone, HasFoundSome};
 ghost use Rattle.arachne_exec.specs.Layout.{summary_at, ready_at};
-ghost use Rattle.arachne_exec.specs.Changes.{having_seen};
 ghost use Rattle.arachne_exec_c.specs.Executing.{Exec, HasBlock, HasShard, IsEmptyHanded, IsIdle, IsNew, IsNoWorker, IsWorker, now, lowest_place, without_lowest, first_of, second_of, joined_of};
 ghost use Rattle.arachne_exec_c.specs.Codes.{refused, no_memory};
 ghost use Rattle.arachne_exec_c.specs.ExecEnd.{HasEnded};
-ghost use Rattle.arachne_exec_c.specs.ExecTold.{Spawns, SpawnsHere, LooksAt, Takes, TakesMany, Starts, GoesOn, Rests, Yields, Ends, Wakes, WakesHere, as_worker};
+ghost use Rattle.arachne_exec_c.specs.ExecTold.{Spawns, SpawnsHere, LooksAt, Takes, TakesMany, Starts, GoesOn, Rests, Yields, Ends, Wakes, WakesHere, IsTaken, as_worker};
 
 use crate::codes::{NO_MEMORY, REFUSED};
 use arachne_exec::{
@@ -161,7 +160,7 @@ impl Executing {
     pub(crate) fn take_many(&mut self, block: usize, most: u32) -> u64
         requires block { HasBlock block self.old }
         requires hand { IsEmptyHanded self.old }
-        ensures { TakesMany block self.old self.new result }
+        ensures { TakesMany block most self.old self.new result }
     {
         let _places = self.executor.places();
         let bits = self.executor.take_many(&mut self.seat, block, most);
@@ -191,8 +190,9 @@ impl Executing {
 
     pub(crate) fn may_park(&mut self) -> bool
         requires { IsWorker self.old }
-        ensures looked { (seen : ℕ) × (self.new ≡ now self.old (having_seen seen self.old.seat.known) self.old.hand) }
-        ensures parks { IsTrue result → HasSeenAll self.old.executor.shards self.new.seat.known }
+        ensures known { self.new ≡ now self.old self.new.seat.known self.old.hand }
+        ensures parks { IsTrue result → HasFoundNone self.old.executor.shards self.old.seat.known self.new.seat.known }
+        ensures stays { IsFalse result → (worker : ℕ) → self.old.worker ≡ worker + 1 → HasFoundSome self.old.executor.shards worker self.old.seat.known self.new.seat.known }
     {
         self.executor.may_park(&mut self.seat, self.worker - 1)
     }
@@ -251,7 +251,7 @@ impl Executing {
         requires none { IsNoWorker self.old }
         requires worker { worker < 64 }
         ensures registered { IsTrue result → self.new ≡ as_worker self.old (worker + 1) }
-        ensures taken { IsFalse result → self.new ≡ self.old }
+        ensures taken { IsFalse result → IsTaken worker self.old self.new }
     {
         if !self.executor.register(&mut self.seat, worker) {
             return false;

@@ -1,10 +1,30 @@
-use Rattle.std.proofs.Common.{◌≡◌, ◌<◌, ℕ, ◌+◌, ap, ◌∙◌, arith}
+use Rattle.std.proofs.Common.{◌≡◌, ℕ, ◌+◌, ◌*◌, refl, ap, ◌∙◌, arith}
+use Rattle.arachne_exec.specs.Layout.{summary_at}
+use Rattle.arachne_exec.specs.Changes.{noted}
 use Rattle.arachne_exec.proofs.executor.Executor.lie_down.Goals as goal
 
 pub returns-clause-parks : goal.returns-clause-parks
-returns-clause-parks c = λ _ w j is inside.
-    let known = ap (λ v. v.known) c.loop-next.invariant.seen in
-    let worker = ap (λ k. k.worker) known in
-    let same : w ≡ c.args.worker = omega (arith, is, worker, c.requires.worker.0) in
-    let seen = ap (λ k. k.seen) known in
-    let all = c.shards_of-next-end.ensures.all j (omega (arith, inside, same, ap (λ e. e.shards) c.self.view_is)) in omega (arith, all, seen, c.loop-next-test.false)
+returns-clause-parks c = λ _.
+    let known = ap (λ v. v.known) c.loop-next.invariant.seen in (
+      c.loop-next.next,
+      known,
+      λ w j is inside.
+          let worker = ap (λ k. k.worker) known in
+          let same : w ≡ c.args.worker = omega (arith, is, worker, c.requires.worker.0) in
+          let seen = ap (λ k. k.seen) known in
+          let all = c.shards_of-next-end.ensures.all j (omega (arith, inside, same, ap (λ e. e.shards) c.self.view_is)) in omega (arith, all, seen, c.loop-next-test.false),
+    )
+
+pub returns-then-not-sees_none-clause-stays : goal.returns-then-not-sees_none-clause-stays
+returns-then-not-sees_none-clause-stays c = λ _.
+    let next : ℕ = c.loop-next.next in let shard : ℕ = c.args.worker + 64 * next in
+    let found = c.if-not-sees_none.ensures.full refl in
+    let inside = c.shards_of-next-end.ensures.none next c.loop-next-test.true in (
+      next,
+      shard,
+      found.0,
+      omega (arith, inside, ap (λ e. e.shards) c.self.view_is),
+      omega (arith, c.requires.worker.1),
+      found.1,
+      ap (λ v. v.known) c.clear_idle.ensures.seat ∙ ap (λ v. v.known) found.2 ∙ ap (λ v. noted (summary_at shard) found.0 v.known) c.loop-next.invariant.seen,
+    )
