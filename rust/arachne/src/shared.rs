@@ -25,9 +25,6 @@ static ALL: [AtomicPtr<Shared>; TABLES] = [NO_TABLE; TABLES];
 /// How many of them were made, and those that no runtime has now. They are never freed: a waker may be kept for ever.
 static POOL: Mutex<(usize, Vec<&'static Shared>)> = Mutex::new((0, Vec::new()));
 
-/// About how many nanoseconds a scan takes that finds nothing.
-const SCAN: u64 = 300;
-
 /// What a runtime's kernel threads share.
 pub(crate) struct Shared {
     pub(crate) table: usize,
@@ -152,11 +149,7 @@ impl Worker {
     }
 
     pub(crate) fn ends_idling(&self) {
-        let now = now();
-        let idle = now.saturating_sub(self.idle_since.swap(0, Relaxed));
-        add(&self.idle, idle);
-        // A worker that never slept would have scanned all that time and found nothing: the policy wants those scans.
-        add(&self.scans, idle / SCAN);
+        add(&self.idle, now().saturating_sub(self.idle_since.swap(0, Relaxed)));
     }
 
     fn reset(&self) {

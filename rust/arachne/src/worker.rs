@@ -18,13 +18,15 @@ const SPINS: usize = 24;
 const NEXTS: u32 = 128;
 /// After so many polls a worker looks at its epoll, its timers and others, whatever is next.
 const LOOK_OUT: u32 = 64;
+/// After so many polls the worker that judges how many cores there should be looks at its clock.
+const JUDGED: u32 = 8;
 /// After so many of these looks at which another worker had not got on, its epoll is looked at too.
 const LONG: u32 = 8;
 /// After so many looks at blocks that are shown and have nothing, they are hidden.
 const STALE: u32 = 16;
 /// Ready jobs taken at once while somebody has nothing to do.
 const FEW: usize = 8;
-/// Jobs that woke themselves, and stay with the worker that runs them.
+/// Jobs that woke themselves, or were next after many in a row, and stay with the worker that has them.
 pub(crate) const HAND: usize = 16;
 /// Jobs taken in advance, and two more that are between hands.
 pub(crate) const BATCHES: usize = BATCH + 2;
@@ -38,7 +40,7 @@ pub(crate) struct Turn {
     batch: [Job; BATCH],
     at: usize,
     count: usize,
-    /// Jobs in hand that woke themselves, and how many of them run before the words are looked at again.
+    /// Jobs in hand that are behind what is ready here, and how many of them run before the words are looked at again.
     hand: VecDeque<Job>,
     hand_left: usize,
     /// The next block and index to look at.
@@ -206,11 +208,7 @@ impl Shared {
             }
         }
         self.observer.ready(job.place());
-        if turn.hand.len() < if self.all_busy() { HAND } else { 1 } {
-            turn.hand.push_back(job);
-        } else {
-            self.make_ready(context, &job);
-        }
+        self.set_behind(context, turn, job);
     }
 
     #[inline]
@@ -254,10 +252,20 @@ impl Shared {
                 context.hands.begin(&job);
                 return Some(job);
             }
-            self.make_ready(context, &job);
+            self.set_behind(context, turn, job);
         }
         turn.chain = 0;
         None
+    }
+
+    /// Behind all that is ready here: it stays in hand, unless somebody has nothing to do and one is in hand already.
+    #[inline]
+    fn set_behind(&self, context: &Context, turn: &mut Turn, job: Job) {
+        if turn.hand.len() < if self.all_busy() { HAND } else { 1 } {
+            turn.hand.push_back(job);
+        } else {
+            self.make_ready(context, &job);
+        }
     }
 
     #[inline]
@@ -412,13 +420,18 @@ impl Shared {
             let polls = self.workers[other].0.polls.load(Relaxed);
             let stands = other >= active || polls == turn.seen[other];
             turn.seen[other] = polls;
-            turn.stood[other] = if stands && other < active && other != context.me { turn.stood[other] + 1 } else { 0 };
-            if turn.stood[other] == LONG {
-                // In a long poll, or without a processor: its sockets and timers would wait for it.
+            if other == context.me || !stands {
                 turn.stood[other] = 0;
+                continue;
+            }
+            turn.stood[other] = (turn.stood[other] + 1) % LONG;
+            let (long, sleeps) = (turn.stood[other] == 0, self.sleepers.0.load(Relaxed) >> other & 1 == 1);
+            if long && other < active {
+                // In a long poll, or without a processor: its sockets and timers would wait for it.
                 self.look_at_events_of(context, other);
             }
-            if other != context.me && stands && turn.at == turn.count && self.ready(&context.hands, other) != 0 {
+            // Who makes something ready for one that sleeps wakes somebody, so that is looked at now and then.
+            if (long || !sleeps) && turn.at == turn.count && self.ready(&context.hands, other) != 0 {
                 self.help(context, turn, other, 2);
             }
         }
@@ -604,6 +617,7 @@ impl Shared {
     pub(crate) fn work(&'static self, context: &Context, mut judge: Option<Judge>) {
         let mut turn = Turn::new(self);
         let worker = &self.workers[context.me].0;
+        let most = if judge.is_some() { JUDGED } else { LOOK_OUT };
         while !self.stop.load(Relaxed) {
             if context.me >= self.active.0.load(SeqCst) {
                 self.give_back(context, &mut turn);
@@ -613,7 +627,7 @@ impl Shared {
             while let Some(job) = self.pick(context, &mut turn) {
                 self.run(context, &mut turn, job);
                 ran += 1;
-                if ran == LOOK_OUT || self.stop.load(Relaxed) {
+                if ran == most || self.stop.load(Relaxed) {
                     break;
                 }
             }
