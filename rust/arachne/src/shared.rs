@@ -83,6 +83,7 @@ pub(crate) struct Worker {
     pub(crate) takes: AtomicU64,
     pub(crate) wakes: AtomicU64,
     pub(crate) parks: AtomicU64,
+    /// Looks that the policy counts, and what was ready at them.
     pub(crate) scans: AtomicU64,
     pub(crate) runnable: AtomicU64,
     /// Nanoseconds without work, and since when (0: it has work).
@@ -148,8 +149,11 @@ impl Worker {
         self.idle.load(Relaxed) + if since == 0 { 0 } else { now.saturating_sub(since) }
     }
 
-    pub(crate) fn ends_idling(&self) {
-        add(&self.idle, now().saturating_sub(self.idle_since.swap(0, Relaxed)));
+    /// It has work, or may have some, from now on; the time.
+    pub(crate) fn ends_idling(&self) -> u64 {
+        let now = now();
+        add(&self.idle, now.saturating_sub(self.idle_since.swap(0, Relaxed)));
+        now
     }
 
     fn reset(&self) {

@@ -107,11 +107,15 @@ fn connect(port: u16) -> TcpStream {
 /// Each connection has a kernel thread here, which sends as many as were answered.
 fn client(port: u16, connections: u64, flight: usize, micros: u64, time: Duration) {
     static ANSWERED: AtomicU64 = AtomicU64::new(0);
+    static SENT: AtomicU64 = AtomicU64::new(0);
     println!("{:.1} begins", clock());
     let start = Instant::now();
     let ask = move || {
         let (mut stream, mut bytes, mut rest) = (connect(port), vec![0; flight * SIZE], 0);
         stream.write_all(&request(0, micros).repeat(flight)).unwrap();
+        if SENT.fetch_add(1, Relaxed) + 1 == connections {
+            println!("{:.1} each has sent", clock());
+        }
         while start.elapsed() < time {
             let len = stream.read(&mut bytes).unwrap() + rest;
             rest = len % SIZE;

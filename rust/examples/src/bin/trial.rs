@@ -192,29 +192,28 @@ fn overload(cores: usize) {
 fn blocking() {
     let runtime = Builder::new(4).watch_polls(Duration::from_millis(10), true).build().unwrap();
     let at = serve(&runtime, 1 << 20);
-    let blocked = Arc::new(AtomicU64::new(0));
     let time = Duration::from_secs(3);
     let start = Instant::now();
     let client = thread::spawn(move || offer(at, 1e4, 5, time));
     thread::sleep(Duration::from_secs(1));
-    let begin = start.elapsed();
-    let tasks: Vec<_> = (0..4)
-        .map(|i| {
-            let in_polls = blocked.clone();
-            let task = runtime.spawn_named(&format!("blocks-{i}"), async move {
-                in_polls.fetch_add(1, SeqCst);
-                // Until all four are in their polls, so that each has a worker.
-                while in_polls.load(SeqCst) < 4 {
-                    std::hint::spin_loop();
-                }
-                thread::sleep(Duration::from_millis(100));
-            });
-            while blocked.load(SeqCst) == i {
-                thread::yield_now();
-            }
-            task
-        })
-        .collect();
+    let (begin, begun) = (start.elapsed(), Arc::new(AtomicU64::new(0)));
+    let wait_for = |begun: &AtomicU64, count| {
+        while begun.load(SeqCst) < count {
+            thread::sleep(Duration::from_micros(50));
+        }
+    };
+    let blocks = |i: u64| {
+        let in_polls = begun.clone();
+        let task = runtime.spawn_named(&format!("blocks-{i}"), async move {
+            in_polls.fetch_add(1, SeqCst);
+            // Until all four are in their polls, so that each has a worker.
+            wait_for(&in_polls, 4);
+            thread::sleep(Duration::from_millis(100));
+        });
+        wait_for(&begun, i + 1);
+        task
+    };
+    let tasks: Vec<_> = (0..4).map(blocks).collect();
     tasks.into_iter().for_each(|task| arachne::block_on(task).unwrap());
     let end = start.elapsed();
     let mut answers = client.join().unwrap();
