@@ -158,8 +158,8 @@ fn waited(account: &std::sync::Mutex<Option<fs::File>>) -> u64 {
     text.split_whitespace().nth(1).and_then(|word| word.parse().ok()).unwrap_or(0)
 }
 
-/// A worker's looks at its words say how many tasks were ready while it was busy; in the time in which it had no work none
-/// was. Time that was waited for a processor is no use of a core, and what was ready meanwhile asks for none.
+/// A worker's looks at its words say how many tasks were ready while it was busy; in the time in which it had no work
+/// none was. Time that was waited for a processor is no use of a core, and what was ready meanwhile asks for none.
 fn sample(last: &[Totals], totals: &[Totals], elapsed: u64) -> Sample {
     let cores = totals.len() as u64;
     let mut sample = Sample { cores, runnable: 0, scans: (elapsed * cores).max(1), busy: 0, elapsed };

@@ -16,7 +16,8 @@ use std::sync::atomic::Ordering::*;
 const SPINS: usize = 24;
 /// How many tasks in a row may run that each was made ready by the one before.
 const NEXTS: u32 = 128;
-/// After so many polls, or about so many nanoseconds, a worker looks at its epoll, its timers and others, whatever is next.
+/// After so many polls, or about so many nanoseconds, a worker looks at its epoll, its timers and others, whatever is
+/// next.
 const LOOK_OUT: u32 = 64;
 const LOOK_TIME: u64 = 500_000;
 /// After so many polls the worker that judges how many cores there should be looks at its clock.
