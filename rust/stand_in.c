@@ -1,6 +1,6 @@
 /* A stand-in for libarachne_exec_c.a, by hand on C's atomics: it tests the crate's side of the header where the proved
  * archive isn't there, or (EXECUTOR_ALONE) has no executor yet. It is not the proved code, and nothing that runs on it
- * is. Built by rust/test. */
+ * is. Make libarachne_exec_c.a of it and an empty liblibc_c.a, and name their folder in ARACHNE_LIBS. */
 #include "arachne_exec.h"
 #include <pthread.h>
 #include <stdatomic.h>

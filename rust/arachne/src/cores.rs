@@ -1,7 +1,7 @@
 //! How many cores a runtime holds: what the machine gives it, and what the load wants.
 
 use crate::core::Estimator;
-use crate::shared::{Context, Shared};
+use crate::shared::{Context, Shared, Worker};
 use crate::sys;
 use crate::timer::now;
 use crate::worker::Turn;
@@ -85,12 +85,14 @@ fn quota_of(group: &str) -> Option<usize> {
 pub(crate) struct Judge {
     estimator: Estimator,
     policy: Policy,
-    last: Totals,
+    /// By worker.
+    last: Vec<Totals>,
     at: u64,
     looked: u64,
     most: usize,
 }
 
+/// What a worker has counted, and for how long it had no work or no processor.
 #[derive(Clone, Copy, Default)]
 struct Totals {
     runnable: u64,
@@ -103,7 +105,7 @@ impl Judge {
     pub(crate) fn new(policy: Policy, shared: &Shared) -> Option<Judge> {
         let most = shared.workers.len();
         let estimator = Estimator::new(policy.load, policy.hysteresis, most as u64)?;
-        Some(Judge { estimator, policy, last: Totals::default(), at: now(), looked: 0, most })
+        Some(Judge { estimator, policy, last: totals(shared, most, now()), at: now(), looked: 0, most })
     }
 
     /// Milliseconds between two judgements, at most 20.
@@ -123,8 +125,7 @@ impl Judge {
         }
         let active = shared.active.0.load(Relaxed);
         shared.counts.core_time.fetch_add(elapsed * active as u64, Relaxed);
-        let total = totals(shared, active, now);
-        let sample = sample(self.last, total, active as u64, elapsed);
+        let sample = sample(&self.last, &totals(shared, active, now), elapsed);
         let (adds, removes) = (&shared.counts.adds, &shared.counts.removes);
         let advice = self.estimator.judge(sample);
         if active > self.most || advice == Some(Advice::Remove) && active > self.policy.min_cores {
@@ -139,13 +140,14 @@ impl Judge {
     }
 }
 
-fn totals(shared: &Shared, active: usize, now: u64) -> Totals {
-    shared.workers[..active].iter().fold(Totals::default(), |sum, worker| Totals {
-        runnable: sum.runnable + worker.0.runnable.load(Relaxed),
-        scans: sum.scans + worker.0.scans.load(Relaxed),
-        idle: sum.idle + worker.0.idle_time(now),
-        waited: sum.waited + waited(&worker.0.account),
-    })
+fn totals(shared: &Shared, active: usize, now: u64) -> Vec<Totals> {
+    let of = |worker: &Worker| Totals {
+        runnable: worker.runnable.load(Relaxed),
+        scans: worker.scans.load(Relaxed),
+        idle: worker.idle_time(now),
+        waited: waited(&worker.account),
+    };
+    shared.workers[..active].iter().map(|line| of(&line.0)).collect()
 }
 
 /// Nanoseconds that a worker's kernel thread was ready and had no processor.
@@ -156,16 +158,20 @@ fn waited(account: &std::sync::Mutex<Option<fs::File>>) -> u64 {
     text.split_whitespace().nth(1).and_then(|word| word.parse().ok()).unwrap_or(0)
 }
 
-/// Time that was waited for a processor is no use of a core, and what was ready meanwhile asks for none.
-fn sample(last: Totals, total: Totals, cores: u64, elapsed: u64) -> Sample {
-    let span = elapsed * cores;
-    let waited = (total.waited.saturating_sub(last.waited)).min(span);
-    let idle = (total.idle.saturating_sub(last.idle)).min(span - waited);
-    let busy = span - idle - waited;
-    let runnable = total.runnable.saturating_sub(last.runnable);
-    let scaled = (runnable as u128 * (span - waited) as u128 / span.max(1) as u128) as u64;
-    let scans = total.scans.saturating_sub(last.scans).max(1);
-    Sample { cores, runnable: scaled, scans, busy, elapsed }
+/// A worker's looks at its words say how many tasks were ready while it was busy; in the time in which it had no work
+/// none was. Time that was waited for a processor is no use of a core, and what was ready meanwhile asks for none.
+fn sample(last: &[Totals], totals: &[Totals], elapsed: u64) -> Sample {
+    let cores = totals.len() as u64;
+    let mut sample = Sample { cores, runnable: 0, scans: (elapsed * cores).max(1), busy: 0, elapsed };
+    for (last, total) in last.iter().zip(totals) {
+        let waited = total.waited.saturating_sub(last.waited).min(elapsed);
+        let idle = total.idle.saturating_sub(last.idle).min(elapsed - waited);
+        let (busy, scans) = (elapsed - waited - idle, total.scans.saturating_sub(last.scans).max(1));
+        let runnable = total.runnable.saturating_sub(last.runnable).max(scans);
+        sample.busy += busy;
+        sample.runnable += (busy as u128 * runnable as u128 / scans as u128) as u64;
+    }
+    sample
 }
 
 impl Shared {

@@ -108,7 +108,8 @@ impl Builder {
         let mut runtime = Runtime { shared, threads: Vec::new(), ended: false };
         let cpus = if self.pin { sys::affinity() } else { Vec::new() };
         for me in 0..self.cores {
-            let (policy, cpu) = (self.policy.filter(|_| me == 0), cpus.get(me % cpus.len().max(1)).copied());
+            let (counts, policy) = (self.policy.is_some(), self.policy.filter(|_| me == 0));
+            let cpu = cpus.get(me % cpus.len().max(1)).copied();
             let hands = shared.root.lock().unwrap().hands(HANDS).ok_or(io::ErrorKind::OutOfMemory)?;
             let work = move || {
                 cpu.map(sys::pin);
@@ -116,7 +117,7 @@ impl Builder {
                 let context = Context::new(shared, me, hands);
                 let judge = policy.and_then(|policy| Judge::new(policy, shared));
                 let end = EndsTheProcess;
-                context.enter(|| shared.work(&context, judge));
+                context.enter(|| shared.work(&context, judge, counts));
                 std::mem::forget(end);
                 shared.root.lock().unwrap().join(context.hands);
             };

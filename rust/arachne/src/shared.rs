@@ -25,9 +25,6 @@ static ALL: [AtomicPtr<Shared>; TABLES] = [NO_TABLE; TABLES];
 /// How many of them were made, and those that no runtime has now. They are never freed: a waker may be kept for ever.
 static POOL: Mutex<(usize, Vec<&'static Shared>)> = Mutex::new((0, Vec::new()));
 
-/// About how many nanoseconds a scan takes that finds nothing.
-const SCAN: u64 = 300;
-
 /// What a runtime's kernel threads share.
 pub(crate) struct Shared {
     pub(crate) table: usize,
@@ -86,6 +83,7 @@ pub(crate) struct Worker {
     pub(crate) takes: AtomicU64,
     pub(crate) wakes: AtomicU64,
     pub(crate) parks: AtomicU64,
+    /// Looks that the policy counts, and what was ready at them.
     pub(crate) scans: AtomicU64,
     pub(crate) runnable: AtomicU64,
     /// Nanoseconds without work, and since when (0: it has work).
@@ -151,12 +149,11 @@ impl Worker {
         self.idle.load(Relaxed) + if since == 0 { 0 } else { now.saturating_sub(since) }
     }
 
-    pub(crate) fn ends_idling(&self) {
+    /// It has work, or may have some, from now on; the time.
+    pub(crate) fn ends_idling(&self) -> u64 {
         let now = now();
-        let idle = now.saturating_sub(self.idle_since.swap(0, Relaxed));
-        add(&self.idle, idle);
-        // A worker that never slept would have scanned all that time and found nothing: the policy wants those scans.
-        add(&self.scans, idle / SCAN);
+        add(&self.idle, now.saturating_sub(self.idle_since.swap(0, Relaxed)));
+        now
     }
 
     fn reset(&self) {

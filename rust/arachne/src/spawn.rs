@@ -12,10 +12,6 @@ use std::sync::atomic::Ordering::*;
 /// Tasks from outside that go to one worker before the next one gets some.
 const IN_A_ROW: usize = 16;
 
-/// Tasks that are spawned one after the other stand in so many blocks in turn: the marks of neighbours in a block share a
-/// cache line, on which workers that wake them would meet.
-const SPREAD: usize = 8;
-
 /// No place is free, or the runtime's limit is met: the future comes back.
 pub struct Refused<F>(pub F);
 
@@ -26,7 +22,9 @@ impl<F> fmt::Debug for Refused<F> {
 }
 
 impl Shared {
-    /// Puts a task into a free place of a worker's blocks, at first where `block` says.
+    /// Puts a task into a free place of a worker's blocks, at first where `block` says. Tasks that are spawned one after
+    /// the other stand in the blocks of a shard in turn: the marks of neighbours in a block share a cache line, on which
+    /// workers that wake them would meet.
     pub(crate) fn spawn_at(&self, hands: &Hands, worker: usize, block: &Cell<usize>, raw: Raw, keep: bool) -> Spawned {
         let shards = &*self.workers[worker].0.shards;
         let hint = block.get();
@@ -35,7 +33,7 @@ impl Shared {
             match hands.spawn(hint, raw, keep) {
                 Spawned::Full => {}
                 spawned => {
-                    block.set(hint / SPREAD * SPREAD + (hint + 1) % SPREAD);
+                    block.set(hint / SHARD * SHARD + (hint + 1) % SHARD);
                     return spawned;
                 }
             }

@@ -21,7 +21,7 @@ struct Seen {
 
 /// Looks at all workers until the runtime stops.
 pub(crate) fn run(shared: &'static Shared, longer: Duration, log: bool) {
-    let tick = (longer / 8).clamp(Duration::from_micros(500), Duration::from_millis(5));
+    let tick = (longer / 20).clamp(Duration::from_micros(500), Duration::from_millis(5));
     let longer = longer.as_nanos() as u64;
     let mut seen: Vec<Seen> =
         shared.workers.iter().map(|_| Seen { polls: 0, name: NOBODY, since: 0, told: false }).collect();
@@ -34,8 +34,8 @@ pub(crate) fn run(shared: &'static Shared, longer: Duration, log: bool) {
         let mut stuck = 0;
         for (worker, seen) in seen.iter_mut().enumerate() {
             let age = age_of_poll(shared, worker, seen, now);
-            // A worker is relieved before its poll is one to be named.
-            if age > longer / 4 {
+            // A worker is relieved before its poll is one to be named: once it was seen in it at three looks.
+            if age > longer / 12 {
                 stuck |= 1 << worker;
             }
             if age > longer && !seen.told {
@@ -109,7 +109,7 @@ fn rescue(shared: &'static Shared, hands: &Hands, stuck: u64) {
 fn run_some(shared: &'static Shared, hands: &Hands, worker: usize) -> usize {
     let mut ran = 0;
     let mut job = [Job { name: 0, job: 0, seat: 0 }];
-    for &shard in &*shared.workers[worker].0.shards {
+    for &shard in shared.workers[worker].0.used_shards() {
         let mut bits = hands.shown(shard);
         while bits != 0 {
             let block = shard * SHARD + bits.trailing_zeros() as usize;

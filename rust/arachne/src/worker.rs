@@ -16,20 +16,27 @@ use std::sync::atomic::Ordering::*;
 const SPINS: usize = 24;
 /// How many tasks in a row may run that each was made ready by the one before.
 const NEXTS: u32 = 128;
-/// After so many polls a worker looks at its epoll, its timers and others, whatever is next.
+/// After so many polls, or about so many nanoseconds, a worker looks at its epoll, its timers and others, whatever is
+/// next.
 const LOOK_OUT: u32 = 64;
+const LOOK_TIME: u64 = 500_000;
+/// After so many polls the worker that judges how many cores there should be looks at its clock.
+const JUDGED: u32 = 8;
 /// After so many of these looks at which another worker had not got on, its epoll is looked at too.
 const LONG: u32 = 8;
 /// After so many looks at blocks that are shown and have nothing, they are hidden.
 const STALE: u32 = 16;
 /// Ready jobs taken at once while somebody has nothing to do.
 const FEW: usize = 8;
-/// Jobs that woke themselves, and stay with the worker that runs them.
+/// Jobs that woke themselves, or were next after many in a row, and stay with the worker that has them.
 pub(crate) const HAND: usize = 16;
 /// Jobs taken in advance, and two more that are between hands.
 pub(crate) const BATCHES: usize = BATCH + 2;
 /// From so many events of one look on another worker is woken to help.
 const MANY: usize = 4;
+
+/// The policy asks for no more cores for more ready jobs at a worker than that.
+const CROWD: u32 = 128;
 
 const NO_JOB: Job = Job { name: 0, job: 0, seat: 0 };
 
@@ -38,7 +45,7 @@ pub(crate) struct Turn {
     batch: [Job; BATCH],
     at: usize,
     count: usize,
-    /// Jobs in hand that woke themselves, and how many of them run before the words are looked at again.
+    /// Jobs in hand that are behind what is ready here, and how many of them run before the words are looked at again.
     hand: VecDeque<Job>,
     hand_left: usize,
     /// The next block and index to look at.
@@ -47,14 +54,19 @@ pub(crate) struct Turn {
     /// How many looks at its blocks were at ones that are shown and have nothing.
     stale: u32,
     chain: u32,
+    /// Polls since it last looked out or had nothing to do, and when that was; and after how many it looks out.
     polls: u32,
+    looked: u64,
+    most: u32,
+    /// Looks are counted, and what is ready at them, for the policy.
+    counts: bool,
     /// By worker: its polls at the last look, and at how many looks in a row it had not got on.
     seen: Vec<u64>,
     stood: Vec<u32>,
 }
 
 impl Turn {
-    pub(crate) fn new(shared: &Shared) -> Turn {
+    pub(crate) fn new(shared: &Shared, counts: bool) -> Turn {
         Turn {
             batch: [NO_JOB; BATCH],
             at: 0,
@@ -66,9 +78,21 @@ impl Turn {
             stale: 0,
             chain: 0,
             polls: 0,
+            looked: now(),
+            most: LOOK_OUT,
+            counts,
             seen: vec![0; shared.workers.len()],
             stood: vec![0; shared.workers.len()],
         }
+    }
+
+    /// How many polls take the time between two looks, by those since the last.
+    fn pace(&mut self, now: u64) {
+        if self.polls != 0 {
+            let fitting = self.polls as u64 * LOOK_TIME / now.saturating_sub(self.looked).max(1);
+            self.most = fitting.clamp(1, LOOK_OUT as u64) as u32;
+        }
+        (self.polls, self.looked) = (0, now);
     }
 }
 
@@ -148,10 +172,15 @@ impl Shared {
 
     /// How many jobs seem ready at a worker's places, where that are few.
     pub(crate) fn ready(&self, hands: &Hands, worker: usize) -> u32 {
+        self.ready_up_to(hands, worker, 8)
+    }
+
+    /// How many jobs seem ready at a worker's places, where that are less than `most`.
+    fn ready_up_to(&self, hands: &Hands, worker: usize, most: u32) -> u32 {
         let mut count = 0;
         for &shard in self.workers[worker].0.used_shards() {
             let mut bits = hands.shown(shard);
-            while bits != 0 && count < 8 {
+            while bits != 0 && count < most {
                 let block = shard * SHARD + bits.trailing_zeros() as usize;
                 bits &= bits - 1;
                 count += hands.count(block);
@@ -206,11 +235,7 @@ impl Shared {
             }
         }
         self.observer.ready(job.place());
-        if turn.hand.len() < if self.all_busy() { HAND } else { 1 } {
-            turn.hand.push_back(job);
-        } else {
-            self.make_ready(context, &job);
-        }
+        self.set_behind(context, turn, job);
     }
 
     #[inline]
@@ -237,11 +262,11 @@ impl Shared {
     /// The next job to run, in this worker's hand.
     #[inline]
     fn pick(&'static self, context: &Context, turn: &mut Turn) -> Option<Job> {
-        turn.polls += 1;
-        if turn.polls >= LOOK_OUT {
-            turn.polls = 0;
+        if turn.polls >= turn.most {
+            turn.pace(now());
             self.look_out(context, turn);
         }
+        turn.polls += 1;
         self.pick_next(context, turn).or_else(|| self.pick_ready(context, turn))
     }
 
@@ -254,10 +279,20 @@ impl Shared {
                 context.hands.begin(&job);
                 return Some(job);
             }
-            self.make_ready(context, &job);
+            self.set_behind(context, turn, job);
         }
         turn.chain = 0;
         None
+    }
+
+    /// Behind all that is ready here: it stays in hand, unless somebody has nothing to do and one is in hand already.
+    #[inline]
+    fn set_behind(&self, context: &Context, turn: &mut Turn, job: Job) {
+        if turn.hand.len() < if self.all_busy() { HAND } else { 1 } {
+            turn.hand.push_back(job);
+        } else {
+            self.make_ready(context, &job);
+        }
     }
 
     #[inline]
@@ -276,8 +311,6 @@ impl Shared {
             }
             if turn.hand_left == 0 && !turn.hand.is_empty() {
                 turn.hand_left = turn.hand.len();
-                add(&self.workers[context.me].0.scans, 1);
-                add(&self.workers[context.me].0.runnable, turn.hand_left as u64);
             }
             if turn.hand_left != 0 {
                 turn.hand_left -= 1;
@@ -307,10 +340,6 @@ impl Shared {
         for _ in 0..2 {
             let most = if self.all_busy() { BATCH } else { FEW };
             if self.take_from(&context.hands, context.me, turn, most) {
-                let worker = &self.workers[context.me].0;
-                let left = context.hands.count(turn.batch[0].place() / BLOCK);
-                add(&worker.scans, 1);
-                add(&worker.runnable, turn.count as u64 + left as u64);
                 return true;
             }
             let began = turn.block != 0 || turn.index != 0;
@@ -407,18 +436,30 @@ impl Shared {
     /// Looks at epoll and timers, and takes a job of one that doesn't get on or has nobody: whatever is next here.
     fn look_out(&self, context: &Context, turn: &mut Turn) {
         self.look_at_events(context, 0);
+        if turn.counts {
+            let here = turn.count - turn.at + turn.hand.len() + context.next.get().is_some() as usize;
+            let mine = std::iter::once(context.me).chain(self.lodgers(context.me));
+            let ready: u32 = mine.map(|owner| self.ready_up_to(&context.hands, owner, CROWD)).sum();
+            add(&self.workers[context.me].0.scans, 1);
+            add(&self.workers[context.me].0.runnable, here as u64 + ready as u64);
+        }
         let active = self.active.0.load(Relaxed);
         for other in 0..self.workers.len() {
             let polls = self.workers[other].0.polls.load(Relaxed);
             let stands = other >= active || polls == turn.seen[other];
             turn.seen[other] = polls;
-            turn.stood[other] = if stands && other < active && other != context.me { turn.stood[other] + 1 } else { 0 };
-            if turn.stood[other] == LONG {
-                // In a long poll, or without a processor: its sockets and timers would wait for it.
+            if other == context.me || !stands {
                 turn.stood[other] = 0;
+                continue;
+            }
+            turn.stood[other] = (turn.stood[other] + 1) % LONG;
+            let (long, sleeps) = (turn.stood[other] == 0, self.sleepers.0.load(Relaxed) >> other & 1 == 1);
+            if long && other < active {
+                // In a long poll, or without a processor: its sockets and timers would wait for it.
                 self.look_at_events_of(context, other);
             }
-            if other != context.me && stands && turn.at == turn.count && self.ready(&context.hands, other) != 0 {
+            // Who makes something ready for one that sleeps wakes somebody, so that is looked at now and then.
+            if (long || !sleeps) && turn.at == turn.count && self.ready(&context.hands, other) != 0 {
                 self.help(context, turn, other, 2);
             }
         }
@@ -601,9 +642,10 @@ impl Shared {
 
     // --------------------------------------------------------------------------------------- the loop
 
-    pub(crate) fn work(&'static self, context: &Context, mut judge: Option<Judge>) {
-        let mut turn = Turn::new(self);
+    pub(crate) fn work(&'static self, context: &Context, mut judge: Option<Judge>, counts: bool) {
+        let mut turn = Turn::new(self, counts);
         let worker = &self.workers[context.me].0;
+        let most = if judge.is_some() { JUDGED } else { LOOK_OUT };
         while !self.stop.load(Relaxed) {
             if context.me >= self.active.0.load(SeqCst) {
                 self.give_back(context, &mut turn);
@@ -613,14 +655,16 @@ impl Shared {
             while let Some(job) = self.pick(context, &mut turn) {
                 self.run(context, &mut turn, job);
                 ran += 1;
-                if ran == LOOK_OUT || self.stop.load(Relaxed) {
+                if ran == most || self.stop.load(Relaxed) {
                     break;
                 }
             }
             if ran == 0 && self.look_at_events(context, 0) == 0 && !self.help_lodgers(context, &mut turn) {
-                worker.idle_since.store(now(), Relaxed);
+                let begin = now();
+                worker.idle_since.store(begin, Relaxed);
+                turn.pace(begin);
                 self.look_around(context, &mut turn, &mut judge);
-                worker.ends_idling();
+                turn.looked = worker.ends_idling();
             }
             if let Some(judge) = &mut judge {
                 judge.judge(self);

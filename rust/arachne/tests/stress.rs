@@ -249,6 +249,12 @@ fn nothing_leaks() {
             });
             block_on(joiner).unwrap();
         }
+        let ended = rt.spawn(async { Alive::new() });
+        while !ended.is_finished() {
+            std::thread::yield_now();
+        }
+        // Nobody asked for its output.
+        drop(ended);
         drop(rt);
         for task in kept {
             let _ = block_on(task);

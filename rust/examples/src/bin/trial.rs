@@ -4,7 +4,6 @@
 //! blocking: 10,000 requests of 5 us a second, while a task on each of four workers blocks for 100 ms.
 //! waiting: a million tasks that wait, with bytes a task, and ping-pong among them and without.
 //! drain: SIGTERM to the server `redis` beside this program, under load and after a million answers.
-//! beside: 10,000 requests of 20 us a second for 3 s; run it once alone and once beside busy loops.
 use arachne::net::{TcpListener, TcpStream};
 use arachne::{Builder, Limit, Lock, Runtime};
 use std::io::{ErrorKind, Read, Write};
@@ -80,7 +79,8 @@ fn serve(runtime: &Runtime, most: usize) -> std::net::SocketAddr {
 struct Answers {
     sent: u64,
     refused: u64,
-    times: Vec<u64>,
+    /// With when each was due.
+    times: Vec<(u64, u64)>,
 }
 
 impl Answers {
@@ -90,7 +90,7 @@ impl Answers {
         self.times
             .get((self.times.len() as f64 * part) as usize)
             .or(self.times.get(last))
-            .map_or(0.0, |t| *t as f64 / 1e3)
+            .map_or(0.0, |t| t.0 as f64 / 1e3)
     }
 
     fn line(&mut self, rate: f64, time: Duration) -> String {
@@ -127,7 +127,7 @@ impl Client {
         for answer in self.back[..whole].chunks_exact(SIZE) {
             let word = |at: usize| u64::from_le_bytes(answer[at..at + 8].try_into().unwrap());
             match word(8) {
-                1 => answers.times.push(now.saturating_sub(word(0))),
+                1 => answers.times.push((now.saturating_sub(word(0)), word(0))),
                 _ => answers.refused += 1,
             }
         }
@@ -185,48 +185,43 @@ fn overload(cores: usize) {
     println!("{}", twice.line(best * 2.0, time));
     println!(
         "at twice the best rate: {:.3} of it answered, 99 % of the accepted within {:.2} times that at 80 %; memory grew by {grown} kB, of which {} are the client's figures",
-        accepted / best, twice.at(0.99) / most.at(0.99), twice.times.capacity() * 8 / 1024
+        accepted / best, twice.at(0.99) / most.at(0.99), twice.times.capacity() * 16 / 1024
     );
 }
 
 fn blocking() {
     let runtime = Builder::new(4).watch_polls(Duration::from_millis(10), true).build().unwrap();
     let at = serve(&runtime, 1 << 20);
-    let blocked = Arc::new(AtomicU64::new(0));
     let time = Duration::from_secs(3);
+    let start = Instant::now();
     let client = thread::spawn(move || offer(at, 1e4, 5, time));
     thread::sleep(Duration::from_secs(1));
-    let tasks: Vec<_> = (0..4)
-        .map(|i| {
-            let in_polls = blocked.clone();
-            let task = runtime.spawn_named(&format!("blocks-{i}"), async move {
-                in_polls.fetch_add(1, SeqCst);
-                // Until all four are in their polls, so that each has a worker.
-                while in_polls.load(SeqCst) < 4 {
-                    std::hint::spin_loop();
-                }
-                thread::sleep(Duration::from_millis(100));
-            });
-            while blocked.load(SeqCst) == i {
-                thread::yield_now();
-            }
-            task
-        })
-        .collect();
+    let (begin, begun) = (start.elapsed(), Arc::new(AtomicU64::new(0)));
+    let wait_for = |begun: &AtomicU64, count| {
+        while begun.load(SeqCst) < count {
+            thread::sleep(Duration::from_micros(50));
+        }
+    };
+    let blocks = |i: u64| {
+        let in_polls = begun.clone();
+        let task = runtime.spawn_named(&format!("blocks-{i}"), async move {
+            in_polls.fetch_add(1, SeqCst);
+            // Until all four are in their polls, so that each has a worker.
+            wait_for(&in_polls, 4);
+            thread::sleep(Duration::from_millis(100));
+        });
+        wait_for(&begun, i + 1);
+        task
+    };
+    let tasks: Vec<_> = (0..4).map(blocks).collect();
     tasks.into_iter().for_each(|task| arachne::block_on(task).unwrap());
+    let end = start.elapsed();
     let mut answers = client.join().unwrap();
     println!("{}", answers.line(1e4, time));
+    answers.times.retain(|(_, due)| (begin.as_nanos()..end.as_nanos()).contains(&(*due as u128)));
+    println!("those due in the {:?} of the blocking polls: {}", end - begin, answers.line(1e4, end - begin));
     let stats = runtime.stats();
     println!("slow polls {}, tasks that the watcher ran {}", stats.slow_polls, stats.rescued);
-}
-
-fn beside(cores: usize) {
-    let runtime = Builder::new(cores).policy(arachne::Policy::default()).build().unwrap();
-    let at = serve(&runtime, 1 << 20);
-    let time = Duration::from_secs(3);
-    let mut answers = offer(at, 1e4, 20, time);
-    println!("{}", answers.line(1e4, time));
-    println!("cores held at the end {}, core time {:?}", runtime.stats().active, runtime.stats().core_time);
 }
 
 /// A cell for one number and one that waits for it.
@@ -430,9 +425,8 @@ fn main() {
         Some("overload") => overload(cores),
         Some("blocking") => blocking(),
         Some("waiting") => waiting(cores),
-        Some("beside") => beside(cores),
         Some("drain") => drain(cores),
         Some("soak") => soak(cores, words.get(3).map_or(300, |word| word.parse().unwrap())),
-        _ => eprintln!("trial soak|overload|blocking|waiting|beside|drain [CORES]"),
+        _ => eprintln!("trial soak|overload|blocking|waiting|drain [CORES]"),
     }
 }
