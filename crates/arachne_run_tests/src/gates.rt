@@ -62,6 +62,10 @@ pub enum Watching {
     ParksLast(u64, u64),
     /// It holds core 1's slice 0 until threads were moved away from there, and notes to which cores they were.
     Moving,
+    /// It holds core 0's slice of this number until a thread was moved away, or one of this core waits or has ended. From
+    /// then on core 0 lets others go on before each slice until one was moved, or had ended before, and then until this
+    /// core is about to park.
+    Emptied(u8, u64),
     /// It gives a core time to park before core 0's slice 0. It holds core 2's slice 0 until core 1 has entered this
     /// slice, and that until the run is stopped, which the parked core tells. Then core 1 may enter no slice. Slices of
     /// core 1 before it are held until core 0's slice 0 has ended.
@@ -185,6 +189,7 @@ impl Watch {
                 let _ = comes(&self.failed, 1, PAUSE);
             }
             Watching::Stopping(_) if nth == 0 => self.pause(),
+            Watching::Emptied(_, held) if nth >= held => self.empties(nth == held),
             Watching::Granting(_, wanted) if nth == wanted => {
                 self.zero.store(1, Ordering::SeqCst);
                 self.wait(&self.one, 1);
@@ -194,6 +199,19 @@ impl Watch {
                 self.wait(&self.one, 1);
             }
             _ => {}
+        }
+    }
+
+    /// A slice of core 0 that waits for another core to be empty and to park, the first such one or not.
+    fn empties(&self, is_first: bool) {
+        if is_first {
+            self.wait(&self.ended, 1);
+            self.slices.store(1, Ordering::SeqCst);
+        }
+        if self.zero.load(Ordering::SeqCst) == 0 {
+            yield_now();
+        } else {
+            self.wait(&self.one, 1);
         }
     }
 
@@ -295,6 +313,14 @@ impl Watch {
                 SliceEnd::AwaitsChild => self.one.store(1, Ordering::SeqCst),
                 SliceEnd::GoesOn | SliceEnd::Awaits(_) => {}
             },
+            (Watching::Emptied(emptied, _), _) if core == emptied => {
+                if end == SliceEnd::Ended && self.slices.load(Ordering::SeqCst) == 0 {
+                    self.zero.store(1, Ordering::SeqCst);
+                }
+                if end != SliceEnd::GoesOn {
+                    self.ended.store(1, Ordering::SeqCst);
+                }
+            }
             (Watching::Holding(_), 1) => self.wait(&self.zero, 1),
             (Watching::Stopping(_), 0) | (Watching::Parking(_), 1) => {
                 self.ended.store(1, Ordering::SeqCst);
@@ -310,16 +336,25 @@ impl Watch {
     }
 
     fn moved_away(&self, receivers: u64) {
-        if let Watching::Moving = self.watching {
-            self.entered.fetch_or(receivers, Ordering::SeqCst);
-            self.zero.store(1, Ordering::SeqCst);
+        match self.watching {
+            Watching::Moving => {
+                self.entered.fetch_or(receivers, Ordering::SeqCst);
+                self.zero.store(1, Ordering::SeqCst);
+            }
+            Watching::Emptied(_, _) => {
+                self.zero.store(1, Ordering::SeqCst);
+                self.ended.store(1, Ordering::SeqCst);
+            }
+            _ => {}
         }
     }
 
     fn parks(&self, core: u8) {
         match self.watching {
             Watching::Parking(_) if core == 1 => self.one.store(1, Ordering::SeqCst),
-            Watching::Parked(wanted, _) if core == wanted => self.one.store(1, Ordering::SeqCst),
+            Watching::Parked(wanted, _) | Watching::Emptied(wanted, _) if core == wanted => {
+                self.one.store(1, Ordering::SeqCst);
+            }
             Watching::ParksLast(_, _) if core == 1 && self.zero.load(Ordering::SeqCst) == 0 => {
                 self.failed.store(1, Ordering::SeqCst);
             }

@@ -149,7 +149,7 @@ const BOTH_DRAINED: Row = Row {
             core: 2,
         },
     ],
-    watching: Watching::Parked(2, 1000),
+    watching: Watching::Emptied(2, 1000),
     facts: &[(Fact::Value, 1), (Fact::Applied, 2), (Fact::IsOver, 1)],
     telling: Telling::Nothing,
     told: "",
