@@ -352,9 +352,8 @@ impl Watch {
     fn parks(&self, core: u8) {
         match self.watching {
             Watching::Parking(_) if core == 1 => self.one.store(1, Ordering::SeqCst),
-            Watching::Parked(wanted, _) | Watching::Emptied(wanted, _) if core == wanted => {
-                self.one.store(1, Ordering::SeqCst);
-            }
+            Watching::Parked(wanted, _) if core == wanted => self.one.store(1, Ordering::SeqCst),
+            Watching::Emptied(wanted, _) if core == wanted => self.one.store(1, Ordering::SeqCst),
             Watching::ParksLast(_, _) if core == 1 && self.zero.load(Ordering::SeqCst) == 0 => {
                 self.failed.store(1, Ordering::SeqCst);
             }

@@ -222,7 +222,7 @@ const GIVEN_BACK: Row = Row {
     told: "",
 };
 
-const ROWS: &[Row] = &[TICKETS, STILL_WAITS, LOST_ALONE, GIVEN_BACK];
+const ROWS: &[Row] = &[TICKETS, STILL_WAITS, LOST_ALONE, LOST_WAKE, GIVEN_BACK];
 
 #[test]
 fn what_a_thread_is_due_is_heeded(rt: HostRuntime) -> Result<(), Fail> {
@@ -291,8 +291,3 @@ const LOST_WAKE: Row = Row {
     telling: Telling::Nothing,
     told: "",
 };
-
-#[test]
-fn a_wake_that_is_lost_is_made_again(rt: HostRuntime) -> Result<(), Fail> {
-    rows_hold(&rt, rt.alloc(), &[LOST_WAKE])
-}

@@ -187,9 +187,7 @@ fn is_lawful<R: Threads + Wait + Clock + Sync>(
     for turn in 0..judged.turns {
         for (nth, &machine) in judged.row.machines.iter().enumerate() {
             let (slots, form) = kind_of(judged, nth, turn);
-            counts.add_all(&run_is_lawful(
-                rt, alloc, judged, &program, form, machine, slots,
-            )?);
+            counts.add_all(&run_is_lawful(rt, alloc, judged, &program, form, machine, slots)?);
         }
     }
     come_up(judged, &counts)

@@ -3,9 +3,7 @@ ghost use Rattle.arachne_lang.specs.Checked.{IsChecked};
 ghost use Rattle.arachne_lang.specs.Program.{source_of};
 
 use super::facts::{Fact, Telling, number, told};
-use super::{
-    Form, Machine, Source, program_of, run_hastily, run_on_lock, run_on_words, setup_of,
-};
+use super::{Form, Machine, Source, program_of, run_hastily, run_on_lock, run_on_words, setup_of};
 use crate::choosers::Draws;
 use crate::gates::{Watch, Watching};
 use arachne_lang::Program;
