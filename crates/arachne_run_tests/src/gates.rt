@@ -10,17 +10,14 @@ use std::thread::yield_now;
 /// How often a gate looks whether the other core has come before it gives up.
 const POLLS: u32 = 5_000_000;
 
-/// How often a gate looks before it lets a core go on that it gave time for what can't be seen.
-const PAUSE: u32 = 5_000;
+/// How often a gate looks before it lets a core go on that it gave time for what may not be.
+const PAUSE: u32 = 500;
 
 /// How often it looks, without a pause, for a slice that may not begin.
 const SPINS: u32 = 50_000;
 
 /// How often it turns, without a look, while a core that has nothing to run comes to sleep: some milliseconds.
 const REST: u32 = 1_000_000;
-
-/// How often it looks whether the run has stopped.
-const STOPS: u32 = 2_000_000;
 
 /// How often others may go on before it is told whether a slice has begun meanwhile.
 const LOOKS: u32 = 100;
@@ -44,8 +41,8 @@ pub enum Watching {
     First,
     /// It holds core 1's slice of this number until orders were applied.
     Applying(u64),
-    /// It gives core 1 time to park before core 0's slice of the first number, and holds that of the second until core
-    /// 1 has entered slice 0.
+    /// It holds core 0's slice of the first number until core 1 is about to park, and that of the second until core 1 has
+    /// entered slice 0.
     Granting(u64, u64),
     /// It gives core 1, once that has ended a slice, time to sleep before core 0's slice of this number, and holds the
     /// fourth after it until core 1 is about to park.
@@ -66,9 +63,9 @@ pub enum Watching {
     /// then on core 0 lets others go on before each slice until one was moved, or had ended before, and then until this
     /// core is about to park.
     Emptied(u8, u64),
-    /// It gives a core time to park before core 0's slice 0. It holds core 2's slice 0 until core 1 has entered this
-    /// slice, and that until the run is stopped, which the parked core tells. Then core 1 may enter no slice. Slices of
-    /// core 1 before it are held until core 0's slice 0 has ended.
+    /// It holds core 0's slice 0 until a core is about to park, and core 2's slice 0 until core 1 has entered this slice,
+    /// and that until the run is stopped, which the parked core tells. Then core 1 may enter no slice. Slices of core 1
+    /// before it are held until core 0's slice 0 has ended.
     Stopping(u64),
 }
 
@@ -150,11 +147,6 @@ impl Watch {
         }
     }
 
-    /// Gives a kernel thread whose core is closed time to park.
-    fn pause(&self) {
-        let _ = comes(&self.one, 1, PAUSE);
-    }
-
     /// The slice of this number of core 0.
     fn enter_zero(&self, nth: u64) {
         match self.watching {
@@ -175,7 +167,7 @@ impl Watch {
                     spin_loop();
                 }
             }
-            Watching::Granting(pause, _) if nth == pause => self.pause(),
+            Watching::Granting(parked, _) if nth == parked => self.wait(&self.ended, 1),
             Watching::Parking(rest) if nth == rest => {
                 self.wait(&self.ended, 1);
                 for _ in 0..REST {
@@ -188,7 +180,7 @@ impl Watch {
             Watching::ParksLast(_, pause) if nth == pause => {
                 let _ = comes(&self.failed, 1, PAUSE);
             }
-            Watching::Stopping(_) if nth == 0 => self.pause(),
+            Watching::Stopping(_) if nth == 0 => self.wait(&self.slices, 1),
             Watching::Emptied(_, held) if nth >= held => self.empties(nth == held),
             Watching::Granting(_, wanted) if nth == wanted => {
                 self.zero.store(1, Ordering::SeqCst);
@@ -232,8 +224,7 @@ impl Watch {
             Watching::Stopping(wanted) if nth < wanted => self.wait(&self.ended, 1),
             Watching::Stopping(wanted) if nth == wanted => {
                 self.one.store(1, Ordering::SeqCst);
-                // Where no core was parked the run has stopped when this is given up.
-                let _ = comes(&self.zero, 1, STOPS);
+                self.wait(&self.zero, 1);
             }
             Watching::Stopping(wanted) if nth > wanted => self.failed.store(1, Ordering::SeqCst),
             Watching::Anew(_) => {
@@ -352,6 +343,8 @@ impl Watch {
     fn parks(&self, core: u8) {
         match self.watching {
             Watching::Parking(_) if core == 1 => self.one.store(1, Ordering::SeqCst),
+            Watching::Granting(_, _) if core == 1 => self.ended.store(1, Ordering::SeqCst),
+            Watching::Stopping(_) => self.slices.store(1, Ordering::SeqCst),
             Watching::Parked(wanted, _) if core == wanted => self.one.store(1, Ordering::SeqCst),
             Watching::Emptied(wanted, _) if core == wanted => self.one.store(1, Ordering::SeqCst),
             Watching::ParksLast(_, _) if core == 1 && self.zero.load(Ordering::SeqCst) == 0 => {

@@ -229,7 +229,7 @@ fn what_a_thread_is_due_is_heeded(rt: HostRuntime) -> Result<(), Fail> {
     rows_hold(&rt, rt.alloc(), ROWS)
 }
 
-/// Core 1 is closed at first, and its kernel thread gets time to park. The table opens it only after a while.
+/// Core 1 is closed at first, and its kernel thread parks. The table opens it only after a while.
 const OPENED_LATE: Row = Row {
     shows: "a grant unparks the kernel thread once the core is open",
     source: Source {

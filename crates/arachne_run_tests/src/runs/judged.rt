@@ -286,8 +286,35 @@ const HOLDS: Judged = Judged {
     ..COUNTS
 };
 
+/// Six threads of core 0 hold a lock for longer than a holder goes on at once, so that the others come to wait for it, and
+/// each goes on before others once it has it. Meanwhile an order is due in each slice.
+const NEXT: Row = Row {
+    shows: "orders are applied before the slice of a thread that goes next",
+    source: Source {
+        ledgers: 0,
+        locks: 1,
+        forks: 0,
+        expr: "(sweep add 1 (num 0) (num 6) (hold 0 (fold (num 0) (num 800) (num 0) (var 1))))",
+    },
+    machines: &[(2, 10, 2), (2, 100, 2)],
+    draws: ZEROS,
+    facts: &[
+        (Fact::Value, 4794),
+        (Fact::Threads, 6),
+        (Fact::GrantsAreHolds, 1),
+    ],
+    ..COUNTING
+};
+
 const HOLD: &[Judged] = &[
     HOLDS,
+    Judged {
+        row: NEXT,
+        orders: 1000,
+        steps: 4800,
+        rules: &[Rule::Waits, Rule::Due, Rule::CoreZero],
+        ..HOLDS
+    },
     Judged {
         turns: 1,
         orders: 600,

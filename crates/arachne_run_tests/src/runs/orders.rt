@@ -119,7 +119,7 @@ fn a_thread_alone_gets_a_core_among_the_last(rt: HostRuntime) -> Result<(), Fail
     row_holds(&rt, alloc, &FAR, orders.as_slice())
 }
 
-/// Core 1 is closed at first, and its kernel thread gets time to park. Then it is granted again, and has a thread. Were
+/// Core 1 is closed at first, and its kernel thread parks. Then it is granted again, and has a thread. Were
 /// that not run there, it would be moved away once core 1 is closed again.
 const GRANTED: Row = Row {
     shows: "a grant has a kernel thread that is parked go on",
