@@ -190,13 +190,14 @@ fn is_lawful<R: Threads + Wait + Clock + Sync>(
             counts.add_all(&run_is_lawful(rt, alloc, judged, &program, form, machine, slots)?);
         }
     }
-    come_up(judged, &counts)
+    come_up(judged, ALWAYS, &counts)?;
+    come_up(judged, judged.rules, &counts)
 }
 
-/// Each rule that a row has was judged.
-fn come_up(judged: &Judged, counts: &Counts) -> Result<(), Fail> {
+/// Each of these rules was judged.
+fn come_up(judged: &Judged, rules: &[Rule], counts: &Counts) -> Result<(), Fail> {
     let shows = judged.row.shows;
-    for &rule in ALWAYS.iter().chain(judged.rules) {
+    for &rule in rules {
         if counts.of(rule) == 0 {
             return Err(Fail::new(format_args!("{shows}: {rule:?} never comes up")));
         }

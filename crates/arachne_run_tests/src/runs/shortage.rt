@@ -261,13 +261,26 @@ fn row_ends<R: Threads + Wait + Clock + Sync>(
         let before = last != WELL || goes_well(rt, alloc, row, &program, form, machine, 1);
         let (runs, came) = without_memory(rt, alloc, row, &program, form, machine, last);
         let behind = goes_well(rt, alloc, row, &program, form, machine, 1);
-        let (cores, _, _) = machine;
-        let is_over = came == last || last == WELL && cores > 1 && is_want(came, cores);
-        if !(before && is_over && runs > 10 && behind) {
-            return Err(Fail::new(format_args!("{machine:?}: {before} {runs} {came:?} {behind}")));
-        }
+        judge(machine, last, before, runs, came, behind)?;
     }
     Ok(())
+}
+
+/// Whether a row's runs went well before and behind those without memory, and these came to what they were to.
+fn judge(
+    machine: Machine,
+    last: Tried,
+    before: bool,
+    runs: u64,
+    came: Tried,
+    behind: bool,
+) -> Result<(), Fail> {
+    let (cores, _, _) = machine;
+    let is_over = came == last || last == WELL && cores > 1 && is_want(came, cores);
+    if before && is_over && runs > 10 && behind {
+        return Ok(());
+    }
+    Err(Fail::new(format_args!("{machine:?}: {before} {runs} {came:?} {behind}")))
 }
 
 /// Each row's program over a form of table.
