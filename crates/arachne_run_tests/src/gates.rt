@@ -45,7 +45,8 @@ pub enum Watching {
     /// entered slice 0.
     Granting(u64, u64),
     /// It gives core 1, once that has ended a slice, time to sleep before core 0's slice of this number, and holds the
-    /// fourth after it until core 1 is about to park.
+    /// fourth after it until core 1 is about to park. A sleep counts only if core 0 was held by then: until core 1 is told
+    /// of the order it may find by itself, as its sleep ends, that it was taken back.
     Parking(u64),
     /// It holds core 0's slice of this number until this core is about to park.
     Parked(u8, u64),
@@ -187,6 +188,7 @@ impl Watch {
                 self.wait(&self.one, 1);
             }
             Watching::Parking(rest) if nth == rest.wrapping_add(4) => {
+                self.slices.fetch_add(1, Ordering::SeqCst);
                 self.zero.store(1, Ordering::SeqCst);
                 self.wait(&self.one, 1);
             }
@@ -287,9 +289,7 @@ impl Gate for Watch {
             Event::MovedAway(receivers) => self.moved_away(receivers),
             Event::Parks => self.parks(core),
             Event::Unparked => self.unparked(core),
-            Event::Overslept => {
-                self.oversleeps.fetch_add(1, Ordering::SeqCst);
-            }
+            Event::Overslept => self.overslept(),
             Event::Applied(orders) => self.applied(orders),
             _ => {}
         }
@@ -342,7 +342,11 @@ impl Watch {
 
     fn parks(&self, core: u8) {
         match self.watching {
-            Watching::Parking(_) if core == 1 => self.one.store(1, Ordering::SeqCst),
+            Watching::Parking(_) if core == 1 => {
+                let was_held = self.slices.load(Ordering::SeqCst);
+                self.entered.store(was_held, Ordering::SeqCst);
+                self.one.store(1, Ordering::SeqCst);
+            }
             Watching::Granting(_, _) if core == 1 => self.ended.store(1, Ordering::SeqCst),
             Watching::Stopping(_) => self.slices.store(1, Ordering::SeqCst),
             Watching::Parked(wanted, _) if core == wanted => self.one.store(1, Ordering::SeqCst),
@@ -357,6 +361,15 @@ impl Watch {
     fn unparked(&self, _core: u8) {
         if let Watching::Stopping(_) = self.watching {
             self.zero.store(1, Ordering::SeqCst);
+        }
+    }
+
+    fn overslept(&self) {
+        match self.watching {
+            Watching::Parking(_) if self.entered.load(Ordering::SeqCst) == 0 => {}
+            _ => {
+                self.oversleeps.fetch_add(1, Ordering::SeqCst);
+            }
         }
     }
 
