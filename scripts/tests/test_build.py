@@ -1,6 +1,5 @@
 """The time that scripts/build says is left, over a made-up run, and a build by an `rt` that proves nothing."""
 import os
-import pty
 import signal
 import subprocess
 import tempfile
@@ -9,7 +8,7 @@ import unittest
 from pathlib import Path
 from unittest import mock
 
-from loading import TOP, load
+from loading import TOP, load, run_on_terminal
 
 build = load("build")
 
@@ -317,13 +316,9 @@ class Named(unittest.TestCase):
         self.assertEqual(self.call("1 1 1 1 1\n", command="policy"), (2, "", told))
 
     def test_a_terminal_gets_no_control_character_of_a_word(self) -> None:
-        terminal, end = pty.openpty()
         words = [self.top / "arachne", "\x1b]0;title\x07", self.top / "crates.txt", "--named"]
         place = {**os.environ, "SAYS": "error: \x1b]0;title\x07", "STATUS": "2"}
-        ran = subprocess.run(words, env=place, stdin=subprocess.DEVNULL, stderr=end)
-        os.close(end)
-        told = os.read(terminal, 4096).decode()
-        os.close(terminal)
+        ran, told = run_on_terminal(words, env=place, stdin=subprocess.DEVNULL)
         self.assertEqual(ran.returncode, 2)
         self.assertIn("crates.txt is a file", told)
         self.assertIn("--named stands before the command", told)

@@ -1,10 +1,9 @@
 """What scripts/named makes of programs with names, where it finds faults, and what the examples compute."""
 import os
-import pty
 import subprocess
 import unittest
 
-from loading import TOP, load
+from loading import TOP, load, run_on_terminal
 
 named = load("named")
 
@@ -140,13 +139,9 @@ class Named(unittest.TestCase):
 
     def shown(self, text: bytes, *words: str) -> str:
         """What a terminal is shown of a fault."""
-        terminal, end = pty.openpty()
-        ran = subprocess.run([TOP / "scripts/named", *words], input=text, stdout=subprocess.PIPE, stderr=end)
-        os.close(end)
-        told = os.read(terminal, 4096).decode().replace("\r", "")
-        os.close(terminal)
+        ran, told = run_on_terminal([TOP / "scripts/named", *words], input=text, stdout=subprocess.PIPE)
         self.assertEqual((ran.returncode, ran.stdout), (1, b""))
-        return told
+        return told.replace("\r", "")
 
     def test_a_terminal_is_shown_the_line(self) -> None:
         told = self.shown(b"(let a 1\n  (add a \0b\x1b))\n")

@@ -14,8 +14,12 @@ use arachne_workers::{Event, SliceEnd};
 use std::alloc::{AllocError, Global};
 
 /// How many moves nobody may be told of: where a thread left its place just before a worker moved it from there, the one
-/// that came after it is moved. A program with an exclusive fork has no such moves.
-const UNTOLD: u32 = 2;
+/// that came after it is moved. That takes a delay between two steps of a worker, so it is rare, and a delay there may
+/// come again: one more is allowed for each `TURNS_PER_UNTOLD` times that a thread went on. A program with an exclusive
+/// fork has no such moves.
+const UNTOLD: u64 = 2;
+
+const TURNS_PER_UNTOLD: u64 = 64;
 
 /// What a log has shown so far.
 #[derive(Drop)]
@@ -38,9 +42,10 @@ struct Case<'r> {
     /// Whether a core owes something.
     owes: bool,
     /// How many moves nobody was told of.
-    untold: u32,
-    /// How many threads have had a turn after a wait, and were not told to be woken yet.
-    unwoken: u64,
+    untold: u64,
+    /// The threads that have had a turn after a wait and were not told to be woken yet, a place for each other core: each
+    /// may have woken one just now. Such a thread may have ended since, and its context have another one.
+    unwoken: Vec<Option<ThreadId>>,
     scans: Scans,
     counts: Counts,
     broken: Option<Broken>,
@@ -58,7 +63,7 @@ pub fn judge(alloc: Global, log: &Log, run: Run<'_>) -> Result<Verdict, AllocErr
         case.look(entry);
     }
     case.settle();
-    if case.unwoken > 0 {
+    if !case.unwoken.iter().all(|id| id.is_none()) {
         case.breaks(Rule::Waits);
     }
     Ok(Verdict {
@@ -78,6 +83,10 @@ impl<'r> Case<'r> {
         for _ in 0..u32::from(run.cores) * u32::from(run.slots) {
             threads.push(None)?;
         }
+        let mut unwoken = Vec::new(alloc);
+        for _ in 1..run.cores {
+            unwoken.push(None)?;
+        }
         Ok(Case {
             run,
             at: 0,
@@ -90,7 +99,7 @@ impl<'r> Case<'r> {
             counted: 0,
             owes: false,
             untold: 0,
-            unwoken: 0,
+            unwoken,
             scans: Scans::new(run),
             counts: Counts::new(),
             broken: None,
@@ -146,6 +155,7 @@ impl<'r> Case<'r> {
             What::Told(event) => self.event(core, event),
         }
         let mut known = self.core(core);
+        known.last = self.at;
         known.was_closed = known.is_closed;
         self.set_core(core, known);
     }
@@ -224,7 +234,7 @@ impl<'r> Case<'r> {
             if known.owes_move {
                 known.owes_move = false;
                 self.untold = self.untold.saturating_add(1);
-                if self.run.has_exclusive || self.untold > UNTOLD {
+                if self.run.has_exclusive || self.untold > self.most_untold() {
                     self.breaks(Rule::OwnCore);
                 }
             }
@@ -238,6 +248,11 @@ impl<'r> Case<'r> {
             }
             self.set_core(core, known);
         }
+    }
+
+    /// How many moves nobody may have been told of by now.
+    fn most_untold(&self) -> u64 {
+        UNTOLD.saturating_add(self.counts.of(Rule::OwnCore) / TURNS_PER_UNTOLD)
     }
 
     fn turn(&mut self, core: u8, id: ThreadId, is_alone: bool) {
@@ -261,9 +276,7 @@ impl<'r> Case<'r> {
         let mut thread = Thread::new(id, core, self.at);
         let before = self.thread(id);
         if let Some(before) = before {
-            let (woken, unwoken) = self.waits(before);
-            thread.woken = woken;
-            thread.unwoken = unwoken;
+            thread.woken = self.waits(before);
             self.look_where(&mut known, core, before);
         }
         self.scan(id, before.is_none());
@@ -291,22 +304,28 @@ impl<'r> Case<'r> {
     }
 
     /// A thread that has a turn again goes on for one time that it was woken, if it has waited. How often it was woken
-    /// besides, and how often it has gone on and was not told to be woken yet: each other core may have woken one just
-    /// now. A wake may also be told just before the turn that it comes in.
-    fn waits(&mut self, before: Thread) -> (u64, u64) {
-        let (woken, unwoken) = (before.woken, before.unwoken);
+    /// besides. Another core may have woken it just now, and is to tell so at once. A wake may also be told just before
+    /// the turn that it comes in.
+    fn waits(&mut self, before: Thread) -> u64 {
         if !matches!(before.end, SliceEnd::AwaitsChild | SliceEnd::Awaits(_)) {
-            return (woken, unwoken);
+            return before.woken;
         }
         self.counts(Rule::Waits);
-        if woken > 0 {
-            return (woken.saturating_sub(1), unwoken);
-        }
-        self.unwoken = self.unwoken.saturating_add(1);
-        if self.unwoken >= u64::from(self.run.cores) {
+        if before.woken == 0 && !self.replace_unwoken(None, Some(before.id)) {
             self.breaks(Rule::Waits);
         }
-        (0, unwoken.saturating_add(1))
+        before.woken.saturating_sub(1)
+    }
+
+    /// Puts this into one of the places for threads that were not told to be woken, where that was. Whether there was one.
+    fn replace_unwoken(&mut self, from: Option<ThreadId>, to: Option<ThreadId>) -> bool {
+        for place in self.unwoken.iter_mut() {
+            if *place == from {
+                *place = to;
+                return true;
+            }
+        }
+        false
     }
 
     /// What the scan shows of a turn.
@@ -362,13 +381,10 @@ impl<'r> Case<'r> {
         if self.run.has_exclusive {
             self.counts(Rule::Stays);
         }
-        if let Some(mut thread) = self.thread(id) {
-            if thread.unwoken > 0 {
-                thread.unwoken = thread.unwoken.saturating_sub(1);
-                self.unwoken = self.unwoken.saturating_sub(1);
-            } else {
-                thread.woken = thread.woken.saturating_add(1);
-            }
+        if !self.replace_unwoken(Some(id), None)
+            && let Some(mut thread) = self.thread(id)
+        {
+            thread.woken = thread.woken.saturating_add(1);
             self.set_thread(thread);
         }
     }
@@ -383,14 +399,12 @@ impl<'r> Case<'r> {
         }
     }
 
-    /// A core found itself closed with nothing on it, and parks. It may have been granted since, and told so late.
+    /// A core has found itself closed with nothing on it at some time since its last entry, and parks. Since then it may
+    /// have been granted, closed again and given threads.
     fn parks(&mut self, core: u8) {
         self.counts(Rule::Parks);
         let mut known = self.core(core);
-        if known.was_closed && !known.is_closed {
-            return;
-        }
-        if !known.is_closed {
+        if !known.was_closed {
             known.owes_close = true;
             self.owes = true;
         }
@@ -400,7 +414,7 @@ impl<'r> Case<'r> {
                 && thread.core == core
                 && !thread.has_ended()
             {
-                thread.left = self.at.saturating_add(1);
+                thread.left = known.last.saturating_add(1);
             }
         }
     }

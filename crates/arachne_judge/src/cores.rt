@@ -17,7 +17,9 @@ pub(crate) struct Core {
     pub(crate) alone: Option<ThreadId>,
     /// Whether the orders that are told to be applied have closed it.
     pub(crate) is_closed: bool,
-    /// Whether it was closed at some time since its last entry.
+    /// The number of its last entry.
+    pub(crate) last: usize,
+    /// Whether it was closed at some time since that.
     pub(crate) was_closed: bool,
     /// How often they have opened it.
     pub(crate) grants: u64,
@@ -44,6 +46,7 @@ impl Core {
             is_in_slice: false,
             alone: None,
             is_closed: false,
+            last: 0,
             was_closed: false,
             grants: 0,
             unparks: 0,

@@ -17,10 +17,8 @@ pub(crate) struct Thread {
     pub(crate) end: SliceEnd,
     /// How often it was woken, and has not gone on for that yet.
     pub(crate) woken: u64,
-    /// How often it has gone on after a wait, and was not told to be woken yet.
-    pub(crate) unwoken: u64,
-    /// The number of the entry by which its core parked since its last turn, and 1 more: it was moved away from there
-    /// before. Else 0.
+    /// Where its core has parked since its last turn, the number of that core's entry before the park, and 1 more: it
+    /// was moved away from there between the two. Else 0.
     pub(crate) left: usize,
 }
 
@@ -35,7 +33,6 @@ impl Thread {
             is_in_slice: false,
             end: SliceEnd::GoesOn,
             woken: 0,
-            unwoken: 0,
             left: 0,
         }
     }

@@ -53,13 +53,11 @@ enum Alteration {
 /// How often the second of two calls looks whether the first one was made before it gives up.
 const POLLS: u32 = 100_000_000;
 
-/// How long it spins then, and how often it lets others go on, so that what the first call came to is known.
+/// How long it spins then, and how often it lets others go on, so that what the first call came to is known. So long a
+/// core is opened late, too: where each yield gives a turn away to other work a hundred of them are half a second.
 const SPINS: u32 = 1_000_000;
 
-const YIELDS: u32 = 400;
-
-/// How often it lets others go on before a core is opened late.
-const AWHILE: u32 = 2_000;
+const YIELDS: u32 = 100;
 
 /// How often whoever finds core 1 full looks again before it gives up.
 const GLANCES: u32 = 2_000_000;
@@ -87,6 +85,11 @@ fn wait(answered: &AtomicU64) {
         }
         yield_now();
     }
+    give_time();
+}
+
+/// Gives others time to go on.
+fn give_time() {
     for _ in 0..SPINS {
         spin_loop();
     }
@@ -327,9 +330,7 @@ impl<T: Tagged + Drop> Contexts<T> for Altered<T> {
 
     fn open_core<R: Wait>(&self, rt: &R, seat: &mut LockedSeat, core: u8) -> u64 {
         if let Alteration::OpensLate = self.alteration {
-            for _ in 0..AWHILE {
-                yield_now();
-            }
+            give_time();
         }
         self.inner.open_core(rt, seat, core)
     }

@@ -10,17 +10,14 @@ use std::thread::yield_now;
 /// How often a gate looks whether the other core has come before it gives up.
 const POLLS: u32 = 5_000_000;
 
-/// How often a gate looks before it lets a core go on that it gave time for what can't be seen.
-const PAUSE: u32 = 5_000;
+/// How often a gate looks before it lets a core go on that it gave time for what may not be.
+const PAUSE: u32 = 500;
 
 /// How often it looks, without a pause, for a slice that may not begin.
 const SPINS: u32 = 50_000;
 
 /// How often it turns, without a look, while a core that has nothing to run comes to sleep: some milliseconds.
 const REST: u32 = 1_000_000;
-
-/// How often it looks whether the run has stopped.
-const STOPS: u32 = 2_000_000;
 
 /// How often others may go on before it is told whether a slice has begun meanwhile.
 const LOOKS: u32 = 100;
@@ -44,11 +41,12 @@ pub enum Watching {
     First,
     /// It holds core 1's slice of this number until orders were applied.
     Applying(u64),
-    /// It gives core 1 time to park before core 0's slice of the first number, and holds that of the second until core
-    /// 1 has entered slice 0.
+    /// It holds core 0's slice of the first number until core 1 is about to park, and that of the second until core 1 has
+    /// entered slice 0.
     Granting(u64, u64),
     /// It gives core 1, once that has ended a slice, time to sleep before core 0's slice of this number, and holds the
-    /// fourth after it until core 1 is about to park.
+    /// fourth after it until core 1 is about to park. A sleep counts only if core 0 was held by then: until core 1 is told
+    /// of the order it may find by itself, as its sleep ends, that it was taken back.
     Parking(u64),
     /// It holds core 0's slice of this number until this core is about to park.
     Parked(u8, u64),
@@ -62,9 +60,13 @@ pub enum Watching {
     ParksLast(u64, u64),
     /// It holds core 1's slice 0 until threads were moved away from there, and notes to which cores they were.
     Moving,
-    /// It gives a core time to park before core 0's slice 0. It holds core 2's slice 0 until core 1 has entered this
-    /// slice, and that until the run is stopped, which the parked core tells. Then core 1 may enter no slice. Slices of
-    /// core 1 before it are held until core 0's slice 0 has ended.
+    /// It holds core 0's slice of this number until a thread was moved away, or one of this core waits or has ended. From
+    /// then on core 0 lets others go on before each slice until one was moved, or had ended before, and then until this
+    /// core is about to park.
+    Emptied(u8, u64),
+    /// It holds core 0's slice 0 until a core is about to park, and core 2's slice 0 until core 1 has entered this slice,
+    /// and that until the run is stopped, which the parked core tells. Then core 1 may enter no slice. Slices of core 1
+    /// before it are held until core 0's slice 0 has ended.
     Stopping(u64),
 }
 
@@ -146,11 +148,6 @@ impl Watch {
         }
     }
 
-    /// Gives a kernel thread whose core is closed time to park.
-    fn pause(&self) {
-        let _ = comes(&self.one, 1, PAUSE);
-    }
-
     /// The slice of this number of core 0.
     fn enter_zero(&self, nth: u64) {
         match self.watching {
@@ -171,7 +168,7 @@ impl Watch {
                     spin_loop();
                 }
             }
-            Watching::Granting(pause, _) if nth == pause => self.pause(),
+            Watching::Granting(parked, _) if nth == parked => self.wait(&self.ended, 1),
             Watching::Parking(rest) if nth == rest => {
                 self.wait(&self.ended, 1);
                 for _ in 0..REST {
@@ -184,16 +181,31 @@ impl Watch {
             Watching::ParksLast(_, pause) if nth == pause => {
                 let _ = comes(&self.failed, 1, PAUSE);
             }
-            Watching::Stopping(_) if nth == 0 => self.pause(),
+            Watching::Stopping(_) if nth == 0 => self.wait(&self.slices, 1),
+            Watching::Emptied(_, held) if nth >= held => self.empties(nth == held),
             Watching::Granting(_, wanted) if nth == wanted => {
                 self.zero.store(1, Ordering::SeqCst);
                 self.wait(&self.one, 1);
             }
             Watching::Parking(rest) if nth == rest.wrapping_add(4) => {
+                self.slices.fetch_add(1, Ordering::SeqCst);
                 self.zero.store(1, Ordering::SeqCst);
                 self.wait(&self.one, 1);
             }
             _ => {}
+        }
+    }
+
+    /// A slice of core 0 that waits for another core to be empty and to park, the first such one or not.
+    fn empties(&self, is_first: bool) {
+        if is_first {
+            self.wait(&self.ended, 1);
+            self.slices.store(1, Ordering::SeqCst);
+        }
+        if self.zero.load(Ordering::SeqCst) == 0 {
+            yield_now();
+        } else {
+            self.wait(&self.one, 1);
         }
     }
 
@@ -214,8 +226,7 @@ impl Watch {
             Watching::Stopping(wanted) if nth < wanted => self.wait(&self.ended, 1),
             Watching::Stopping(wanted) if nth == wanted => {
                 self.one.store(1, Ordering::SeqCst);
-                // Where no core was parked the run has stopped when this is given up.
-                let _ = comes(&self.zero, 1, STOPS);
+                self.wait(&self.zero, 1);
             }
             Watching::Stopping(wanted) if nth > wanted => self.failed.store(1, Ordering::SeqCst),
             Watching::Anew(_) => {
@@ -278,9 +289,7 @@ impl Gate for Watch {
             Event::MovedAway(receivers) => self.moved_away(receivers),
             Event::Parks => self.parks(core),
             Event::Unparked => self.unparked(core),
-            Event::Overslept => {
-                self.oversleeps.fetch_add(1, Ordering::SeqCst);
-            }
+            Event::Overslept => self.overslept(),
             Event::Applied(orders) => self.applied(orders),
             _ => {}
         }
@@ -295,6 +304,14 @@ impl Watch {
                 SliceEnd::AwaitsChild => self.one.store(1, Ordering::SeqCst),
                 SliceEnd::GoesOn | SliceEnd::Awaits(_) => {}
             },
+            (Watching::Emptied(emptied, _), _) if core == emptied => {
+                if end == SliceEnd::Ended && self.slices.load(Ordering::SeqCst) == 0 {
+                    self.zero.store(1, Ordering::SeqCst);
+                }
+                if end != SliceEnd::GoesOn {
+                    self.ended.store(1, Ordering::SeqCst);
+                }
+            }
             (Watching::Holding(_), 1) => self.wait(&self.zero, 1),
             (Watching::Stopping(_), 0) | (Watching::Parking(_), 1) => {
                 self.ended.store(1, Ordering::SeqCst);
@@ -310,16 +327,30 @@ impl Watch {
     }
 
     fn moved_away(&self, receivers: u64) {
-        if let Watching::Moving = self.watching {
-            self.entered.fetch_or(receivers, Ordering::SeqCst);
-            self.zero.store(1, Ordering::SeqCst);
+        match self.watching {
+            Watching::Moving => {
+                self.entered.fetch_or(receivers, Ordering::SeqCst);
+                self.zero.store(1, Ordering::SeqCst);
+            }
+            Watching::Emptied(_, _) => {
+                self.zero.store(1, Ordering::SeqCst);
+                self.ended.store(1, Ordering::SeqCst);
+            }
+            _ => {}
         }
     }
 
     fn parks(&self, core: u8) {
         match self.watching {
-            Watching::Parking(_) if core == 1 => self.one.store(1, Ordering::SeqCst),
+            Watching::Parking(_) if core == 1 => {
+                let was_held = self.slices.load(Ordering::SeqCst);
+                self.entered.store(was_held, Ordering::SeqCst);
+                self.one.store(1, Ordering::SeqCst);
+            }
+            Watching::Granting(_, _) if core == 1 => self.ended.store(1, Ordering::SeqCst),
+            Watching::Stopping(_) => self.slices.store(1, Ordering::SeqCst),
             Watching::Parked(wanted, _) if core == wanted => self.one.store(1, Ordering::SeqCst),
+            Watching::Emptied(wanted, _) if core == wanted => self.one.store(1, Ordering::SeqCst),
             Watching::ParksLast(_, _) if core == 1 && self.zero.load(Ordering::SeqCst) == 0 => {
                 self.failed.store(1, Ordering::SeqCst);
             }
@@ -330,6 +361,15 @@ impl Watch {
     fn unparked(&self, _core: u8) {
         if let Watching::Stopping(_) = self.watching {
             self.zero.store(1, Ordering::SeqCst);
+        }
+    }
+
+    fn overslept(&self) {
+        match self.watching {
+            Watching::Parking(_) if self.entered.load(Ordering::SeqCst) == 0 => {}
+            _ => {
+                self.oversleeps.fetch_add(1, Ordering::SeqCst);
+            }
         }
     }
 

@@ -152,22 +152,3 @@ fn setup_of(
     };
     Ok((setup, choosers))
 }
-
-/// What comes of a run of a program.
-fn answer<R: Threads + Wait + Clock + Sync>(
-    rt: &R,
-    alloc: Global,
-    program: &Program,
-    form: Form,
-    setup: Setup,
-    choosers: Vec<Progression>,
-    gate: &Watch,
-) -> Result<Report, RunFault>
-    requires { IsChecked (source_of program.now) }
-{
-    match form {
-        Form::Locked => run_on_lock(rt, alloc, program, setup, choosers, gate),
-        Form::Words => run_on_words(rt, alloc, program, setup, choosers, gate),
-        Form::Hasty => run_hastily(rt, alloc, program, setup, choosers, gate),
-    }
-}

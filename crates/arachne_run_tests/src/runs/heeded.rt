@@ -149,7 +149,7 @@ const BOTH_DRAINED: Row = Row {
             core: 2,
         },
     ],
-    watching: Watching::Parked(2, 1000),
+    watching: Watching::Emptied(2, 1000),
     facts: &[(Fact::Value, 1), (Fact::Applied, 2), (Fact::IsOver, 1)],
     telling: Telling::Nothing,
     told: "",
@@ -222,14 +222,14 @@ const GIVEN_BACK: Row = Row {
     told: "",
 };
 
-const ROWS: &[Row] = &[TICKETS, STILL_WAITS, LOST_ALONE, GIVEN_BACK];
+const ROWS: &[Row] = &[TICKETS, STILL_WAITS, LOST_ALONE, LOST_WAKE, GIVEN_BACK];
 
 #[test]
 fn what_a_thread_is_due_is_heeded(rt: HostRuntime) -> Result<(), Fail> {
     rows_hold(&rt, rt.alloc(), ROWS)
 }
 
-/// Core 1 is closed at first, and its kernel thread gets time to park. The table opens it only after a while.
+/// Core 1 is closed at first, and its kernel thread parks. The table opens it only after a while.
 const OPENED_LATE: Row = Row {
     shows: "a grant unparks the kernel thread once the core is open",
     source: Source {
@@ -291,8 +291,3 @@ const LOST_WAKE: Row = Row {
     telling: Telling::Nothing,
     told: "",
 };
-
-#[test]
-fn a_wake_that_is_lost_is_made_again(rt: HostRuntime) -> Result<(), Fail> {
-    rows_hold(&rt, rt.alloc(), &[LOST_WAKE])
-}

@@ -10,7 +10,7 @@ use super::{FORMS, Form, LOCKED, Machine, Source, program_of};
 use crate::choosers::{CORE_ONE, SPREAD, ZEROS};
 use crate::gates::{Watch, Watching};
 use arachne_core::SLOTS;
-use arachne_judge::{Counts, Log, Rule, Run, Verdict};
+use arachne_judge::{Counts, Log, Rule, Run};
 use arachne_lang::Program;
 use arachne_policy::{CoreOrder, OrderKind};
 use std::alloc::{AllocError, Global};
@@ -98,14 +98,16 @@ fn orders_of(alloc: Global, judged: &Judged, cores: u64) -> Result<Vec<CoreOrder
     }
 }
 
-/// What the log of a run shows. No rule is broken, there was room for all, and the steps are as many as they have to be.
-fn verdict_of(
+/// How often each rule was judged in the log of a run. None is broken, there was room for all, and the steps are as many
+/// as they have to be.
+fn counts_of(
     alloc: Global,
     judged: &Judged,
     machine: Machine,
+    slots: u8,
     orders: &[CoreOrder],
     watch: &Watch,
-) -> Result<Verdict, Fail> {
+) -> Result<Counts, Fail> {
     let shows = judged.row.shows;
     let (cores, quantum, _) = machine;
     let Some(log) = &watch.log else {
@@ -113,7 +115,7 @@ fn verdict_of(
     };
     let run = Run {
         cores: u8::try_from(cores).unwrap_or(0),
-        slots: judged.row.slots,
+        slots,
         quantum: u32::try_from(quantum).unwrap_or(0),
         orders,
         has_locks: judged.row.source.locks > 0,
@@ -121,12 +123,12 @@ fn verdict_of(
     };
     let verdict = arachne_judge::judge(alloc, log, run)?;
     if verdict.broken.is_some() || verdict.steps < judged.steps || !log.is_whole() {
-        let (broken, steps, slots) = (verdict.broken, verdict.steps, run.slots);
+        let (broken, steps) = (verdict.broken, verdict.steps);
         return Err(Fail::new(format_args!(
             "{shows}: {machine:?} of {slots} places: {broken:?}, {steps} steps"
         )));
     }
-    Ok(verdict)
+    Ok(verdict.counts)
 }
 
 /// Runs a row's program once, and judges the run by its report and by its log.
@@ -137,6 +139,7 @@ fn run_is_lawful<R: Threads + Wait + Clock + Sync>(
     program: &Program,
     form: Form,
     machine: Machine,
+    slots: u8,
 ) -> Result<Counts, Fail>
     requires { IsChecked (source_of program.now) }
 {
@@ -152,12 +155,12 @@ fn run_is_lawful<R: Threads + Wait + Clock + Sync>(
         program,
         form,
         machine,
+        slots,
         orders.as_slice(),
         &watch,
     );
     judge(alloc, row, machine, &answer, &watch)?;
-    let verdict = verdict_of(alloc, judged, machine, orders.as_slice(), &watch)?;
-    Ok(verdict.counts)
+    counts_of(alloc, judged, machine, slots, orders.as_slice(), &watch)
 }
 
 /// How many places the cores have and which form of table is run on the machine of this number, in this turn. Turns as
@@ -184,16 +187,17 @@ fn is_lawful<R: Threads + Wait + Clock + Sync>(
     for turn in 0..judged.turns {
         for (nth, &machine) in judged.row.machines.iter().enumerate() {
             let (slots, form) = kind_of(judged, nth, turn);
-            let row = Row {
-                slots,
-                ..judged.row
-            };
-            let judged = Judged { row, ..*judged };
-            counts.add_all(&run_is_lawful(rt, alloc, &judged, &program, form, machine)?);
+            counts.add_all(&run_is_lawful(rt, alloc, judged, &program, form, machine, slots)?);
         }
     }
+    come_up(judged, ALWAYS, &counts)?;
+    come_up(judged, judged.rules, &counts)
+}
+
+/// Each of these rules was judged.
+fn come_up(judged: &Judged, rules: &[Rule], counts: &Counts) -> Result<(), Fail> {
     let shows = judged.row.shows;
-    for &rule in ALWAYS.iter().chain(judged.rules) {
+    for &rule in rules {
         if counts.of(rule) == 0 {
             return Err(Fail::new(format_args!("{shows}: {rule:?} never comes up")));
         }
@@ -243,15 +247,19 @@ const COUNTS: Judged = Judged {
     rules: &[Rule::OwnCore, Rule::Waits, Rule::Upwards],
 };
 
-#[test]
-fn threads_that_count_keep_the_rules(rt: HostRuntime) -> Result<(), Fail> {
-    let come_and_go = Judged {
+const COUNT: &[Judged] = &[
+    COUNTS,
+    Judged {
         turns: 1,
         orders: 60,
         rules: &[Rule::OwnCore, Rule::Waits, Rule::Due, Rule::CoreZero],
         ..COUNTS
-    };
-    are_lawful(&rt, rt.alloc(), &[COUNTS, come_and_go])
+    },
+];
+
+#[test]
+fn threads_that_count_keep_the_rules(rt: HostRuntime) -> Result<(), Fail> {
+    are_lawful(&rt, rt.alloc(), COUNT)
 }
 
 /// 24 threads hold a lock in turn, and add to a ledger meanwhile.
@@ -279,15 +287,46 @@ const HOLDS: Judged = Judged {
     ..COUNTS
 };
 
-#[test]
-fn threads_that_hold_a_lock_keep_the_rules(rt: HostRuntime) -> Result<(), Fail> {
-    let come_and_go = Judged {
+/// Six threads of core 0 hold a lock for longer than a holder goes on at once, so that the others come to wait for it, and
+/// each goes on before others once it has it. Meanwhile an order is due in each slice.
+const NEXT: Row = Row {
+    shows: "orders are applied before the slice of a thread that goes next",
+    source: Source {
+        ledgers: 0,
+        locks: 1,
+        forks: 0,
+        expr: "(sweep add 1 (num 0) (num 6) (hold 0 (fold (num 0) (num 800) (num 0) (var 1))))",
+    },
+    machines: &[(2, 10, 2), (2, 100, 2)],
+    draws: ZEROS,
+    facts: &[
+        (Fact::Value, 4794),
+        (Fact::Threads, 6),
+        (Fact::GrantsAreHolds, 1),
+    ],
+    ..COUNTING
+};
+
+const HOLD: &[Judged] = &[
+    HOLDS,
+    Judged {
+        row: NEXT,
+        orders: 1000,
+        steps: 4800,
+        rules: &[Rule::Waits, Rule::Due, Rule::CoreZero],
+        ..HOLDS
+    },
+    Judged {
         turns: 1,
         orders: 600,
         rules: &[Rule::OwnCore, Rule::Waits, Rule::Due, Rule::CoreZero],
         ..HOLDS
-    };
-    are_lawful(&rt, rt.alloc(), &[HOLDS, come_and_go])
+    },
+];
+
+#[test]
+fn threads_that_hold_a_lock_keep_the_rules(rt: HostRuntime) -> Result<(), Fail> {
+    are_lawful(&rt, rt.alloc(), HOLD)
 }
 
 /// The root's second fork is exclusive: a thread that counts, forks and counts, beside 20 threads that hold a lock.
@@ -312,9 +351,9 @@ const ALONE: Judged = Judged {
     ..COUNTS
 };
 
-#[test]
-fn a_thread_alone_keeps_the_rules(rt: HostRuntime) -> Result<(), Fail> {
-    let come_and_go = Judged {
+const HAVE_A_CORE: &[Judged] = &[
+    ALONE,
+    Judged {
         turns: 1,
         orders: 60,
         rules: &[
@@ -325,8 +364,12 @@ fn a_thread_alone_keeps_the_rules(rt: HostRuntime) -> Result<(), Fail> {
             Rule::CoreZero,
         ],
         ..ALONE
-    };
-    are_lawful(&rt, rt.alloc(), &[ALONE, come_and_go])
+    },
+];
+
+#[test]
+fn a_thread_alone_keeps_the_rules(rt: HostRuntime) -> Result<(), Fail> {
+    are_lawful(&rt, rt.alloc(), HAVE_A_CORE)
 }
 
 /// No place is kept on its core, since an exclusive fork stands there, which is never made.
@@ -377,6 +420,28 @@ const LONE: Row = Row {
     ..COUNTING
 };
 
+/// A thread in its parent's place, taken back or begun there at once.
+const IN_PLACE: Row = Row {
+    shows: "the steps of a thread in place are charged to the slices",
+    source: TAKEN_BACK,
+    machines: ONE,
+    facts: &[(Fact::Value, 2), (Fact::InPlace, 1)],
+    ..LONE
+};
+
+const BEGUN: Row = Row {
+    source: AT_ONCE,
+    facts: &[(Fact::InPlace, 300)],
+    ..IN_PLACE
+};
+
+const FORKING: Row = Row {
+    shows: "the steps before a posted fork are charged",
+    source: POSTED,
+    facts: &[(Fact::Value, 1), (Fact::InPlace, 0)],
+    ..IN_PLACE
+};
+
 const CHARGED: Judged = Judged {
     row: LONE,
     slots: &[SLOTS],
@@ -385,49 +450,36 @@ const CHARGED: Judged = Judged {
     ..COUNTS
 };
 
-#[test]
-fn each_step_is_charged(rt: HostRuntime) -> Result<(), Fail> {
-    let in_place = Judged {
-        row: Row {
-            shows: "the steps of a thread in place are charged to the slices",
-            source: TAKEN_BACK,
-            machines: ONE,
-            facts: &[(Fact::Value, 2), (Fact::InPlace, 1)],
-            ..CHARGED.row
-        },
-        slots: &[1],
-        steps: 5000,
-        ..CHARGED
-    };
-    let at_once = Judged {
-        row: Row {
-            source: AT_ONCE,
-            facts: &[(Fact::InPlace, 300)],
-            ..in_place.row
-        },
-        ..in_place
-    };
-    let posted = Judged {
-        row: Row {
-            shows: "the steps before a posted fork are charged",
-            source: POSTED,
-            facts: &[(Fact::Value, 1), (Fact::InPlace, 0)],
-            ..in_place.row
-        },
-        slots: &[SLOTS],
-        steps: 777,
-        ..CHARGED
-    };
-    let tallied = Judged {
+const CHARGE: &[Judged] = &[
+    NONE_KEPT,
+    CHARGED,
+    Judged {
         row: TALLYING,
         steps: 300,
         ..CHARGED
-    };
-    are_lawful(
-        &rt,
-        rt.alloc(),
-        &[NONE_KEPT, CHARGED, tallied, in_place, at_once, posted],
-    )
+    },
+    Judged {
+        row: IN_PLACE,
+        slots: &[1],
+        steps: 5000,
+        ..CHARGED
+    },
+    Judged {
+        row: BEGUN,
+        slots: &[1],
+        steps: 5000,
+        ..CHARGED
+    },
+    Judged {
+        row: FORKING,
+        steps: 777,
+        ..CHARGED
+    },
+];
+
+#[test]
+fn each_step_is_charged(rt: HostRuntime) -> Result<(), Fail> {
+    are_lawful(&rt, rt.alloc(), CHARGE)
 }
 
 /// Core 1 is closed at first, and its kernel thread parks. Once it is granted it has a thread, and is closed again.
@@ -463,15 +515,15 @@ const PARKING: Row = Row {
     ..COUNTING
 };
 
-const PARKED: Judged = Judged {
+const PARK: &[Judged] = &[Judged {
     row: PARKING,
     slots: &[SLOTS],
     steps: 300,
     rules: &[Rule::Due, Rule::CoreZero, Rule::Parks, Rule::Unparks],
     ..COUNTS
-};
+}];
 
 #[test]
 fn a_parked_core_keeps_the_rules(rt: HostRuntime) -> Result<(), Fail> {
-    are_lawful(&rt, rt.alloc(), &[PARKED])
+    are_lawful(&rt, rt.alloc(), PARK)
 }

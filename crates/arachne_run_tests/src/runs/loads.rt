@@ -1,15 +1,22 @@
 //! Many threads, over and over.
 use super::facts::{Fact, Telling};
-use super::rows::{Row, row_holds};
-use super::{Form, Machine, Source};
+use super::rows::{Row, rows_hold};
+use super::{Form, Source};
 use crate::choosers::{Draws, SPREAD};
 use crate::gates::Watching;
 use arachne_core::SLOTS;
-use std::alloc::Global;
-use std::sync::Wait;
 use std::test::Fail;
-use std::thread::Threads;
-use std::time::Clock;
+
+/// Choosers that begin with other words: three and five times the first word of the others.
+const THREEFOLD: Draws = Draws {
+    word: 0xDAA6_6D2C_7DDF_743F,
+    ..SPREAD
+};
+
+const FIVEFOLD: Draws = Draws {
+    word: 0x1715_609F_7C74_6C69,
+    ..SPREAD
+};
 
 /// Each of 20,000 threads holds the lock once and tallies.
 const SUMS: Row = Row {
@@ -22,7 +29,7 @@ const SUMS: Row = Row {
     },
     forms: &[Form::Words],
     slots: SLOTS,
-    machines: &[],
+    machines: &[(16, 100, 16)],
     draws: SPREAD,
     orders: &[],
     watching: Watching::Nothing,
@@ -36,38 +43,63 @@ const SUMS: Row = Row {
     told: "",
 };
 
-/// Runs the threads three times on 16 cores, with other choosers each time.
-fn run_three_times<R: Threads + Wait + Clock + Sync>(
-    rt: &R,
-    alloc: Global,
-    machines: &'static [Machine],
-) -> Result<(), Fail> {
-    for nth in 0..3u64 {
-        let draws = Draws {
-            word: SPREAD.word.wrapping_mul(2 * nth + 1),
-            ..SPREAD
-        };
-        let row = Row {
-            draws,
-            machines,
-            ..SUMS
-        };
-        row_holds(rt, alloc, &row, &[])?;
-    }
-    Ok(())
-}
+const SHORT: &[Row] = &[
+    SUMS,
+    Row {
+        draws: THREEFOLD,
+        ..SUMS
+    },
+    Row {
+        draws: FIVEFOLD,
+        ..SUMS
+    },
+];
 
 #[test]
 fn many_threads_end_by_short_slices(rt: HostRuntime) -> Result<(), Fail> {
-    run_three_times(&rt, rt.alloc(), &[(16, 100, 16)])
+    rows_hold(&rt, rt.alloc(), SHORT)
 }
+
+const LONGER: &[Row] = &[
+    Row {
+        machines: &[(16, 1_000, 16)],
+        ..SUMS
+    },
+    Row {
+        machines: &[(16, 1_000, 16)],
+        draws: THREEFOLD,
+        ..SUMS
+    },
+    Row {
+        machines: &[(16, 1_000, 16)],
+        draws: FIVEFOLD,
+        ..SUMS
+    },
+];
 
 #[test]
 fn many_threads_end_by_longer_slices(rt: HostRuntime) -> Result<(), Fail> {
-    run_three_times(&rt, rt.alloc(), &[(16, 1_000, 16)])
+    rows_hold(&rt, rt.alloc(), LONGER)
 }
+
+const LONGEST: &[Row] = &[
+    Row {
+        machines: &[(16, 10_000, 16)],
+        ..SUMS
+    },
+    Row {
+        machines: &[(16, 10_000, 16)],
+        draws: THREEFOLD,
+        ..SUMS
+    },
+    Row {
+        machines: &[(16, 10_000, 16)],
+        draws: FIVEFOLD,
+        ..SUMS
+    },
+];
 
 #[test]
 fn many_threads_end_by_the_longest_slices(rt: HostRuntime) -> Result<(), Fail> {
-    run_three_times(&rt, rt.alloc(), &[(16, 10_000, 16)])
+    rows_hold(&rt, rt.alloc(), LONGEST)
 }

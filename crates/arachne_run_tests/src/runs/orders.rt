@@ -11,7 +11,6 @@ use arachne_core::SLOTS;
 use arachne_policy::{CoreOrder, OrderKind};
 use std::alloc::{AllocError, Global};
 use std::test::Fail;
-use std::time::{Duration, Instant};
 
 /// The root forks once it has counted to 3,000.
 const LATE: Source = Source {
@@ -77,11 +76,7 @@ const COMING_AND_GOING: Row = Row {
 fn cores_come_and_go(rt: HostRuntime) -> Result<(), Fail> {
     let alloc = rt.alloc();
     let orders = orders(alloc, 1000)?;
-    let start = Instant::now(&rt)?;
-    row_holds(&rt, alloc, &COMING_AND_GOING, orders.as_slice())?;
-    let elapsed = start.elapsed(&rt)?;
-    assert!(rt; elapsed < Duration::from_secs(5), "{elapsed:?}");
-    Ok(())
+    row_holds(&rt, alloc, &COMING_AND_GOING, orders.as_slice())
 }
 
 /// A thread that is to be alone, while only core 0, where the root is, and the cores from 41 on are open.
@@ -124,7 +119,7 @@ fn a_thread_alone_gets_a_core_among_the_last(rt: HostRuntime) -> Result<(), Fail
     row_holds(&rt, alloc, &FAR, orders.as_slice())
 }
 
-/// Core 1 is closed at first, and its kernel thread gets time to park. Then it is granted again, and has a thread. Were
+/// Core 1 is closed at first, and its kernel thread parks. Then it is granted again, and has a thread. Were
 /// that not run there, it would be moved away once core 1 is closed again.
 const GRANTED: Row = Row {
     shows: "a grant has a kernel thread that is parked go on",

@@ -3,7 +3,7 @@ ghost use Rattle.arachne_lang.specs.Checked.{IsChecked};
 ghost use Rattle.arachne_lang.specs.Program.{source_of};
 
 use super::facts::{Fact, Telling, number, told};
-use super::{Form, Machine, Source, answer, program_of, setup_of};
+use super::{Form, Machine, Source, program_of, run_hastily, run_on_lock, run_on_words, setup_of};
 use crate::choosers::Draws;
 use crate::gates::{Watch, Watching};
 use arachne_lang::Program;
@@ -48,7 +48,7 @@ pub(super) struct Row {
     pub(super) told: &'static str,
 }
 
-/// Runs a row's program once. All tests run their programs here.
+/// Runs a row's program once, on cores of so many places. All tests run their programs here.
 pub(super) fn run_row<R: Threads + Wait + Clock + Sync>(
     rt: &R,
     alloc: Global,
@@ -56,13 +56,18 @@ pub(super) fn run_row<R: Threads + Wait + Clock + Sync>(
     program: &Program,
     form: Form,
     machine: Machine,
+    slots: u8,
     orders: &[CoreOrder],
     watch: &Watch,
 ) -> Result<Report, RunFault>
     requires { IsChecked (source_of program.now) }
 {
-    let (setup, choosers) = setup_of(alloc, machine, row.slots, row.draws, orders)?;
-    answer(rt, alloc, program, form, setup, choosers, watch)
+    let (setup, choosers) = setup_of(alloc, machine, slots, row.draws, orders)?;
+    match form {
+        Form::Locked => run_on_lock(rt, alloc, program, setup, choosers, watch),
+        Form::Words => run_on_words(rt, alloc, program, setup, choosers, watch),
+        Form::Hasty => run_hastily(rt, alloc, program, setup, choosers, watch),
+    }
 }
 
 /// The first of a row's facts that is wrong, by its number from 0, and what it is.
@@ -88,7 +93,10 @@ pub(super) fn tried<R: Threads + Wait + Clock + Sync>(
     requires { IsChecked (source_of program.now) }
 {
     let watch = Watch::new(row.watching);
-    let report = run_row(rt, alloc, row, program, form, machine, row.orders, &watch)?;
+    let (slots, orders) = (row.slots, row.orders);
+    let report = run_row(
+        rt, alloc, row, program, form, machine, slots, orders, &watch,
+    )?;
     Ok(wrong_fact(row, &report, &watch).is_none())
 }
 
@@ -127,7 +135,10 @@ fn run_holds<R: Threads + Wait + Clock + Sync>(
     requires { IsChecked (source_of program.now) }
 {
     let watch = Watch::new(row.watching);
-    let answer = run_row(rt, alloc, row, program, form, machine, orders, &watch);
+    let slots = row.slots;
+    let answer = run_row(
+        rt, alloc, row, program, form, machine, slots, orders, &watch,
+    );
     judge(alloc, row, machine, &answer, &watch)
 }
 

@@ -201,7 +201,8 @@ fn refused<R: Threads + Wait + Clock + Sync>(
     (most, came)
 }
 
-/// Whether a row's program has a report that says what the row does.
+/// Whether a row's program has a report that says what the row does, so often. If each run left something behind, there
+/// would be none for the last ones.
 fn goes_well<R: Threads + Wait + Clock + Sync>(
     rt: &R,
     alloc: Global,
@@ -209,26 +210,12 @@ fn goes_well<R: Threads + Wait + Clock + Sync>(
     program: &Program,
     form: Form,
     machine: Machine,
+    times: usize,
 ) -> bool
     requires { IsChecked (source_of program.now) }
 {
-    matches!(tried(rt, alloc, row, program, form, machine), Ok(true))
-}
-
-/// Whether a row's program has a report again and again with the memory that there is. If each run left something
-/// behind, there would be none for the last ones.
-fn repeats<R: Threads + Wait + Clock + Sync>(
-    rt: &R,
-    alloc: Global,
-    row: &Row,
-    program: &Program,
-    form: Form,
-    machine: Machine,
-) -> bool
-    requires { IsChecked (source_of program.now) }
-{
-    for _ in 0..REPEATED {
-        if !goes_well(rt, alloc, row, program, form, machine) {
+    for _ in 0..times {
+        if tried(rt, alloc, row, program, form, machine) != WELL {
             return false;
         }
     }
@@ -254,7 +241,7 @@ fn without_memory<R: Threads + Wait + Clock + Sync>(
     let (runs, came) = refused(rt, alloc, row, program, form, machine, &mut hoard, last);
     hoard.give_back(SLACK);
     let (cores, _, _) = machine;
-    if cores == 1 && !repeats(rt, alloc, row, program, form, machine) {
+    if cores == 1 && !goes_well(rt, alloc, row, program, form, machine, REPEATED) {
         return (runs, Err(RunFault::Memory));
     }
     (runs, came)
@@ -271,16 +258,29 @@ fn row_ends<R: Threads + Wait + Clock + Sync>(
 ) -> Result<(), Fail> {
     let program = program_of(alloc, &row.source)?;
     for &machine in row.machines {
-        let before = last != WELL || goes_well(rt, alloc, row, &program, form, machine);
+        let before = last != WELL || goes_well(rt, alloc, row, &program, form, machine, 1);
         let (runs, came) = without_memory(rt, alloc, row, &program, form, machine, last);
-        let behind = goes_well(rt, alloc, row, &program, form, machine);
-        let (cores, _, _) = machine;
-        let is_over = came == last || last == WELL && cores > 1 && is_want(came, cores);
-        if !(before && is_over && runs > 10 && behind) {
-            return Err(Fail::new(format_args!("{machine:?}: {before} {runs} {came:?} {behind}")));
-        }
+        let behind = goes_well(rt, alloc, row, &program, form, machine, 1);
+        judge(machine, last, before, runs, came, behind)?;
     }
     Ok(())
+}
+
+/// Whether a row's runs went well before and behind those without memory, and these came to what they were to.
+fn judge(
+    machine: Machine,
+    last: Tried,
+    before: bool,
+    runs: u64,
+    came: Tried,
+    behind: bool,
+) -> Result<(), Fail> {
+    let (cores, _, _) = machine;
+    let is_over = came == last || last == WELL && cores > 1 && is_want(came, cores);
+    if before && is_over && runs > 10 && behind {
+        return Ok(());
+    }
+    Err(Fail::new(format_args!("{machine:?}: {before} {runs} {came:?} {behind}")))
 }
 
 /// Each row's program over a form of table.

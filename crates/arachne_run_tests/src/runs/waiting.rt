@@ -11,7 +11,7 @@ use std::test::Fail;
 
 /// A thousand threads hold a lock.
 const HOLDS: Row = Row {
-    shows: "who sleeps is told of what it may run",
+    shows: "who yields in vain yields no more",
     source: Source {
         ledgers: 0,
         locks: 1,
@@ -24,14 +24,12 @@ const HOLDS: Row = Row {
     draws: SPREAD,
     orders: &[],
     watching: Watching::Nothing,
-    facts: &[
-        (Fact::Value, 1000),
-        (Fact::Grants, 1000),
-        (Fact::OversleepsUpTo(4), 1),
-    ],
+    facts: &[(Fact::Value, 1000), (Fact::Grants, 1000)],
     telling: Telling::Nothing,
     told: "",
 };
+
+const HELD: &[Row] = &[HOLDS];
 
 /// A worker that has yielded once doesn't do so in the next 4,096 rounds that find something, and a run of a thousand
 /// holds has fewer. So each of the four workers may yield once in each of the two runs, and looks twice at the clock: one
@@ -40,7 +38,7 @@ const HOLDS: Row = Row {
 fn who_yields_in_vain_yields_no_more(rt: HostRuntime) -> Result<(), Fail> {
     for fails in 0..3 {
         let clock = SlowClock::new(&rt, fails);
-        rows_hold(&clock, rt.alloc(), &[HOLDS])?;
+        rows_hold(&clock, rt.alloc(), HELD)?;
         let looks = clock.looks();
         if looks > 16 {
             return Err(Fail::new(format_args!("the clock was looked at {looks} times")));
@@ -48,6 +46,32 @@ fn who_yields_in_vain_yields_no_more(rt: HostRuntime) -> Result<(), Fail> {
     }
     Ok(())
 }
+
+/// The root forks 30 children to core 1, and counts to 5,000 behind each, so that core 1's worker has run that one and
+/// sleeps when the next one comes. No thread is moved, since an exclusive fork stands there, which is never made. Where
+/// nobody told it of them, each sleep would end by its time.
+const TOLD: Row = Row {
+    shows: "who sleeps is told of what it may run",
+    source: Source {
+        ledgers: 0,
+        locks: 0,
+        forks: 0,
+        expr: "(if (num 0) (fork x (num 1) (num 2) (num 3)) (fold (num 0) (num 30) (num 0) (fork n (num 1) (fold (num 0) (num 5000) (num 0) (var 3)) (add (var 1) (var 2)))))",
+    },
+    forms: FORMS,
+    slots: SLOTS,
+    machines: &[(2, 100, 2)],
+    draws: CORE_ONE,
+    orders: &[],
+    watching: Watching::Nothing,
+    facts: &[
+        (Fact::Value, 30),
+        (Fact::Slot, 31),
+        (Fact::OversleepsUpTo(10), 1),
+    ],
+    telling: Telling::Nothing,
+    told: "",
+};
 
 /// Core 1's worker has run a child, has nothing to run any more, and sleeps when its core is taken back. By the slice in
 /// which it gets time for that, five slices have ended at most.
@@ -78,8 +102,10 @@ const TAKEN_BACK: Row = Row {
     told: "",
 };
 
+const TELLS: &[Row] = &[TOLD, TAKEN_BACK];
+
 #[test]
-fn who_sleeps_is_told_of_orders(rt: HostRuntime) -> Result<(), Fail> {
+fn who_sleeps_is_told(rt: HostRuntime) -> Result<(), Fail> {
     let clock = SlowClock::new(&rt, 0);
-    rows_hold(&clock, rt.alloc(), &[TAKEN_BACK])
+    rows_hold(&clock, rt.alloc(), TELLS)
 }
