@@ -5,7 +5,7 @@ use crate::core::{Woken, BLOCK, SHARD};
 use crate::cores::{Judge, Policy};
 use crate::drain::Signal;
 use crate::observe::{Hooks, TaskInfo, HISTOGRAM};
-use crate::shared::{entered, with_hands, Context, Shared};
+use crate::shared::{entered, is_own, with_hands, Context, Shared};
 use crate::spawn::Refused;
 use crate::task::{self, About, JoinHandle, Label};
 use crate::timer::now;
@@ -13,6 +13,7 @@ use crate::waker::NOBODY;
 use crate::{sys, watch};
 use std::future::Future;
 use std::io;
+use std::mem::ManuallyDrop;
 use std::panic::Location;
 use std::sync::atomic::Ordering::*;
 use std::sync::Arc;
@@ -167,7 +168,8 @@ pub struct WorkerStats {
     pub idle: Duration,
 }
 
-/// Kernel threads that run tasks. Dropped, it ends as by `shutdown` with no time.
+/// Kernel threads that run tasks. Dropped, it ends as by `shutdown`; where one of its own tasks, or its blocking work,
+/// drops it, another kernel thread ends it, and nobody is told when it has ended.
 pub struct Runtime {
     shared: &'static Shared,
     threads: Vec<thread::JoinHandle<()>>,
@@ -309,7 +311,14 @@ impl Runtime {
 
 impl Drop for Runtime {
     fn drop(&mut self) {
-        self.end();
+        if !is_own(self.shared) {
+            return self.end();
+        }
+        // No thread joins itself. Where no other is to be had, the runtime runs on.
+        let threads = std::mem::take(&mut self.threads);
+        let rest = ManuallyDrop::new(Runtime { shared: self.shared, threads, ended: self.ended });
+        let ends = move || drop(ManuallyDrop::into_inner(rest));
+        let _ = thread::Builder::new().name("arachne-end".into()).spawn(ends);
     }
 }
 
