@@ -35,7 +35,7 @@ impl Drop for OnDrop {
     }
 }
 
-/// Polls a future once with a waker that is counted, lets it be ready, and polls on until it is. The waker is freed then.
+/// Polls a future with a waker that is counted, lets it be ready, and polls on until it is. The waker is freed then.
 fn frees_its_waker(runtime: &Runtime, what: &str, future: impl Future, let_it: impl FnOnce()) {
     let (mut future, counted, start) = (Box::pin(future), Arc::new(Nobody), Instant::now());
     let mut poll = || {
@@ -348,4 +348,29 @@ fn what_has_no_place_at_the_end_is_cancelled() {
     drop(runtime);
     assert_eq!(dropped.load(SeqCst), 4096 + 50);
     tasks.into_iter().for_each(|task| assert!(matches!(block_on(task), Err(JoinError::Cancelled))));
+}
+
+/// Tasks that the watcher ran first, in place of a worker that is in a long poll, are found at the end.
+#[test]
+fn what_the_watcher_ran_ends_with_the_runtime() {
+    let runtime = Builder::new(1).watch_polls(5 * MS, false).build().unwrap();
+    let (runs, ends) = (Arc::new(AtomicBool::new(false)), Arc::new(AtomicBool::new(false)));
+    let (told, end) = (runs.clone(), ends.clone());
+    let slow = runtime.spawn(async move {
+        told.store(true, SeqCst);
+        while !end.load(SeqCst) {
+            thread::yield_now();
+        }
+    });
+    while !runs.load(SeqCst) {
+        thread::yield_now();
+    }
+    let waiting: Vec<_> = (0..20).map(|_| runtime.spawn(std::future::pending::<()>())).collect();
+    while runtime.stats().rescued < 20 {
+        thread::sleep(MS);
+    }
+    ends.store(true, SeqCst);
+    block_on(slow).unwrap();
+    drop(runtime);
+    waiting.into_iter().for_each(|task| assert!(matches!(block_on(task), Err(JoinError::Cancelled))));
 }
