@@ -167,6 +167,19 @@ where
     (at.as_ptr() as usize as Raw, JoinHandle { at, of: PhantomData })
 }
 
+/// The future of a task that has not begun.
+///
+/// # Safety
+/// `raw` and the handle are what `new` answered for this future, and nobody else has them.
+pub(crate) unsafe fn unmake<F: Future>(raw: Raw, handle: JoinHandle<F::Output>) -> F {
+    std::mem::forget(handle);
+    let task = Box::from_raw(at(raw).cast::<Task<F>>());
+    match task.stage.into_inner() {
+        Stage::Running(future) => future,
+        _ => unreachable!("a task that has not begun has its future"),
+    }
+}
+
 #[inline]
 fn at(raw: Raw) -> *mut Header {
     raw as usize as *mut Header

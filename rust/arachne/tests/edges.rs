@@ -334,6 +334,24 @@ fn a_panic_leaks_nothing_and_is_told() {
     assert_eq!(dropped.load(SeqCst), 2);
 }
 
+/// With no place free, the first one that is tried comes back, and is not put into the queue.
+#[test]
+fn what_has_no_place_comes_back() {
+    let runtime = Builder::new(1).places(1).build().unwrap();
+    let gate = Arc::new(Semaphore::new(0));
+    let spawn_one = |_| {
+        let gate = gate.clone();
+        runtime.spawn(async move { gate.acquire(1).await.forget() })
+    };
+    let tasks: Vec<_> = (0..4096).map(spawn_one).collect();
+    let refused = runtime.try_spawn(async { 7 }).expect_err("there was a place").0;
+    assert_eq!(block_on(refused), 7);
+    assert_eq!((runtime.live(), runtime.stats().queued), (4096, 0));
+    gate.release(4096);
+    tasks.into_iter().for_each(|task| block_on(task).unwrap());
+    assert_eq!(block_on(runtime.try_spawn(async { 8 }).expect("there is room")).unwrap(), 8);
+}
+
 #[test]
 fn what_has_no_place_at_the_end_is_cancelled() {
     let (runtime, dropped) = (Builder::new(1).places(1).build().unwrap(), Arc::new(AtomicUsize::new(0)));
