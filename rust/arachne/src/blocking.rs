@@ -56,16 +56,28 @@ impl Pool {
 
     fn push(&self, shared: &'static Shared, raw: Raw) {
         let mut state = self.state.lock().unwrap();
+        if state.stop {
+            drop(state);
+            // SAFETY: nobody else has it, and it was not begun.
+            return unsafe { task::end(raw) };
+        }
         state.work.push_back(raw);
         if state.idle >= state.work.len() {
             self.changed.notify_one();
         } else if state.threads < state.most {
             let started =
                 thread::Builder::new().name("arachne-blocking".into()).spawn(move || shared.blocking.work(shared));
-            if started.is_ok() {
-                state.threads += 1;
-            } else {
-                assert!(state.threads != 0, "no kernel thread for blocking work");
+            match started {
+                Ok(_) => state.threads += 1,
+                Err(error) if state.threads == 0 => {
+                    state.work.pop_back();
+                    drop(state);
+                    // SAFETY: as above.
+                    unsafe { task::end(raw) };
+                    panic!("no kernel thread for blocking work: {error}");
+                }
+                // One of those that there are gets to it.
+                Err(_) => {}
             }
         }
     }
@@ -96,6 +108,12 @@ impl Pool {
         }
         state.threads -= 1;
         self.changed.notify_all();
+    }
+
+    /// Whether some work waits for a thread, or is in one.
+    pub(crate) fn is_busy(&self) -> bool {
+        let state = self.state.lock().unwrap();
+        !state.work.is_empty() || state.idle < state.threads
     }
 
     /// What has not begun is cancelled; what runs is waited for, at most so long. True where all threads have ended.

@@ -68,12 +68,20 @@ fn leave(line: &mut VecDeque<Arc<Node>>, node: &Arc<Node>) -> Option<Arc<Node>> 
 }
 
 /// The receivers are gone, or the channel is full: the value comes back.
-#[derive(Clone, Copy, PartialEq, Eq, Debug)]
+#[derive(Clone, Copy, PartialEq, Eq)]
 pub enum SendError<T> {
     Closed(T),
     Full(T),
 }
 
+impl<T> fmt::Debug for SendError<T> {
+    fn fmt(&self, f: &mut fmt::Formatter<'_>) -> fmt::Result {
+        f.write_str(match self {
+            SendError::Closed(_) => "Closed(..)",
+            SendError::Full(_) => "Full(..)",
+        })
+    }
+}
 impl<T> fmt::Display for SendError<T> {
     fn fmt(&self, f: &mut fmt::Formatter<'_>) -> fmt::Result {
         f.write_str(match self {
@@ -82,7 +90,7 @@ impl<T> fmt::Display for SendError<T> {
         })
     }
 }
-impl<T: fmt::Debug> std::error::Error for SendError<T> {}
+impl<T> std::error::Error for SendError<T> {}
 
 /// The end that sends.
 pub struct Sender<T>(Arc<Mutex<State<T>>>);
@@ -101,6 +109,17 @@ pub fn channel<T>(room: usize) -> (Sender<T>, Receiver<T>) {
     };
     let state = Arc::new(Mutex::new(state));
     (Sender(state.clone()), Receiver(state))
+}
+
+impl<T> fmt::Debug for Sender<T> {
+    fn fmt(&self, f: &mut fmt::Formatter<'_>) -> fmt::Result {
+        f.write_str("Sender")
+    }
+}
+impl<T> fmt::Debug for Receiver<T> {
+    fn fmt(&self, f: &mut fmt::Formatter<'_>) -> fmt::Result {
+        f.write_str("Receiver")
+    }
 }
 
 impl<T> Sender<T> {
@@ -279,9 +298,13 @@ impl<T> Drop for Receiver<T> {
     fn drop(&mut self) {
         let mut state = self.0.lock().unwrap();
         state.receivers -= 1;
-        let all = if state.receivers == 0 { std::mem::take(&mut state.sending) } else { VecDeque::new() };
+        let last = state.receivers == 0;
+        let all = if last { std::mem::take(&mut state.sending) } else { VecDeque::new() };
+        // Nobody receives these: whoever waits for an answer that one of them would bring is told so by its drop.
+        let values = if last { std::mem::take(&mut state.values) } else { VecDeque::new() };
         drop(state);
         all.iter().for_each(|node| node.called.store(true, SeqCst));
         all.iter().for_each(|node| node.slot.wake());
+        drop(values);
     }
 }

@@ -107,7 +107,8 @@ impl Runtime {
     pub fn shutdown_within(self, deadline: Duration) -> Ended {
         let until = Instant::now() + deadline;
         self.shared().draining.begin();
-        while self.live() != 0 && Instant::now() < until {
+        let busy = || self.live() != 0 || self.shared().blocking.is_busy();
+        while busy() && Instant::now() < until {
             thread::sleep(Duration::from_micros(500));
         }
         let aborted = self.live();

@@ -1,11 +1,11 @@
 //! A runtime: how it is built, what it is asked, and how it ends.
 
 use crate::block_on::block_on;
-use crate::core::{Woken, BLOCK, SHARD};
+use crate::core::{Woken, BLOCK, MOST_SHARDS, SHARD};
 use crate::cores::{Judge, Policy};
 use crate::drain::Signal;
 use crate::observe::{Hooks, TaskInfo, HISTOGRAM};
-use crate::shared::{entered, with_hands, Context, Shared};
+use crate::shared::{entered, is_own, with_hands, Context, Shared};
 use crate::spawn::Refused;
 use crate::task::{self, About, JoinHandle, Label};
 use crate::timer::now;
@@ -13,6 +13,7 @@ use crate::waker::NOBODY;
 use crate::{sys, watch};
 use std::future::Future;
 use std::io;
+use std::mem::ManuallyDrop;
 use std::panic::Location;
 use std::sync::atomic::Ordering::*;
 use std::sync::Arc;
@@ -55,7 +56,7 @@ impl Builder {
     /// Room for so many tasks that have begun and not ended: rounded up to 4,096 for each worker, at most 1,048,576.
     /// Tasks beyond that wait in a queue until one ends, or are refused by `try_spawn`.
     pub fn places(mut self, places: usize) -> Builder {
-        self.places = places;
+        self.places = places.min(MOST_SHARDS * SHARD * BLOCK);
         self
     }
 
@@ -100,7 +101,7 @@ impl Builder {
     /// Err where memory, descriptors or kernel threads are refused, or the process has 32 runtimes of other shapes.
     pub fn build(self) -> io::Result<Runtime> {
         let each = ((self.places + SHARD * BLOCK - 1) / (SHARD * BLOCK) + self.cores - 1) / self.cores;
-        let most = crate::core::MOST_SHARDS / self.cores * self.cores;
+        let most = MOST_SHARDS / self.cores * self.cores;
         let shards = (each.max(1) * self.cores).min(most);
         let shared = Shared::get(self.cores, shards, self.observed)?;
         shared.observer.set_hooks(self.hooks);
@@ -167,7 +168,8 @@ pub struct WorkerStats {
     pub idle: Duration,
 }
 
-/// Kernel threads that run tasks. Dropped, it ends as by `shutdown` with no time.
+/// Kernel threads that run tasks. Dropped, it ends as by `shutdown`; where one of its own tasks, or its blocking work,
+/// drops it, another kernel thread ends it, and nobody is told when it has ended.
 pub struct Runtime {
     shared: &'static Shared,
     threads: Vec<thread::JoinHandle<()>>,
@@ -199,19 +201,14 @@ impl Runtime {
         self.shared.spawn_task(future, About { spawned: Location::caller(), name: Some(Label::of(name)) }, false)
     }
 
-    /// As `spawn`, unless there are tasks that wait for a place: the future comes back.
+    /// As `spawn`, unless no place is free, or tasks wait for one: the future comes back.
     #[track_caller]
     pub fn try_spawn<F>(&self, future: F) -> Result<JoinHandle<F::Output>, Refused<F>>
     where
         F: Future + Send + 'static,
         F::Output: Send + 'static,
     {
-        let queued = self.shared.queued.0.load(Relaxed) != 0;
-        let roomy = self.shared.roomy.iter().any(|word| word.0.load(Relaxed) != 0);
-        if queued || !roomy {
-            return Err(Refused(future));
-        }
-        Ok(self.shared.spawn_task(future, About { spawned: Location::caller(), name: None }, false))
+        self.shared.try_spawn_task(future, About { spawned: Location::caller(), name: None })
     }
 
     /// Runs a future on this kernel thread, with this runtime for its spawns, sockets and timers.
@@ -309,7 +306,14 @@ impl Runtime {
 
 impl Drop for Runtime {
     fn drop(&mut self) {
-        self.end();
+        if !is_own(self.shared) {
+            return self.end();
+        }
+        // No thread joins itself. Where no other is to be had, the runtime runs on.
+        let threads = std::mem::take(&mut self.threads);
+        let rest = ManuallyDrop::new(Runtime { shared: self.shared, threads, ended: self.ended });
+        let ends = move || drop(ManuallyDrop::into_inner(rest));
+        let _ = thread::Builder::new().name("arachne-end".into()).spawn(ends);
     }
 }
 

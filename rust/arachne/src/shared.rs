@@ -365,9 +365,15 @@ fn next_random(mut x: u64) -> u64 {
     x ^ x << 17
 }
 
-/// The runtime whose worker this thread is, or that it has entered.
+/// The runtime that this thread has entered, or whose worker it is.
 pub(crate) fn here() -> Option<&'static Shared> {
-    Context::with(|worker| worker.map(|w| w.shared)).or_else(|| ENTERED.with(Cell::get))
+    ENTERED.with(Cell::get).or_else(|| Context::with(|worker| worker.map(|w| w.shared)))
+}
+
+/// Whether this thread is one of the runtime's, or has entered it.
+pub(crate) fn is_own(shared: &Shared) -> bool {
+    let is_it = |at: Option<&'static Shared>| at.map_or(false, |at| ptr::eq(at, shared));
+    is_it(ENTERED.with(Cell::get)) || is_it(Context::with(|worker| worker.map(|w| w.shared)))
 }
 
 /// Runs `f` with this runtime as that of spawns, sockets and timers.

@@ -68,7 +68,15 @@ impl Shared {
     /// A new task: at this worker, or from outside at each in turn. Where no place is free, it waits in the queue.
     #[inline]
     pub(crate) fn spawn(&'static self, raw: Raw, balanced: bool) {
-        let placed = Context::with(|worker| match worker {
+        if !self.place_new(raw, balanced) {
+            self.enqueue(raw);
+        }
+    }
+
+    /// Counts a new task, and puts it into a place. False where none is free, or tasks wait for one.
+    #[inline]
+    fn place_new(&'static self, raw: Raw, balanced: bool) -> bool {
+        Context::with(|worker| match worker {
             Some(worker) if std::ptr::eq(worker.shared, self) => {
                 add(&self.workers[worker.me].0.spawned, 1);
                 self.spawn_here(worker, raw, balanced)
@@ -79,10 +87,7 @@ impl Shared {
                 let home = self.next_home.fetch_add(1, Relaxed) / IN_A_ROW % active;
                 self.spawn_among(hands, home, block, raw)
             }),
-        });
-        if !placed {
-            self.enqueue(raw);
-        }
+        })
     }
 
     #[inline]
@@ -147,6 +152,26 @@ impl Shared {
         self.observer.spawns(&about);
         self.spawn(raw, balanced);
         handle
+    }
+
+    /// As `spawn_task`, or the future back.
+    pub(crate) fn try_spawn_task<F>(&'static self, future: F, about: About) -> Result<JoinHandle<F::Output>, Refused<F>>
+    where
+        F: Future + Send + 'static,
+        F::Output: Send + 'static,
+    {
+        if self.queued.0.load(Relaxed) != 0 {
+            return Err(Refused(future));
+        }
+        let (raw, handle) = task::new(future, about);
+        if self.place_new(raw, false) {
+            self.observer.spawns(&about);
+            return Ok(handle);
+        }
+        // It was counted as spawned.
+        self.counts.ended_elsewhere.fetch_add(1, SeqCst);
+        // SAFETY: nobody else has it, and it was not polled.
+        Err(Refused(unsafe { task::unmake(raw, handle) }))
     }
 }
 

@@ -39,25 +39,37 @@ impl JoinError {
     pub fn is_panic(&self) -> bool {
         matches!(self, JoinError::Panicked(_))
     }
+
+    /// What it panicked with, where that is a text.
+    fn message(&self) -> Option<&str> {
+        match self {
+            JoinError::Panicked(with) => {
+                with.downcast_ref::<&str>().copied().or(with.downcast_ref::<String>().map(|s| &**s))
+            }
+            _ => None,
+        }
+    }
 }
 
 impl fmt::Debug for JoinError {
     fn fmt(&self, f: &mut fmt::Formatter<'_>) -> fmt::Result {
-        f.write_str(match self {
-            JoinError::Panicked(_) => "Panicked",
-            JoinError::Aborted => "Aborted",
-            JoinError::Cancelled => "Cancelled",
-        })
+        match (self, self.message()) {
+            (JoinError::Panicked(_), Some(message)) => write!(f, "Panicked({message:?})"),
+            (JoinError::Panicked(_), None) => f.write_str("Panicked(..)"),
+            (JoinError::Aborted, _) => f.write_str("Aborted"),
+            (JoinError::Cancelled, _) => f.write_str("Cancelled"),
+        }
     }
 }
 
 impl fmt::Display for JoinError {
     fn fmt(&self, f: &mut fmt::Formatter<'_>) -> fmt::Result {
-        f.write_str(match self {
-            JoinError::Panicked(_) => "the task panicked",
-            JoinError::Aborted => "the task was aborted",
-            JoinError::Cancelled => "the runtime ended before the task did",
-        })
+        match (self, self.message()) {
+            (JoinError::Panicked(_), Some(message)) => write!(f, "the task panicked: {message}"),
+            (JoinError::Panicked(_), None) => f.write_str("the task panicked"),
+            (JoinError::Aborted, _) => f.write_str("the task was aborted"),
+            (JoinError::Cancelled, _) => f.write_str("the runtime ended before the task did"),
+        }
     }
 }
 
@@ -153,6 +165,19 @@ where
     });
     let at = NonNull::from(Box::leak(task)).cast::<Header>();
     (at.as_ptr() as usize as Raw, JoinHandle { at, of: PhantomData })
+}
+
+/// The future of a task that has not begun.
+///
+/// # Safety
+/// `raw` and the handle are what `new` answered for this future, and nobody else has them.
+pub(crate) unsafe fn unmake<F: Future>(raw: Raw, handle: JoinHandle<F::Output>) -> F {
+    std::mem::forget(handle);
+    let task = Box::from_raw(at(raw).cast::<Task<F>>());
+    match task.stage.into_inner() {
+        Stage::Running(future) => future,
+        _ => unreachable!("a task that has not begun has its future"),
+    }
 }
 
 #[inline]
@@ -274,6 +299,12 @@ unsafe impl<T: Send> Send for JoinHandle<T> {}
 // SAFETY: what a shared handle can do is atomic.
 unsafe impl<T: Send> Sync for JoinHandle<T> {}
 impl<T> Unpin for JoinHandle<T> {}
+
+impl<T> fmt::Debug for JoinHandle<T> {
+    fn fmt(&self, f: &mut fmt::Formatter<'_>) -> fmt::Result {
+        write!(f, "JoinHandle({})", self.about())
+    }
+}
 
 impl<T> JoinHandle<T> {
     #[inline]

@@ -42,10 +42,13 @@ fn main() -> io::Result<()> {
     let runtime = arguments.runtime()?;
     let listener = TcpListener::bind(("127.0.0.1", arguments.port))?;
     runtime.spawn(async move {
-        while let Ok((stream, _)) = listener.accept().await {
-            arachne::spawn_balanced(async move {
-                let _ = connection(stream).await;
-            });
+        loop {
+            match listener.accept().await {
+                Ok((stream, _)) => drop(arachne::spawn_balanced(async move { connection(stream).await })),
+                Err(_) if arachne::is_stopping() => return,
+                // Out of descriptors, or a client that went: the next one may be accepted.
+                Err(_) => arachne::sleep(std::time::Duration::from_millis(10)).await,
+            }
         }
     });
     println!("ready");

@@ -74,11 +74,18 @@ async fn connection(stream: TcpStream, store: Arc<Store>) -> io::Result<()> {
 }
 
 async fn accept(listener: TcpListener, store: Arc<Store>) {
-    while let Ok((stream, _)) = listener.accept().await {
-        let store = store.clone();
-        arachne::spawn_balanced(async move {
-            let _ = connection(stream, store).await;
-        });
+    loop {
+        match listener.accept().await {
+            Ok((stream, _)) => {
+                let store = store.clone();
+                arachne::spawn_balanced(async move {
+                    let _ = connection(stream, store).await;
+                });
+            }
+            Err(_) if arachne::is_stopping() => return,
+            // Out of descriptors, or a client that went: the next one may be accepted.
+            Err(_) => arachne::sleep(std::time::Duration::from_millis(10)).await,
+        }
     }
 }
 
