@@ -300,9 +300,9 @@ module _ (shards slots id w : ℕ) where
             shows = mark-shows s h k mine q new l (set s.homes q (some x)) refl;
             sleep = mark-sleep s h k mine q new l (set s.homes q (some x)) refl refl refl;
           },
-          ((λ _. refl), λ miss. absurd (miss hit)),
+          ((λ _. refl), (λ miss. absurd (miss hit)), omega (arith, unwoken, is)),
         ))
-        (λ miss. (held w (noted i n k), keeps, tt, noting s h k mine m.1 i n, ((λ hit. absurd (miss hit)), λ _. refl)))
+        (λ miss. (held w (noted i n k), keeps, tt, noting s h k mine m.1 i n, ((λ hit. absurd (miss hit)), (λ _. refl), omega (arith, unwoken, is))))
 
     -- a new mark, by who has the place
     module _ (new : ℕ) (clear : new % 2 ≡ 0) (s : Board) (h : IsLawful shards s) (mine : get_elem? s.views id ≡ some (held w k)) (l : Known) where
@@ -365,7 +365,7 @@ module _ (shards slots id w : ℕ) where
             keeps,
             tt,
             renewed (bit_and n kept_bits) (low_clear n) s h mine l (next_clear n) refl refl refl refl refl refl refl refl refl,
-            λ p at. ap (λ z. knowing m (hearing (n % 2) z k)) (mark_apart q p at),
+            ((λ p at. ap (λ z. knowing m (hearing (n % 2) z k)) (mark_apart q p at)), refl),
           )
 
   -- a job that was laid into the slot of a place which had none
@@ -435,9 +435,9 @@ module _ (shards slots id w : ℕ) where
             shows = mark-shows s h k mine q new l (set s.homes q none) refl;
             sleep = mark-sleep s h k mine q new l (set s.homes q none) refl refl refl;
           },
-          λ p at. ((λ _. (job.0, ap (λ z. with m (unblocking z job.0 k) ((z, job.0) ∷ xs)) (mark_apart q p at))), λ miss. absurd (miss hit)),
+          λ p at. ((λ _. (job.0, ap (λ z. with m (unblocking z job.0 k) ((z, job.0) ∷ xs)) (mark_apart q p at))), (λ miss. absurd (miss hit)), omega (arith, was, now)),
         ))
-        (λ miss. (held w (noted i n k), keeps, tt, noting s h k mine xs i n, λ p at. ((λ hit. absurd (miss hit)), λ _. refl)))
+        (λ miss. (held w (noted i n k), keeps, tt, noting s h k mine xs i n, λ p at. ((λ hit. absurd (miss hit)), (λ _. refl), omega (arith, was, now))))
 
     -- the mark of a job that isn't blocked says of a wake
     pub marks : old % 4 ≡ 0 → new ≡ old + 1 → Allows (IsLawful shards) slots id (held w k, xs) (mark_at q) (λ n. either (eqb n old) new n) (Marks (step slots (mark_at q) old new none) (held w k, xs))
@@ -456,6 +456,6 @@ module _ (shards slots id w : ℕ) where
             shows = mark-shows s h k mine q new l s.homes refl;
             sleep = mark-sleep s h k mine q new l s.homes refl refl refl;
           },
-          λ p at. ((λ _. ap (λ z. knowing m (marking z k)) (mark_apart q p at)), λ miss. absurd (miss hit)),
+          λ p at. ((λ _. ap (λ z. knowing m (marking z k)) (mark_apart q p at)), (λ miss. absurd (miss hit)), omega (arith, was, now)),
         ))
-        (λ miss. (held w (noted i n k), keeps, tt, noting s h k mine xs i n, λ p at. ((λ hit. absurd (miss hit)), λ _. refl)))
+        (λ miss. (held w (noted i n k), keeps, tt, noting s h k mine xs i n, λ p at. ((λ hit. absurd (miss hit)), (λ _. refl), omega (arith, was, now))))

@@ -66,10 +66,11 @@ Spawns step before found after = (place : ℕ) → step.word ≡ ready_at (place
 abbrev pub Begins : Step ℕ → Mine → ℕ → Mine → Type 0
 Begins step before found after = after ≡ knowing before (beginning (newest_job before.1) (noted step.word found before.0.known))
 
--- where the mark was as expected, the newest place is blocked
+-- where the mark was as expected, the newest place is blocked; the new mark says of the same generation
 abbrev pub Blocks : Step ℕ → Mine → ℕ → Mine → Type 0
-Blocks step before found after =
-    (found ≡ step.first → after ≡ with before (blocking before.0.known) (rest before.1)) × (found ≢ step.first → after ≡ knowing before (noted step.word found before.0.known))
+Blocks step before found after = (found ≡ step.first → after ≡ with before (blocking before.0.known) (rest before.1))
+    × (found ≢ step.first → after ≡ knowing before (noted step.word found before.0.known))
+    × (step.second / 4 ≡ step.first / 4)
 
 -- the newest place gets a new mark, and a mark of a wake is used up
 abbrev pub Renews : Step ℕ → Mine → ℕ → Mine → Type 0
@@ -79,21 +80,25 @@ Renews step before found after = (place : ℕ) → step.word ≡ mark_at place �
 abbrev pub Retires : Step ℕ → Mine → ℕ → Mine → Type 0
 Retires step before found after = (place : ℕ) → step.word ≡ mark_at place → after ≡ with before (ending (hearing (found % 2) place before.0.known)) (rest before.1)
 
--- a mark of a wake is used up
+-- a mark of a wake is used up; all bits but the lowest two stay
 abbrev pub Hears : Step ℕ → Mine → ℕ → Mine → Type 0
-Hears step before found after = (place : ℕ) → step.word ≡ mark_at place → after ≡ knowing before (hearing (found % 2) place before.0.known)
+Hears step before found after = ((place : ℕ) → step.word ≡ mark_at place → after ≡ knowing before (hearing (found % 2) place before.0.known))
+    × (step.first ≡ 2 ^ 64 - 4)
 
--- where the mark was as expected, the place was blocked and is in the seat's hand
+-- where the mark was as expected, the place was blocked and is in the seat's hand; the new mark says of the same
+-- generation
 abbrev pub Wakes : Step ℕ → Mine → ℕ → Mine → Type 0
 Wakes step before found after = (place : ℕ) → step.word ≡ mark_at place
     → (found ≡ step.first → (job : ℕ) × (after ≡ with before (unblocking place job before.0.known) ((place, job) ∷ before.1)))
     × (found ≢ step.first → after ≡ knowing before (noted step.word found before.0.known))
+    × (step.second / 4 ≡ step.first / 4)
 
--- where the mark was as expected, it says of a wake
+-- where the mark was as expected, it says of a wake; the new mark says of the same generation
 abbrev pub Marks : Step ℕ → Mine → ℕ → Mine → Type 0
 Marks step before found after = (place : ℕ) → step.word ≡ mark_at place
     → (found ≡ step.first → after ≡ knowing before (marking place before.0.known))
     × (found ≢ step.first → after ≡ knowing before (noted step.word found before.0.known))
+    × (step.second / 4 ≡ step.first / 4)
 
 -- ---- the summary word
 
