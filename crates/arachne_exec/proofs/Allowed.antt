@@ -13,7 +13,7 @@ use Rattle.atomic_table.specs.Table.{step, rest, Allows, Splits, Joins}
 use Rattle.arachne_weights.specs.declared.token.Token.{Token}
 use Rattle.arachne_weights.specs.Tokens.{held, spent}
 use Rattle.arachne_exec.specs.declared.view.Known.{Known}
-use Rattle.arachne_exec.specs.Layout.{idle_at, numbers_at, summary_at, ready_at, free_at, mark_at, worker_of, others, words_of}
+use Rattle.arachne_exec.specs.Layout.{idle_at, numbers_at, summary_at, ready_at, free_at, mark_at, retired, worker_of, others, words_of}
 use Rattle.arachne_exec.specs.Board.{IsLawful, blank}
 use Rattle.arachne_exec.specs.Changes.{older, first_of, second_of, both_of}
 use Rattle.arachne_exec.specs.Steps.{Mine, IsLive, Looks, Takes, TakesMany, Claims, Frees, Readies, Spawns, Begins, Blocks, Renews, Retires, Hears, Wakes, Marks, FindsShown, Shows, Hides, LooksAgain, LooksIdle, Unparks, Rises, Rests, LooksNext, Registers, Leaves}
@@ -151,12 +151,12 @@ module _ (table : TableId) (key n : ℕ) (laid : IsLaidOut table key n) (exec : 
             (blocks_at key table.slots id me.0.weight me.0.known q x (rest view.slots) (hand x x has) low old new was now),
       )
 
-      pub retire-asks : HasNewest q x 0 view → (new : ℕ) → word ≡ mark_at q → new % 4 ≡ 2 → Asks word (λ _. new) (Retires (step table.slots word new 0 none) me)
-      retire-asks has new e now = (
+      pub retire-asks : HasNewest q x 0 view → (new : ℕ) → word ≡ mark_at q → new % 4 ≡ 2 → new ≡ retired → Asks word (λ _. new) (Retires (step table.slots word new 0 none) me)
+      retire-asks has new e now gone = (
         at-home,
         mark-inside e,
         subst (λ (z : ℕ × Mine). Allows (IsLawful key) table.slots id z.1 z.0 (λ _. new) (Retires (step table.slots z.0 new 0 none) z.1)) (λ i. (sym e i, sym (mine x 0 has) i))
-            (retires key table.slots id me.0.weight me.0.known q x (rest view.slots) (hand x 0 has) low new now),
+            (retires key table.slots id me.0.weight me.0.known q x (rest view.slots) (hand x 0 has) low new now gone),
       )
 
     pub wake-asks : (old new : ℕ) → word ≡ mark_at q → old % 4 ≡ 2 → new ≡ old - 2 → Asks word (λ z. either (eqb z old) new z) (Wakes (step table.slots word old new none) me)

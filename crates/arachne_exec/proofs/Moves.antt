@@ -17,7 +17,7 @@ use Rattle.arachne_weights.specs.declared.token.Token.{Token}
 use Rattle.arachne_weights.specs.Tokens.{held, learns}
 use Rattle.arachne_exec.specs.declared.view.Known.{Known}
 use Rattle.arachne_exec.specs.declared.view.Deed.{Deed}
-use Rattle.arachne_exec.specs.Layout.{idle_at, numbers_at, summary_at, ready_at, free_at, mark_at, worker_of, others, in_word}
+use Rattle.arachne_exec.specs.Layout.{idle_at, numbers_at, summary_at, ready_at, free_at, mark_at, retired, worker_of, others, in_word}
 use Rattle.arachne_exec.specs.Board.{is_ready, is_blocked, is_idle, one, seats_of, Board, HasOneKeeper, IsBalanced, IsShown, WakesSleepers, IsLawful}
 use Rattle.arachne_exec.specs.Changes.{older, newest_job, newest_place, gained, unblocking, readying, blocking, spawning, beginning, ending, marking, hearing, noted, rousing, unshowing, owing, having_seen, working}
 use Rattle.arachne_exec.specs.Steps.{Mine, with, knowing, Looks, Takes, Claims, Frees, Readies, Spawns, Begins, Blocks, Renews, Retires, Hears, Wakes, Marks, FindsShown, Shows, Hides, LooksAgain, LooksIdle, Unparks, Rises, Rests, LooksNext, Registers, Leaves}
@@ -329,8 +329,8 @@ module _ (shards slots id w : ℕ) where
             λ p at. ap (λ z. knowing m (noted (mark_at q) new (hearing (n % 2) z k))) (mark_apart q p at),
           )
 
-    pub retires : (new : ℕ) → new % 4 ≡ 2 → Allows (IsLawful shards) slots id (held w k, (q, 0) ∷ xs) (mark_at q) (λ _. new) (Retires (step slots (mark_at q) new 0 none) (held w k, (q, 0) ∷ xs))
-    retires new is s h _ mine small =
+    pub retires : (new : ℕ) → new % 4 ≡ 2 → new ≡ retired → Allows (IsLawful shards) slots id (held w k, (q, 0) ∷ xs) (mark_at q) (λ _. new) (Retires (step slots (mark_at q) new 0 none) (held w k, (q, 0) ∷ xs))
+    retires new is gone s h _ mine small =
         let n : ℕ = get_or s.words (mark_at q) 0 in let l : Known = ending (hearing (n % 2) q k) in let m : Mine = (held w k, (q, 0) ∷ xs) in (
           held w l,
           gives,
@@ -343,7 +343,7 @@ module _ (shards slots id w : ℕ) where
             shows = mark-shows s h k mine q new l (set s.homes q (some 0)) refl;
             sleep = mark-sleep s h k mine q new l (set s.homes q (some 0)) refl refl refl;
           },
-          λ p at. ap (λ z. with m (ending (hearing (n % 2) z k)) xs) (mark_apart q p at),
+          ((λ p at. ap (λ z. with m (ending (hearing (n % 2) z k)) xs) (mark_apart q p at)), gone),
         )
 
     module _ (y : ℕ) where

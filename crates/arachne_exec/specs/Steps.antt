@@ -6,7 +6,7 @@ use Rattle.atomic_table.specs.Table.{Me, Step, rest}
 use Rattle.arachne_weights.specs.declared.token.Token.{Token}
 use Rattle.arachne_weights.specs.Tokens.{held}
 use Rattle.arachne_exec.specs.declared.view.Known.{Known}
-use Rattle.arachne_exec.specs.Layout.{summary_at, ready_at, mark_at, worker_of, others, places_in_word}
+use Rattle.arachne_exec.specs.Layout.{summary_at, ready_at, mark_at, retired, worker_of, others, places_in_word}
 use Rattle.arachne_exec.specs.Changes.{newest_job, gained, gaining, unblocking, readying, blocking, spawning, beginning, ending, marking, hearing, noted, rousing, unshowing, owing, having_seen, working}
 
 -- a view, and the slots that are out with the seat: each a place with what is in it
@@ -76,9 +76,10 @@ Blocks step before found after = (found ≡ step.first → after ≡ with before
 abbrev pub Renews : Step ℕ → Mine → ℕ → Mine → Type 0
 Renews step before found after = (place : ℕ) → step.word ≡ mark_at place → after ≡ knowing before (noted step.word step.first (hearing (found % 2) place before.0.known))
 
--- the newest place is blocked for ever: its job has ended
+-- the newest place is blocked for ever: its job has ended, and the mark says of a generation that no name has
 abbrev pub Retires : Step ℕ → Mine → ℕ → Mine → Type 0
-Retires step before found after = (place : ℕ) → step.word ≡ mark_at place → after ≡ with before (ending (hearing (found % 2) place before.0.known)) (rest before.1)
+Retires step before found after = ((place : ℕ) → step.word ≡ mark_at place → after ≡ with before (ending (hearing (found % 2) place before.0.known)) (rest before.1))
+    × (step.first ≡ retired)
 
 -- a mark of a wake is used up; all bits but the lowest two stay
 abbrev pub Hears : Step ℕ → Mine → ℕ → Mine → Type 0
