@@ -1,17 +1,20 @@
 #!/usr/bin/env python3
 """Draws how many cores the server held when, and why, from what it printed.
 
-    example_server CORES INTERVAL < LIST | bench/server/plot.py > server.svg
+    example_server CORES INTERVAL < LIST | bench/server/plot.py LIST > server.svg
 
-Above is the load (requests that a scan of a core saw), over the limit at which a core is asked for; below are the cores
-held and how many of them were busy (the utilisation). A dot is an advice that was followed.
+Above are the requests that came, by the list; then the load (requests that a scan of a core saw), over the limit at which
+a core is asked for; below are the cores held and how many of them were busy (the utilisation). A dot is an advice that
+was followed.
 """
 
 import re
 import sys
 
 UP = 1.5
-WIDTH, LEFT, RIGHT, TOP, UPPER, LOWER, GAP = 880, 48, 18, 40, 110, 200, 52
+# The requests that came are counted in parts of so many milliseconds.
+PART = 10
+WIDTH, LEFT, RIGHT, TOP, OFFERED, UPPER, LOWER, GAP = 880, 48, 18, 40, 70, 110, 150, 52
 LINE = re.compile(r"at (\d+) us: (\d+) cores, (\d+) runnable in (\d+) scans, (\d+) of (\d+) us busy, (\w+)")
 
 STYLE = """
@@ -62,15 +65,38 @@ class Panel:
                 yield f'<circle cx="{self.x(sample.end)}" cy="{self.y(value(sample))}" r="3.5" class="{advice}"/>'
 
 
-def draw(samples):
+def ticks(most):
+    """About four whole numbers from 0 to the first that is not below the most."""
+    step = next(step for power in range(9) for step in (10**power, 2 * 10**power, 5 * 10**power) if 4 * step >= most)
+    return range(0, step * -(-int(most + 0.999) // step) + 1, step)
+
+
+def offered(path, length):
+    """The points of how many thousand requests a second came."""
+    counts = [0] * (int(length / PART) + 1)
+    with open(path, encoding="ascii") as lines:
+        for line in lines:
+            at = int(int(line.split()[0]) / 1e6 / PART)
+            if at < len(counts):
+                counts[at] += 1
+    return [((nth + 0.5) * PART, count / PART) for nth, count in enumerate(counts)][:-1]
+
+
+def draw(samples, requests):
     length = samples[-1].end
     most = max(sample.cores for sample in samples)
-    upper = Panel(TOP, UPPER, 4, length)
-    yield from upper.axis("load: requests that a scan saw; dashed: over this a core is asked for (blue dots)", range(5))
+    points = offered(requests, length)
+    marks = ticks(max(value for _, value in points))
+    first = Panel(TOP, OFFERED, marks[-1], length)
+    yield from first.axis("thousand requests a second that came", marks)
+    yield from first.path(points, "busy")
+    marks = ticks(max(sample.load for sample in samples))
+    upper = Panel(TOP + OFFERED + GAP, UPPER, marks[-1], length)
+    yield from upper.axis("load: requests that a scan saw; dashed: over this a core is asked for (blue dots)", marks)
     yield from upper.path([(sample.end, sample.load) for sample in samples], "load")
     yield from upper.path([(0, UP), (length, UP)], "limit")
     yield from upper.dots(samples, lambda sample: sample.load, "add")
-    lower = Panel(TOP + UPPER + GAP, LOWER, most + 0.5, length)
+    lower = Panel(TOP + OFFERED + UPPER + 2 * GAP, LOWER, most + 0.5, length)
     yield from lower.axis("cores held (grey), and busy of them (green); red dots: one was given back", range(most + 1))
     stairs = [(time, sample.cores) for sample in samples for time in (sample.begin, sample.end)]
     points = [(0, 0), *stairs, (length, 0)]
@@ -84,10 +110,10 @@ def main():
     samples = [Sample(match) for match in map(LINE.match, sys.stdin) if match]
     if not samples:
         sys.exit("the input has no samples")
-    height = TOP + UPPER + GAP + LOWER + 30
+    height = TOP + OFFERED + UPPER + LOWER + 2 * GAP + 30
     print(f'<svg xmlns="http://www.w3.org/2000/svg" viewBox="0 0 {WIDTH} {height}" width="{WIDTH}" height="{height}"><style>{STYLE}</style>')
     print(f'<rect class="page" width="{WIDTH}" height="{height}"/>')
-    print("\n".join(draw(samples)))
+    print("\n".join(draw(samples, sys.argv[1])))
     print("</svg>")
 
 
