@@ -1,19 +1,29 @@
 -- How the numbers of a thread's name are kept.
-use Rattle.std.specs.Prelude.{ℕ, ◌<◌, ◌≤◌, List, length}
+use Rattle.std.specs.Prelude.{ℕ, ◌<◌, ◌≤◌, ◌^◌, ◌⊎◌, List, length}
 use Rattle.std.specs.List.{All}
 use Rattle.arachne_lang.specs.declared.name.Forks.{Forks}
-use Rattle.arachne_lang.specs.declared.name.Forks.TheVariants.{Inline, Heap}
+use Rattle.arachne_lang.specs.declared.name.Forks.TheVariants.{Bytes, Words, Heap}
 
--- the names that take no memory beside their own 32 bytes: at most 30 numbers, each below 256
+-- at most 30 numbers, each below 256
+abbrev pub FitsBytes : List ℕ → Type 0
+FitsBytes name = (length name ≤ 30) × All (λ number. number < 256) name
+
+-- at most 6 numbers, each below 2^32
+abbrev pub FitsWords : List ℕ → Type 0
+FitsWords name = (length name ≤ 6) × All (λ number. number < 2 ^ 32) name
+
+-- the names that take no memory beside their own 32 bytes
 abbrev pub FitsInline : List ℕ → Type 0
-FitsInline name = (length name ≤ 30) × All (λ number. number < 256) name
+FitsInline name = FitsBytes name ⊎ FitsWords name
 
 -- the numbers that are kept
 abbrev pub numbers : Forks → List ℕ
-numbers (Inline list) = list
+numbers (Bytes list) = list
+numbers (Words list) = list
 numbers (Heap list) = list.items
 
--- what fits inline stands inline
+-- each name stands in the first of these that it fits into
 abbrev pub IsKeptShort : Forks → Type 0
-IsKeptShort (Inline list) = FitsInline list
-IsKeptShort (Heap list) = ¬ FitsInline list.items
+IsKeptShort (Bytes list) = FitsBytes list
+IsKeptShort (Words list) = (¬ FitsBytes list) × FitsWords list
+IsKeptShort (Heap list) = (¬ FitsBytes list.items) × (¬ FitsWords list.items)

@@ -13,6 +13,7 @@ mod program;
 mod reading;
 mod sequence;
 mod text_fault;
+mod word_list;
 
 pub use check_fault::CheckFault;
 pub use checker::check;

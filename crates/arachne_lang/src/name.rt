@@ -1,16 +1,17 @@
 //! A thread's name: the numbers of the forks that lead to it from the root.
-ghost use Rattle.std.specs.Prelude.{◌≡◌, ◌<◌, [], ◌∷◌, ◌++◌, ◌↔◌, IfOk, IsOk, IsTrue, length, slice_index, nat_eq};
+ghost use Rattle.std.specs.Prelude.{◌≡◌, ◌<◌, [], ◌∷◌, ◌++◌, ◌↔◌, IfOk, IsOk, IsTrue, SomeIff, length, slice_index, nat_eq};
 ghost use Rattle.std.specs.Cmp.{partial_equiv_from_equiv};
 ghost use Rattle.std.specs.Cmp.Lexicographic.{pointwise, nat_list_eq_equiv};
-ghost use Rattle.arachne_lang.specs.Name.{FitsInline};
+ghost use Rattle.arachne_lang.specs.Name.{FitsBytes, FitsInline, FitsWords};
 
 use crate::byte_list::ByteList;
+use crate::word_list::WordList;
 use std::alloc::{AllocError, Global};
 use std::marker::Model;
 
 /// A thread's name: the numbers of the forks that lead to it from the root, whose own name has none.
 ///
-/// Up to 30 numbers below 256 stand in its own 32 bytes. Others are in a `Vec`.
+/// Up to 30 numbers below 256, or up to 6 below 2^32, stand in its own 32 bytes. Others are in a `Vec`.
 #[derive(Debug, Drop)]
 pub struct Name {
     forks: Forks,
@@ -21,7 +22,9 @@ const _: () = prove!(size_of::<Name>() == 32);
 /// The numbers of the forks, the root's first.
 #[derive(Debug, Drop)]
 enum Forks {
-    Inline(ByteList),
+    Bytes(ByteList),
+    /// One of them is 256 or more.
+    Words(WordList),
     Heap(Vec<u64>),
 }
 
@@ -43,7 +46,7 @@ impl Name {
         ensures { result ≡ [] }
     {
         Name {
-            forks: Forks::Inline(ByteList::empty()),
+            forks: Forks::Bytes(ByteList::empty()),
         }
     }
 
@@ -52,24 +55,42 @@ impl Name {
         ensures named { IfOk result (λ name. name ≡ self.now ++ number ∷ []) }
         ensures inline { FitsInline (self.now ++ number ∷ []) → IsOk result }
     {
-        if let Forks::Inline(list) = &self.forks {
+        if let Forks::Bytes(list) = &self.forks {
             if let Some(longer) = list.with(number) {
                 return Ok(Name {
-                    forks: Forks::Inline(longer),
+                    forks: Forks::Bytes(longer),
                 });
             }
         }
-        self.long_child(alloc, number)
+        match self.words_with(number) {
+            Some(longer) => Ok(Name {
+                forks: Forks::Words(longer),
+            }),
+            None => self.long_child(alloc, number),
+        }
+    }
+
+    /// The numbers of the name of such a thread, where words have room for them.
+    fn words_with(&self, number: u64) -> Option<WordList>
+        ensures { SomeIff result (FitsWords (self.now ++ number ∷ [])) (self.now ++ number ∷ []) }
+    {
+        match &self.forks {
+            Forks::Bytes(list) => WordList::of_bytes(list.as_slice())?.with(number),
+            Forks::Words(list) => list.with(number),
+            Forks::Heap(_) => None,
+        }
     }
 
     /// The name of such a thread that does not fit inline.
     #[inline(never)]
     fn long_child(&self, alloc: Global, number: u64) -> Result<Name, AllocError>
-        requires { ¬ FitsInline (self.now ++ number ∷ []) }
+        requires bytes { ¬ FitsBytes (self.now ++ number ∷ []) }
+        requires words { ¬ FitsWords (self.now ++ number ∷ []) }
         ensures { IfOk result (λ name. name ≡ self.now ++ number ∷ []) }
     {
         let forks = match &self.forks {
-            Forks::Inline(list) => list.widened(alloc, number)?,
+            Forks::Bytes(list) => list.widened(alloc, number)?,
+            Forks::Words(list) => list.widened(alloc, number)?,
             Forks::Heap(list) => with_number(alloc, list.as_slice(), number)?,
         };
         Ok(Name {
@@ -82,7 +103,8 @@ impl Name {
         ensures { result ≡ length self.now }
     {
         match &self.forks {
-            Forks::Inline(list) => list.as_slice().len(),
+            Forks::Bytes(list) => list.as_slice().len(),
+            Forks::Words(list) => list.as_slice().len(),
             Forks::Heap(list) => list.len(),
         }
     }
@@ -93,7 +115,8 @@ impl Name {
         ensures { result ≡ slice_index self.now k }
     {
         match &self.forks {
-            Forks::Inline(list) => u64::from(list.as_slice()[k]),
+            Forks::Bytes(list) => u64::from(list.as_slice()[k]),
+            Forks::Words(list) => u64::from(list.as_slice()[k]),
             Forks::Heap(list) => list[k],
         }
     }
@@ -103,8 +126,14 @@ impl Name {
         ensures { IsTrue result ↔ (self.now ≡ parent.now ++ number ∷ []) }
     {
         match (&self.forks, &parent.forks) {
-            (Forks::Inline(own), Forks::Inline(front)) => own.is_longer_by(front, number),
-            (Forks::Inline(_), Forks::Heap(_)) => false,
+            (Forks::Bytes(own), Forks::Bytes(front)) => own.is_longer_by(front, number),
+            (Forks::Bytes(_), _) => false,
+            (Forks::Words(own), Forks::Words(front)) => own.is_longer_by(front, number),
+            (Forks::Words(own), Forks::Bytes(front)) => match WordList::of_bytes(front.as_slice()) {
+                Some(front) => own.is_longer_by(&front, number),
+                None => false,
+            },
+            (Forks::Words(_), Forks::Heap(_)) => false,
             (Forks::Heap(own), _) => match own.split_last() {
                 Some((last, others)) => *last == number && parent.has_numbers(others),
                 None => false,
@@ -138,7 +167,8 @@ impl PartialEq for Name {
         ensures same { IsTrue result ↔ (self.now ≡ other.now) }
     {
         match (&self.forks, &other.forks) {
-            (Forks::Inline(own), Forks::Inline(others)) => own.as_slice() == others.as_slice(),
+            (Forks::Bytes(own), Forks::Bytes(others)) => own.as_slice() == others.as_slice(),
+            (Forks::Words(own), Forks::Words(others)) => own.as_slice() == others.as_slice(),
             (Forks::Heap(own), Forks::Heap(others)) => own.as_slice() == others.as_slice(),
             _ => false,
         }
