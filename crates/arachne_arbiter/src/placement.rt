@@ -6,7 +6,7 @@ ghost use Rattle.arachne_arbiter.specs.Placed.{GetsPlace, IsOnCore, IsOnSomeCore
 
 use crate::choice::{first_core, has_place};
 use crate::cores::Cores;
-use arachne_contexts::{Claimed, Contexts, Tagged};
+use arachne_contexts::{Contexts, Tagged};
 use arachne_core::{CORES, OccWord};
 use rand_core::Rng;
 use std::alloc::AllocError;
@@ -135,10 +135,9 @@ impl<'a, H: Wait, T: Tagged, C: Contexts<T>> Cores<'a, H, T, C> {
         ensures place { IsOnCore C.Claim.place_of core result }
     {
         for _ in self.rt.forever() {
-            match self.table.claim(self.rt, seat, core)? {
-                Claimed::Place(claim) => return Ok(Some(claim)),
-                Claimed::Full(_) | Claimed::Closed(_) => return Ok(None),
-                Claimed::Lost(_) => {}
+            let claimed = self.table.claim(self.rt, seat, core)?;
+            if let Some(place) = claimed.settled() {
+                return Ok(place);
             }
         }
         unreachable!()
@@ -154,10 +153,9 @@ impl<'a, H: Wait, T: Tagged, C: Contexts<T>> Cores<'a, H, T, C> {
         ensures place { IsAtStartOf C.Claim.place_of core result }
     {
         for _ in self.rt.forever() {
-            match self.table.claim_alone(self.rt, seat, core)? {
-                Claimed::Place(claim) => return Ok(Some(claim)),
-                Claimed::Full(_) | Claimed::Closed(_) => return Ok(None),
-                Claimed::Lost(_) => {}
+            let claimed = self.table.claim_alone(self.rt, seat, core)?;
+            if let Some(place) = claimed.settled() {
+                return Ok(place);
             }
         }
         unreachable!()

@@ -1,5 +1,5 @@
 -- What a table's answers say.
-use Rattle.std.specs.Prelude.{◌≡◌, ℕ, ◌<◌, List, [], ◌∷◌}
+use Rattle.std.specs.Prelude.{◌≡◌, ℕ, ◌<◌, Bool, true, false, List, [], ◌∷◌, map, Option, None, Some}
 use Rattle.arachne_core.specs.declared.place.Place.{Place}
 use Rattle.arachne_core.specs.declared.state.Rest.{Rest}
 use Rattle.arachne_core.specs.declared.state.Rest.TheVariants as rest
@@ -22,6 +22,13 @@ ClaimsOn slots place_of core (claimed.Place claim) = (place_of claim).core ≡ c
 ClaimsOn slots place_of core (claimed.Full word) = ShowsFull slots word
 ClaimsOn slots place_of core (claimed.Closed word) = ShowsClosed word
 ClaimsOn slots place_of core (claimed.Lost word) = Unit {0}
+
+-- the place that a claim got, or that there is none, unless it was lost
+abbrev pub settled_claim : {C : Type 0} → Claimed C → Option (Option C)
+settled_claim (claimed.Place claim) = Some (Some claim)
+settled_claim (claimed.Full word) = Some None
+settled_claim (claimed.Closed word) = Some None
+settled_claim (claimed.Lost word) = None
 
 -- a claim of a whole core: its index 0, or a word that shows why not
 abbrev pub ClaimsWhole : {C : Type 0} → (C → Place) → ℕ → Claimed C → Type 0
@@ -50,6 +57,13 @@ WakesAs id (woken.Already word) = ShowsWoken id word
 WakesAs id woken.Gone = Unit {0}
 WakesAs id (woken.Lost word) = Unit {0}
 
+-- whether the thread was woken, unless the wake was lost
+abbrev pub settled_wake : Woken → Option Bool
+settled_wake woken.Woken = Some true
+settled_wake (woken.Already word) = Some false
+settled_wake woken.Gone = Some false
+settled_wake (woken.Lost word) = None
+
 -- a move to a core of so many places
 abbrev pub MovesAs : ℕ → Moved → Type 0
 MovesAs slots (moved.NoRoom word) = ShowsNoRoom slots word
@@ -60,3 +74,7 @@ abbrev pub IsByContext : {T : Type 0} → List (ThreadId × T) → Type 0
 IsByContext [] = Unit {0}
 IsByContext (t ∷ []) = Unit {0}
 IsByContext (t ∷ u ∷ ts) = (t.0.context < u.0.context) × IsByContext (u ∷ ts)
+
+-- the threads, each by its id and its tag
+abbrev pub tagged_threads : {T : Type 0} → (T → ℕ) → List (ThreadId × T) → List (ThreadId × ℕ)
+tagged_threads tag_of threads = map (λ (t : _). (t.0, tag_of t.1)) threads

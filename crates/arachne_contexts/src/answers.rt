@@ -1,4 +1,6 @@
 //! What a table's calls answer. Where an answer carries a word, that word was seen, and shows why the answer is right.
+ghost use Rattle.std.specs.Prelude.{◌≡◌};
+ghost use Rattle.arachne_contexts.specs.Answers.{settled_claim, settled_wake};
 
 use crate::held::Held;
 
@@ -14,6 +16,20 @@ pub enum Claimed<C> {
     Closed(u64),
     /// The core's occupancy word changed between the look and the claim. This is the word that was found.
     Lost(u64),
+}
+
+impl<C> Claimed<C> {
+    /// The place, or none where the core has none. Nothing where the claim was lost, and is to be made again.
+    #[inline(always)]
+    pub fn settled(self) -> Option<Option<C>>
+        ensures { result ≡ settled_claim self }
+    {
+        match self {
+            Claimed::Place(claim) => Some(Some(claim)),
+            Claimed::Full(_) | Claimed::Closed(_) => Some(None),
+            Claimed::Lost(_) => None,
+        }
+    }
 }
 
 /// What came of a take.
@@ -46,6 +62,20 @@ pub enum Woken {
     Gone,
     /// The mark word changed between the look and the wake. This is the word that was found.
     Lost(u64),
+}
+
+impl Woken {
+    /// Whether the thread was woken by this. Nothing where the wake was lost, and is to be made again.
+    #[inline(always)]
+    pub fn settled(self) -> Option<bool>
+        ensures { result ≡ settled_wake self }
+    {
+        match self {
+            Woken::Woken => Some(true),
+            Woken::Already(_) | Woken::Gone => Some(false),
+            Woken::Lost(_) => None,
+        }
+    }
 }
 
 /// What came of a move.

@@ -1,8 +1,9 @@
 //! The calls of a table.
-ghost use Rattle.std.specs.Prelude.{◌≡◌, ◌≢◌, ◌*◌, ◌<◌, List, [], ◌∷◌, IfOk, IfErr};
+ghost use Rattle.std.specs.Prelude.{◌≡◌, ◌≢◌, ℕ, ◌*◌, ◌<◌, List, [], ◌∷◌, IfOk, IfErr};
 ghost use Rattle.arachne_core.specs.Occupancy.{IsOccupancyWord};
 ghost use Rattle.arachne_core.specs.Marked.{IsMarkWord};
-ghost use Rattle.arachne_contexts.specs.Answers.{ClaimsOn, ClaimsWhole, TakesAt, RestsAs, WakesAs, MovesAs, IsByContext};
+ghost use Rattle.arachne_core.specs.declared.thread_id.ThreadId.{ThreadId};
+ghost use Rattle.arachne_contexts.specs.Answers.{ClaimsOn, ClaimsWhole, TakesAt, RestsAs, WakesAs, MovesAs, IsByContext, tagged_threads};
 ghost use Rattle.arachne_contexts.specs.Out.{Out, Claim as a_claim, Thread as a_thread, HasOut, KeepsOut, GetsClaim, GetsThread, Spends};
 ghost use Rattle.arachne_weights.specs.Weight.{whole};
 
@@ -25,6 +26,10 @@ pub trait Contexts<T: Tagged>: Seats {
 
     /// What is out with the seat, in any order: what it has claimed or taken and not spent.
     ghost has: { Self → Self.Seat → List (Out Self.Claim Self.Hold) → Type 0 };
+
+    /// By all that the seat has seen, each thread that was posted has ended or is one of these, each once, by its id and
+    /// its tag. Of a form whose seats don't know what was posted it says nothing.
+    ghost settles: { Self → Self.Seat → List (ThreadId × ℕ) → Type 0 };
 
     /// The occupancy word of a core, looked at with no seat. It tells nothing, and is for a choice alone.
     fn glance<R: Wait>(&self, rt: &R, core: u8) -> u64
@@ -202,7 +207,7 @@ pub trait Contexts<T: Tagged>: Seats {
         ensures out { KeepsOut (has self.now) seat.old seat.new }
         ensures answer { MovesAs (Self.slot_count self.now) result };
 
-    /// What was posted and not finished, by context. The seat is whole, and nothing claimed or taken is out. Table and
+    /// What was posted and not finished, each thread once, by context. The seat is whole, and nothing claimed or taken is out. Table and
     /// seat come back where memory is refused.
     fn close<R: Wait>(
         self,
@@ -213,6 +218,7 @@ pub trait Contexts<T: Tagged>: Seats {
         requires seat { Self.sits self seat }
         requires all { Self.weight seat ≡ whole }
         requires idle { Self.idle self seat }
+        ensures settled { IfOk result (λ rest. settles self seat (tagged_threads T.tag_of rest.items)) }
         ensures order { IfOk result (λ rest. IsByContext rest.items) }
         ensures handed_back { IfErr result (λ back. Self.sits back.0 back.1) }
         ensures weight { IfErr result (λ back. Self.weight back.1 ≡ Self.weight seat) }

@@ -18,7 +18,9 @@ use arachne_contexts::{Claimed, Contexts, Held, Moved, Placed, Rested, Taken, Wo
 use arachne_core::{MarkWord, OccWord, Place, Rest, ThreadId};
 use arachne_jobs::{Openings, RunJob, RunSpares, RunThread, RunTicket};
 use arachne_spill::SpillPass;
-use arachne_workers::{Desk, Event, Grip, Halt, Post, Stop, Ticket, keeps_place, may_take_ticket};
+use arachne_workers::{
+    Desk, Drained, Event, Grip, Halt, Post, Stop, Ticket, keeps_place, may_take_ticket,
+};
 use rand_core::Rng;
 use std::alloc::Global;
 use std::marker::Model;
@@ -385,9 +387,8 @@ impl<'a, H: Wait + Clock, T: RunJob, C: Contexts<T>, R: Rng + Drop, G: Gate> Des
         }
     }
 
-    fn is_drained(&mut self) -> bool {
-        let table = &self.machine.table;
-        table.is_drained(self.rt, &mut self.seat, self.core)
+    fn is_drained(&mut self) -> Option<Drained> {
+        Drained::shown_by(self.look())
     }
 
     fn begins(&self, nth: u64) {

@@ -3,6 +3,7 @@
 //! The worker's loop stands on this trait, and not on tables and jobs.
 ghost use Rattle.std.specs.Prelude.{◌≡◌, ◌≤◌, OnOk};
 
+use crate::drained::Drained;
 use crate::policy;
 use crate::queue::Post;
 use arachne_arbiter::Pace;
@@ -95,8 +96,8 @@ pub trait Desk {
     /// for a place. It sleeps for shorter times, and doesn't park.
     fn is_waited_for(&self) -> bool;
 
-    /// Whether the core is closed and nothing is left on it.
-    fn is_drained(&mut self) -> bool
+    /// That the core is closed and nothing is left on it, if its word shows that.
+    fn is_drained(&mut self) -> Option<Drained>
         ensures { self.new ≡ self.old };
 
     /// A slice of the thread in hand begins, the worker's of this number.
@@ -222,10 +223,8 @@ pub(crate) fn wake<H: Wait, D: Desk>(rt: &H, desk: &mut D, id: ThreadId) -> bool
     ensures { desk.new ≡ desk.old }
 {
     for _ in rt.forever() {
-        match desk.try_wake(id) {
-            Woken::Lost(_) => {}
-            Woken::Woken => return true,
-            Woken::Already(_) | Woken::Gone => return false,
+        if let Some(was_woken) = desk.try_wake(id).settled() {
+            return was_woken;
         }
     }
     unreachable!()

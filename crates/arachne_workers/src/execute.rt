@@ -1,10 +1,11 @@
 //! A slice of a thread, and its end.
-ghost use Rattle.std.specs.Prelude.{◌≡◌};
+ghost use Rattle.std.specs.Prelude.{◌≡◌, ◌≤◌, IfOk};
 
 use crate::desk::{Cause, Desk, Event, Halt, SliceEnd, Stop, thin_out};
 use crate::policy;
 use crate::queue::Agenda;
-use crate::sleep::Shared;
+use crate::sleep::{Shared, Sliced};
+use crate::tending::Tended;
 use crate::wake::{posted, tell};
 use arachne_arbiter::Pace;
 use arachne_core::Rest;
@@ -29,27 +30,28 @@ pub struct Worker<'a, H, D> {
 impl<'a, H: Wait + Clock, D: Desk> Worker<'a, H, D> {
     /// The thread in hand, which was at this index, has a slice, and more as long as others may come to wait for what it
     /// holds or nothing else is to go on. Then it rests, or has ended. Whether it waits.
-    pub(crate) fn turn(&mut self, index: u8) -> Result<bool, Halt>
+    pub(crate) fn turn(&mut self, index: u8, tended: Tended) -> Result<bool, Halt>
         ensures { self.new.desk ≡ self.old.desk }
     {
         let quantum = self.desk.quantum();
+        let mut tended = tended;
         let mut most = quantum;
         let mut grace = policy::STEPS_TO_FREE;
         for _ in 0..policy::MOST_ALONE {
-            let end = self.slice(most)?;
+            let end = self.slice(most, tended)?;
             if end == SliceEnd::Ended {
                 self.end()?;
                 return Ok(false);
             }
-            if end != SliceEnd::GoesOn || !self.goes_on() || self.desk.holds() && grace == 0 {
+            let holds = self.desk.holds();
+            if end != SliceEnd::GoesOn || !self.goes_on() || holds && grace == 0 {
                 break;
             }
-            most = quantum;
-            if self.desk.holds() {
-                most = most.min(grace);
+            most = policy::most_steps(quantum, holds, grace);
+            if holds {
                 grace -= most;
             }
-            self.tend();
+            tended = self.tend();
         }
         let rest = self.desk.rest()?;
         if rest == Rest::Ready {
@@ -68,25 +70,27 @@ impl<'a, H: Wait + Clock, D: Desk> Worker<'a, H, D> {
         if others && !holds || self.shared.is_stopped() {
             return false;
         }
-        !self.desk.look().is_closed() && (holds || !self.desk.may_take_ticket())
+        let takes_ticket = !holds && self.desk.may_take_ticket();
+        policy::may_go_on(self.desk.look(), holds, others, takes_ticket)
     }
 
-    /// One slice of the thread in hand: it goes on for at most so many steps.
-    fn slice(&mut self, most: u32) -> Result<SliceEnd, Halt>
+    /// One slice of the thread in hand, before which orders were looked at: it goes on for at most so many steps.
+    fn slice(&mut self, most: u32, tended: Tended) -> Result<SliceEnd, Halt>
         ensures { self.new.desk ≡ self.old.desk }
     {
+        let _ = tended;
         self.desk.begins(self.slices);
         self.slices = self.slices.saturating_add(1);
-        let (steps, end) = self.spend_quantum(most)?;
-        self.desk.told(Event::Sliced(steps, end));
-        self.shared.count_slice(self.core);
-        Ok(end)
+        let sliced = self.spend_quantum(most)?;
+        self.desk.told(Event::Sliced(sliced.steps(), sliced.end()));
+        Ok(self.shared.count_slice(self.core, sliced))
     }
 
     /// The steps of a slice of at most so many, how many they are, and how it ends. Where all are used up, all that the
     /// worker posted is told of.
-    fn spend_quantum(&mut self, quantum: u32) -> Result<(u32, SliceEnd), Halt>
-        ensures { self.new.desk ≡ self.old.desk }
+    fn spend_quantum(&mut self, quantum: u32) -> Result<Sliced, Halt>
+        ensures desk { self.new.desk ≡ self.old.desk }
+        ensures steps { IfOk result (λ sliced. sliced.steps ≤ quantum) }
     {
         self.agenda.begin_slice();
         let mut left = quantum;
@@ -110,9 +114,9 @@ impl<'a, H: Wait + Clock, D: Desk> Worker<'a, H, D> {
                     posted(&mut self.agenda, self.shared, self.core, post);
                 }
                 Stop::Spilled => self.desk.told(Event::Spilled),
-                Stop::Ends => return Ok((made, SliceEnd::Ended)),
-                Stop::Blocks => return Ok((made, SliceEnd::AwaitsChild)),
-                Stop::Waits(number) => return Ok((made, SliceEnd::Awaits(number))),
+                Stop::Ends => return Ok(Sliced::new(made, SliceEnd::Ended)),
+                Stop::Blocks => return Ok(Sliced::new(made, SliceEnd::AwaitsChild)),
+                Stop::Waits(number) => return Ok(Sliced::new(made, SliceEnd::Awaits(number))),
                 Stop::Wakes(next) => {
                     self.wake(next, Cause::IsServed);
                     if self.agenda.has_next() {
@@ -123,7 +127,7 @@ impl<'a, H: Wait + Clock, D: Desk> Worker<'a, H, D> {
             }
         }
         tell(&mut self.agenda, self.shared);
-        Ok((made, SliceEnd::GoesOn))
+        Ok(Sliced::new(made, SliceEnd::GoesOn))
     }
 
     /// Ends the thread in hand. Its place is kept or told of as free before whoever awaits it is woken. Then places that
@@ -138,31 +142,5 @@ impl<'a, H: Wait + Clock, D: Desk> Worker<'a, H, D> {
             self.wake(parent, Cause::ChildEnded);
         }
         thin_out(&mut self.desk, self.slots)
-    }
-
-    /// Where there are orders, the worker that has the arbiter applies those that are due, and moves threads away from a
-    /// closed core.
-    #[inline(always)]
-    pub fn tend(&mut self)
-        ensures { self.new.desk ≡ self.old.desk }
-    {
-        if self.desk.has_orders() {
-            self.apply_orders();
-        }
-    }
-
-    fn apply_orders(&mut self)
-        ensures { self.new.desk ≡ self.old.desk }
-    {
-        let (applied, receivers) = self.desk.tend();
-        if let Some(applied) = applied {
-            self.desk.told(Event::Applied(applied));
-            // A worker whose core is closed now may sleep, and is to look.
-            self.shared.hint_cores(u64::MAX);
-        }
-        if receivers != 0 {
-            self.shared.hint_cores(receivers);
-            self.desk.told(Event::MovedAway(receivers));
-        }
     }
 }

@@ -90,13 +90,16 @@ impl<'a, H: Wait + Clock, D: Desk> Worker<'a, H, D> {
         }
         give_all_back(&mut self.desk)?;
         tell(&mut self.agenda, self.shared);
-        let drained = !self.desk.is_waited_for() && self.desk.is_drained();
-        if drained {
-            self.desk.told(Event::Parks);
-            self.shared.park(self.rt, self.core);
-            self.desk.told(Event::Unparked);
+        if self.desk.is_waited_for() {
+            return Ok(false);
         }
-        Ok(drained)
+        let Some(drained) = self.desk.is_drained() else {
+            return Ok(false);
+        };
+        self.desk.told(Event::Parks);
+        self.shared.park(self.rt, self.core, drained);
+        self.desk.told(Event::Unparked);
+        Ok(true)
     }
 
     /// Runs each thread that is ready at the indexes of the scan, upwards, unless all workers stop. Whether there was
@@ -131,12 +134,12 @@ impl<'a, H: Wait + Clock, D: Desk> Worker<'a, H, D> {
             if self.shared.is_stopped() {
                 break;
             }
-            self.tend();
+            let tended = self.tend();
             let mut waits = false;
             match self.desk.take(index) {
                 Grip::Taken => {
                     found = true;
-                    waits = self.turn(index)?;
+                    waits = self.turn(index, tended)?;
                 }
                 Grip::None => {}
                 Grip::Lost => self.agenda.note(index),

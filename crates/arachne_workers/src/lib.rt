@@ -3,19 +3,23 @@
 #![tactic(auto)]
 
 mod desk;
+mod drained;
 mod execute;
 mod find;
 mod hints;
 mod policy;
 mod queue;
 mod sleep;
+mod tending;
 mod waiting;
 mod wake;
 
 pub use desk::{Cause, Desk, Event, Grip, Halt, SliceEnd, Stop, Ticket, give_all_back};
+pub use drained::Drained;
 pub use execute::Worker;
 pub use hints::Hints;
 pub use policy::{keeps_place, may_keep_places, may_take_ticket};
 pub use queue::{Agenda, Post};
 pub use sleep::Shared;
+pub use tending::Tended;
 pub use waiting::stand_by;

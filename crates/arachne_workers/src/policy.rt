@@ -2,7 +2,7 @@
 //!
 //! Pure functions: what they answer changes when and where threads run, and how fast, and never what a run means. The
 //! contract of each says its exact answer, so no test of its own is needed.
-ghost use Rattle.std.specs.Prelude.{◌≡◌, ◌≤◌, ◌<◌, ◌+◌, ◌-◌, ◌*◌, ◌↔◌, ◌⊎◌, false, if◌then◌else◌, IsTrue};
+ghost use Rattle.std.specs.Prelude.{◌≡◌, ◌≤◌, ◌<◌, ◌+◌, ◌-◌, ◌*◌, ◌↔◌, ◌⊎◌, false, true, if◌then◌else◌, min, IsTrue};
 ghost use Rattle.arachne_core.specs.Occupancy.{count_of};
 ghost use Rattle.arachne_workers.specs.declared.policy.TheConstants.{TOLD_AT_ONCE, LAST_SPIN, LAST_SPIN_ALONE, LAST_YIELD, SHORT_SLEEP, LONG_SLEEP};
 
@@ -71,6 +71,22 @@ pub fn may_take_ticket(now: OccWord, kept: usize, slots: u8) -> bool
     ensures { IsTrue result ↔ (now.closed ≡ false) × (now.exclusive ≡ false) × ((0 < kept) ⊎ (count_of now.occupied < slots)) }
 {
     !now.is_closed() && !now.is_exclusive() && (kept > 0 || now.count() < slots)
+}
+
+/// Whether the thread in hand has another slice at once, on a core that looks so: the core is open, and the thread holds
+/// what others may come to wait for, or no other is known to be ready and no ticket could be taken.
+pub(crate) fn may_go_on(now: OccWord, holds: bool, others: bool, takes_ticket: bool) -> bool
+    ensures { IsTrue result ↔ (now.closed ≡ false) × ((holds ≡ true) ⊎ ((others ≡ false) × (takes_ticket ≡ false))) }
+{
+    !now.is_closed() && (holds || !others && !takes_ticket)
+}
+
+/// The most steps of a slice that a thread has at once after another: a quantum, and where it holds what others may come
+/// to wait for no more than so many.
+pub(crate) fn most_steps(quantum: u32, holds: bool, left: u32) -> u32
+    ensures { result ≡ (if holds then min quantum left else quantum) }
+{
+    if holds { quantum.min(left) } else { quantum }
 }
 
 /// Up to this round a worker that finds nothing spins, twice as long in each.

@@ -2,7 +2,8 @@
 //! other cores.
 //!
 //! Plain data: it touches no word that another worker sees.
-ghost use Rattle.std.specs.Prelude.{◌≤◌};
+ghost use Rattle.std.specs.Prelude.{◌≡◌, ◌≤◌, MatchOption};
+ghost use Rattle.arachne_workers.specs.Lowest.{IsLowest};
 
 use crate::hints::bit_of;
 use crate::policy;
@@ -74,7 +75,9 @@ impl Agenda {
     }
 
     /// The lowest index that is left of the scan, and is left no longer.
-    pub(crate) fn next_index(&mut self) -> Option<u8> {
+    pub(crate) fn next_index(&mut self) -> Option<u8>
+        ensures { MatchOption result (self.old.scan ≡ 0) (IsLowest self.old.scan) }
+    {
         if self.scan == 0 {
             return None;
         }

@@ -2,6 +2,8 @@
 ghost use Rattle.std.specs.Prelude.{◌≡◌, IfOk};
 ghost use Rattle.arachne_arbiter.specs.KernelThreads.{counted_cores, parked_cores};
 
+use crate::desk::SliceEnd;
+use crate::drained::Drained;
 use crate::hints::{Hints, SLEEPS, bit_of};
 use arachne_arbiter::{Parking, SliceCounts};
 use arachne_core::{CORES, FULL_MASK, Place};
@@ -10,6 +12,34 @@ use std::marker::Model;
 use std::sync::Wait;
 use std::sync::atomic::{AtomicU64, Ordering};
 use std::time::Duration;
+
+/// A slice that was made: of how many steps, and how it has ended. It can't be dropped, so that each is counted, and
+/// there is none before its steps are made.
+pub(crate) struct Sliced {
+    steps: u32,
+    end: SliceEnd,
+}
+
+impl Sliced {
+    #[inline(always)]
+    pub(crate) fn new(steps: u32, end: SliceEnd) -> Sliced
+        ensures { result ≡ record { steps = steps; end = end } }
+    {
+        Sliced { steps, end }
+    }
+
+    pub(crate) fn steps(&self) -> u32
+        ensures { result ≡ self.now.steps }
+    {
+        self.steps
+    }
+
+    pub(crate) fn end(&self) -> SliceEnd
+        ensures { result ≡ self.now.end }
+    {
+        self.end
+    }
+}
 
 /// The word that stops all workers, the hints, on whose words they sleep, the counts of their slices and their parkers.
 #[derive(Drop)]
@@ -67,10 +97,14 @@ impl Shared {
     }
 
     /// A slice has ended on a core. Called by the core's kernel thread alone.
-    pub fn count_slice(&self, core: u8) {
+    pub(crate) fn count_slice(&self, core: u8, sliced: Sliced) -> SliceEnd
+        ensures { result ≡ sliced.end }
+    {
         if usize::from(core) < self.hints.cores() {
             self.slices.count(core);
         }
+        let Sliced { steps: _, end } = sliced;
+        end
     }
 
     /// The thread at a place may be ready. The core's worker is woken if it sleeps.
@@ -110,8 +144,9 @@ impl Shared {
         self.stop.load(Ordering::SeqCst) != 0
     }
 
-    /// Parks the kernel thread of a core, until it is unparked. Called by that kernel thread alone.
-    pub fn park<H: Wait>(&self, rt: &H, core: u8) {
+    /// Parks the kernel thread of a core that was seen drained, until it is unparked. Called by that kernel thread alone.
+    pub(crate) fn park<H: Wait>(&self, rt: &H, core: u8, drained: Drained) {
+        let _ = drained;
         if usize::from(core) < self.hints.cores() {
             self.parking.park(rt, core);
         }
