@@ -1,14 +1,21 @@
 -- What the steps of a job keep, of its results and of the children that it awaits.
-use Rattle.std.specs.Prelude.{List, [], ◌∷◌, Option, None, Some}
+use Rattle.std.specs.Prelude.{ℕ, List, [], ◌∷◌, Option, None, Some}
 use Rattle.arachne_core.specs.declared.thread_id.ThreadId.{ThreadId}
 use Rattle.arachne_pool.specs.declared.job.Step.{Step}
 use Rattle.arachne_pool.specs.declared.job.Step.TheVariants.{Again, Waits, Forks, Done}
 
--- a job in a pool: as it is now, as it was spawned, and the id under which its parent runs, if it is to be woken
+-- a job in a pool: its tag, as it is now, as it was spawned, the id under which its parent runs, if it is to be woken,
+-- and how many jobs it is that have not ended, with those that run or wait in its place
 pub record Being (Job : Type 0) : Type 0 where
+  pub tag : ℕ
   pub job : Job
   pub asked : Job
   pub parent : Option ThreadId
+  pub many : ℕ
+
+-- a job that has made no step, alone
+abbrev pub one : {Job : Type 0} → ℕ → Job → Option ThreadId → Being Job
+one tag job parent = record { tag = tag; job = job; asked = job; parent = parent; many = 1 }
 
 module _ {Job : Type 0} where
   -- the children that are awaited: one that has no cell yet, and those that have one

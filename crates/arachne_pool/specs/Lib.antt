@@ -1,5 +1,6 @@
 pub mod Jobs
-pub mod Stops
+pub mod Children
+pub mod Frames
 pub mod Grounds
 pub mod Workers
 pub mod Leftover

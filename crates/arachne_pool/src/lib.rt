@@ -4,16 +4,19 @@
 //! children, waits for their results, and ends with a result, which its handle gives to whoever spawned it.
 #![tactic(auto)]
 
+mod bench;
 mod calls;
 mod closing;
-mod desk;
 mod handle;
 mod job;
 mod links;
+mod live;
 mod outcome;
+mod place;
 mod pool;
-mod round;
+mod seat;
 mod spawned;
+mod stack;
 mod stop;
 mod tally;
 mod worker;
@@ -24,5 +27,6 @@ pub use job::{PoolJob, Step};
 pub use outcome::{Outcome, Wanted};
 pub use pool::Pool;
 pub use spawned::Spawned;
+pub use stack::Jobs;
 pub use tally::Tally;
 pub use worker::{PoolFault, Worker};

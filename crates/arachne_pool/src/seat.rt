@@ -1,0 +1,344 @@
+//! A worker's seat at the table of a pool, and what is out with it: the job in hand, and nothing else between two calls.
+ghost use Rattle.std.specs.Prelude.{◌≡◌, ◌<◌};
+
+use crate::bench::Bench;
+use crate::job::PoolJob;
+use crate::place::{Disowned, claim, place_oldest, post};
+use crate::pool::Pool;
+use crate::spawned::Spawned;
+use crate::stop::Stop as JobStop;
+use crate::worker::PoolFault;
+use arachne_arbiter::Pace;
+use arachne_contexts::{Contexts, Held, Moved, Rested, Taken, Woken};
+use arachne_core::{MarkWord, OccWord, Place, Rest, ThreadId};
+use arachne_workers::{Desk, Event, Grip, Halt, Post, Stop, Ticket};
+use std::marker::Model;
+use std::sync::Wait;
+
+/// Which call of the pool a worker is in.
+#[derive(Clone, Copy, Debug, PartialEq, Eq)]
+pub(crate) enum Call {
+    /// One round, in which each job has one slice. It doesn't wait.
+    Turn,
+    /// Until no job lives. It parks where its core is closed.
+    Work,
+    /// Until a job has ended, of which nobody tells it.
+    Join,
+}
+
+/// What a worker has at the table. Contracts see what it is a seat at: its invariant says what is out with it.
+#[derive(Drop)]
+pub(crate) struct Seat<'a, H, J: PoolJob, C: Contexts<Spawned<J>>> {
+    pub(crate) rt: &'a H,
+    pub(crate) pool: &'a Pool<C>,
+    pub(crate) core: u8,
+    pub(crate) call: Call,
+    /// Something else may be out with the seat, since the table has not known a token. The worker is at its end then.
+    pub(crate) is_broken: bool,
+    pub(crate) seat: C::Seat,
+    pub(crate) held: Option<Held<Spawned<J>, C::Hold>>,
+    /// The job in hand awaits a child.
+    pub(crate) blocks: bool,
+    /// The core was seen to be closed and empty.
+    pub(crate) is_drained: bool,
+    pub(crate) bench: Bench<J>,
+}
+
+impl<'a, H, J: PoolJob, C: Contexts<Spawned<J>>> Model for Seat<'a, H, J, C> {
+    ghost use Rattle.std.specs.Prelude.{◌≡◌, ◌<◌, false};
+    ghost use Rattle.arachne_pool.specs.Grounds.{Ground, ground, in_hand};
+    ghost use Rattle.arachne_pool.specs.Workers.{IsArbiterFor};
+
+    ghost Value = { Ground C };
+
+    ghost view = { λ s. ground s.pool.now.table s.pool.now.cores };
+
+    ghost invariant = { λ s. (s.core < s.pool.now.cores) × C.sits s.pool.now.table s.seat × IsArbiterFor s.pool.now.cores s.bench.arbiter
+        × (s.is_broken ≡ false → C.has s.pool.now.table s.seat (in_hand (λ job. job.tag) s.held)) };
+}
+
+impl<'a, H: Wait, J: PoolJob, C: Contexts<Spawned<J>>> Desk for Seat<'a, H, J, C> {
+    #[inline(always)]
+    fn take(&mut self, index: u8) -> Grip {
+        if index >= self.pool.slots || self.held.is_some() || self.is_broken {
+            return Grip::None;
+        }
+        let table = &self.pool.table;
+        match table.take(self.rt, &mut self.seat, self.core, index) {
+            Taken::Run(held) => {
+                self.held = Some(held);
+                Grip::Taken
+            }
+            Taken::NotReady(_) => Grip::None,
+            Taken::Lost(_) => Grip::Lost,
+        }
+    }
+
+    fn quantum(&self) -> u32 {
+        match &self.held {
+            Some(held) => held.value.bound().max(1),
+            None => 1,
+        }
+    }
+
+    #[inline(always)]
+    fn advance(&mut self, _pace: &mut Pace, left: &mut u32) -> Result<Stop, Halt> {
+        let Some(held) = &mut self.held else {
+            return Err(Halt::from(PoolFault::Token));
+        };
+        let may_post = self.pool.has_room();
+        let bench = &mut self.bench;
+        let stop = held
+            .value
+            .slice(&mut bench.cells, &mut bench.tally, left, may_post);
+        let posts = may_post && held.value.has_aside();
+        self.blocks = stop == JobStop::Waits;
+        self.pool.live.add(self.core, self.bench.news());
+        match stop {
+            JobStop::Ends => Ok(Stop::Ends),
+            JobStop::Waits => Ok(Stop::Blocks),
+            JobStop::Goes | JobStop::Forks if posts => self.post_oldest(),
+            JobStop::Goes | JobStop::Forks => Ok(Stop::Goes),
+            JobStop::LetsGo => {
+                self.let_go();
+                Ok(Stop::Goes)
+            }
+            JobStop::Short => {
+                // The next slice tries again.
+                *left = 0;
+                self.bench.is_short = true;
+                Ok(Stop::Goes)
+            }
+        }
+    }
+
+    #[inline(always)]
+    fn holds(&self) -> bool {
+        false
+    }
+
+    #[inline(always)]
+    fn rest(&mut self) -> Result<Rest, Halt> {
+        if self.is_broken {
+            return Err(Halt::from(PoolFault::Token));
+        }
+        let Some(held) = self.held.take() else {
+            return Err(Halt::from(PoolFault::Token));
+        };
+        let rest = if self.blocks {
+            Rest::Blocked
+        } else {
+            Rest::Ready
+        };
+        let table = &self.pool.table;
+        match table.put_back(self.rt, &mut self.seat, held, rest) {
+            Ok(Rested::AsAsked) => Ok(rest),
+            Ok(Rested::WokenMeanwhile) => Ok(Rest::Ready),
+            Err(held) => {
+                self.held = Some(held);
+                Err(Halt::from(PoolFault::Token))
+            }
+        }
+    }
+
+    #[inline(always)]
+    fn end(&mut self) -> Result<Option<ThreadId>, Halt> {
+        if self.is_broken {
+            return Err(Halt::from(PoolFault::Token));
+        }
+        let Some(held) = self.held.take() else {
+            return Err(Halt::from(PoolFault::Token));
+        };
+        self.bench.has_ended = true;
+        let table = &self.pool.table;
+        match table.finish(self.rt, &mut self.seat, held) {
+            Ok(job) => {
+                self.pool.room_was_seen();
+                Ok(job.leave())
+            }
+            Err(held) => {
+                self.is_broken = true;
+                held.value.leave();
+                Err(Halt::from(PoolFault::Token))
+            }
+        }
+    }
+
+    fn keep_place(&mut self, _before: OccWord) -> Result<(), Halt> {
+        Ok(())
+    }
+
+    fn kept(&self) -> usize {
+        0
+    }
+
+    fn give_one_back(&mut self) -> Result<bool, Halt> {
+        Ok(false)
+    }
+
+    #[inline(always)]
+    fn look(&mut self) -> OccWord {
+        let table = &self.pool.table;
+        let word = table.look(self.rt, &mut self.seat, self.core);
+        let Some(now) = OccWord::from_word(word) else {
+            unreachable!()
+        };
+        if !now.is_closed() && !now.is_exclusive() && now.count() < self.pool.slots {
+            self.pool.room_was_seen();
+        }
+        now
+    }
+
+    fn mark_of(&mut self, context: u32) -> Option<MarkWord> {
+        if context >= u32::from(self.pool.cores) * u32::from(self.pool.slots) {
+            return None;
+        }
+        let table = &self.pool.table;
+        let word = table.look_mark(self.rt, &mut self.seat, context);
+        MarkWord::from_word(word)
+    }
+
+    fn try_wake(&mut self, id: ThreadId) -> Woken {
+        let table = &self.pool.table;
+        table.wake(self.rt, &mut self.seat, id)
+    }
+
+    fn pull(&mut self, place: Place) -> bool {
+        if self.pool.has_exclusive()
+            || place.core == self.core
+            || place.core >= self.pool.cores
+            || place.index >= self.pool.slots
+        {
+            return false;
+        }
+        let table = &self.pool.table;
+        matches!(
+            table.move_one(self.rt, &mut self.seat, place, self.core),
+            Moved::Moved
+        )
+    }
+
+    #[inline(always)]
+    fn may_take_ticket(&mut self) -> bool {
+        if self.held.is_some() && (self.call == Call::Turn || self.bench.is_short) {
+            // It has had its slice: others are to go on.
+            return true;
+        }
+        !self.bench.near.is_empty() && self.pool.has_room()
+    }
+
+    fn take_ticket(&mut self) -> Result<Ticket, Halt> {
+        if self.is_broken {
+            return Err(Halt::from(PoolFault::Token));
+        }
+        self.is_broken = true;
+        let posted = place_oldest::<H, J, C>(self.rt, self.pool, &mut self.seat, &mut self.bench)?;
+        self.is_broken = false;
+        Ok(match posted {
+            Some(post) => Ticket::Posted(post),
+            None => Ticket::None,
+        })
+    }
+
+    fn tend(&mut self) -> (Option<usize>, u64) {
+        let pool = self.pool;
+        let Some(arbiter) = &mut self.bench.arbiter else {
+            return (None, 0);
+        };
+        let before = arbiter.applied();
+        let cores = pool.cores::<H, Spawned<J>>(self.rt);
+        let shared = &pool.shared;
+        let receivers = arbiter.tend(&cores, &mut self.seat, shared.parking(), shared.slices());
+        let after = arbiter.applied();
+        let applied = if after != before { Some(after) } else { None };
+        (applied, receivers)
+    }
+
+    #[inline(always)]
+    fn has_orders(&self) -> bool {
+        self.bench.orders != 0
+    }
+
+    fn is_waited_for(&self) -> bool {
+        if self.call != Call::Work || !self.bench.near.is_empty() {
+            return true;
+        }
+        match &self.bench.arbiter {
+            Some(arbiter) => arbiter.applied() < self.bench.orders,
+            None => false,
+        }
+    }
+
+    fn is_drained(&mut self) -> bool {
+        let table = &self.pool.table;
+        self.is_drained = table.is_drained(self.rt, &mut self.seat, self.core);
+        self.is_drained
+    }
+
+    fn begins(&self, _nth: u64) {}
+
+    fn told(&self, _event: Event) {}
+}
+
+impl<'a, H: Wait, J: PoolJob, C: Contexts<Spawned<J>>> Seat<'a, H, J, C> {
+    /// The oldest child that waits with the job in hand gets a place, if there is one and memory is not refused.
+    fn post_oldest(&mut self) -> Result<Stop, Halt>
+        ensures { self.new ≡ self.old }
+    {
+        if self.is_broken {
+            return Err(Halt::from(PoolFault::Token));
+        }
+        let Some(held) = &mut self.held else {
+            return Err(Halt::from(PoolFault::Token));
+        };
+        self.is_broken = true;
+        let (rt, pool, bench) = (self.rt, self.pool, &mut self.bench);
+        let is_exclusive = held.value.is_oldest_exclusive();
+        let claim = claim::<H, J, C>(rt, pool, &mut self.seat, &mut bench.chooser, is_exclusive);
+        let Some(claim) = claim else {
+            self.is_broken = false;
+            return Ok(Stop::Goes);
+        };
+        let me = held.id();
+        let child = held.value.part_oldest(bench.alloc, &mut bench.cells, me);
+        let Some(child) = child else {
+            bench.is_short = true;
+            if pool.table.give_back(rt, &mut self.seat, claim).is_err() {
+                return Err(Halt::from(PoolFault::Token));
+            }
+            self.is_broken = false;
+            return Ok(Stop::Goes);
+        };
+        let posted = post::<H, J, C>(rt, pool, &mut self.seat, claim, child)?;
+        self.is_broken = false;
+        Ok(Stop::Posted(posted))
+    }
+
+    /// The children that the job in hand has not joined, and that it or one in its place has ended without, are let go:
+    /// those that have not begun wait for places of their own.
+    fn let_go(&mut self)
+        ensures { self.new ≡ self.old }
+    {
+        let Some(held) = &mut self.held else {
+            return;
+        };
+        for _ in 0..held.value.orphans() {
+            if self.bench.near.reserve(1).is_err() {
+                self.bench.is_short = true;
+                return;
+            }
+            if let Some(orphan) = held.value.let_go(self.bench.alloc) {
+                match self.bench.near.push_back(orphan) {
+                    Ok(()) => {}
+                    Err(_) => unreachable!(),
+                }
+            }
+        }
+    }
+}
+
+impl From<Disowned> for Halt {
+    fn from(_: Disowned) -> Halt {
+        Halt::from(PoolFault::Token)
+    }
+}
