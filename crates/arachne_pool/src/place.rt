@@ -99,10 +99,8 @@ pub(crate) fn place<H: Wait, J: PoolJob, C: Contexts<Spawned<J>>>(
 {
     let claim = claim::<H, J, C>(rt, pool, seat, &mut bench.chooser, job.is_exclusive());
     let Some(claim) = claim else {
-        return match bench.near.push_back(job) {
-            Ok(()) => Ok(None),
-            Err(_) => unreachable!(),
-        };
+        bench.near.push_back_reserved(job);
+        return Ok(None);
     };
     let post = post::<H, J, C>(rt, pool, seat, claim, job)?;
     Ok(Some(post))

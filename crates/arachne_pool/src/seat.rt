@@ -1,5 +1,5 @@
 //! A worker's seat at the table of a pool, and what is out with it: the job in hand, and nothing else between two calls.
-ghost use Rattle.std.specs.Prelude.{◌≡◌, ◌<◌};
+ghost use Rattle.std.specs.Prelude.{◌≡◌, ◌≤◌};
 
 use crate::bench::Bench;
 use crate::job::PoolJob;
@@ -83,26 +83,17 @@ impl<'a, H: Wait, J: PoolJob, C: Contexts<Spawned<J>>> Desk for Seat<'a, H, J, C
 
     #[inline(always)]
     fn advance(&mut self, _pace: &mut Pace, left: &mut u32) -> Result<Stop, Halt> {
-        let Some(held) = &mut self.held else {
-            return Err(Halt::from(PoolFault::Token));
-        };
-        let may_post = self.pool.has_room();
-        let bench = &mut self.bench;
-        let stop = held
-            .value
-            .slice(&mut bench.cells, &mut bench.tally, left, may_post);
-        let posts = may_post && held.value.has_aside();
+        let mut stop = self.go_on(left);
+        if stop == JobStop::LetsGo && self.let_go() {
+            stop = self.go_on(left);
+        }
         self.blocks = stop == JobStop::Waits;
         self.pool.live.add(self.core, self.bench.news());
         match stop {
             JobStop::Ends => Ok(Stop::Ends),
             JobStop::Waits => Ok(Stop::Blocks),
-            JobStop::Goes | JobStop::Forks if posts => self.post_oldest(),
-            JobStop::Goes | JobStop::Forks => Ok(Stop::Goes),
-            JobStop::LetsGo => {
-                self.let_go();
-                Ok(Stop::Goes)
-            }
+            JobStop::Goes | JobStop::Forks => self.post_oldest(),
+            JobStop::LetsGo => Ok(Stop::Goes),
             JobStop::Short => {
                 // The next slice tries again.
                 *left = 0;
@@ -281,16 +272,34 @@ impl<'a, H: Wait, J: PoolJob, C: Contexts<Spawned<J>>> Desk for Seat<'a, H, J, C
 }
 
 impl<'a, H: Wait, J: PoolJob, C: Contexts<Spawned<J>>> Seat<'a, H, J, C> {
+    /// The job in hand goes on for at most as many steps as are left. Without one it waits.
+    #[inline(always)]
+    fn go_on(&mut self, left: &mut u32) -> JobStop
+        ensures desk { self.new ≡ self.old }
+        ensures left { left.new ≤ left.old }
+    {
+        let Some(held) = &mut self.held else {
+            return JobStop::Waits;
+        };
+        let bench = &mut self.bench;
+        let may_post = self.pool.has_room();
+        held.value
+            .slice(&mut bench.cells, &mut bench.tally, left, may_post)
+    }
+
     /// The oldest child that waits with the job in hand gets a place, if there is one and memory is not refused.
     fn post_oldest(&mut self) -> Result<Stop, Halt>
         ensures { self.new ≡ self.old }
     {
-        if self.is_broken {
-            return Err(Halt::from(PoolFault::Token));
-        }
         let Some(held) = &mut self.held else {
             return Err(Halt::from(PoolFault::Token));
         };
+        if !held.value.has_aside() || !self.pool.has_room() {
+            return Ok(Stop::Goes);
+        }
+        if self.is_broken {
+            return Err(Halt::from(PoolFault::Token));
+        }
         self.is_broken = true;
         let (rt, pool, bench) = (self.rt, self.pool, &mut self.bench);
         let is_exclusive = held.value.is_oldest_exclusive();
@@ -314,26 +323,25 @@ impl<'a, H: Wait, J: PoolJob, C: Contexts<Spawned<J>>> Seat<'a, H, J, C> {
         Ok(Stop::Posted(posted))
     }
 
-    /// The children that the job in hand has not joined, and that it or one in its place has ended without, are let go:
-    /// those that have not begun wait for places of their own.
-    fn let_go(&mut self)
+    /// The children that the job in hand, or one in its place, has ended without are let go: those that have not begun
+    /// wait for places of their own. Whether memory was there.
+    fn let_go(&mut self) -> bool
         ensures { self.new ≡ self.old }
     {
         let Some(held) = &mut self.held else {
-            return;
+            return true;
         };
+        let bench = &mut self.bench;
         for _ in 0..held.value.orphans() {
-            if self.bench.near.reserve(1).is_err() {
-                self.bench.is_short = true;
-                return;
+            if bench.near.reserve(1).is_err() {
+                bench.is_short = true;
+                return false;
             }
-            if let Some(orphan) = held.value.let_go(self.bench.alloc) {
-                match self.bench.near.push_back(orphan) {
-                    Ok(()) => {}
-                    Err(_) => unreachable!(),
-                }
+            if let Some(orphan) = held.value.let_go(bench.alloc) {
+                bench.near.push_back_reserved(orphan);
             }
         }
+        true
     }
 }
 

@@ -144,9 +144,9 @@ impl<J: PoolJob> Stack<J> {
         ensures left { left.new ≤ left.old }
         ensures counts { CountsEach tally.old tally.new self.old.many self.new.many }
     {
-        // Before each step there may be a join.
-        for _ in 0..left.saturating_mul(2) {
-            if *left == 0 {
+        // Before each step there may be a join, and after the last one an end.
+        for _ in 0..left.saturating_mul(2).saturating_add(1) {
+            if *left == 0 && self.ended.is_none() {
                 break;
             }
             match self.go_on(cells, tally, left, may_post) {
