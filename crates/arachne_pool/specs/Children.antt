@@ -15,11 +15,6 @@ module _ {Job : Type 0} where
   abbrev pub LosesAside : Job → Children Job → Children Job → Type 0
   LosesAside child old new = old ≡ with_aside child new
 
-  -- one that had not begun has begun, and all are there still
-  pub record BeginsOne (old new : Children Job) : Type 0 where
-    pub all : new.all ≡ old.all
-    pub fewer : new.aside + 1 ≡ old.aside
-
   -- the newest child is there no longer, and was one of those that have begun
   pub record LosesBegun (old new : Children Job) : Type 0 where
     pub all : new.all ≡ drop 1 old.all

@@ -1,7 +1,7 @@
 //! The children of jobs in one place that were forked and not joined.
-ghost use Rattle.std.specs.Prelude.{◌≡◌, ◌∷◌, ◌<◌, ◌↔◌, [], ℕ, IfErr, IfSome, IsTrue, MatchOption, OnErr, OnOk};
+ghost use Rattle.std.specs.Prelude.{◌≡◌, ◌+◌, ◌∷◌, [], IfErr, IfSome, MatchOption, OnErr, OnOk};
 ghost use Rattle.std.specs.VecDeque.{deque_len};
-ghost use Rattle.arachne_pool.specs.Children.{BeginsOne, LosesAside, LosesBegun, with_aside};
+ghost use Rattle.arachne_pool.specs.Children.{LosesAside, LosesBegun, with_aside};
 
 use crate::job::PoolJob;
 use crate::outcome::{Cells, ResultReceiver, ResultSender, Wanted};
@@ -41,13 +41,6 @@ impl<J: PoolJob> Links<J> {
             begun: Vec::new(alloc),
             aside: VecDeque::new(alloc),
         }
-    }
-
-    /// Whether there is none.
-    pub(crate) fn is_empty(&self) -> bool
-        ensures { IsTrue result ↔ (self.now.all ≡ []) }
-    {
-        self.begun.is_empty() && self.aside.is_empty()
     }
 
     /// How many have not begun.
@@ -103,15 +96,19 @@ impl<J: PoolJob> Links<J> {
         alloc: Global,
         cells: &mut Cells<J>,
     ) -> Option<(J, ResultSender<J>)>
-        ensures parted { MatchOption result (self.new ≡ self.old) (λ _. BeginsOne self.old self.new) }
+        ensures all { self.new.all ≡ self.old.all }
+        ensures aside { MatchOption result (self.new.aside ≡ self.old.aside) (λ parted. self.new.aside + 1 ≡ self.old.aside) }
         ensures child { IfSome result (λ parted. (parted.1.key.job.value ≡ parted.0) × J.awaits parted.0 []) }
     {
         self.begun.try_reserve(1).ok()?;
-        let wanted = Wanted {
-            job: Snapshot::of(self.aside.front()?),
-        };
-        let (receiver, sender) = cells.open(alloc, &wanted).ok()?;
         let child = self.aside.pop_front()?;
+        let wanted = Wanted {
+            job: Snapshot::of(&child),
+        };
+        let Ok((receiver, sender)) = cells.open(alloc, &wanted) else {
+            self.aside.push_front_reserved(child);
+            return None;
+        };
         self.begun.push_reserved(receiver);
         Some((child, sender))
     }

@@ -119,8 +119,10 @@ fn count_left(left: Left<Task>) -> usize {
         count = count.saturating_add(count_in(job));
     }
     let mut near = near;
-    while let Some(job) = near.pop_front() {
-        count = count.saturating_add(count_in(job));
+    for _ in 0..near.len() {
+        if let Some(job) = near.pop_front() {
+            count = count.saturating_add(count_in(job));
+        }
     }
     count
 }
