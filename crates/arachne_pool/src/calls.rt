@@ -166,6 +166,10 @@ impl<C: Seats> Pool<C> {
             pace,
             ..
         } = replace(worker, empty);
+        if bench.core != core && bench.core < self.cores {
+            // What the worker knows of the core that it leaves is told to whoever works there next.
+            self.shared.hint_cores(1 << u32::from(bench.core));
+        }
         bench.core = core;
         Ok(Loop {
             rt,

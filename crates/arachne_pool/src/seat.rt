@@ -225,10 +225,14 @@ impl<'a, H: Wait, J: PoolJob, C: Contexts<Spawned<J>>> Desk for Seat<'a, H, J, C
         self.is_broken = true;
         let posted = place_oldest::<H, J, C>(self.rt, self.pool, &mut self.seat, &mut self.bench)?;
         self.is_broken = false;
-        Ok(match posted {
-            Some(post) => Ticket::Posted(post),
-            None => Ticket::None,
-        })
+        let Some(post) = posted else {
+            return Ok(Ticket::None);
+        };
+        if post.place.core == self.core {
+            return Ok(Ticket::Posted(post));
+        }
+        self.pool.shared.hint(post.place);
+        Ok(Ticket::Gone)
     }
 
     fn tend(&mut self) -> (Option<usize>, u64) {
@@ -320,7 +324,12 @@ impl<'a, H: Wait, J: PoolJob, C: Contexts<Spawned<J>>> Seat<'a, H, J, C> {
         };
         let posted = post::<H, J, C>(rt, pool, &mut self.seat, claim, child)?;
         self.is_broken = false;
-        Ok(Stop::Posted(posted))
+        if posted.place.core == self.core {
+            return Ok(Stop::Posted(posted));
+        }
+        // It is for others to take, so they are told at once.
+        pool.shared.hint(posted.place);
+        Ok(Stop::Goes)
     }
 
     /// The children that the job in hand, or one in its place, has ended without are let go: those that have not begun
