@@ -1,2 +1,3 @@
 mod ClosedFirst
+pub mod Together
 pub mod Crossing

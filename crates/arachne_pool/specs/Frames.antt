@@ -1,5 +1,5 @@
 -- A job and those that run in its place.
-use Rattle.std.specs.Prelude.{◌≡◌, ℕ, ◌+◌, ◌<◌, ◌≤◌, List, [], ◌∷◌, Option, None, Some, IfSome, drop, take}
+use Rattle.std.specs.Prelude.{◌≡◌, ℕ, ◌+◌, ◌-◌, ◌^◌, ◌<◌, ◌≤◌, List, [], ◌∷◌, Option, None, Some, IfSome, drop, take}
 use Rattle.arachne_pool.specs.Jobs.{KeepsResults, children_of}
 use Rattle.arachne_pool.specs.declared.tally.Tally.{Tally}
 
@@ -33,10 +33,10 @@ abbrev pub count_none : {A : Type 0} → Option A → ℕ
 count_none None = 1
 count_none (Some value) = 0
 
--- the first of these as it is now, the newest first, or else the topmost
+-- the first of these as it is now, or else the topmost
 abbrev pub first_job : {Job : Type 0} → List (Framed Job) → Job → Job
 first_job [] top = top
-first_job (frame ∷ rest) top = first_job rest frame.job
+first_job (frame ∷ rest) top = frame.job
 
 module _ {Job Output : Type 0} (is_result : Job → Output → Type 0) (awaits : Job → List Job → Type 0) where
   -- each of these jobs, the newest first, awaits the one above it as its newest child, and behind that the next of the
@@ -61,4 +61,4 @@ module _ {Job Output : Type 0} (is_result : Job → Output → Type 0) (awaits :
 pub record CountsEach (old new : Tally) (before after : ℕ) : Type 0 where
   pub spawned : old.spawned ≤ new.spawned
   pub ended : old.ended ≤ new.ended
-  pub each : new.spawned < u64.MAX → new.ended < u64.MAX → new.spawned + before + old.ended ≡ old.spawned + after + new.ended
+  pub each : new.spawned < 2 ^ 64 - 1 → new.ended < 2 ^ 64 - 1 → new.spawned + before + old.ended ≡ old.spawned + after + new.ended

@@ -74,7 +74,7 @@ impl<J: PoolJob> Model for Stack<J> {
 
     ghost view = { λ s. record {
       asked = s.asked.value;
-      job = first_job (reverse s.below.items) s.top.job;
+      job = first_job s.below.items s.top.job;
       many = count_none s.ended + vec_len s.below + s.links.aside + count_one s.child;
       child = s.child;
       ended = s.ended;
@@ -133,6 +133,7 @@ impl<J: PoolJob> Stack<J> {
 
     /// Goes on for at most as many steps as are left, until a child is forked while one may be posted, the topmost waits
     /// or the first has ended. Each job that begins or ends is counted.
+    #[tactic(auto, using(crate::proofs::Together::counting))]
     pub(crate) fn slice(
         &mut self,
         cells: &mut Cells<J>,

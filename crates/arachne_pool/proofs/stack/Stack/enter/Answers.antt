@@ -1,0 +1,9 @@
+use Rattle.std.proofs.Common.{rules}
+use Rattle.arachne_pool.proofs.Together.{RunTogether-enter}
+use Rattle.arachne_pool.proofs.stack.Stack.enter.Goals as goal
+
+-- the child runs above the job that awaits it
+pub invariant_of-self-2 : goal.invariant_of-self-2
+invariant_of-self-2 g c =
+    RunTogether-enter _ _ _ _ c.replace-frame.result _ _ _ _ c.in-Some-take_newest.child _ _ _ (search rules) (search rules) (search rules) (search rules)
+        (search rules) (search rules) (search rules) (search rules) (search rules) c.self.invariant
