@@ -1,6 +1,5 @@
 -- How jobs that run together go on together.
-use Rattle.std.proofs.Common.{◌≡◌, refl, sym, ℕ, suc, ◌+◌, ◌-◌, ◌^◌, ◌<◌, ◌≤◌, List, [], ◌∷◌, ◌++◌, reverse, length, get_or, take, drop, Option, None, Some, arith, add-one}
-use Rattle.std.proofs.lemmas.List.{reverse-append}
+use Rattle.std.proofs.Common.{◌≡◌, refl, ℕ, suc, ◌+◌, ◌-◌, ◌^◌, ◌<◌, ◌≤◌, List, [], ◌∷◌, length, get_or, take, drop, Option, None, Some, arith, add-one}
 use Rattle.arachne_pool.specs.Frames.{CountsEach, Framed, RunTogether, first_job}
 use Rattle.arachne_pool.specs.declared.tally.Tally.{Tally}
 
@@ -20,11 +19,10 @@ pub CountsEach-none : (tally : Tally) (many : ℕ) → CountsEach tally tally ma
 CountsEach-none tally many = record { spawned = omega arith; ended = omega arith; each = λ s e. omega arith }
 
 pub CountsEach-then : (a b c : Tally) (x y z : ℕ) → CountsEach a b x y → CountsEach b c y z → CountsEach a c x z
-CountsEach-then a b c x y z one two =
-    let (s1, s2) = (one.spawned, two.spawned) in let (e1, e2) = (one.ended, two.ended) in record {
-  spawned = omega (arith, s1, s2);
-  ended = omega (arith, e1, e2);
-  each = λ s e. let first = one.each (omega (arith, s2)) (omega (arith, e2)) in let second = two.each s e in omega (arith, first, second);
+CountsEach-then a b c x y z one two = record {
+  spawned = omega (arith, one.spawned, two.spawned);
+  ended = omega (arith, one.ended, two.ended);
+  each = λ s e. let first = one.each (omega (arith, two.spawned)) (omega (arith, two.ended)) in let second = two.each s e in omega (arith, first, second);
 }
 
 pub ruleset counting = (CountsEach-none, CountsEach-then)
@@ -35,30 +33,29 @@ module _ {Job Output : Type 0} (is_result : Job → Output → Type 0) (awaits :
       (ended : Option Output) (first : Job) → before ≡ Some child → after ≡ None → ended ≡ None → new.asked ≡ top.asked → new.job ≡ top.job
       → new.awaited ≡ top.awaited + 1 → all ≡ child ∷ children
       → RunTogether is_result awaits top below children before ended first → RunTogether is_result awaits new below all after ended first
-  RunTogether-aside top new below children all child before after ended first was none running same_asked same_job one alls together = record {
+  RunTogether-aside top new below children all child before after ended first was gone running same_asked same_job one alls together = record {
     keeps = rw same_asked (rw same_job together.keeps);
     hangs = rw same_asked (rw one (rw alls (rw (drop-first top.awaited child children) together.hangs)));
     awaited = λ e. let old = together.awaited e in let whole = rw was at old in
-        rw same_job (rw none (rw one (rw alls (rw (take-first top.awaited child children) whole))));
-    fresh = rw none tt;
+        rw same_job (rw gone (rw one (rw alls (rw (take-first top.awaited child children) whole))));
+    fresh = rw gone tt;
     result = rw running tt;
   }
 
   -- the newest child begins above the job that awaits it
-  pub RunTogether-enter : (top begun frame : Framed Job) (old new : List (Framed Job)) (children all : List Job) (child : Job)
-      (none : Option Job) (ended : Option Output) (first : Job) → none ≡ None → ended ≡ None
+  pub RunTogether-enter : (top begun frame : Framed Job) (below more : List (Framed Job)) (children all : List Job) (child : Job)
+      (nobody : Option Job) (ended : Option Output) (first : Job) → nobody ≡ None → ended ≡ None
       → begun ≡ record { asked = child; job = child; awaited = 0 } → frame.asked ≡ top.asked → frame.job ≡ top.job
-      → top.awaited ≡ frame.awaited + 1 → new ≡ old ++ frame ∷ [] → all ≡ child ∷ children → awaits child []
-      → RunTogether is_result awaits top (reverse old) all none ended first
-      → RunTogether is_result awaits begun (reverse new) children none ended first
-  RunTogether-enter top begun frame old new children all child none ended first is_none running is_begun same_asked same_job one pushed alls fresh together =
-      let rev : reverse new ≡ frame ∷ reverse old = rw pushed (reverse-append old (frame ∷ [])) in
+      → top.awaited ≡ frame.awaited + 1 → more ≡ frame ∷ below → all ≡ child ∷ children → awaits child []
+      → RunTogether is_result awaits top below all nobody ended first
+      → RunTogether is_result awaits begun more children nobody ended first
+  RunTogether-enter top begun frame below more children all child nobody ended first is_none running is_begun same_asked same_job one pushed alls fresh together =
       let own = together.awaited running in let own = rw is_none at own in let own = rw one at own in let own = rw alls at own in
       let own = rw (take-first frame.awaited child children) at own in
       let hung = together.hangs in let hung = rw one at hung in let hung = rw alls at hung in
       let hung = rw (drop-first frame.awaited child children) at hung in record {
     keeps = rw is_begun (λ output r. r);
-    hangs = rw is_begun (rw rev (rw same_job own, (rw same_asked (rw same_job together.keeps), rw same_asked hung)));
+    hangs = rw is_begun (rw pushed (rw same_job own, rw same_asked (rw same_job together.keeps), rw same_asked hung));
     awaited = λ e. rw is_begun (rw is_none fresh);
     fresh = rw is_none tt;
     result = rw running tt;

@@ -6,7 +6,7 @@ ghost use Rattle.arachne_weights.specs.Weight.{whole};
 use crate::live::Live;
 use arachne_arbiter::Cores;
 use arachne_contexts::Seats;
-use arachne_core::{CORES, SLOTS};
+use arachne_core::{CORES, Place, SLOTS};
 use arachne_workers::Shared;
 use crossbeam_utils::CachePadded;
 use std::alloc::{AllocError, Global};
@@ -87,7 +87,9 @@ impl<C: Seats> Pool<C> {
     /// If no job lives, all workers wake, those that sleep and those that are parked.
     pub(crate) fn tell_if_over(&self) {
         if self.live() == 0 {
-            self.shared.hint_cores(u64::MAX);
+            for core in 0..self.cores {
+                self.shared.hint(Place { core, index: 0 });
+            }
             self.shared.parking().unpark_all();
         }
     }

@@ -1,4 +1,5 @@
-use Rattle.std.proofs.Common.{rules}
+use Rattle.std.proofs.Common.{rules, arith}
+use Rattle.std.proofs.lemmas.Grind.{common_steps}
 use Rattle.arachne_pool.proofs.Together.{RunTogether-enter}
 use Rattle.arachne_pool.proofs.stack.Stack.enter.Goals as goal
 
@@ -6,4 +7,4 @@ use Rattle.arachne_pool.proofs.stack.Stack.enter.Goals as goal
 pub invariant_of-self-2 : goal.invariant_of-self-2
 invariant_of-self-2 g c =
     RunTogether-enter _ _ _ _ c.replace-frame.result _ _ _ _ c.in-Some-take_newest.child _ _ _ (search rules) (search rules) (search rules) (search rules)
-        (search rules) (search rules) (search rules) (search rules) (search rules) c.self.invariant
+        (search rules) (grind arith) (grind (arith, common_steps)) (search rules) (search rules) c.self-inside.invariant
