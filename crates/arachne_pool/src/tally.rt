@@ -22,6 +22,7 @@ impl Tally {
     /// One more is spawned.
     pub(crate) fn count_spawned(&mut self)
         ensures spawned { self.new.spawned ≡ min (self.old.spawned + 1) u64.MAX }
+        ensures grows { self.old.spawned ≤ self.new.spawned }
         ensures ended { self.new.ended ≡ self.old.ended }
     {
         self.spawned = self.spawned.saturating_add(1);
@@ -30,6 +31,7 @@ impl Tally {
     /// One more has ended.
     pub(crate) fn count_ended(&mut self)
         ensures ended { self.new.ended ≡ min (self.old.ended + 1) u64.MAX }
+        ensures grows { self.old.ended ≤ self.new.ended }
         ensures spawned { self.new.spawned ≡ self.old.spawned }
     {
         self.ended = self.ended.saturating_add(1);
