@@ -8,8 +8,8 @@ pub record Ground (Table : Type 0) : Type 0 where
   pub table : Table
   pub cores : ℕ
 
-abbrev pub ground : {Table : Type 0} → Table → ℕ → Ground Table
-ground table cores = record { table = table; cores = cores }
+abbrev pub ground_at : {Table : Type 0} → Table → ℕ → Ground Table
+ground_at table cores = record { table = table; cores = cores }
 
 -- the thread that is held, as the table knows it
 abbrev pub thread_in : {C T H : Type 0} → (T → ℕ) → Held T H → Out C H

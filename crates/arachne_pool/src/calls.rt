@@ -1,5 +1,5 @@
 //! What a worker does at its pool: it spawns jobs, works, and gets results.
-ghost use Rattle.std.specs.Prelude.{◌≡◌, ◌+◌, ◌<◌, IfErr, IfOk, IsSome, OnErr, OnOk};
+ghost use Rattle.std.specs.Prelude.{◌≡◌, ◌+◌, ◌<◌, [], IfErr, IfOk, IsSome, OnErr, OnOk};
 
 use crate::handle::Handle;
 use crate::job::PoolJob;
@@ -15,7 +15,7 @@ use std::sync::Wait;
 use std::time::Clock;
 
 impl<C: Seats> Pool<C> {
-    ghost use Rattle.arachne_pool.specs.Grounds.{ground};
+    ghost use Rattle.arachne_pool.specs.Grounds.{ground_at};
     ghost use Rattle.arachne_pool.specs.Workers.{IsWorkerOf};
 
     /// Spawns a job, which gets a place of the table where a core has one. Its handle gives its result. Where memory is
@@ -154,7 +154,7 @@ impl<C: Seats> Pool<C> {
         requires worker { IsWorkerOf C.sits C.idle self.now.table self.now.cores worker.old }
         requires core { core < self.now.cores }
         ensures worker { IsWorkerOf C.sits C.idle self.now.table self.now.cores worker.new }
-        ensures kernel { IfOk result (λ kernel. kernel.desk ≡ ground self.now.table self.now.cores) }
+        ensures kernel { IfOk result (λ kernel. kernel.desk ≡ ground_at self.now.table self.now.cores) }
     {
         let Some(seat) = worker.seat.take() else {
             return Err(PoolFault::Token);
@@ -201,7 +201,7 @@ impl<C: Seats> Pool<C> {
     ) -> Worker<C::Seat, J>
     where
         C: Contexts<Spawned<J>>,
-        requires { kernel.desk ≡ ground self.now.table self.now.cores }
+        requires { kernel.desk ≡ ground_at self.now.table self.now.cores }
         ensures { IsWorkerOf C.sits C.idle self.now.table self.now.cores result }
     {
         let Loop {

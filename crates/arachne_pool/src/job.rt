@@ -20,7 +20,7 @@ pub enum Step<J, O> {
 /// A job: it goes on by steps, which any worker makes, one after the other.
 pub trait PoolJob: Tagged + Drop {
     /// What it ends with.
-    type Output: Drop + Send;
+    type Output: Drop;
 
     /// This is a result of the job. A handle gives no other.
     ghost is_result: { Self → Self.Output → Type 0 };

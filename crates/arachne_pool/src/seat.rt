@@ -46,12 +46,12 @@ pub(crate) struct Seat<'a, H, J: PoolJob, C: Contexts<Spawned<J>>> {
 
 impl<'a, H, J: PoolJob, C: Contexts<Spawned<J>>> Model for Seat<'a, H, J, C> {
     ghost use Rattle.std.specs.Prelude.{◌≡◌, ◌<◌, false};
-    ghost use Rattle.arachne_pool.specs.Grounds.{Ground, ground, in_hand};
+    ghost use Rattle.arachne_pool.specs.Grounds.{Ground, ground_at, in_hand};
     ghost use Rattle.arachne_pool.specs.Workers.{IsArbiterFor};
 
     ghost Value = { Ground C };
 
-    ghost view = { λ s. ground s.pool.now.table s.pool.now.cores };
+    ghost view = { λ s. ground_at s.pool.now.table s.pool.now.cores };
 
     ghost invariant = { λ s. (s.core < s.pool.now.cores) × C.sits s.pool.now.table s.seat × IsArbiterFor s.pool.now.cores s.bench.arbiter
         × (s.is_broken ≡ false → C.has s.pool.now.table s.seat (in_hand (λ job. job.tag) s.held)) };
