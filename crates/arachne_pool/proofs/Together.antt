@@ -54,9 +54,9 @@ module _ {Job Output : Type 0} (is_result : Job → Output → Type 0) (awaits :
       let own = rw (take-first frame.awaited child children) at own in
       let hung = together.hangs in let hung = rw one at hung in let hung = rw alls at hung in
       let hung = rw (drop-first frame.awaited child children) at hung in record {
-    keeps = rw is_begun (λ output r. r);
-    hangs = rw is_begun (rw pushed (rw same_job own, rw same_asked (rw same_job together.keeps), rw same_asked hung));
-    awaited = λ e. rw is_begun (rw is_none fresh);
-    fresh = rw is_none tt;
-    result = rw running tt;
-  }
+        keeps = rw is_begun (λ output r. r);
+        hangs = rw is_begun (rw pushed (rw same_job own, rw same_asked (rw same_job together.keeps), rw same_asked hung));
+        awaited = λ e. rw is_begun (rw is_none fresh);
+        fresh = rw is_none tt;
+        result = rw running tt;
+      }

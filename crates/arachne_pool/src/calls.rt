@@ -57,9 +57,9 @@ impl<C: Seats> Pool<C> {
 
     /// One round on a core: orders that are due are applied, each job that is ready there has a slice, and a job of the
     /// worker that waits for a place gets one. Whether there was any.
-    pub fn turn<H: Wait + Clock, J: PoolJob>(
-        &self,
-        rt: &H,
+    pub fn turn<'a, H: Wait + Clock, J: PoolJob>(
+        &'a self,
+        rt: &'a H,
         worker: &mut Worker<C::Seat, J>,
         core: u8,
     ) -> Result<bool, PoolFault>
@@ -77,7 +77,29 @@ impl<C: Seats> Pool<C> {
         if replace(&mut kernel.desk.bench.has_ended, false) {
             self.tell_if_over();
         }
-        *worker = self.close_kernel(kernel);
+        let Loop {
+            agenda,
+            pace,
+            desk,
+            ..
+        } = kernel;
+        let Seat {
+            is_broken,
+            seat,
+            held,
+            bench,
+            ..
+        } = desk;
+        *worker = Worker {
+            seat: if is_broken || held.is_some() {
+                None
+            } else {
+                Some(seat)
+            },
+            bench,
+            agenda,
+            pace,
+        };
         if worker.seat.is_none() {
             return Err(PoolFault::Token);
         }
@@ -89,9 +111,9 @@ impl<C: Seats> Pool<C> {
 
     /// Works on a core until all jobs of the pool have ended, or its workers are to stop. With a fault the other
     /// workers stop too.
-    pub fn work<H: Wait + Clock, J: PoolJob>(
-        &self,
-        rt: &H,
+    pub fn work<'a, H: Wait + Clock, J: PoolJob>(
+        &'a self,
+        rt: &'a H,
         worker: &mut Worker<C::Seat, J>,
         core: u8,
     ) -> Result<(), PoolFault>
@@ -103,7 +125,29 @@ impl<C: Seats> Pool<C> {
     {
         let mut kernel = self.open(rt, worker, core, Call::Work)?;
         let done = self.run(rt, &mut kernel);
-        *worker = self.close_kernel(kernel);
+        let Loop {
+            agenda,
+            pace,
+            desk,
+            ..
+        } = kernel;
+        let Seat {
+            is_broken,
+            seat,
+            held,
+            bench,
+            ..
+        } = desk;
+        *worker = Worker {
+            seat: if is_broken || held.is_some() {
+                None
+            } else {
+                Some(seat)
+            },
+            bench,
+            agenda,
+            pace,
+        };
         match done {
             Ok(()) => self.tell_if_over(),
             Err(_) => self.stop(),
@@ -113,9 +157,9 @@ impl<C: Seats> Pool<C> {
 
     /// Works on a core until the job of this handle has ended. Its result. Where the workers are to stop before, the
     /// handle comes back; with another fault the other workers stop too.
-    pub fn join<H: Wait + Clock, J: PoolJob>(
-        &self,
-        rt: &H,
+    pub fn join<'a, H: Wait + Clock, J: PoolJob>(
+        &'a self,
+        rt: &'a H,
         worker: &mut Worker<C::Seat, J>,
         core: u8,
         handle: Handle<J>,
@@ -133,7 +177,29 @@ impl<C: Seats> Pool<C> {
             Err(fault) => return Err((fault, handle)),
         };
         let joined = self.run_until(rt, &mut kernel, handle);
-        *worker = self.close_kernel(kernel);
+        let Loop {
+            agenda,
+            pace,
+            desk,
+            ..
+        } = kernel;
+        let Seat {
+            is_broken,
+            seat,
+            held,
+            bench,
+            ..
+        } = desk;
+        *worker = Worker {
+            seat: if is_broken || held.is_some() {
+                None
+            } else {
+                Some(seat)
+            },
+            bench,
+            agenda,
+            pace,
+        };
         match joined {
             Ok(_) | Err((PoolFault::Stopped, _)) => self.tell_if_over(),
             Err(_) => self.stop(),
@@ -192,42 +258,6 @@ impl<C: Seats> Pool<C> {
                 bench,
             },
         })
-    }
-
-    /// The worker that worked on a core. It has no seat where something else may be out with that.
-    fn close_kernel<'a, H: Wait + Clock, J: PoolJob>(
-        &self,
-        kernel: Loop<'a, H, Seat<'a, H, J, C>>,
-    ) -> Worker<C::Seat, J>
-    where
-        C: Contexts<Spawned<J>>,
-        requires { kernel.desk ≡ ground_at self.now.table self.now.cores }
-        ensures { IsWorkerOf C.sits C.idle self.now.table self.now.cores result }
-    {
-        let Loop {
-            agenda,
-            pace,
-            desk,
-            ..
-        } = kernel;
-        let Seat {
-            is_broken,
-            seat,
-            held,
-            bench,
-            ..
-        } = desk;
-        let seat = if is_broken || held.is_some() {
-            None
-        } else {
-            Some(seat)
-        };
-        Worker {
-            seat,
-            bench,
-            agenda,
-            pace,
-        }
     }
 
     /// Rounds until no job lives, or the workers are to stop.

@@ -6,4 +6,4 @@ use Rattle.arachne_pool.proofs.stack.Stack.put_aside.Goals as goal
 pub invariant_of-self-in-Ok : goal.invariant_of-self-in-Ok
 invariant_of-self-in-Ok g c = let together = rw (← c.self-inside.view_is) at c.self.invariant in
     RunTogether-aside _ _ _ _ _ _ _ c.in-Some-take.child _ _ _ _ (search rules) (search rules) (search rules) (search rules) (search rules) (grind arith)
-        (search rules) together
+    (search rules) together
