@@ -1,5 +1,6 @@
 -- What the steps of a job keep, of its results and of the children that it awaits.
 use Rattle.std.specs.Prelude.{ℕ, List, [], ◌∷◌, Option, None, Some}
+use Rattle.std.specs.List.{sum_by}
 use Rattle.arachne_core.specs.declared.thread_id.ThreadId.{ThreadId}
 use Rattle.arachne_pool.specs.declared.job.Step.{Step}
 use Rattle.arachne_pool.specs.declared.job.Step.TheVariants.{Again, Waits, Forks, Done}
@@ -16,6 +17,10 @@ pub record Being (Job : Type 0) : Type 0 where
 -- a job that has made no step, alone
 abbrev pub one : {Job : Type 0} → ℕ → Job → Option ThreadId → Being Job
 one tag job parent = record { tag = tag; job = job; asked = job; parent = parent; many = 1 }
+
+-- how many jobs these are, each with those that run or wait in its place
+abbrev pub count_near : {Job : Type 0} → List (Being Job) → ℕ
+count_near near = sum_by (λ s. s.many) near
 
 module _ {Job : Type 0} where
   -- the children that are awaited: one that has no cell yet, and those that have one

@@ -36,7 +36,7 @@ pub(crate) struct Bench<J: PoolJob> {
 }
 
 impl<J: PoolJob> Bench<J> {
-    ghost use Rattle.arachne_pool.specs.Jobs.{one};
+    ghost use Rattle.arachne_pool.specs.Jobs.{count_near, one};
 
     /// One with no job, whose choices go by this seed.
     pub(crate) fn new(alloc: Global, seed: u64) -> Bench<J>
@@ -86,6 +86,26 @@ impl<J: PoolJob> Bench<J> {
             receiver,
             Spawned::begin(self.alloc, job, Some(sender), None),
         ))
+    }
+
+    /// The children that this job, or one in its place, has ended without are let go: those that have not begun wait for
+    /// places of their own, and none is lost. Whether memory was there.
+    #[tactic(auto, using(crate::proofs::Counts::count_near_push))]
+    pub(crate) fn let_go(&mut self, job: &mut Spawned<J>) -> bool
+        ensures same { (self.new.tally ≡ self.old.tally) × (self.new.arbiter ≡ self.old.arbiter) }
+        ensures job { job.new ≡ record job.old { job = job.new.job; many = job.new.many } }
+        ensures many { count_near self.new.near.items + job.new.many ≡ count_near self.old.near.items + job.old.many }
+    {
+        for _ in 0..job.orphans() {
+            if self.near.reserve(1).is_err() {
+                self.is_short = true;
+                return false;
+            }
+            if let Some(orphan) = job.let_go(self.alloc) {
+                self.near.push_back_reserved(orphan);
+            }
+        }
+        true
     }
 
     /// How many jobs were spawned and have ended since the pool was told last, which it is now.

@@ -46,13 +46,20 @@ impl<C: Seats> Pool<C> {
             Err(job) => return Err(job),
         };
         self.live.add(bench.core, bench.news());
+        let handle = Handle::of(receiver);
         match place::<H, J, C>(rt, self, seat, bench, job) {
-            // Its core's kernel thread is told at once, since the spawner may not come to a round of its own.
-            Ok(Some(post)) => self.shared.hint(post.place),
-            Ok(None) => {}
-            Err(Disowned) => worker.seat = None,
+            Ok(post) => {
+                if let Some(post) = post {
+                    // Its core's kernel thread is told at once: the spawner may not come to a round of its own.
+                    self.shared.hint(post.place);
+                }
+                Ok(handle)
+            }
+            Err(Disowned) => {
+                worker.seat = None;
+                Ok(handle)
+            }
         }
-        Ok(Handle::of(receiver))
     }
 
     /// One round on a core: orders that are due are applied, each job that is ready there has a slice, and a job of the
@@ -73,10 +80,6 @@ impl<C: Seats> Pool<C> {
         let mut kernel = self.open(rt, worker, core, Call::Turn)?;
         kernel.tend();
         let found = kernel.round(0);
-        let is_short = kernel.desk.bench.take_short();
-        if replace(&mut kernel.desk.bench.has_ended, false) {
-            self.tell_if_over();
-        }
         let Loop {
             agenda,
             pace,
@@ -87,9 +90,13 @@ impl<C: Seats> Pool<C> {
             is_broken,
             seat,
             held,
-            bench,
+            mut bench,
             ..
         } = desk;
+        let is_short = bench.take_short();
+        if replace(&mut bench.has_ended, false) {
+            self.tell_if_over();
+        }
         *worker = Worker {
             seat: if is_broken || held.is_some() {
                 None

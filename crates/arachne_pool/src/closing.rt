@@ -3,7 +3,8 @@ ghost use Rattle.std.specs.Prelude.{◌≡◌, ◌+◌, ◌<◌, ◌≤◌, ◌�
 ghost use Rattle.arachne_core.specs.declared.layout.TheConstants.{CORES, SLOTS};
 ghost use Rattle.arachne_policy.specs.Orders.{AreInOrder};
 ghost use Rattle.arachne_policy.specs.declared.orders.OrderKind.TheVariants.{Release};
-ghost use Rattle.arachne_pool.specs.Leftover.{count_near, count_placed};
+ghost use Rattle.arachne_pool.specs.Jobs.{count_near};
+ghost use Rattle.arachne_pool.specs.Leftover.{count_placed};
 ghost use Rattle.arachne_weights.specs.Weight.{whole};
 
 use crate::bench::Bench;
@@ -193,8 +194,8 @@ fn without_placed<J: PoolJob>(count: u64, placed: &[(ThreadId, Spawned<J>)]) -> 
     ensures { MatchOption result (count < count_placed placed.now) (λ rest. rest + count_placed placed.now ≡ count) }
 {
     let mut rest = count;
-    for (_, job) in placed {
-        rest = job.taken_from(rest)?;
+    for entry in placed {
+        rest = entry.1.taken_from(rest)?;
     }
     Some(rest)
 }

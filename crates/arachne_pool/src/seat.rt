@@ -332,25 +332,14 @@ impl<'a, H: Wait, J: PoolJob, C: Contexts<Spawned<J>>> Seat<'a, H, J, C> {
         Ok(Stop::Goes)
     }
 
-    /// The children that the job in hand, or one in its place, has ended without are let go: those that have not begun
-    /// wait for places of their own. Whether memory was there.
+    /// The children that the job in hand, or one in its place, has ended without are let go. Whether memory was there.
     fn let_go(&mut self) -> bool
         ensures { self.new ≡ self.old }
     {
-        let Some(held) = &mut self.held else {
-            return true;
-        };
-        let bench = &mut self.bench;
-        for _ in 0..held.value.orphans() {
-            if bench.near.reserve(1).is_err() {
-                bench.is_short = true;
-                return false;
-            }
-            if let Some(orphan) = held.value.let_go(bench.alloc) {
-                bench.near.push_back_reserved(orphan);
-            }
+        match &mut self.held {
+            Some(held) => self.bench.let_go(&mut held.value),
+            None => true,
         }
-        true
     }
 }
 
