@@ -97,10 +97,10 @@ impl<J: PoolJob> Bench<J> {
         ensures many { count_near self.new.near.items + job.new.many ≡ count_near self.old.near.items + job.old.many }
     {
         for _ in 0..job.orphans() {
-            if self.near.reserve(1).is_err() {
+            let Ok(()) = self.near.reserve(1) else {
                 self.is_short = true;
                 return false;
-            }
+            };
             if let Some(orphan) = job.let_go(self.alloc) {
                 self.near.push_back_reserved(orphan);
             }

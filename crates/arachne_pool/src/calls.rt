@@ -97,12 +97,13 @@ impl<C: Seats> Pool<C> {
         if replace(&mut bench.has_ended, false) {
             self.tell_if_over();
         }
+        let seat = if is_broken || held.is_some() {
+            None
+        } else {
+            Some(seat)
+        };
         *worker = Worker {
-            seat: if is_broken || held.is_some() {
-                None
-            } else {
-                Some(seat)
-            },
+            seat,
             bench,
             agenda,
             pace,

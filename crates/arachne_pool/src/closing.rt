@@ -190,6 +190,7 @@ impl Tally {
 }
 
 /// So many less those with a place. None where these are more.
+#[tactic(auto, using(crate::proofs::Counts::placed_counts))]
 fn without_placed<J: PoolJob>(count: u64, placed: &[(ThreadId, Spawned<J>)]) -> Option<u64>
     ensures { MatchOption result (count < count_placed placed.now) (λ rest. rest + count_placed placed.now ≡ count) }
 {

@@ -1,16 +1,17 @@
 //! How jobs get their places.
 //!
 //! It may touch the table through the seat that it is given.
-ghost use Rattle.std.specs.Prelude.{◌≡◌, ◌+◌, ◌<◌, [], ◌∷◌, MatchOption, OnOk};
+ghost use Rattle.std.specs.Prelude.{◌≡◌, ◌+◌, ◌<◌, [], ◌∷◌, IfOk, MatchOption, OnOk};
 ghost use Rattle.std.specs.VecDeque.{deque_capacity, deque_len};
 ghost use Rattle.arachne_contexts.specs.Out.{Claim, HasOut, KeepsOut};
-ghost use Rattle.arachne_pool.specs.Grounds.{AddsOut, IsKnown, IsSpent};
+ghost use Rattle.arachne_pool.specs.Grounds.{AddsOut, IsKnown, IsSpent, thread_in};
+ghost use Rattle.arachne_pool.specs.Jobs.{Being, count_near};
 
 use crate::bench::Bench;
 use crate::job::PoolJob;
 use crate::pool::Pool;
 use crate::spawned::Spawned;
-use arachne_contexts::{Contexts, Placed};
+use arachne_contexts::{Contexts, Held, Placed};
 use arachne_workers::Post;
 use rand_xoshiro::Xoshiro256PlusPlus;
 use std::sync::Wait;
@@ -83,6 +84,7 @@ pub(crate) fn post<H: Wait, J: PoolJob, C: Contexts<Spawned<J>>>(
 }
 
 /// A job gets a place, or waits for one with those that have none, among which there is room for it.
+#[tactic(auto, using(crate::proofs::Counts::count_near_push))]
 pub(crate) fn place<H: Wait, J: PoolJob, C: Contexts<Spawned<J>>>(
     rt: &H,
     pool: &Pool<C>,
@@ -96,6 +98,7 @@ pub(crate) fn place<H: Wait, J: PoolJob, C: Contexts<Spawned<J>>>(
     ensures seat { C.sits pool.now.table seat.new }
     ensures out { OnOk result (KeepsOut (C.has pool.now.table) seat.old seat.new) }
     ensures same { (bench.new.tally ≡ bench.old.tally) × (bench.new.arbiter ≡ bench.old.arbiter) }
+    ensures near { IfOk result (λ posted. MatchOption posted (count_near bench.new.near.items ≡ count_near bench.old.near.items + job.many) (λ _. bench.new.near.items ≡ bench.old.near.items)) }
 {
     let claim = claim::<H, J, C>(rt, pool, seat, &mut bench.chooser, job.is_exclusive());
     let Some(claim) = claim else {
@@ -118,6 +121,7 @@ pub(crate) fn place_oldest<H: Wait, J: PoolJob, C: Contexts<Spawned<J>>>(
     ensures seat { C.sits pool.now.table seat.new }
     ensures out { OnOk result (KeepsOut (C.has pool.now.table) seat.old seat.new) }
     ensures same { (bench.new.tally ≡ bench.old.tally) × (bench.new.arbiter ≡ bench.old.arbiter) }
+    ensures near { IfOk result (λ posted. MatchOption posted (bench.new.near.items ≡ bench.old.near.items) (λ _. (job : Being J) × (bench.old.near.items ≡ job ∷ bench.new.near.items))) }
 {
     let Some(job) = bench.near.front() else {
         return Ok(None);
@@ -131,5 +135,45 @@ pub(crate) fn place_oldest<H: Wait, J: PoolJob, C: Contexts<Spawned<J>>>(
         unreachable!()
     };
     let post = post::<H, J, C>(rt, pool, seat, claim, job)?;
+    Ok(Some(post))
+}
+
+/// The oldest child that waits with the job in hand is parted off and posted, if a core has a place for it. Where memory
+/// is refused for it that is noted, and it waits on.
+#[inline(always)]
+pub(crate) fn post_oldest<H: Wait, J: PoolJob, C: Contexts<Spawned<J>>>(
+    rt: &H,
+    pool: &Pool<C>,
+    seat: &mut C::Seat,
+    bench: &mut Bench<J>,
+    held: &mut Held<Spawned<J>, C::Hold>,
+) -> Result<Option<Post>, Disowned>
+    requires seat { C.sits pool.now.table seat.old }
+    requires out { C.has pool.now.table seat.old (thread_in (λ s. s.tag) held.old ∷ []) }
+    ensures seat { C.sits pool.now.table seat.new }
+    ensures out { OnOk result (C.has pool.now.table seat.new (thread_in (λ s. s.tag) held.new ∷ [])) }
+    ensures same { (bench.new.tally ≡ bench.old.tally) × (bench.new.arbiter ≡ bench.old.arbiter) }
+{
+    if !held.value.has_aside() {
+        return Ok(None);
+    }
+    if !pool.has_room() {
+        return Ok(None);
+    }
+    let is_exclusive = held.value.is_oldest_exclusive();
+    let claim = claim::<H, J, C>(rt, pool, seat, &mut bench.chooser, is_exclusive);
+    let Some(claim) = claim else {
+        return Ok(None);
+    };
+    let me = held.id();
+    let child = held.value.part_oldest(bench.alloc, &mut bench.cells, me);
+    let Some(child) = child else {
+        bench.is_short = true;
+        return match pool.table.give_back(rt, seat, claim) {
+            Ok(()) => Ok(None),
+            Err(_) => Err(Disowned),
+        };
+    };
+    let post = post::<H, J, C>(rt, pool, seat, claim, child)?;
     Ok(Some(post))
 }

@@ -3,7 +3,7 @@ ghost use Rattle.std.specs.Prelude.{◌≡◌, ◌≤◌};
 
 use crate::bench::Bench;
 use crate::job::PoolJob;
-use crate::place::{Disowned, claim, place_oldest, post};
+use crate::place::{Disowned, place_oldest, post_oldest};
 use crate::pool::Pool;
 use crate::spawned::Spawned;
 use crate::stop::Stop as JobStop;
@@ -292,44 +292,35 @@ impl<'a, H: Wait, J: PoolJob, C: Contexts<Spawned<J>>> Seat<'a, H, J, C> {
     }
 
     /// The oldest child that waits with the job in hand gets a place, if there is one and memory is not refused.
+    #[inline(always)]
     fn post_oldest(&mut self) -> Result<Stop, Halt>
         ensures { self.new ≡ self.old }
     {
-        let Some(held) = &mut self.held else {
-            return Err(Halt::from(PoolFault::Token));
-        };
-        if !held.value.has_aside() || !self.pool.has_room() {
-            return Ok(Stop::Goes);
-        }
         if self.is_broken {
             return Err(Halt::from(PoolFault::Token));
         }
+        let Some(held) = &mut self.held else {
+            return Err(Halt::from(PoolFault::Token));
+        };
         self.is_broken = true;
-        let (rt, pool, bench) = (self.rt, self.pool, &mut self.bench);
-        let is_exclusive = held.value.is_oldest_exclusive();
-        let claim = claim::<H, J, C>(rt, pool, &mut self.seat, &mut bench.chooser, is_exclusive);
-        let Some(claim) = claim else {
-            self.is_broken = false;
-            return Ok(Stop::Goes);
-        };
-        let me = held.id();
-        let child = held.value.part_oldest(bench.alloc, &mut bench.cells, me);
-        let Some(child) = child else {
-            bench.is_short = true;
-            if pool.table.give_back(rt, &mut self.seat, claim).is_err() {
-                return Err(Halt::from(PoolFault::Token));
-            }
-            self.is_broken = false;
-            return Ok(Stop::Goes);
-        };
-        let posted = post::<H, J, C>(rt, pool, &mut self.seat, claim, child)?;
+        let bench = &mut self.bench;
+        let posted = post_oldest::<H, J, C>(self.rt, self.pool, &mut self.seat, bench, held)?;
         self.is_broken = false;
-        if posted.place.core == self.core {
-            return Ok(Stop::Posted(posted));
+        Ok(self.stop_after(posted))
+    }
+
+    /// What it is to this worker that a child was posted there: on its own core that is what it does next. One on
+    /// another core is for others to take, so they are told at once.
+    #[inline(always)]
+    fn stop_after(&self, posted: Option<Post>) -> Stop {
+        let Some(post) = posted else {
+            return Stop::Goes;
+        };
+        if post.place.core == self.core {
+            return Stop::Posted(post);
         }
-        // It is for others to take, so they are told at once.
-        pool.shared.hint(posted.place);
-        Ok(Stop::Goes)
+        self.pool.shared.hint(post.place);
+        Stop::Goes
     }
 
     /// The children that the job in hand, or one in its place, has ended without are let go. Whether memory was there.
