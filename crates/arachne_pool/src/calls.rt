@@ -5,7 +5,7 @@ use crate::handle::Handle;
 use crate::job::PoolJob;
 use crate::place::{Disowned, place};
 use crate::pool::Pool;
-use crate::seat::{Call, Seat};
+use crate::seat::{Call, Seat, idle_seat};
 use crate::spawned::Spawned;
 use crate::worker::{PoolFault, Worker};
 use arachne_contexts::{Contexts, Seats};
@@ -49,10 +49,8 @@ impl<C: Seats> Pool<C> {
         let handle = Handle::of(receiver);
         match place::<H, J, C>(rt, self, seat, bench, job) {
             Ok(post) => {
-                if let Some(post) = post {
-                    // Its core's kernel thread is told at once: the spawner may not come to a round of its own.
-                    self.shared.hint(post.place);
-                }
+                // Its core's kernel thread is told at once: the spawner may not come to a round of its own.
+                self.tell_of(post);
                 Ok(handle)
             }
             Err(Disowned) => {
@@ -87,6 +85,7 @@ impl<C: Seats> Pool<C> {
             ..
         } = kernel;
         let Seat {
+            pool,
             is_broken,
             seat,
             held,
@@ -97,13 +96,8 @@ impl<C: Seats> Pool<C> {
         if replace(&mut bench.has_ended, false) {
             self.tell_if_over();
         }
-        let seat = if is_broken || held.is_some() {
-            None
-        } else {
-            Some(seat)
-        };
         *worker = Worker {
-            seat,
+            seat: idle_seat::<J, C>(pool, seat, is_broken, &held),
             bench,
             agenda,
             pace,
@@ -114,7 +108,10 @@ impl<C: Seats> Pool<C> {
         if is_short {
             return Err(PoolFault::Memory);
         }
-        Ok(found?)
+        match found {
+            Ok(found) => Ok(found),
+            Err(halt) => Err(PoolFault::from(halt)),
+        }
     }
 
     /// Works on a core until all jobs of the pool have ended, or its workers are to stop. With a fault the other
@@ -140,6 +137,7 @@ impl<C: Seats> Pool<C> {
             ..
         } = kernel;
         let Seat {
+            pool,
             is_broken,
             seat,
             held,
@@ -147,11 +145,7 @@ impl<C: Seats> Pool<C> {
             ..
         } = desk;
         *worker = Worker {
-            seat: if is_broken || held.is_some() {
-                None
-            } else {
-                Some(seat)
-            },
+            seat: idle_seat::<J, C>(pool, seat, is_broken, &held),
             bench,
             agenda,
             pace,
@@ -192,6 +186,7 @@ impl<C: Seats> Pool<C> {
             ..
         } = kernel;
         let Seat {
+            pool,
             is_broken,
             seat,
             held,
@@ -199,11 +194,7 @@ impl<C: Seats> Pool<C> {
             ..
         } = desk;
         *worker = Worker {
-            seat: if is_broken || held.is_some() {
-                None
-            } else {
-                Some(seat)
-            },
+            seat: idle_seat::<J, C>(pool, seat, is_broken, &held),
             bench,
             agenda,
             pace,

@@ -7,7 +7,7 @@ use crate::live::Live;
 use arachne_arbiter::Cores;
 use arachne_contexts::Seats;
 use arachne_core::{CORES, Place, SLOTS};
-use arachne_workers::Shared;
+use arachne_workers::{Post, Shared};
 use crossbeam_utils::CachePadded;
 use std::alloc::{AllocError, Global};
 use std::marker::PhantomData;
@@ -91,6 +91,13 @@ impl<C: Seats> Pool<C> {
                 self.shared.hint(Place { core, index: 0 });
             }
             self.shared.parking().unpark_all();
+        }
+    }
+
+    /// The kernel thread of the core at which a job was posted, if one was, is told of it.
+    pub(crate) fn tell_of(&self, post: Option<Post>) {
+        if let Some(post) = post {
+            self.shared.hint(post.place);
         }
     }
 

@@ -1,5 +1,7 @@
 //! A worker's seat at the table of a pool, and what is out with it: the job in hand, and nothing else between two calls.
-ghost use Rattle.std.specs.Prelude.{◌≡◌, ◌≤◌};
+ghost use Rattle.std.specs.Prelude.{◌≡◌, ◌≤◌, IfSome, false};
+ghost use Rattle.arachne_pool.specs.Grounds.{in_hand};
+ghost use Rattle.arachne_pool.specs.Workers.{IsIdleAt};
 
 use crate::bench::Bench;
 use crate::job::PoolJob;
@@ -331,6 +333,26 @@ impl<'a, H: Wait, J: PoolJob, C: Contexts<Spawned<J>>> Seat<'a, H, J, C> {
             Some(held) => self.bench.let_go(&mut held.value),
             None => true,
         }
+    }
+}
+
+/// The seat of a worker whose rounds are over, unless something is out with it.
+pub(crate) fn idle_seat<J: PoolJob, C: Contexts<Spawned<J>>>(
+    pool: &Pool<C>,
+    seat: C::Seat,
+    is_broken: bool,
+    held: &Option<Held<Spawned<J>, C::Hold>>,
+) -> Option<C::Seat>
+    requires seat { C.sits pool.now.table seat }
+    requires out { is_broken ≡ false → C.has pool.now.table seat (in_hand (λ job. job.tag) held.now) }
+    ensures { IfSome result (IsIdleAt C.sits C.idle pool.now.table) }
+{
+    if is_broken {
+        return None;
+    }
+    match held {
+        Some(_) => None,
+        None => Some(seat),
     }
 }
 
