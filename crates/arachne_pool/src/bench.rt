@@ -120,6 +120,14 @@ impl<J: PoolJob> Bench<J> {
         news
     }
 
+    /// How many orders it has, or else the other has.
+    pub(crate) fn orders_or(&self, other: &Bench<J>) -> usize {
+        match self.arbiter {
+            Some(_) => self.orders,
+            None => other.orders,
+        }
+    }
+
     /// Whether memory was refused since this was asked last.
     pub(crate) fn take_short(&mut self) -> bool
         ensures same { self.new ≡ record self.old { is_short = self.new.is_short } }

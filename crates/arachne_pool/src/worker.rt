@@ -166,9 +166,7 @@ impl<C: Seats> Pool<C> {
         }
         worker.bench.tally = worker.bench.tally.with(other.bench.tally);
         worker.bench.told = worker.bench.tally;
-        if worker.bench.arbiter.is_none() {
-            worker.bench.orders = other.bench.orders;
-        }
+        worker.bench.orders = worker.bench.orders_or(&other.bench);
         worker.bench.arbiter = first_of(worker.bench.arbiter.take(), other.bench.arbiter.take());
         worker.seat = self.join_seats(rt, worker.seat.take(), other.seat.take());
         Ok(worker)
