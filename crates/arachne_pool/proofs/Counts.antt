@@ -1,6 +1,7 @@
 -- Counts of jobs, one more at a time.
-use Rattle.std.proofs.Common.{◌≡◌, ℕ, ◌+◌, ◌<◌, ◌≤◌, List, [], ◌∷◌, ◌++◌, length, get_or, take, sym, ap, ◌∙◌, subst}
-use Rattle.std.proofs.lemmas.List.Sums.{sum_by_push, sum_by_more, sum_by_more_le}
+use Rattle.std.proofs.Common.{◌≡◌, ℕ, ◌+◌, ◌<◌, ◌≤◌, List, [], ◌∷◌, ◌++◌, length, get_or, take, sym, ap, ◌∙◌, subst, arith}
+use Rattle.std.proofs.lemmas.List.Sums.{sum_by_push, sum_by_more, sum_by_more_le, sum_by-take-drop}
+use Rattle.std.proofs.lemmas.List.{at_drop_all}
 use Rattle.arachne_core.specs.declared.thread_id.ThreadId.{ThreadId}
 use Rattle.arachne_pool.specs.Jobs.{Being, count_near}
 use Rattle.arachne_pool.specs.Leftover.{count_placed}
@@ -19,6 +20,11 @@ module _ {Job : Type 0} where
       → count_near (take n near) + job.many ≤ count_near near
   count_near_least near n job at_n = subst (λ (s : Being Job). count_near (take n near) + s.many ≤ count_near near) (sym at_n.1)
       (sum_by_more_le (λ (s : Being Job). s.many) near n job at_n.0)
+
+  pub count_near_all : (near : List (Being Job)) (n : ℕ) → n ≡ length near → count_near (take n near) ≡ count_near near
+  count_near_all near n all =
+      let whole = sum_by-take-drop (λ (s : Being Job). s.many) near n in
+      let none = at_drop_all (count_near {Job = Job}) near n (omega (arith, all)) in omega (arith, whole, none)
 
   pub count_placed_next : (placed : List (ThreadId × Being Job)) (n : ℕ) (entry : ThreadId × Being Job) → n < length placed
       → entry ≡ get_or placed n entry → count_placed (take (n + 1) placed) ≡ count_placed (take n placed) + entry.1.many

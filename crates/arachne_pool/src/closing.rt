@@ -185,7 +185,10 @@ impl Tally {
         let Some(rest) = without_placed(rest, left.placed.as_slice()) else {
             return false;
         };
-        without_near(rest, &left.near) == Some(0)
+        let Some(rest) = without_near(rest, &left.near) else {
+            return false;
+        };
+        rest == 0
     }
 }
 
