@@ -8,6 +8,6 @@ pub returns : goal.returns
 returns g c =
     let first = c.in-Some.ensures in
     let placed : c.in-Some-without_placed.rest + count_placed c.args.left.now.placed.items ≡ c.in-Some.rest =
-        rw (← c.as_slice.ensures.value) c.in-Some-without_placed.ensures in
+    rw (← c.as_slice.ensures.value) c.in-Some-without_placed.ensures in
     let near = c.in-Some-without_near.ensures in
     (λ yes. grind (arith, nat_tests), λ same. grind (arith, nat_tests))
