@@ -29,7 +29,6 @@ use Rattle.arachne_pool.specs.contracts.stack.Stack as stack
 use Rattle.arachne_pool.specs.contracts.stack.Stack.TheInside as stack_inside
 use Rattle.arachne_workers.proofs.queue.Agenda.TheSendSync as agenda
 use Rattle.arachne_arbiter.proofs.pace.Pace.TheSendSync as pace
-use Rattle.std.specs.contracts.vec.deque.VecDeque as Deque
 use Rattle.arachne_join.specs.contracts.ends.Receiver as receiver
 use Rattle.arachne_pool.specs.contracts.worker.Worker as worker
 use Rattle.arachne_pool.specs.contracts.worker.Worker.TheInside as worker_inside
@@ -80,16 +79,13 @@ module _ (J O : RattleType) (P : pool_job.Ghosts J.Denot O.Denot) (G : tagged.Gh
   pub handle_send : IsSend (handle.the_row J O P G)
   handle_send = search (sendable, handle_in_send) depth 10
 
-  near_send : IsSend (Deque.the_field (spawned.the_row J O P G) heap.the_row heap_impl.ghosts).row
-  near_send = search (sendable, std.crosses, spawned_send) depth 20
-
   cells_send : IsSend (spare.the_field (outcome.the_row J O) (wanted.the_row J) link).row
   cells_send = struct_send (struct.shape (spare.the_type (outcome.the_row J O) (wanted.the_row J) link))
       (search (sendable, std.crosses, unused_send (outcome.the_row J O) (wanted.the_row J) link outcome_send) depth 20)
 
   bench_send : IsSend (bench.the_field J O P G).row
   bench_send = struct_send (struct.shape (bench.the_type J O P G))
-      (search (sendable, std.crosses) depth 10, (near_send, (cells_send, (chooser.the_send, search (sendable, std.crosses, arbiter.the_send) depth 40))))
+      (search (sendable, std.crosses) depth 10, (std.Deque-send (spawned.the_row J O P G) spawned_send, (cells_send, (chooser.the_send, search (sendable, std.crosses, arbiter.the_send) depth 40))))
 
   module _ (S : RattleType) (seat : IsSend S) where
     worker_in_send : IsSend (worker_inside.the_row S J O P G)
