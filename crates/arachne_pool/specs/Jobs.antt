@@ -3,7 +3,7 @@ use Rattle.std.specs.Prelude.{ℕ, List, [], ◌∷◌, Option, None, Some}
 use Rattle.std.specs.List.{sum_by}
 use Rattle.arachne_core.specs.declared.thread_id.ThreadId.{ThreadId}
 use Rattle.arachne_pool.specs.declared.job.Step.{Step}
-use Rattle.arachne_pool.specs.declared.job.Step.TheVariants.{Again, Waits, Forks, Done}
+use Rattle.arachne_pool.specs.declared.job.Step.TheVariants.{Again, Waits, Sleeps, Forks, Done}
 
 -- a job in a pool: its tag, as it is now, as it was spawned, the id under which its parent runs, if it is to be woken,
 -- and how many jobs it is that have not ended, with those that run or wait in its place
@@ -41,6 +41,7 @@ module _ {Job : Type 0} where
     abbrev pub KeepsChildren : {Output : Type 0} → Step Job Output → Job → Job → Type 0
     KeepsChildren Again old new = KeepsAwaited old new
     KeepsChildren Waits old new = KeepsAwaited old new
+    KeepsChildren Sleeps old new = KeepsAwaited old new
     KeepsChildren (Forks child) old new = (children : List Job) → awaits old children → awaits new (child ∷ children)
     KeepsChildren (Done output) old new = Unit {0}
 
@@ -48,6 +49,7 @@ module _ {Job : Type 0} where
     abbrev pub ForksFresh : {Output : Type 0} → Step Job Output → Type 0
     ForksFresh Again = Unit {0}
     ForksFresh Waits = Unit {0}
+    ForksFresh Sleeps = Unit {0}
     ForksFresh (Forks child) = awaits child []
     ForksFresh (Done output) = Unit {0}
 
@@ -69,5 +71,6 @@ module _ {Job : Type 0} where
 abbrev pub EndsWith : {Job Output : Type 0} → (Output → Type 0) → Step Job Output → Type 0
 EndsWith is_result Again = Unit {0}
 EndsWith is_result Waits = Unit {0}
+EndsWith is_result Sleeps = Unit {0}
 EndsWith is_result (Forks child) = Unit {0}
 EndsWith is_result (Done output) = is_result output

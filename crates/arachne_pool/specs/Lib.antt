@@ -4,3 +4,5 @@ pub mod Frames
 pub mod Grounds
 pub mod Workers
 pub mod Leftover
+pub mod Spawning
+pub mod Waking

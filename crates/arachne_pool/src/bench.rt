@@ -5,6 +5,7 @@ ghost use Rattle.std.specs.VecDeque.{deque_capacity, deque_len};
 use crate::job::PoolJob;
 use crate::outcome::{Cells, ResultReceiver, Wanted};
 use crate::spawned::Spawned;
+use crate::statistics::Statistics;
 use crate::tally::Tally;
 use arachne_arbiter::Arbiter;
 use rand_core::SeedableRng;
@@ -24,6 +25,8 @@ pub(crate) struct Bench<J: PoolJob> {
     pub(crate) tally: Tally,
     /// What of that the pool was told.
     pub(crate) told: Tally,
+    /// What it has done since it told of that.
+    pub(crate) done: Statistics,
     /// The core that it works on, or has worked on. At first a number that is none.
     pub(crate) core: u8,
     pub(crate) arbiter: Option<Arbiter>,
@@ -51,6 +54,7 @@ impl<J: PoolJob> Bench<J> {
             chooser: Xoshiro256PlusPlus::seed_from_u64(seed),
             tally: Tally::new(),
             told: Tally::new(),
+            done: Statistics::new(),
             core: u8::MAX,
             arbiter: None,
             orders: 0,

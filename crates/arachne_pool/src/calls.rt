@@ -7,6 +7,7 @@ use crate::place::{Disowned, place};
 use crate::pool::Pool;
 use crate::seat::{Call, Seat, idle_seat};
 use crate::spawned::Spawned;
+use crate::statistics::Statistics;
 use crate::worker::{PoolFault, Worker};
 use arachne_contexts::{Contexts, Seats};
 use arachne_workers::Worker as Loop;
@@ -14,12 +15,16 @@ use std::mem::replace;
 use std::sync::Wait;
 use std::time::Clock;
 
+/// How many slices a worker has at most before it tells what it has done.
+const MOST_UNTOLD: u64 = 1024;
+
 impl<C: Seats> Pool<C> {
     ghost use Rattle.arachne_pool.specs.Grounds.{ground_at};
     ghost use Rattle.arachne_pool.specs.Workers.{IsWorkerOf};
 
-    /// Spawns a job, which gets a place of the table where a core has one. Its handle gives its result. Where memory is
-    /// refused, or the worker has no seat, the job comes back.
+    /// Spawns a job, which gets a place of the table where a core has one, and else waits for one with the worker; but a
+    /// worker that was split off and has worked for no core keeps none (`try_spawn`). Its handle gives its result. Where
+    /// memory is refused, or the worker has no seat, the job comes back.
     pub fn spawn<H: Wait, J: PoolJob>(
         &self,
         rt: &H,
@@ -37,6 +42,12 @@ impl<C: Seats> Pool<C> {
         ensures ended { worker.new.tally.ended ≡ worker.old.tally.ended }
         ensures refused { OnErr result (worker.new.tally ≡ worker.old.tally) }
     {
+        if worker.bench.core >= self.cores {
+            return match self.try_spawn(rt, worker, job) {
+                Ok(handle) => Ok(handle),
+                Err(refused) => Err(refused.job),
+            };
+        }
         let bench = &mut worker.bench;
         let Some(seat) = &mut worker.seat else {
             return Err(job);
@@ -78,6 +89,7 @@ impl<C: Seats> Pool<C> {
         let mut kernel = self.open(rt, worker, core, Call::Turn)?;
         kernel.tend();
         let found = kernel.round(0);
+        self.tell_done(&mut kernel);
         let Loop {
             agenda,
             pace,
@@ -130,6 +142,7 @@ impl<C: Seats> Pool<C> {
     {
         let mut kernel = self.open(rt, worker, core, Call::Work)?;
         let done = self.run(rt, &mut kernel);
+        self.tell_done(&mut kernel);
         let Loop {
             agenda,
             pace,
@@ -179,6 +192,7 @@ impl<C: Seats> Pool<C> {
             Err(fault) => return Err((fault, handle)),
         };
         let joined = self.run_until(rt, &mut kernel, handle);
+        self.tell_done(&mut kernel);
         let Loop {
             agenda,
             pace,
@@ -330,8 +344,28 @@ impl<C: Seats> Pool<C> {
             return Err(PoolFault::Memory);
         }
         if !found {
+            kernel.desk.bench.done.rests = kernel.desk.bench.done.rests.wrapping_add(1);
+        }
+        if !found || kernel.slices >= MOST_UNTOLD {
+            self.tell_done(kernel);
+        }
+        if !found {
             kernel.rest_for(idle);
         }
         Ok(found)
+    }
+
+    /// What was done on a core is told.
+    fn tell_done<'a, H: Wait + Clock, J: PoolJob>(
+        &self,
+        kernel: &mut Loop<'a, H, Seat<'a, H, J, C>>,
+    )
+    where
+        C: Contexts<Spawned<J>>,
+        ensures { kernel.new.desk ≡ kernel.old.desk }
+    {
+        let mut done = replace(&mut kernel.desk.bench.done, Statistics::new());
+        done.slices = replace(&mut kernel.slices, 0);
+        self.live.add_done(kernel.core, done);
     }
 }

@@ -70,6 +70,8 @@ impl<C: Seats + Drop> Pool<C> {
         let mut worker = Worker::new(alloc, Some(seat), 0);
         worker.bench.arbiter = Some(arbiter);
         worker.bench.orders = count;
+        // It is to work for a core, and so keeps what it spawns before.
+        worker.bench.core = 0;
         Ok((pool, worker))
     }
 }

@@ -1,4 +1,5 @@
-//! How many jobs of a pool were spawned, and how many have ended, as its workers tell it.
+//! How many jobs of a pool were spawned and have ended, and what its workers have done, as they tell it.
+use crate::statistics::Statistics;
 use crate::tally::Tally;
 use crossbeam_utils::CachePadded;
 use std::alloc::{AllocError, Global};
@@ -9,6 +10,24 @@ use std::sync::atomic::{AtomicU64, Ordering};
 struct Told {
     spawned: AtomicU64,
     ended: AtomicU64,
+    slices: AtomicU64,
+    steps: AtomicU64,
+    wakes: AtomicU64,
+    rests: AtomicU64,
+}
+
+impl Told {
+    /// Nothing was told.
+    fn new() -> Told {
+        Told {
+            spawned: AtomicU64::new(0),
+            ended: AtomicU64::new(0),
+            slices: AtomicU64::new(0),
+            steps: AtomicU64::new(0),
+            wakes: AtomicU64::new(0),
+            rests: AtomicU64::new(0),
+        }
+    }
 }
 
 /// What workers have told, for each core on a cache line of its own, and behind these for those that work on none.
@@ -22,10 +41,7 @@ impl Live {
     pub(crate) fn new(alloc: Global, cores: u8) -> Result<Live, AllocError> {
         let mut told = Vec::new(alloc);
         for _ in 0..=cores {
-            told.push(CachePadded::new(Told {
-                spawned: AtomicU64::new(0),
-                ended: AtomicU64::new(0),
-            }))?;
+            told.push(CachePadded::new(Told::new()))?;
         }
         Ok(Live { told })
     }
@@ -41,6 +57,30 @@ impl Live {
         }
         if news.ended != 0 {
             told.ended.fetch_add(news.ended, Ordering::SeqCst);
+        }
+    }
+
+    /// So much more was done by a worker of this core.
+    pub(crate) fn add_done(&self, core: u8, done: Statistics) {
+        let Some(told) = self.told.get(usize::from(core)) else {
+            return;
+        };
+        told.slices.fetch_add(done.slices, Ordering::SeqCst);
+        told.steps.fetch_add(done.steps, Ordering::SeqCst);
+        told.wakes.fetch_add(done.wakes, Ordering::SeqCst);
+        told.rests.fetch_add(done.rests, Ordering::SeqCst);
+    }
+
+    /// What the workers of a core have done.
+    pub(crate) fn done(&self, core: u8) -> Statistics {
+        match self.told.get(usize::from(core)) {
+            Some(told) => Statistics {
+                slices: told.slices.load(Ordering::SeqCst),
+                steps: told.steps.load(Ordering::SeqCst),
+                wakes: told.wakes.load(Ordering::SeqCst),
+                rests: told.rests.load(Ordering::SeqCst),
+            },
+            None => Statistics::new(),
         }
     }
 

@@ -4,6 +4,7 @@ ghost use Rattle.arachne_core.specs.declared.layout.TheConstants.{CORES, SLOTS, 
 ghost use Rattle.arachne_weights.specs.Weight.{whole};
 
 use crate::live::Live;
+use crate::statistics::Statistics;
 use arachne_arbiter::Cores;
 use arachne_contexts::Seats;
 use arachne_core::{CORES, Place, SLOTS};
@@ -72,6 +73,14 @@ impl<C: Seats> Pool<C> {
     /// How many jobs were spawned or forked and have not ended, as the workers have told. None lives where it is 0.
     pub fn live(&self) -> u64 {
         self.live.count()
+    }
+
+    /// What the workers of a core have done. Nothing where there is no such core.
+    pub fn statistics(&self, core: u8) -> Statistics {
+        if core >= self.cores {
+            return Statistics::new();
+        }
+        self.live.done(core)
     }
 
     /// Has all workers stop after their slices, those that sleep or are parked too.

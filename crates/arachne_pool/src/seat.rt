@@ -85,15 +85,23 @@ impl<'a, H: Wait, J: PoolJob, C: Contexts<Spawned<J>>> Desk for Seat<'a, H, J, C
 
     #[inline(always)]
     fn advance(&mut self, _pace: &mut Pace, left: &mut u32) -> Result<Stop, Halt> {
+        let before = *left;
         let mut stop = self.go_on(left);
         if stop == JobStop::LetsGo && self.let_go() {
             stop = self.go_on(left);
         }
-        self.blocks = stop == JobStop::Waits;
+        let done = &mut self.bench.done;
+        done.steps = done
+            .steps
+            .wrapping_add(u64::from(before.wrapping_sub(*left)));
+        if stop == JobStop::Sleeps {
+            stop = self.fall_asleep(left);
+        }
+        self.blocks = stop == JobStop::Waits || stop == JobStop::Sleeps;
         self.pool.live.add(self.core, self.bench.news());
         match stop {
             JobStop::Ends => Ok(Stop::Ends),
-            JobStop::Waits => Ok(Stop::Blocks),
+            JobStop::Waits | JobStop::Sleeps => Ok(Stop::Blocks),
             JobStop::Goes | JobStop::Forks => self.post_oldest(),
             JobStop::LetsGo => Ok(Stop::Goes),
             JobStop::Short => {
@@ -193,7 +201,11 @@ impl<'a, H: Wait, J: PoolJob, C: Contexts<Spawned<J>>> Desk for Seat<'a, H, J, C
 
     fn try_wake(&mut self, id: ThreadId) -> Woken {
         let table = &self.pool.table;
-        table.wake(self.rt, &mut self.seat, id)
+        let woken = table.wake(self.rt, &mut self.seat, id);
+        if woken == Woken::Woken {
+            self.bench.done.wakes = self.bench.done.wakes.wrapping_add(1);
+        }
+        woken
     }
 
     fn pull(&mut self, place: Place) -> bool {
@@ -323,6 +335,22 @@ impl<'a, H: Wait, J: PoolJob, C: Contexts<Spawned<J>>> Seat<'a, H, J, C> {
         }
         self.pool.shared.hint(post.place);
         Stop::Goes
+    }
+
+    /// The job in hand is to rest until it is woken, and is told its id. While a child waits with it, it goes on in place
+    /// of that, once a slice: so the child gets the first place that is free.
+    fn fall_asleep(&self, left: &mut u32) -> JobStop
+        ensures { left.new ≤ left.old }
+    {
+        let Some(held) = &self.held else {
+            return JobStop::Waits;
+        };
+        if held.value.has_aside() {
+            *left = 0;
+            return JobStop::Goes;
+        }
+        held.value.sleeps_as(held.id());
+        JobStop::Sleeps
     }
 
     /// The children that the job in hand, or one in its place, has ended without are let go. Whether memory was there.

@@ -76,6 +76,11 @@ impl<J: PoolJob> Spawned<J> {
         self.stack.bound()
     }
 
+    /// It is told that it rests under this id.
+    pub(crate) fn sleeps_as(&self, id: ThreadId) {
+        self.stack.sleeps_as(id);
+    }
+
     /// Whether a child waits here to begin.
     pub(crate) fn has_aside(&self) -> bool {
         self.stack.has_aside()

@@ -7,6 +7,7 @@ use crate::links::Links;
 use crate::outcome::{Cells, ResultSender};
 use crate::stop::Stop;
 use crate::tally::Tally;
+use arachne_core::ThreadId;
 use std::alloc::Global;
 use std::collections::VecDeque;
 use std::marker::Model;
@@ -110,6 +111,11 @@ impl<J: PoolJob> Stack<J> {
         self.top.job.bound()
     }
 
+    /// The topmost is told that it rests under this id.
+    pub(crate) fn sleeps_as(&self, id: ThreadId) {
+        self.top.job.sleeps_as(id);
+    }
+
     /// Whether a child waits here to begin.
     pub(crate) fn has_aside(&self) -> bool {
         self.links.aside() > 0
@@ -191,6 +197,7 @@ impl<J: PoolJob> Stack<J> {
     {
         match self.top.job.step() {
             Step::Again => Stop::Goes,
+            Step::Sleeps => Stop::Sleeps,
             Step::Waits => {
                 self.waits = true;
                 Stop::Goes

@@ -7,6 +7,8 @@ pub(crate) enum Stop {
     Goes,
     /// It awaits a child that has begun elsewhere and has not ended.
     Waits,
+    /// It rests until it is woken.
+    Sleeps,
     /// It goes on, and has forked a child while a place may be free.
     Forks,
     /// One has ended that has children which it has not joined, and which are to be let go.

@@ -172,7 +172,7 @@ impl<C: Seats> Pool<C> {
         Ok(worker)
     }
 
-    fn split_seat<H: Wait>(
+    pub(crate) fn split_seat<H: Wait>(
         &self,
         rt: &H,
         seat: Option<C::Seat>,
@@ -190,7 +190,7 @@ impl<C: Seats> Pool<C> {
         }
     }
 
-    fn join_seats<H: Wait>(
+    pub(crate) fn join_seats<H: Wait>(
         &self,
         rt: &H,
         first: Option<C::Seat>,
