@@ -1,8 +1,8 @@
 //! Spawns that keep no job: one for which no core has a place comes back at once.
-ghost use Rattle.std.specs.Prelude.{◌≡◌, ◌+◌, ◌<◌, [], ◌∷◌, IfErr, IfOk, OnErr, OnOk};
+ghost use Rattle.std.specs.Prelude.{◌≡◌, ◌<◌, [], ◌∷◌, IfErr, IfOk, OnErr, OnOk};
 ghost use Rattle.arachne_contexts.specs.Out.{Claim, KeepsOut};
 ghost use Rattle.arachne_pool.specs.Grounds.{AddsOut};
-ghost use Rattle.arachne_pool.specs.Spawning.{IsRefusedBy, RefusesFor};
+ghost use Rattle.arachne_pool.specs.Spawning.{HandsBack, RefusesFor, SpawnsOne};
 ghost use Rattle.arachne_pool.specs.declared.spawning.Refusal.TheVariants.{Memory};
 
 use crate::handle::Handle;
@@ -61,11 +61,8 @@ impl<C: Seats> Pool<C> {
         requires worker { IsWorkerOf C.sits C.idle self.now.table self.now.cores worker.old }
         requires fresh { J.awaits job [] }
         ensures worker { IsWorkerOf C.sits C.idle self.now.table self.now.cores worker.new }
-        ensures handle { IfOk result (λ handle. handle ≡ job) }
-        ensures handed_back { IfErr result (λ back. (back.job ≡ job) × IsRefusedBy self.now.cores worker.old.seat back.why) }
-        ensures spawned { OnOk result (worker.old.tally.spawned < u64.MAX → worker.new.tally.spawned ≡ worker.old.tally.spawned + 1) }
-        ensures refused { OnErr result (worker.new.tally ≡ worker.old.tally) }
-        ensures kept { (worker.new.near ≡ worker.old.near) × (worker.new.tally.ended ≡ worker.old.tally.ended) }
+        ensures begun { IfOk result (λ handle. (handle ≡ job) × SpawnsOne worker.old worker.new) }
+        ensures handed_back { IfErr result (λ back. HandsBack self.now.cores job worker.old worker.new back.job back.why) }
     {
         let Some(mut seat) = worker.seat.take() else {
             return Err(Refused {
@@ -97,11 +94,8 @@ impl<C: Seats> Pool<C> {
         requires core { core < self.now.cores }
         requires fresh { J.awaits job [] }
         ensures worker { IsWorkerOf C.sits C.idle self.now.table self.now.cores worker.new }
-        ensures begun { IfOk result (λ begun. (begun.0 ≡ job) × (begun.1.core ≡ core)) }
-        ensures handed_back { IfErr result (λ back. (back.job ≡ job) × IsRefusedBy 1 worker.old.seat back.why) }
-        ensures spawned { OnOk result (worker.old.tally.spawned < u64.MAX → worker.new.tally.spawned ≡ worker.old.tally.spawned + 1) }
-        ensures refused { OnErr result (worker.new.tally ≡ worker.old.tally) }
-        ensures kept { (worker.new.near ≡ worker.old.near) × (worker.new.tally.ended ≡ worker.old.tally.ended) }
+        ensures begun { IfOk result (λ begun. (begun.0 ≡ job) × (begun.1.core ≡ core) × SpawnsOne worker.old worker.new) }
+        ensures handed_back { IfErr result (λ back. HandsBack 1 job worker.old worker.new back.job back.why) }
     {
         let Some(mut seat) = worker.seat.take() else {
             return Err(Refused {
@@ -136,10 +130,8 @@ impl<C: Seats> Pool<C> {
         requires worker { IsWorkerOf C.sits C.idle self.now.table self.now.cores worker.old }
         requires fresh { J.awaits job [] }
         ensures worker { IsWorkerOf C.sits C.idle self.now.table self.now.cores worker.new }
-        ensures handed_back { IfErr result (λ back. (back.job ≡ job) × IsRefusedBy self.now.cores worker.old.seat back.why) }
-        ensures spawned { OnOk result (worker.old.tally.spawned < u64.MAX → worker.new.tally.spawned ≡ worker.old.tally.spawned + 1) }
-        ensures refused { OnErr result (worker.new.tally ≡ worker.old.tally) }
-        ensures kept { (worker.new.near ≡ worker.old.near) × (worker.new.tally.ended ≡ worker.old.tally.ended) }
+        ensures begun { OnOk result (SpawnsOne worker.old worker.new) }
+        ensures handed_back { IfErr result (λ back. HandsBack self.now.cores job worker.old worker.new back.job back.why) }
     {
         let Some(mut seat) = worker.seat.take() else {
             return Err(Refused {
@@ -177,11 +169,8 @@ impl<C: Seats> Pool<C> {
         requires seat { C.sits self.now.table seat × C.has self.now.table seat (Claim claim ∷ []) }
         requires fresh { J.awaits job [] }
         ensures worker { IsWorkerOf C.sits C.idle self.now.table self.now.cores worker.new }
-        ensures handle { IfOk result (λ handle. handle ≡ job) }
-        ensures handed_back { IfErr result (λ back. (back.job ≡ job) × (back.why ≡ Memory)) }
-        ensures spawned { OnOk result (worker.old.tally.spawned < u64.MAX → worker.new.tally.spawned ≡ worker.old.tally.spawned + 1) }
-        ensures refused { OnErr result (worker.new.tally ≡ worker.old.tally) }
-        ensures kept { (worker.new.near ≡ worker.old.near) × (worker.new.tally.ended ≡ worker.old.tally.ended) }
+        ensures begun { IfOk result (λ handle. (handle ≡ job) × SpawnsOne worker.old worker.new) }
+        ensures handed_back { IfErr result (λ back. (back.why ≡ Memory) × HandsBack self.now.cores job worker.old worker.new back.job back.why) }
     {
         match worker.bench.begin(job) {
             Ok((receiver, job)) => {
