@@ -29,7 +29,7 @@ pub record SpawnsOne {Seat : Type 0} (old new : WorkerView Seat) : Type 0 where
 
 -- a worker has spawned nothing, and the job comes back with why
 pub record HandsBack {Seat Job : Type 0} (cores : ℕ) (job : Job) (old new : WorkerView Seat) (back : Job) (why : Refusal) : Type 0 where
-  pub job : back ≡ job
-  pub why : IsRefusedBy cores old.seat why
+  pub same : back ≡ job
+  pub refused : IsRefusedBy cores old.seat why
   pub tally : new.tally ≡ old.tally
   pub near : new.near ≡ old.near

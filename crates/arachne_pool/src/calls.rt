@@ -126,8 +126,8 @@ impl<C: Seats> Pool<C> {
         }
     }
 
-    /// Works on a core until all jobs of the pool have ended, or its workers are to stop. With a fault the other
-    /// workers stop too.
+    /// Works on a core until all jobs of the pool have ended and it isn't kept open, or its workers are to stop. With a
+    /// fault the other workers stop too.
     pub fn work<'a, H: Wait + Clock, J: PoolJob>(
         &'a self,
         rt: &'a H,
@@ -273,7 +273,7 @@ impl<C: Seats> Pool<C> {
         })
     }
 
-    /// Rounds until no job lives, or the workers are to stop.
+    /// Rounds until no job lives and none is to come, or the workers are to stop.
     fn run<'a, H: Wait + Clock, J: PoolJob>(
         &self,
         rt: &H,
@@ -286,7 +286,7 @@ impl<C: Seats> Pool<C> {
         // How many rounds in turn have found nothing, and whether all may be over.
         let (mut idle, mut looks) = (0u32, true);
         for _ in rt.forever() {
-            if self.is_stopped() || looks && self.live() == 0 {
+            if self.is_stopped() || looks && self.is_over() {
                 return Ok(());
             }
             let found = self.round(kernel, idle)?;

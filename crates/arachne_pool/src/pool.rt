@@ -29,6 +29,8 @@ pub struct Pool<C: Seats> {
     room: CachePadded<AtomicU64>,
     /// 1 once a job was to have a core for itself.
     exclusive: AtomicU64,
+    /// 1 while jobs may come though none lives.
+    open: AtomicU64,
     ghost counted: { C.core_count table ≡ cores },
     ghost few: { cores ≤ CORES },
     ghost placed: { C.slot_count table ≡ slots },
@@ -64,6 +66,7 @@ impl<C: Seats + Drop> Pool<C> {
             live,
             room: CachePadded::new(AtomicU64::new(1)),
             exclusive: AtomicU64::new(0),
+            open: AtomicU64::new(0),
         };
         Ok((pool, seat))
     }
@@ -93,9 +96,25 @@ impl<C: Seats> Pool<C> {
         self.shared.is_stopped()
     }
 
-    /// If no job lives, all workers wake, those that sleep and those that are parked.
+    /// Jobs may come though none lives, as in a server: from now on `work` goes on without any, until `finish` is called.
+    pub fn keep_open(&self) {
+        self.open.store(1, Ordering::SeqCst);
+    }
+
+    /// No more jobs come: from now on `work` returns once none lives.
+    pub fn finish(&self) {
+        self.open.store(0, Ordering::SeqCst);
+        self.tell_if_over();
+    }
+
+    /// Whether no job lives, and none is to come.
+    pub(crate) fn is_over(&self) -> bool {
+        self.open.load(Ordering::SeqCst) == 0 && self.live() == 0
+    }
+
+    /// If no job lives and none is to come, all workers wake, those that sleep and those that are parked.
     pub(crate) fn tell_if_over(&self) {
-        if self.live() == 0 {
+        if self.is_over() {
             for core in 0..self.cores {
                 self.shared.hint(Place { core, index: 0 });
             }
