@@ -267,6 +267,7 @@ impl<C: Seats> Pool<C> {
                 seat,
                 held: None,
                 blocks: false,
+                has_taken: false,
                 is_drained: false,
                 bench,
             },

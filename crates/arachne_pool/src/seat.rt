@@ -15,7 +15,9 @@ use arachne_contexts::{Contexts, Held, Moved, Rested, Taken, Woken};
 use arachne_core::{MarkWord, OccWord, Place, Rest, ThreadId};
 use arachne_workers::{Desk, Event, Grip, Halt, Post, Stop, Ticket};
 use std::marker::Model;
+use std::mem::replace;
 use std::sync::Wait;
+use std::sync::atomic::Ordering;
 
 /// Which call of the pool a worker is in.
 #[derive(Clone, Copy, Debug, PartialEq, Eq)]
@@ -41,6 +43,8 @@ pub(crate) struct Seat<'a, H, J: PoolJob, C: Contexts<Spawned<J>>> {
     pub(crate) held: Option<Held<Spawned<J>, C::Hold>>,
     /// The job in hand awaits a child.
     pub(crate) blocks: bool,
+    /// A job was taken since the worker looked last whether others have too many.
+    pub(crate) has_taken: bool,
     /// The core was seen to be closed and empty.
     pub(crate) is_drained: bool,
     pub(crate) bench: Bench<J>,
@@ -69,6 +73,7 @@ impl<'a, H: Wait, J: PoolJob, C: Contexts<Spawned<J>>> Desk for Seat<'a, H, J, C
         match table.take(self.rt, &mut self.seat, self.core, index) {
             Taken::Run(held) => {
                 self.held = Some(held);
+                self.has_taken = true;
                 Grip::Taken
             }
             Taken::NotReady(_) => Grip::None,
@@ -229,7 +234,10 @@ impl<'a, H: Wait, J: PoolJob, C: Contexts<Spawned<J>>> Desk for Seat<'a, H, J, C
             // It has had its slice: others are to go on.
             return true;
         }
-        !self.bench.near.is_empty() && self.pool.has_room()
+        if !self.bench.near.is_empty() && self.pool.has_room() {
+            return true;
+        }
+        self.held.is_none() && !replace(&mut self.has_taken, false) && self.is_any_waiting()
     }
 
     fn take_ticket(&mut self) -> Result<Ticket, Halt> {
@@ -240,7 +248,11 @@ impl<'a, H: Wait, J: PoolJob, C: Contexts<Spawned<J>>> Desk for Seat<'a, H, J, C
         let posted = place_oldest::<H, J, C>(self.rt, self.pool, &mut self.seat, &mut self.bench)?;
         self.is_broken = false;
         let Some(post) = posted else {
-            return Ok(Ticket::None);
+            return Ok(if self.fetch() {
+                Ticket::Gone
+            } else {
+                Ticket::None
+            });
         };
         if post.place.core == self.core {
             return Ok(Ticket::Posted(post));
@@ -351,6 +363,62 @@ impl<'a, H: Wait, J: PoolJob, C: Contexts<Spawned<J>>> Seat<'a, H, J, C> {
         }
         held.value.sleeps_as(held.id());
         JobStop::Sleeps
+    }
+
+    /// Whether a job waits on another core (`waiting_on`).
+    fn is_any_waiting(&self) -> bool {
+        for core in 0..self.pool.cores {
+            if self.waiting_on(core).is_some() {
+                return true;
+            }
+        }
+        false
+    }
+
+    /// A job that waits on another core is moved here, if there is one. Whether there was.
+    fn fetch(&mut self) -> bool
+        ensures { self.new ≡ self.old }
+    {
+        if self.held.is_some() {
+            return false;
+        }
+        for core in 0..self.pool.cores {
+            if let Some(place) = self.waiting_on(core)
+                && self.pull(place)
+            {
+                let hints = self.pool.shared.hints();
+                hints.hint(self.core, self.occupied(self.core));
+                return true;
+            }
+        }
+        false
+    }
+
+    /// Where a job may be ready on another core, whose worker is awake and has not come to it.
+    fn waiting_on(&self, core: u8) -> Option<Place> {
+        if core == self.core || self.call == Call::Turn {
+            return None;
+        }
+        let word = self.pool.shared.hints().word(core)?;
+        let seen = word.load(Ordering::SeqCst);
+        // The lowest bit says that the worker sleeps. The others are of the indexes.
+        let waiting = seen >> 1 & self.occupied(core);
+        if seen & 1 != 0 || waiting == 0 {
+            return None;
+        }
+        let index = u8::try_from(waiting.trailing_zeros()).ok()?;
+        Some(Place { core, index })
+    }
+
+    /// The indexes of a core that are occupied, a bit for each.
+    fn occupied(&self, core: u8) -> u64 {
+        if core >= self.pool.cores {
+            return 0;
+        }
+        match OccWord::from_word(self.pool.table.glance(self.rt, core)) {
+            Some(now) => now.mask(),
+            None => 0,
+        }
     }
 
     /// The children that the job in hand, or one in its place, has ended without are let go. Whether memory was there.
