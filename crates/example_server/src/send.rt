@@ -14,6 +14,7 @@ use arachne_table::Contexts;
 use std::alloc::Global;
 use std::collections::VecDeque;
 use std::sync::Wait;
+use std::time::Clock;
 
 /// A request that was sent and not answered.
 #[derive(Drop)]
@@ -27,7 +28,7 @@ struct Sent {
 
 /// Sends each request once its time has come and a place may be free, and takes the answers. Then the server is over.
 /// None where memory is refused.
-pub fn send<R: Wait, C: Contexts<Spawned<Request>>>(
+pub fn send<R: Wait + Clock, C: Contexts<Spawned<Request>>>(
     rt: &R,
     alloc: Global,
     server: &Server<C>,
@@ -63,7 +64,7 @@ pub fn send<R: Wait, C: Contexts<Spawned<Request>>>(
 }
 
 /// The same until all are answered. None where memory is refused, or the server is over before.
-fn send_all<R: Wait, C: Contexts<Spawned<Request>>>(
+fn send_all<R: Wait + Clock, C: Contexts<Spawned<Request>>>(
     rt: &R,
     server: &Server<C>,
     worker: &mut Worker<C::Seat, Request>,

@@ -9,6 +9,7 @@ use arachne_table::{Contexts, Seats};
 use std::sync::Wait;
 use std::sync::atomic::{AtomicU64, Ordering};
 use std::thread;
+use std::time::Clock;
 
 /// What all kernel threads of the server share.
 #[derive(Drop)]
@@ -48,7 +49,7 @@ impl<C: Seats> Server<C> {
 
 /// Serves as the kernel thread of this number until the server is over. It spins while the server has its core, and
 /// sleeps while it has not. At once over for a core that is none of the server's.
-pub fn serve<R: Wait, J: PoolJob, C: Contexts<Spawned<J>>>(
+pub fn serve<R: Wait + Clock, J: PoolJob, C: Contexts<Spawned<J>>>(
     rt: &R,
     server: &Server<C>,
     mut worker: Worker<C::Seat, J>,
