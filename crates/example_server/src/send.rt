@@ -88,6 +88,7 @@ fn send_all<R: Wait + Clock, C: Contexts<Spawned<Request>>>(
     ensures worker { IsWorkerOf C.sits C.idle server.now.pool.table server.now.pool.cores worker.new }
     ensures all { OnSome result (vec_len report.new.answers + report.new.refused ≡ length requests.now) }
 {
+    server.await_kernel_threads(rt);
     let begin = now(&server.clock);
     let mut next: usize = 0;
     for _ in rt.forever() {

@@ -5,6 +5,7 @@ ghost use Rattle.arachne_pool.specs.Workers.{IsWorkerOf};
 use arachne_pool::{Pool, PoolJob, Spawned, Worker};
 use arachne_table::{Contexts, Seats};
 use std::sync::Wait;
+use std::thread;
 use std::time::Clock;
 
 /// What all kernel threads of the server share.
@@ -21,6 +22,18 @@ impl<C: Seats> Server<C> {
     {
         pool.keep_open();
         Server { pool, clock }
+    }
+
+    /// Waits until each kernel thread but the last core's has begun, and has nothing to do.
+    pub fn await_kernel_threads<R: Wait>(&self, rt: &R) {
+        for core in 1..self.pool.cores {
+            for _ in rt.forever() {
+                if self.pool.statistics(core - 1).rests > 0 || self.pool.is_stopped() {
+                    break;
+                }
+                thread::yield_now();
+            }
+        }
     }
 }
 
