@@ -11,7 +11,7 @@ use crate::task::{self, Raw};
 use crate::timer::{self, now};
 use crate::waker::{waker_of, NOBODY};
 use std::collections::VecDeque;
-use std::sync::atomic::Ordering::*;
+use std::sync::atomic::{AtomicUsize, Ordering::*};
 
 /// How often an idle worker looks around before it sleeps.
 const SPINS: usize = 4;
@@ -162,12 +162,16 @@ impl Shared {
         }
     }
 
-    /// Wakes a worker that sleeps, unless one looks around.
+    /// Wakes a worker that sleeps, unless one looks around: best one that has no post.
     #[inline]
     pub(crate) fn rouse_any(&self) {
         let sleepers = self.sleepers.0.load(SeqCst);
         if sleepers != 0 && self.searching.0.load(SeqCst) == 0 {
-            self.rouse(sleepers.trailing_zeros() as usize);
+            let post = |post: &AtomicUsize| 1u64.checked_shl(post.load(Relaxed) as u32).unwrap_or(0);
+            let others = sleepers & !post(&self.waits.0);
+            let plain = others & !post(&self.deputy.0);
+            let best = [plain, others, sleepers].into_iter().find(|&workers| workers != 0).unwrap_or(sleepers);
+            self.rouse(best.trailing_zeros() as usize);
         }
     }
 
@@ -181,17 +185,24 @@ impl Shared {
             return;
         }
         let overlooked = |worker| self.ready(hands, worker) > if sleepers >> worker & 1 == 1 { 0 } else { 1 };
-        if (0..self.workers.len()).any(overlooked) || self.has_queued() {
+        if (0..self.workers.len()).any(overlooked) || self.has_queued() || self.is_unattended() {
             self.rouse_any();
         }
     }
 
-    /// A worker that was about to sleep, or slept, is awake.
-    fn awake(&self, context: &Context) {
+    /// A worker that was about to sleep, or slept, is awake; whether it was woken by another.
+    fn awake(&self, context: &Context) -> bool {
         let bit = 1 << context.me;
-        if self.sleepers.0.load(SeqCst) & bit == 0 || self.sleepers.0.fetch_and(!bit, SeqCst) & bit == 0 {
+        let roused = self.sleepers.0.load(SeqCst) & bit == 0 || self.sleepers.0.fetch_and(!bit, SeqCst) & bit == 0;
+        if roused {
             self.stop_looking(&context.hands);
         }
+        roused
+    }
+
+    /// Nobody waits in the epoll, or stands in for one who does.
+    fn is_unattended(&self) -> bool {
+        self.waits.0.load(SeqCst) == NO_ONE && self.deputy.0.load(SeqCst) == NO_ONE
     }
 
     #[inline]
@@ -612,12 +623,13 @@ impl Shared {
         let found = if sleeps { self.sleep(context, turn, judge, waits) } else { Found::NOTHING };
         // Before anybody is woken: a wake of what is at this worker's own places would have it woken once more.
         self.wake_up(context);
-        self.awake(context);
+        let roused = self.awake(context);
         if waits {
             self.waits.0.store(NO_ONE, SeqCst);
         }
-        if sleeps && self.hear(context, turn, &found, turn.few()) != 0 {
-            self.call_deputy();
+        let heard = sleeps && self.hear(context, turn, &found, turn.few()) != 0;
+        if waits && (roused || heard) {
+            self.leaves_epoll();
         }
     }
 
@@ -687,6 +699,9 @@ impl Shared {
         }
         let found = self.stand_in(context, turn, timeout);
         self.deputy.0.store(NO_ONE, SeqCst);
+        if self.is_unattended() {
+            self.rouse_any();
+        }
         found
     }
 
@@ -708,10 +723,6 @@ impl Shared {
             let stuck = self.waits.0.load(SeqCst) == NO_ONE;
             if stuck && !self.stands_anybody(turn) {
                 continue;
-            }
-            if stuck {
-                // This worker may have to wait in the epoll, and another to be the deputy.
-                self.rouse_any();
             }
             let found = self.reactor.look();
             if stuck || !found.is_empty() {
@@ -741,13 +752,14 @@ impl Shared {
         turn.rests
     }
 
-    /// Tasks run: a deputy that sleeps for long is woken, to look more often again.
-    fn call_deputy(&self) {
-        if self.rests.load(Relaxed) >= LONG_REST {
-            let deputy = self.deputy.0.load(SeqCst);
-            if deputy != NO_ONE {
-                self.rouse(deputy);
-            }
+    /// Whoever waited in the epoll has something to do, which may take long: where nobody stands in, another is woken
+    /// to wait there, and a deputy that sleeps for long is woken to look more often again.
+    fn leaves_epoll(&self) {
+        let deputy = self.deputy.0.load(SeqCst);
+        if deputy == NO_ONE {
+            self.rouse_any();
+        } else if self.rests.load(Relaxed) >= LONG_REST {
+            self.rouse(deputy);
         }
     }
 
