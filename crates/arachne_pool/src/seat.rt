@@ -13,7 +13,7 @@ use crate::worker::PoolFault;
 use arachne_arbiter::Pace;
 use arachne_contexts::{Contexts, Held, Moved, Rested, Taken, Woken};
 use arachne_core::{MarkWord, OccWord, Place, Rest, ThreadId};
-use arachne_workers::{Desk, Event, Grip, Halt, Post, Stop, Ticket};
+use arachne_workers::{Desk, Drained, Event, Grip, Halt, Post, Stop, Ticket};
 use std::marker::Model;
 use std::mem::replace;
 use std::sync::Wait;
@@ -290,10 +290,10 @@ impl<'a, H: Wait, J: PoolJob, C: Contexts<Spawned<J>>> Desk for Seat<'a, H, J, C
         }
     }
 
-    fn is_drained(&mut self) -> bool {
-        let table = &self.pool.table;
-        self.is_drained = table.is_drained(self.rt, &mut self.seat, self.core);
-        self.is_drained
+    fn is_drained(&mut self) -> Option<Drained> {
+        let drained = Drained::shown_by(self.look());
+        self.is_drained = drained.is_some();
+        drained
     }
 
     fn begins(&self, _nth: u64) {}
