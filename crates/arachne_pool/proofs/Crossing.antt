@@ -62,7 +62,16 @@ module _ (J O : RattleType) (P : pool_job.Ghosts J.Denot O.Denot) (G : tagged.Gh
   frame_send = search (sendable, frame_in_send) depth 10
 
   stack_in_send : IsSend (stack_inside.the_row J O P G)
-  stack_in_send = fields_send (stack_inside.the_type J O P G) (search (sendable, std.crosses, s, o, links_send, frame_send) depth 30)
+  stack_in_send = fields_send (stack_inside.the_type J O P G) (
+    search (sendable, std.crosses, s) depth 10,
+    (
+      search (sendable, frame_send) depth 10,
+      (
+        search (sendable, std.crosses, frame_send) depth 20,
+        (search (sendable, links_send) depth 10, (search (sendable, std.crosses, s) depth 20, (search (sendable, std.crosses, o) depth 20, search (sendable, std.crosses) depth 20))),
+      ),
+    ),
+  )
 
   stack_send : IsSend (stack.the_row J O P G)
   stack_send = search (sendable, stack_in_send) depth 10
@@ -90,7 +99,7 @@ module _ (J O : RattleType) (P : pool_job.Ghosts J.Denot O.Denot) (G : tagged.Gh
   module _ (S : RattleType) (seat : IsSend S) where
     worker_in_send : IsSend (worker_inside.the_row S J O P G)
     worker_in_send = fields_send (worker_inside.the_type S J O P G)
-        (search (sendable, std.crosses, seat) depth 10, (bench_send, search (sendable, std.crosses, agenda.the_send, pace.the_send) depth 20))
+        (search (sendable, std.crosses, seat) depth 10, (bench_send, search (sendable, std.crosses, pace.the_send) depth 20))
 
     pub worker_send : IsSend (worker.the_row S J O P G)
     worker_send = search (sendable, worker_in_send) depth 10

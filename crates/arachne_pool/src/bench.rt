@@ -70,6 +70,7 @@ impl<J: PoolJob> Bench<J> {
         ensures receiver { IfOk result (λ begun. begun.0.opening.key.job.value ≡ job) }
         ensures job { IfOk result (λ begun. begun.1 ≡ one (J.tag_of job) job None) }
         ensures room { IfOk result (λ _. deque_len self.new.near < deque_capacity self.new.near) }
+        ensures near { self.new.near.items ≡ self.old.near.items }
         ensures spawned { IfOk result (λ _. self.old.tally.spawned < u64.MAX → self.new.tally.spawned ≡ self.old.tally.spawned + 1) }
         ensures ended { self.new.tally.ended ≡ self.old.tally.ended }
         ensures refused { OnErr result (self.new.tally ≡ self.old.tally) }

@@ -214,18 +214,7 @@ impl<'a, H: Wait, J: PoolJob, C: Contexts<Spawned<J>>> Desk for Seat<'a, H, J, C
     }
 
     fn pull(&mut self, place: Place) -> bool {
-        if self.pool.has_exclusive()
-            || place.core == self.core
-            || place.core >= self.pool.cores
-            || place.index >= self.pool.slots
-        {
-            return false;
-        }
-        let table = &self.pool.table;
-        matches!(
-            table.move_one(self.rt, &mut self.seat, place, self.core),
-            Moved::Moved
-        )
+        !self.pool.has_exclusive() && self.move_here(place)
     }
 
     #[inline(always)]
@@ -384,7 +373,7 @@ impl<'a, H: Wait, J: PoolJob, C: Contexts<Spawned<J>>> Seat<'a, H, J, C> {
         }
         for core in 0..self.pool.cores {
             if let Some(place) = self.waiting_on(core)
-                && self.pull(place)
+                && self.move_here(place)
             {
                 let hints = self.pool.shared.hints();
                 hints.hint(self.core, self.occupied(self.core));
@@ -392,6 +381,23 @@ impl<'a, H: Wait, J: PoolJob, C: Contexts<Spawned<J>>> Seat<'a, H, J, C> {
             }
         }
         false
+    }
+
+    /// Moves the job at a place of another core here, unless it runs or has its core alone. Whether it was.
+    fn move_here(&mut self, place: Place) -> bool
+        ensures { self.new ≡ self.old }
+    {
+        if place.core == self.core
+            || place.core >= self.pool.cores
+            || place.index >= self.pool.slots
+        {
+            return false;
+        }
+        let table = &self.pool.table;
+        matches!(
+            table.move_one(self.rt, &mut self.seat, place, self.core),
+            Moved::Moved
+        )
     }
 
     /// Where a job may be ready on another core, whose worker is awake and has not come to it.
