@@ -22,7 +22,14 @@ use Rattle.arachne_pool.specs.contracts.links.Links as links
 use Rattle.arachne_pool.specs.contracts.links.Links.TheInside as links_inside
 use Rattle.arachne_pool.specs.contracts.spawned.Spawned as spawned
 use Rattle.arachne_pool.specs.contracts.spawned.Spawned.TheInside as spawned_inside
-use Rattle.arachne_pool.specs.contracts.desk.Desk as desk
+use Rattle.arachne_pool.specs.contracts.bench.Bench as bench
+use Rattle.arachne_pool.specs.contracts.stack.Frame as frame
+use Rattle.arachne_pool.specs.contracts.stack.Frame.TheInside as frame_inside
+use Rattle.arachne_pool.specs.contracts.stack.Stack as stack
+use Rattle.arachne_pool.specs.contracts.stack.Stack.TheInside as stack_inside
+use Rattle.arachne_workers.proofs.queue.Agenda.TheSendSync as agenda
+use Rattle.arachne_arbiter.proofs.pace.Pace.TheSendSync as pace
+use Rattle.arachne_join.specs.contracts.ends.Receiver as receiver
 use Rattle.arachne_pool.specs.contracts.worker.Worker as worker
 use Rattle.arachne_pool.specs.contracts.worker.Worker.TheInside as worker_inside
 use Rattle.arachne_pool.specs.contracts.handle.Handle as handle
@@ -39,14 +46,38 @@ module _ (J O : RattleType) (P : pool_job.Ghosts J.Denot O.Denot) (G : tagged.Gh
   abbrev link : fits.Ghosts (outcome.the_row J O).Denot (wanted.the_row J).Denot
   link = fits_impl.ghosts J O P fits_impl.no_dict G fits_impl.no_dict fits_impl.no_dict fits_impl.no_dict
 
+  begun_send : IsSend (Vec.the_field (receiver.the_row (outcome.the_row J O) (wanted.the_row J) link) heap.the_row heap_impl.ghosts).row
+  begun_send = search (sendable, std.crosses, receiver_send (outcome.the_row J O) (wanted.the_row J) link outcome_send) depth 20
+
   links_in_send : IsSend (links_inside.the_row J O P G)
-  links_in_send = fields_send (links_inside.the_type J O P G) (search (sendable, std.crosses, receiver_send (outcome.the_row J O) (wanted.the_row J) link outcome_send) depth 20)
+  links_in_send = fields_send (links_inside.the_type J O P G) (search (sendable, std.crosses, s, receiver_send (outcome.the_row J O) (wanted.the_row J) link outcome_send) depth 20)
 
   links_send : IsSend (links.the_row J O P G)
   links_send = search (sendable, links_in_send) depth 10
 
+  frame_in_send : IsSend (frame_inside.the_row J O P G)
+  frame_in_send = fields_send (frame_inside.the_type J O P G) (search (sendable, std.crosses, s) depth 20)
+
+  frame_send : IsSend (frame.the_row J O P G)
+  frame_send = search (sendable, frame_in_send) depth 10
+
+  stack_in_send : IsSend (stack_inside.the_row J O P G)
+  stack_in_send = fields_send (stack_inside.the_type J O P G) (
+    search (sendable, std.crosses, s) depth 10,
+    (
+      search (sendable, frame_send) depth 10,
+      (
+        search (sendable, std.crosses, frame_send) depth 20,
+        (search (sendable, links_send) depth 10, (search (sendable, std.crosses, s) depth 20, (search (sendable, std.crosses, o) depth 20, search (sendable, std.crosses) depth 20))),
+      ),
+    ),
+  )
+
+  stack_send : IsSend (stack.the_row J O P G)
+  stack_send = search (sendable, stack_in_send) depth 10
+
   spawned_in_send : IsSend (spawned_inside.the_row J O P G)
-  spawned_in_send = fields_send (spawned_inside.the_type J O P G) (search (sendable, std.crosses, s, links_send, sender_send (outcome.the_row J O) (wanted.the_row J) link outcome_send) depth 30)
+  spawned_in_send = fields_send (spawned_inside.the_type J O P G) (search (sendable, std.crosses, stack_send, sender_send (outcome.the_row J O) (wanted.the_row J) link outcome_send) depth 30)
 
   pub spawned_send : IsSend (spawned.the_row J O P G)
   spawned_send = search (sendable, spawned_in_send) depth 10
@@ -57,21 +88,18 @@ module _ (J O : RattleType) (P : pool_job.Ghosts J.Denot O.Denot) (G : tagged.Gh
   pub handle_send : IsSend (handle.the_row J O P G)
   handle_send = search (sendable, handle_in_send) depth 10
 
-  near_send : IsSend (Vec.the_field (spawned.the_row J O P G) heap.the_row heap_impl.ghosts).row
-  near_send = search (sendable, std.crosses, spawned_send) depth 20
-
   cells_send : IsSend (spare.the_field (outcome.the_row J O) (wanted.the_row J) link).row
   cells_send = struct_send (struct.shape (spare.the_type (outcome.the_row J O) (wanted.the_row J) link))
       (search (sendable, std.crosses, unused_send (outcome.the_row J O) (wanted.the_row J) link outcome_send) depth 20)
 
-  desk_send : IsSend (desk.the_field J O P G).row
-  desk_send = struct_send (struct.shape (desk.the_type J O P G))
-      (search (sendable, std.crosses) depth 10, (near_send, (cells_send, (chooser.the_send, search (sendable, std.crosses) depth 20))))
+  bench_send : IsSend (bench.the_field J O P G).row
+  bench_send = struct_send (struct.shape (bench.the_type J O P G))
+      (search (sendable, std.crosses) depth 10, (std.Deque-send (spawned.the_row J O P G) spawned_send, (cells_send, (chooser.the_send, search (sendable, std.crosses, arbiter.the_send) depth 40))))
 
   module _ (S : RattleType) (seat : IsSend S) where
     worker_in_send : IsSend (worker_inside.the_row S J O P G)
     worker_in_send = fields_send (worker_inside.the_type S J O P G)
-        (search (sendable, std.crosses, seat) depth 10, (desk_send, search (sendable, std.crosses, arbiter.the_send) depth 20))
+        (search (sendable, std.crosses, seat) depth 10, (bench_send, search (sendable, std.crosses, pace.the_send) depth 20))
 
     pub worker_send : IsSend (worker.the_row S J O P G)
     worker_send = search (sendable, worker_in_send) depth 10

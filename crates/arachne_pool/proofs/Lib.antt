@@ -1,2 +1,4 @@
 mod ClosedFirst
+pub mod Counts
+pub mod Together
 pub mod Crossing

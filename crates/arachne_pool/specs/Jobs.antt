@@ -1,14 +1,26 @@
 -- What the steps of a job keep, of its results and of the children that it awaits.
-use Rattle.std.specs.Prelude.{List, [], ◌∷◌, Option, None, Some}
+use Rattle.std.specs.Prelude.{ℕ, List, [], ◌∷◌, Option, None, Some}
+use Rattle.std.specs.List.{sum_by}
 use Rattle.arachne_core.specs.declared.thread_id.ThreadId.{ThreadId}
 use Rattle.arachne_pool.specs.declared.job.Step.{Step}
-use Rattle.arachne_pool.specs.declared.job.Step.TheVariants.{Again, Waits, Forks, Done}
+use Rattle.arachne_pool.specs.declared.job.Step.TheVariants.{Again, Waits, Sleeps, Forks, Done}
 
--- a job in a pool: as it is now, as it was spawned, and the id under which its parent runs, if it is to be woken
+-- a job in a pool: its tag, as it is now, as it was spawned, the id under which its parent runs, if it is to be woken,
+-- and how many jobs it is that have not ended, with those that run or wait in its place
 pub record Being (Job : Type 0) : Type 0 where
+  pub tag : ℕ
   pub job : Job
   pub asked : Job
   pub parent : Option ThreadId
+  pub many : ℕ
+
+-- a job that has made no step, alone
+abbrev pub one : {Job : Type 0} → ℕ → Job → Option ThreadId → Being Job
+one tag job parent = record { tag = tag; job = job; asked = job; parent = parent; many = 1 }
+
+-- how many jobs these are, each with those that run or wait in its place
+abbrev pub count_near : {Job : Type 0} → List (Being Job) → ℕ
+count_near near = sum_by (λ s. s.many) near
 
 module _ {Job : Type 0} where
   -- the children that are awaited: one that has no cell yet, and those that have one
@@ -29,6 +41,7 @@ module _ {Job : Type 0} where
     abbrev pub KeepsChildren : {Output : Type 0} → Step Job Output → Job → Job → Type 0
     KeepsChildren Again old new = KeepsAwaited old new
     KeepsChildren Waits old new = KeepsAwaited old new
+    KeepsChildren Sleeps old new = KeepsAwaited old new
     KeepsChildren (Forks child) old new = (children : List Job) → awaits old children → awaits new (child ∷ children)
     KeepsChildren (Done output) old new = Unit {0}
 
@@ -36,6 +49,7 @@ module _ {Job : Type 0} where
     abbrev pub ForksFresh : {Output : Type 0} → Step Job Output → Type 0
     ForksFresh Again = Unit {0}
     ForksFresh Waits = Unit {0}
+    ForksFresh Sleeps = Unit {0}
     ForksFresh (Forks child) = awaits child []
     ForksFresh (Done output) = Unit {0}
 
@@ -57,5 +71,6 @@ module _ {Job : Type 0} where
 abbrev pub EndsWith : {Job Output : Type 0} → (Output → Type 0) → Step Job Output → Type 0
 EndsWith is_result Again = Unit {0}
 EndsWith is_result Waits = Unit {0}
+EndsWith is_result Sleeps = Unit {0}
 EndsWith is_result (Forks child) = Unit {0}
 EndsWith is_result (Done output) = is_result output

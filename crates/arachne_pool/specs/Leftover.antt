@@ -1,6 +1,14 @@
 -- How many jobs are left of a pool.
-use Rattle.std.specs.Prelude.{ℕ, ◌+◌, length}
+use Rattle.std.specs.Prelude.{ℕ, ◌+◌, List}
+use Rattle.std.specs.List.{sum_by}
+use Rattle.arachne_core.specs.declared.thread_id.ThreadId.{ThreadId}
+use Rattle.arachne_pool.specs.Jobs.{Being, count_near}
 use Rattle.arachne_pool.specs.declared.closing.Left.{Left}
 
+-- those with a place, each with those that run or wait there
+abbrev pub count_placed : {Job : Type 0} → List (ThreadId × Being Job) → ℕ
+count_placed placed = sum_by (λ p. p.1.many) placed
+
+-- and those that wait for one
 abbrev pub count_of : {Job Output : Type 0} → Left Job Output → ℕ
-count_of left = length left.placed.items + length left.near.items
+count_of left = count_placed left.placed.items + count_near left.near.items

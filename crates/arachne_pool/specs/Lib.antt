@@ -1,5 +1,8 @@
 pub mod Jobs
-pub mod Stops
+pub mod Children
+pub mod Frames
 pub mod Grounds
 pub mod Workers
 pub mod Leftover
+pub mod Spawning
+pub mod Waking

@@ -1,23 +1,30 @@
 //! What a worker does at its pool: it spawns jobs, works, and gets results.
 ghost use Rattle.std.specs.Prelude.{◌≡◌, ◌+◌, ◌<◌, [], IfErr, IfOk, IsSome, OnErr, OnOk};
 
-use crate::desk::{Disowned, place};
 use crate::handle::Handle;
 use crate::job::PoolJob;
-use crate::outcome::Wanted;
+use crate::place::{Disowned, place};
 use crate::pool::Pool;
-use crate::round::{round, tend, wait};
+use crate::seat::{Call, Seat, idle_seat};
 use crate::spawned::Spawned;
+use crate::statistics::Statistics;
 use crate::worker::{PoolFault, Worker};
 use arachne_contexts::{Contexts, Seats};
-use std::snapshot::Snapshot;
+use arachne_workers::Worker as Loop;
+use std::mem::replace;
 use std::sync::Wait;
+use std::time::Clock;
+
+/// How many slices a worker has at most before it tells what it has done.
+const MOST_UNTOLD: u64 = 1024;
 
 impl<C: Seats> Pool<C> {
+    ghost use Rattle.arachne_pool.specs.Grounds.{ground_at};
     ghost use Rattle.arachne_pool.specs.Workers.{IsWorkerOf};
 
-    /// Spawns a job, which gets a place of the table where a core has one. Its handle gives its result. Where memory is
-    /// refused, or the worker has no seat, the job comes back.
+    /// Spawns a job, which gets a place of the table where a core has one, and else waits for one with the worker; but a
+    /// worker that was split off and has worked for no core keeps none (`try_spawn`). Its handle gives its result. Where
+    /// memory is refused, or the worker has no seat, the job comes back.
     pub fn spawn<H: Wait, J: PoolJob>(
         &self,
         rt: &H,
@@ -35,24 +42,28 @@ impl<C: Seats> Pool<C> {
         ensures ended { worker.new.tally.ended ≡ worker.old.tally.ended }
         ensures refused { OnErr result (worker.new.tally ≡ worker.old.tally) }
     {
-        if worker.desk.near.try_reserve(1).is_err() {
-            return Err(job);
+        if worker.bench.core >= self.cores {
+            return match self.try_spawn(rt, worker, job) {
+                Ok(handle) => Ok(handle),
+                Err(refused) => Err(refused.job),
+            };
         }
+        let bench = &mut worker.bench;
         let Some(seat) = &mut worker.seat else {
             return Err(job);
         };
-        let wanted = Wanted {
-            job: Snapshot::of(&job),
+        let (receiver, job) = match bench.begin(job) {
+            Ok(begun) => begun,
+            Err(job) => return Err(job),
         };
-        let desk = &mut worker.desk;
-        let Ok((receiver, sender)) = desk.cells.open(desk.alloc, &wanted) else {
-            return Err(job);
-        };
-        let job = Spawned::begin(desk.alloc, job, sender, None, &mut desk.tally);
-        self.job_begins();
+        self.live.add(bench.core, bench.news());
         let handle = Handle::of(receiver);
-        match place::<H, J, C>(rt, self, seat, desk, job) {
-            Ok(()) => Ok(handle),
+        match place::<H, J, C>(rt, self, seat, bench, job) {
+            Ok(post) => {
+                // Its core's kernel thread is told at once: the spawner may not come to a round of its own.
+                self.tell_of(post);
+                Ok(handle)
+            }
             Err(Disowned) => {
                 worker.seat = None;
                 Ok(handle)
@@ -60,11 +71,11 @@ impl<C: Seats> Pool<C> {
         }
     }
 
-    /// One round on a core: orders that are due are applied, each job that is ready there has a slice, and then the
-    /// newest of the worker's jobs without a place that can go on. Whether there was any.
-    pub fn turn<H: Wait, J: PoolJob>(
-        &self,
-        rt: &H,
+    /// One round on a core: orders that are due are applied, each job that is ready there has a slice, and a job of the
+    /// worker that waits for a place gets one. Whether there was any.
+    pub fn turn<'a, H: Wait + Clock, J: PoolJob>(
+        &'a self,
+        rt: &'a H,
         worker: &mut Worker<C::Seat, J>,
         core: u8,
     ) -> Result<bool, PoolFault>
@@ -75,60 +86,51 @@ impl<C: Seats> Pool<C> {
         ensures worker { IsWorkerOf C.sits C.idle self.now.table self.now.cores worker.new }
         ensures seat { OnOk result (IsSome worker.new.seat) }
     {
-        let Some(seat) = &mut worker.seat else {
-            return Err(PoolFault::Token);
+        let mut kernel = self.open(rt, worker, core, Call::Turn)?;
+        kernel.tend();
+        let found = kernel.round(0);
+        self.tell_done(&mut kernel);
+        let Loop {
+            agenda,
+            pace,
+            desk,
+            ..
+        } = kernel;
+        let Seat {
+            pool,
+            is_broken,
+            seat,
+            held,
+            mut bench,
+            ..
+        } = desk;
+        let is_short = bench.take_short();
+        if replace(&mut bench.has_ended, false) {
+            self.tell_if_over();
+        }
+        *worker = Worker {
+            seat: idle_seat::<J, C>(pool, seat, is_broken, &held),
+            bench,
+            agenda,
+            pace,
         };
-        tend::<H, J, C>(rt, self, seat, &mut worker.arbiter);
-        let Ok(found) = round::<H, J, C>(rt, self, core, seat, &mut worker.desk) else {
-            worker.seat = None;
+        if worker.seat.is_none() {
             return Err(PoolFault::Token);
-        };
-        if worker.desk.is_short {
-            worker.desk.is_short = false;
+        }
+        if is_short {
             return Err(PoolFault::Memory);
         }
-        Ok(found)
-    }
-
-    /// A round on a core, and a wait where it found nothing, which is the more often in turn counted. A worker that
-    /// others may wait for isn't parked: one with orders, or with jobs that have no place. With a fault the other
-    /// workers stop too.
-    fn go_on<H: Wait, J: PoolJob>(
-        &self,
-        rt: &H,
-        worker: &mut Worker<C::Seat, J>,
-        core: u8,
-        idle: u32,
-        may_park: bool,
-    ) -> Result<u32, PoolFault>
-    where
-        C: Contexts<Spawned<J>>,
-        requires worker { IsWorkerOf C.sits C.idle self.now.table self.now.cores worker.old }
-        requires core { core < self.now.cores }
-        ensures worker { IsWorkerOf C.sits C.idle self.now.table self.now.cores worker.new }
-    {
-        match self.turn(rt, worker, core) {
-            Ok(true) => Ok(0),
-            Ok(false) => {
-                let may_park = may_park && worker.desk.near.is_empty() && worker.arbiter.is_none();
-                let Some(seat) = &mut worker.seat else {
-                    unreachable!()
-                };
-                wait::<H, J, C>(rt, self, core, seat, idle, may_park);
-                Ok(idle.saturating_add(1))
-            }
-            Err(fault) => {
-                self.stop();
-                Err(fault)
-            }
+        match found {
+            Ok(found) => Ok(found),
+            Err(halt) => Err(PoolFault::from(halt)),
         }
     }
 
-    /// Works on a core until all jobs of the pool have ended, or its workers are to stop. With a fault the other
-    /// workers stop too.
-    pub fn work<H: Wait, J: PoolJob>(
-        &self,
-        rt: &H,
+    /// Works on a core until all jobs of the pool have ended and it isn't kept open, or its workers are to stop. With a
+    /// fault the other workers stop too.
+    pub fn work<'a, H: Wait + Clock, J: PoolJob>(
+        &'a self,
+        rt: &'a H,
         worker: &mut Worker<C::Seat, J>,
         core: u8,
     ) -> Result<(), PoolFault>
@@ -138,21 +140,41 @@ impl<C: Seats> Pool<C> {
         requires core { core < self.now.cores }
         ensures worker { IsWorkerOf C.sits C.idle self.now.table self.now.cores worker.new }
     {
-        let mut idle: u32 = 0;
-        for _ in rt.forever() {
-            if self.live() == 0 || self.is_stopped() {
-                return Ok(());
-            }
-            idle = self.go_on(rt, worker, core, idle, true)?;
+        let mut kernel = self.open(rt, worker, core, Call::Work)?;
+        let done = self.run(rt, &mut kernel);
+        self.tell_done(&mut kernel);
+        let Loop {
+            agenda,
+            pace,
+            desk,
+            ..
+        } = kernel;
+        let Seat {
+            pool,
+            is_broken,
+            seat,
+            held,
+            bench,
+            ..
+        } = desk;
+        *worker = Worker {
+            seat: idle_seat::<J, C>(pool, seat, is_broken, &held),
+            bench,
+            agenda,
+            pace,
+        };
+        match done {
+            Ok(()) => self.tell_if_over(),
+            Err(_) => self.stop(),
         }
-        unreachable!()
+        done
     }
 
     /// Works on a core until the job of this handle has ended. Its result. Where the workers are to stop before, the
     /// handle comes back; with another fault the other workers stop too.
-    pub fn join<H: Wait, J: PoolJob>(
-        &self,
-        rt: &H,
+    pub fn join<'a, H: Wait + Clock, J: PoolJob>(
+        &'a self,
+        rt: &'a H,
         worker: &mut Worker<C::Seat, J>,
         core: u8,
         handle: Handle<J>,
@@ -162,6 +184,130 @@ impl<C: Seats> Pool<C> {
         requires worker { IsWorkerOf C.sits C.idle self.now.table self.now.cores worker.old }
         requires core { core < self.now.cores }
         ensures worker { IsWorkerOf C.sits C.idle self.now.table self.now.cores worker.new }
+        ensures output { IfOk result (J.is_result handle) }
+        ensures handed_back { IfErr result (λ back. back.1 ≡ handle) }
+    {
+        let mut kernel = match self.open(rt, worker, core, Call::Join) {
+            Ok(kernel) => kernel,
+            Err(fault) => return Err((fault, handle)),
+        };
+        let joined = self.run_until(rt, &mut kernel, handle);
+        self.tell_done(&mut kernel);
+        let Loop {
+            agenda,
+            pace,
+            desk,
+            ..
+        } = kernel;
+        let Seat {
+            pool,
+            is_broken,
+            seat,
+            held,
+            bench,
+            ..
+        } = desk;
+        *worker = Worker {
+            seat: idle_seat::<J, C>(pool, seat, is_broken, &held),
+            bench,
+            agenda,
+            pace,
+        };
+        match joined {
+            Ok(_) | Err((PoolFault::Stopped, _)) => self.tell_if_over(),
+            Err(_) => self.stop(),
+        }
+        joined
+    }
+
+    /// What works with a worker on a core, if the worker has a seat. The worker has nothing meanwhile.
+    fn open<'a, H: Wait + Clock, J: PoolJob>(
+        &'a self,
+        rt: &'a H,
+        worker: &mut Worker<C::Seat, J>,
+        core: u8,
+        call: Call,
+    ) -> Result<Loop<'a, H, Seat<'a, H, J, C>>, PoolFault>
+    where
+        C: Contexts<Spawned<J>>,
+        requires worker { IsWorkerOf C.sits C.idle self.now.table self.now.cores worker.old }
+        requires core { core < self.now.cores }
+        ensures worker { IsWorkerOf C.sits C.idle self.now.table self.now.cores worker.new }
+        ensures kernel { IfOk result (λ kernel. kernel.desk ≡ ground_at self.now.table self.now.cores) }
+    {
+        let Some(seat) = worker.seat.take() else {
+            return Err(PoolFault::Token);
+        };
+        let empty = Worker::new(worker.bench.alloc, None, 0);
+        let Worker {
+            mut bench,
+            agenda,
+            pace,
+            ..
+        } = replace(worker, empty);
+        if bench.core != core && bench.core < self.cores {
+            // What the worker knows of the core that it leaves is told to whoever works there next.
+            self.shared.hint_cores(1 << u32::from(bench.core));
+        }
+        bench.core = core;
+        Ok(Loop {
+            rt,
+            shared: &self.shared,
+            core,
+            slots: self.slots,
+            agenda,
+            slices: 0,
+            pace,
+            desk: Seat {
+                rt,
+                pool: self,
+                core,
+                call,
+                is_broken: false,
+                seat,
+                held: None,
+                blocks: false,
+                has_taken: false,
+                is_drained: false,
+                bench,
+            },
+        })
+    }
+
+    /// Rounds until no job lives and none is to come, or the workers are to stop.
+    fn run<'a, H: Wait + Clock, J: PoolJob>(
+        &self,
+        rt: &H,
+        kernel: &mut Loop<'a, H, Seat<'a, H, J, C>>,
+    ) -> Result<(), PoolFault>
+    where
+        C: Contexts<Spawned<J>>,
+        ensures { kernel.new.desk ≡ kernel.old.desk }
+    {
+        // How many rounds in turn have found nothing, and whether all may be over.
+        let (mut idle, mut looks) = (0u32, true);
+        for _ in rt.forever() {
+            if self.is_stopped() || looks && self.is_over() {
+                return Ok(());
+            }
+            let found = self.round(kernel, idle)?;
+            looks = !found || kernel.desk.is_drained;
+            kernel.desk.is_drained = false;
+            idle = if found { 0 } else { idle.saturating_add(1) };
+        }
+        unreachable!()
+    }
+
+    /// Rounds until the job of a handle has ended. Its result.
+    fn run_until<'a, H: Wait + Clock, J: PoolJob>(
+        &self,
+        rt: &H,
+        kernel: &mut Loop<'a, H, Seat<'a, H, J, C>>,
+        handle: Handle<J>,
+    ) -> Result<J::Output, (PoolFault, Handle<J>)>
+    where
+        C: Contexts<Spawned<J>>,
+        ensures desk { kernel.new.desk ≡ kernel.old.desk }
         ensures output { IfOk result (J.is_result handle) }
         ensures handed_back { IfErr result (λ back. back.1 ≡ handle) }
     {
@@ -175,11 +321,52 @@ impl<C: Seats> Pool<C> {
             if self.is_stopped() {
                 return Err((PoolFault::Stopped, handle));
             }
-            idle = match self.go_on(rt, worker, core, idle, false) {
-                Ok(idle) => idle,
+            idle = match self.round(kernel, idle) {
+                Ok(true) => 0,
+                Ok(false) => idle.saturating_add(1),
                 Err(fault) => return Err((fault, handle)),
             };
         }
         unreachable!()
+    }
+
+    /// A round, and a wait where it found nothing, after so many in turn.
+    fn round<'a, H: Wait + Clock, J: PoolJob>(
+        &self,
+        kernel: &mut Loop<'a, H, Seat<'a, H, J, C>>,
+        idle: u32,
+    ) -> Result<bool, PoolFault>
+    where
+        C: Contexts<Spawned<J>>,
+        ensures { kernel.new.desk ≡ kernel.old.desk }
+    {
+        let found = kernel.round(idle)?;
+        if kernel.desk.bench.take_short() {
+            return Err(PoolFault::Memory);
+        }
+        if !found {
+            kernel.desk.bench.done.rests = kernel.desk.bench.done.rests.wrapping_add(1);
+        }
+        if !found || kernel.slices >= MOST_UNTOLD {
+            self.tell_done(kernel);
+        }
+        if !found {
+            kernel.rest_for(idle);
+        }
+        Ok(found)
+    }
+
+    /// What was done on a core is told.
+    fn tell_done<'a, H: Wait + Clock, J: PoolJob>(
+        &self,
+        kernel: &mut Loop<'a, H, Seat<'a, H, J, C>>,
+    )
+    where
+        C: Contexts<Spawned<J>>,
+        ensures { kernel.new.desk ≡ kernel.old.desk }
+    {
+        let mut done = replace(&mut kernel.desk.bench.done, Statistics::new());
+        done.slices = replace(&mut kernel.slices, 0);
+        self.live.add_done(kernel.core, done);
     }
 }

@@ -1,11 +1,13 @@
 //! The begin of a pool, and its end.
-ghost use Rattle.std.specs.Prelude.{◌≡◌, ◌+◌, ◌<◌, ◌≤◌, ◌↔◌, IfOk, IfSome, IsSome, IsTrue, OnErr, OnOk, Some, length};
+ghost use Rattle.std.specs.Prelude.{◌≡◌, ◌+◌, ◌<◌, ◌≤◌, ◌↔◌, IfOk, IfSome, IsSome, IsTrue, MatchOption, OnErr, OnOk, Some, length};
 ghost use Rattle.arachne_core.specs.declared.layout.TheConstants.{CORES, SLOTS};
 ghost use Rattle.arachne_policy.specs.Orders.{AreInOrder};
 ghost use Rattle.arachne_policy.specs.declared.orders.OrderKind.TheVariants.{Release};
+ghost use Rattle.arachne_pool.specs.Jobs.{count_near};
+ghost use Rattle.arachne_pool.specs.Leftover.{count_placed};
 ghost use Rattle.arachne_weights.specs.Weight.{whole};
 
-use crate::desk::Desk;
+use crate::bench::Bench;
 use crate::job::PoolJob;
 use crate::pool::Pool;
 use crate::spawned::Spawned;
@@ -16,15 +18,16 @@ use arachne_contexts::{Contexts, Seats};
 use arachne_core::{CORES, OccWord, SLOTS, ThreadId};
 use arachne_policy::{CoreOrder, OrderKind};
 use std::alloc::{AllocError, Global};
+use std::collections::VecDeque;
 use std::sync::Wait;
 
-/// The jobs of a pool that have not ended.
+/// The jobs of a pool that have not ended, each with those that run or wait in its place.
 #[derive(Drop)]
 pub struct Left<J: PoolJob> {
     /// Those that had a place, by context, with the id under which each ran.
     pub placed: Vec<(ThreadId, Spawned<J>)>,
-    /// Those that had none.
-    pub near: Vec<Spawned<J>>,
+    /// Those that waited for one, the oldest first.
+    pub near: VecDeque<Spawned<J>>,
 }
 
 /// Why a pool was not closed.
@@ -33,7 +36,7 @@ pub enum NotClosed<C: Seats, J: PoolJob> {
     /// Another worker has a part of it still, or this one has no seat. All comes back.
     NotWhole(Pool<C>, Worker<C::Seat, J>),
     /// Memory was refused. The table, its seat and the jobs that had no place come back.
-    Memory(C, C::Seat, Vec<Spawned<J>>),
+    Memory(C, C::Seat, VecDeque<Spawned<J>>),
     /// The jobs that were spawned are not those that ended and those that are left.
     Lost(Left<J>),
 }
@@ -61,13 +64,14 @@ impl<C: Seats + Drop> Pool<C> {
         ensures near { IfOk result (λ made. made.1.near ≡ 0) }
         ensures orders { IfOk result (λ made. made.1.arbiter ≡ Some (record { list = orders.items; cores = cores; applied = 0 })) }
     {
+        let count = orders.len();
         let arbiter = Arbiter::new(alloc, orders, cores)?;
         let (pool, seat) = Pool::<C>::with_seat(alloc, cores, slots)?;
-        let worker = Worker {
-            seat: Some(seat),
-            desk: Desk::new(alloc, 0),
-            arbiter: Some(arbiter),
-        };
+        let mut worker = Worker::new(alloc, Some(seat), 0);
+        worker.bench.arbiter = Some(arbiter);
+        worker.bench.orders = count;
+        // It is to work for a core, and so keeps what it spawns before.
+        worker.bench.core = 0;
         Ok((pool, worker))
     }
 }
@@ -102,8 +106,10 @@ impl<C: Seats> Pool<C> {
                 orders.insert(0, closes_at_once(core))?;
             }
         }
-        let arbiter = Arbiter::new(worker.desk.alloc, orders, self.cores)?;
-        worker.arbiter = Some(arbiter);
+        let count = orders.len();
+        let arbiter = Arbiter::new(worker.bench.alloc, orders, self.cores)?;
+        worker.bench.arbiter = Some(arbiter);
+        worker.bench.orders = count;
         Ok(())
     }
 
@@ -133,29 +139,17 @@ impl<C: Seats> Pool<C> {
         ensures each_once { IfOk result (λ left. worker.tally.spawned ≡ worker.tally.ended + count_of left) }
         ensures near { IfOk result (λ left. length left.near.items ≡ worker.near) }
     {
-        let Worker {
-            seat,
-            desk,
-            arbiter,
-        } = worker;
-        let Some(seat) = seat else {
-            let worker = Worker {
-                seat: None,
-                desk,
-                arbiter,
-            };
+        let mut worker = worker;
+        let Some(seat) = worker.seat.take() else {
             return Err(NotClosed::NotWhole(self, worker));
         };
         if !self.table.is_whole(&seat) {
-            let worker = Worker {
-                seat: Some(seat),
-                desk,
-                arbiter,
-            };
+            worker.seat = Some(seat);
             return Err(NotClosed::NotWhole(self, worker));
         }
         let Pool { table, .. } = self;
-        let Desk { near, tally, .. } = desk;
+        let Worker { bench, .. } = worker;
+        let Bench { near, tally, .. } = bench;
         let placed = match table.close(rt, alloc, seat) {
             Ok(placed) => placed,
             Err((table, seat)) => return Err(NotClosed::Memory(table, seat, near)),
@@ -190,9 +184,35 @@ impl Tally {
         let Some(rest) = self.spawned.checked_sub(self.ended) else {
             return false;
         };
-        let Some(near) = rest.checked_sub(left.placed.len() as u64) else {
+        let Some(rest) = without_placed(rest, left.placed.as_slice()) else {
             return false;
         };
-        near == left.near.len() as u64
+        let Some(rest) = without_near(rest, &left.near) else {
+            return false;
+        };
+        rest == 0
     }
+}
+
+/// So many less those with a place. None where these are more.
+#[tactic(auto, using(crate::proofs::Counts::placed_counts))]
+fn without_placed<J: PoolJob>(count: u64, placed: &[(ThreadId, Spawned<J>)]) -> Option<u64>
+    ensures { MatchOption result (count < count_placed placed.now) (λ rest. rest + count_placed placed.now ≡ count) }
+{
+    let mut rest = count;
+    for entry in placed {
+        rest = entry.1.taken_from(rest)?;
+    }
+    Some(rest)
+}
+
+/// So many less those that waited for a place. None where these are more.
+fn without_near<J: PoolJob>(count: u64, near: &VecDeque<Spawned<J>>) -> Option<u64>
+    ensures { MatchOption result (count < count_near near.now.items) (λ rest. rest + count_near near.now.items ≡ count) }
+{
+    let mut rest = count;
+    for job in near.iter() {
+        rest = job.taken_from(rest)?;
+    }
+    Some(rest)
 }

@@ -3,6 +3,7 @@ ghost use Rattle.std.specs.Prelude.{◌≡◌, List, [], ◌∷◌};
 ghost use Rattle.arachne_pool.specs.Jobs.{EndsWith, ForksFresh, HasJoined, IsAwaited, KeepsChildren, KeepsResults, KnowsChildren};
 
 use arachne_contexts::Tagged;
+use arachne_core::ThreadId;
 
 /// What a job wants after a step.
 #[derive(Drop)]
@@ -11,6 +12,9 @@ pub enum Step<J, O> {
     Again,
     /// To get the result of the newest child that it has forked and not joined. It goes on at once where it has none.
     Waits,
+    /// To rest until it is woken (`Pool::wake`) by the id that `sleeps_as` tells it. It may go on earlier, so it looks again
+    /// whether what it sleeps for has come.
+    Sleeps,
     /// This job is to run beside it, as its newest child.
     Forks(J),
     /// It has ended, with this result.
@@ -20,7 +24,7 @@ pub enum Step<J, O> {
 /// A job: it goes on by steps, which any worker makes, one after the other.
 pub trait PoolJob: Tagged + Drop {
     /// What it ends with.
-    type Output: Drop + Send;
+    type Output: Drop;
 
     /// This is a result of the job. A handle gives no other.
     ghost is_result: { Self → Self.Output → Type 0 };
@@ -49,6 +53,10 @@ pub trait PoolJob: Tagged + Drop {
     fn bound(&self) -> u32 {
         1
     }
+
+    /// It is about to rest, and this is its id until it has ended. A wake that comes before it rests isn't lost. Jobs that
+    /// run in one place one after the other have the same id.
+    fn sleeps_as(&self, _id: ThreadId) {}
 
     /// Whether it is to have a core for itself, if one is empty.
     fn is_exclusive(&self) -> bool {

@@ -4,18 +4,24 @@
 //! children, waits for their results, and ends with a result, which its handle gives to whoever spawned it.
 #![tactic(auto)]
 
+mod bench;
 mod calls;
 mod closing;
-mod desk;
 mod handle;
 mod job;
 mod links;
+mod live;
 mod outcome;
+mod place;
 mod pool;
-mod round;
+mod seat;
 mod spawned;
+mod spawning;
+mod stack;
+mod statistics;
 mod stop;
 mod tally;
+mod waking;
 mod worker;
 
 pub use closing::{Left, NotClosed};
@@ -24,5 +30,9 @@ pub use job::{PoolJob, Step};
 pub use outcome::{Outcome, Wanted};
 pub use pool::Pool;
 pub use spawned::Spawned;
+pub use spawning::{NoPlaces, Refusal, Refused};
+pub use stack::Jobs;
+pub use statistics::Statistics;
 pub use tally::Tally;
+pub use waking::Waker;
 pub use worker::{PoolFault, Worker};

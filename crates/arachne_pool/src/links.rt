@@ -1,78 +1,142 @@
-//! Where the results of a job's children come.
-ghost use Rattle.std.specs.Prelude.{◌≡◌, ◌∷◌, [], true, IfOk, MatchOption, OnErr, OnOk, ◌↔◌, IsTrue};
+//! The children of jobs in one place that were forked and not joined.
+ghost use Rattle.std.specs.Prelude.{◌≡◌, ◌+◌, ◌∷◌, [], IfErr, IfSome, MatchOption, OnErr, OnOk};
+ghost use Rattle.std.specs.VecDeque.{deque_len};
+ghost use Rattle.arachne_pool.specs.Children.{LosesAside, LosesBegun, with_aside};
 
 use crate::job::PoolJob;
 use crate::outcome::{Cells, ResultReceiver, ResultSender, Wanted};
-use std::alloc::{AllocError, Global};
+use std::alloc::Global;
+use std::collections::VecDeque;
 use std::marker::Model;
 use std::snapshot::Snapshot;
 
-/// The ends to which the results of children come that were forked and not joined.
+/// The children of jobs in one place that were forked and not joined. Some have begun elsewhere, each with a cell to
+/// which its result comes; the others are kept here, and are all newer than those.
 ///
-/// Contracts see these children, each as it was forked, the newest first.
+/// Contracts see all of them, each as it was forked, the newest first, and how many have not begun.
 #[derive(Drop)]
 pub(crate) struct Links<J: PoolJob> {
-    receivers: Vec<ResultReceiver<J>>,
+    begun: Vec<ResultReceiver<J>>,
+    aside: VecDeque<J>,
 }
 
 impl<J: PoolJob> Model for Links<J> {
-    ghost use Rattle.std.specs.Prelude.{List, map, reverse};
+    ghost use Rattle.std.specs.Prelude.{All, [], ◌++◌, map, reverse};
+    ghost use Rattle.std.specs.VecDeque.{deque_len};
+    ghost use Rattle.arachne_pool.specs.Children.{Children};
 
-    ghost Value = { List J };
+    ghost Value = { Children J };
 
-    ghost view = { λ l. map (λ r. r.opening.key.job.value) (reverse l.receivers.items) };
+    ghost view = { λ l. record { all = reverse l.aside.items ++ map (λ r. r.opening.key.job.value) (reverse l.begun.items); aside = deque_len l.aside } };
+
+    ghost invariant = { λ l. All (λ child. J.awaits child []) l.aside.items };
 }
 
 impl<J: PoolJob> Links<J> {
     /// No child was forked. It takes no memory.
     pub(crate) fn new(alloc: Global) -> Links<J>
-        ensures { result ≡ [] }
+        ensures { result ≡ record { all = []; aside = 0 } }
     {
         Links {
-            receivers: Vec::new(alloc),
+            begun: Vec::new(alloc),
+            aside: VecDeque::new(alloc),
         }
     }
 
-    pub(crate) fn is_empty(&self) -> bool
-        ensures { IsTrue result ↔ (self.now ≡ []) }
+    /// How many have not begun.
+    pub(crate) fn aside(&self) -> usize
+        ensures { result ≡ self.now.aside }
     {
-        self.receivers.is_empty()
+        self.aside.len()
     }
 
-    /// Opens a cell for a child: the end at which it leaves its result.
-    pub(crate) fn open(
-        &mut self,
-        alloc: Global,
-        cells: &mut Cells<J>,
-        child: &J,
-    ) -> Result<ResultSender<J>, AllocError>
-        ensures opened { OnOk result (self.new ≡ child.now ∷ self.old) }
-        ensures sender { IfOk result (λ sender. sender.key.job.value ≡ child.now) }
+    /// A child is kept until it is awaited, or begins elsewhere. Where memory is refused it comes back.
+    pub(crate) fn put_aside(&mut self, child: J) -> Result<(), J>
+        requires fresh { J.awaits child [] }
+        ensures put { OnOk result (self.new ≡ with_aside child self.old) }
         ensures refused { OnErr result (self.new ≡ self.old) }
+        ensures handed_back { IfErr result (λ back. back ≡ child) }
     {
-        self.receivers.try_reserve(1)?;
-        let wanted = Wanted {
-            job: Snapshot::of(child),
-        };
-        let (receiver, sender) = cells.open(alloc, &wanted)?;
-        self.receivers.push_reserved(receiver);
-        Ok(sender)
+        match self.aside.push_back(child) {
+            Ok(()) => Ok(()),
+            Err(failed) => Err(failed.value),
+        }
+    }
+
+    /// The newest child, if it has not begun.
+    pub(crate) fn take_newest(&mut self) -> Option<J>
+        ensures taken { MatchOption result ((self.new ≡ self.old) × (self.old.aside ≡ 0)) (λ child. LosesAside child self.old self.new) }
+        ensures fresh { IfSome result (λ child. J.awaits child []) }
+    {
+        self.aside.pop_back()
     }
 
     /// The result of the newest child, if it has come. Then the child is joined, and its cell is kept for the next one.
-    pub(crate) fn fetch(&mut self, cells: &mut Cells<J>) -> Option<J::Output>
-        ensures { MatchOption result (self.new ≡ self.old) (λ output. (child : J) × (self.old ≡ child ∷ self.new) × J.is_result child output) }
+    pub(crate) fn fetch_newest(&mut self, cells: &mut Cells<J>) -> Option<J::Output>
+        requires { self.old.aside ≡ 0 }
+        ensures { MatchOption result (self.new ≡ self.old) (λ output. (child : J) × (self.old.all ≡ child ∷ self.new.all) × (self.new.aside ≡ 0) × J.is_result child output) }
     {
-        let receiver = self.receivers.pop()?;
+        let receiver = self.begun.pop()?;
         match receiver.fetch() {
             Ok((outcome, cell)) => {
                 cells.give(cell);
                 Some(outcome.output)
             }
             Err(receiver) => {
-                self.receivers.push_reserved(receiver);
+                self.begun.push_reserved(receiver);
                 None
             }
+        }
+    }
+
+    /// The oldest child that has not begun begins: it, and the end at which it leaves its result. None where there is
+    /// none, or memory is refused.
+    pub(crate) fn part_oldest(
+        &mut self,
+        alloc: Global,
+        cells: &mut Cells<J>,
+    ) -> Option<(J, ResultSender<J>)>
+        ensures all { self.new.all ≡ self.old.all }
+        ensures aside { MatchOption result (self.new.aside ≡ self.old.aside) (λ parted. self.new.aside + 1 ≡ self.old.aside) }
+        ensures child { IfSome result (λ parted. (parted.1.key.job.value ≡ parted.0) × J.awaits parted.0 []) }
+    {
+        self.begun.try_reserve(1).ok()?;
+        let child = self.aside.pop_front()?;
+        let wanted = Wanted {
+            job: Snapshot::of(&child),
+        };
+        let Ok((receiver, sender)) = cells.open(alloc, &wanted) else {
+            self.aside.push_front_reserved(child);
+            return None;
+        };
+        self.begun.push_reserved(receiver);
+        Some((child, sender))
+    }
+
+    /// The newest child is awaited no longer. It comes back if it had not begun.
+    pub(crate) fn forget_newest(&mut self) -> Option<J>
+        ensures forgotten { MatchOption result (LosesBegun self.old self.new) (λ child. LosesAside child self.old self.new) }
+        ensures fresh { IfSome result (λ child. J.awaits child []) }
+    {
+        if let Some(child) = self.aside.pop_back() {
+            return Some(child);
+        }
+        self.begun.pop();
+        None
+    }
+
+    /// Those that have not begun, the oldest first. The results of the others come to nobody.
+    pub(crate) fn into_aside(self) -> VecDeque<J>
+        ensures { deque_len result ≡ self.aside }
+    {
+        self.aside
+    }
+
+    /// Whether the oldest child that has not begun is to have a core for itself.
+    pub(crate) fn is_oldest_exclusive(&self) -> bool {
+        match self.aside.front() {
+            Some(child) => child.is_exclusive(),
+            None => false,
         }
     }
 }

@@ -1,18 +1,18 @@
 //! What the workers of a pool share.
 ghost use Rattle.std.specs.Prelude.{◌≡◌, ◌<◌, ◌≤◌, IfOk};
 ghost use Rattle.arachne_core.specs.declared.layout.TheConstants.{CORES, SLOTS, LAST_GENERATION};
-ghost use Rattle.arachne_arbiter.specs.KernelThreads.{counted_cores, parked_cores};
 ghost use Rattle.arachne_weights.specs.Weight.{whole};
 
-use arachne_arbiter::{Cores, Parking, SliceCounts};
+use crate::live::Live;
+use crate::statistics::Statistics;
+use arachne_arbiter::Cores;
 use arachne_contexts::Seats;
-use arachne_core::{CORES, SLOTS};
+use arachne_core::{CORES, Place, SLOTS};
+use arachne_workers::{Post, Shared};
 use crossbeam_utils::CachePadded;
 use std::alloc::{AllocError, Global};
 use std::marker::PhantomData;
-use std::sync::Wait;
 use std::sync::atomic::{AtomicU64, Ordering};
-use std::time::Duration;
 
 /// What the workers of a pool share: the table, how many jobs have not ended, and what ends all work.
 #[derive(Drop)]
@@ -23,17 +23,19 @@ pub struct Pool<C: Seats> {
     pub cores: u8,
     /// How many jobs each core has places for, 1 to 56.
     pub slots: u8,
-    pub(crate) parking: Parking,
-    pub(crate) slices: SliceCounts,
-    live: CachePadded<AtomicU64>,
-    /// 1 once the workers are to stop.
-    stop: CachePadded<AtomicU64>,
+    pub(crate) shared: Shared,
+    pub(crate) live: Live,
+    /// 1 while a place may be free.
+    room: CachePadded<AtomicU64>,
+    /// 1 once a job was to have a core for itself.
+    exclusive: AtomicU64,
+    /// 1 while jobs may come though none lives.
+    open: AtomicU64,
     ghost counted: { C.core_count table ≡ cores },
     ghost few: { cores ≤ CORES },
     ghost placed: { C.slot_count table ≡ slots },
     ghost few_slots: { slots ≤ SLOTS },
-    ghost parked: { parked_cores parking ≡ cores },
-    ghost sliced: { counted_cores slices ≡ cores },
+    ghost told: { shared ≡ cores },
 }
 
 impl<C: Seats + Drop> Pool<C> {
@@ -53,60 +55,109 @@ impl<C: Seats + Drop> Pool<C> {
         ensures idle { IfOk result (λ made. C.idle made.0.table made.1) }
         ensures weight { IfOk result (λ made. C.weight made.1 ≡ whole) }
     {
-        let parking = Parking::new(alloc, cores)?;
-        let slices = SliceCounts::new(alloc, cores)?;
+        let live = Live::new(alloc, cores)?;
+        let shared = Shared::new(alloc, cores)?;
         let (table, seat) = C::new(alloc, cores, slots, 0)?;
         let pool = Pool {
             table,
             cores,
             slots,
-            parking,
-            slices,
-            live: CachePadded::new(AtomicU64::new(0)),
-            stop: CachePadded::new(AtomicU64::new(0)),
+            shared,
+            live,
+            room: CachePadded::new(AtomicU64::new(1)),
+            exclusive: AtomicU64::new(0),
+            open: AtomicU64::new(0),
         };
         Ok((pool, seat))
     }
 }
 
 impl<C: Seats> Pool<C> {
-    /// How many jobs were spawned and have not ended, as of one moment of the call.
+    /// How many jobs were spawned or forked and have not ended, as the workers have told. None lives where it is 0.
     pub fn live(&self) -> u64 {
-        self.live.load(Ordering::SeqCst)
+        self.live.count()
+    }
+
+    /// What the workers of a core have done. Nothing where there is no such core.
+    pub fn statistics(&self, core: u8) -> Statistics {
+        if core >= self.cores {
+            return Statistics::new();
+        }
+        self.live.done(core)
     }
 
     /// Has all workers stop after their slices, those that sleep or are parked too.
     pub fn stop(&self) {
-        self.stop.store(1, Ordering::SeqCst);
-        self.wake_all();
+        self.shared.stop();
     }
 
     /// Whether the workers are to stop.
     pub fn is_stopped(&self) -> bool {
-        self.stop.load(Ordering::SeqCst) != 0
+        self.shared.is_stopped()
     }
 
-    /// A job is about to be spawned.
-    pub(crate) fn job_begins(&self) {
-        self.live.fetch_add(1, Ordering::SeqCst);
+    /// Jobs may come though none lives, as in a server: from now on `work` goes on without any, until `finish` is called.
+    pub fn keep_open(&self) {
+        self.open.store(1, Ordering::SeqCst);
     }
 
-    /// A job has ended, or was not spawned after all. With the last one the workers wake.
-    pub(crate) fn job_ended(&self) {
-        if self.live.fetch_sub(1, Ordering::SeqCst) == 1 {
-            self.wake_all();
+    /// No more jobs come: from now on `work` returns once none lives.
+    pub fn finish(&self) {
+        self.open.store(0, Ordering::SeqCst);
+        self.tell_if_over();
+    }
+
+    /// Whether no job lives, and none is to come.
+    pub(crate) fn is_over(&self) -> bool {
+        self.open.load(Ordering::SeqCst) == 0 && self.live() == 0
+    }
+
+    /// If no job lives and none is to come, all workers wake, those that sleep and those that are parked.
+    pub(crate) fn tell_if_over(&self) {
+        if self.is_over() {
+            for core in 0..self.cores {
+                self.shared.hint(Place { core, index: 0 });
+            }
+            self.shared.parking().unpark_all();
         }
     }
 
-    /// Wakes all workers, those that sleep and those that are parked.
-    pub(crate) fn wake_all(&self) {
-        self.stop.wake_all();
-        self.parking.unpark_all();
+    /// The kernel thread of the core at which a job was posted, if one was, is told of it.
+    pub(crate) fn tell_of(&self, post: Option<Post>) {
+        if let Some(post) = post {
+            self.shared.hint(post.place);
+        }
     }
 
-    /// Sleeps for so many microseconds, or until all are woken.
-    pub(crate) fn sleep<H: Wait>(&self, rt: &H, spell: u64) {
-        self.stop.park_timeout(rt, 0, Duration::from_micros(spell));
+    /// Whether a place may be free.
+    #[inline(always)]
+    pub(crate) fn has_room(&self) -> bool {
+        self.room.load(Ordering::SeqCst) != 0
+    }
+
+    /// A place is free, or was a moment ago.
+    #[inline(always)]
+    pub(crate) fn room_was_seen(&self) {
+        if !self.has_room() {
+            self.room.store(1, Ordering::SeqCst);
+        }
+    }
+
+    /// No core had a place. The next worker that leaves one, or looks for work and sees one, says so.
+    pub(crate) fn no_room_was_seen(&self) {
+        self.room.store(0, Ordering::SeqCst);
+    }
+
+    /// A job is to have a core for itself.
+    pub(crate) fn exclusive_comes(&self) {
+        if !self.has_exclusive() {
+            self.exclusive.store(1, Ordering::SeqCst);
+        }
+    }
+
+    /// Whether a job was to have a core for itself.
+    pub(crate) fn has_exclusive(&self) -> bool {
+        self.exclusive.load(Ordering::SeqCst) != 0
     }
 
     /// The cores of the table, for a kernel thread that steps at them.

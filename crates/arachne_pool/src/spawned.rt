@@ -1,184 +1,161 @@
-//! A job in a pool, with the ends of the cells that it has.
-ghost use Rattle.std.specs.Prelude.{◌≡◌, ◌+◌, ◌<◌, [], false, IfOk, IfSome, OnErr};
-ghost use Rattle.arachne_pool.specs.Jobs.{KeepsResults};
-ghost use Rattle.arachne_pool.specs.Stops.{EndsAs};
+//! A job in a pool, with those that run in its place, and the end at which it leaves its result.
+ghost use Rattle.std.specs.Prelude.{◌≡◌, ◌+◌, ◌<◌, ◌≤◌, [], IfSome, MatchOption, Some, None};
+ghost use Rattle.arachne_pool.specs.Frames.{CountsEach};
 
-use crate::job::{PoolJob, Step};
-use crate::links::Links;
+use crate::job::PoolJob;
 use crate::outcome::{Cells, Outcome, ResultSender};
+use crate::stack::{Jobs, Stack};
 use crate::stop::Stop;
 use crate::tally::Tally;
 use arachne_contexts::Tagged;
 use arachne_core::ThreadId;
-use std::alloc::{AllocError, Global};
+use std::alloc::Global;
 use std::marker::Model;
 
-/// A job that was spawned, and has not ended. It is moved and never copied, and whoever has it alone steps it.
+/// A job that was spawned, and has not ended. It is moved and never copied, and whoever has it alone steps it. A child
+/// that it has forked while no place was free waits here, and runs in its place once it is awaited.
 ///
-/// Contracts see the job as it is now and as it was spawned, and the id under which its parent runs, if that is to be
-/// woken.
+/// Contracts see its tag; the job as it is now and as it was spawned; the id under which its parent runs, if that is to
+/// be woken; and how many jobs it is that have not ended, with those that run or wait in its place.
 #[derive(Drop)]
 pub struct Spawned<J: PoolJob> {
-    job: J,
-    /// A child that it has forked and that has no cell yet.
-    child: Option<J>,
-    links: Links<J>,
-    sender: ResultSender<J>,
+    tag: u64,
+    stack: Stack<J>,
+    sender: Option<ResultSender<J>>,
     parent: Option<ThreadId>,
-    /// It is to get the result of its newest child before its next step.
-    waits: bool,
-    /// It has given its result, and makes no step.
-    has_ended: bool,
 }
 
 impl<J: PoolJob> Model for Spawned<J> {
-    ghost use Rattle.std.specs.Prelude.{◌≡◌, [], false, IfSome};
-    ghost use Rattle.arachne_pool.specs.Jobs.{Being, KeepsResults, children_of};
+    ghost use Rattle.std.specs.Prelude.{◌≡◌, IfSome};
+    ghost use Rattle.arachne_pool.specs.Jobs.{Being};
 
     ghost Value = { Being J };
 
-    ghost view = { λ s. record { job = s.job; asked = s.sender.key.job.value; parent = s.parent } };
+    ghost view = { λ s. record { tag = s.tag; job = s.stack.job; asked = s.stack.asked; parent = s.parent; many = s.stack.many } };
 
-    ghost invariant = { λ s. KeepsResults J.is_result s.sender.key.job.value s.job × (s.has_ended ≡ false → J.awaits s.job (children_of s.child s.links))
-        × IfSome s.child (λ child. J.awaits child []) };
+    ghost invariant = { λ s. IfSome s.sender (λ sender. sender.key.job.value ≡ s.stack.asked) };
 }
 
 impl<J: PoolJob> Tagged for Spawned<J> {
-    ghost tag_of = { λ s. J.tag_of s.job };
+    ghost tag_of = { λ s. s.tag };
 
     fn tag(&self) -> u64 {
-        self.job.tag()
+        self.tag
     }
 }
 
 impl<J: PoolJob> Spawned<J> {
-    /// A job that begins, and leaves its result at this end.
+    ghost use Rattle.arachne_pool.specs.Jobs.{one};
+
+    /// A job that begins, and leaves its result at this end, if there is one.
     pub(crate) fn begin(
         alloc: Global,
         job: J,
-        sender: ResultSender<J>,
+        sender: Option<ResultSender<J>>,
         parent: Option<ThreadId>,
-        tally: &mut Tally,
     ) -> Spawned<J>
-        requires sender { sender.key.job.value ≡ job }
+        requires sender { IfSome sender (λ sender. sender.key.job.value ≡ job) }
         requires fresh { J.awaits job [] }
-        ensures made { result ≡ record { job = job; asked = job; parent = parent } }
-        ensures spawned { tally.old.spawned < u64.MAX → tally.new.spawned ≡ tally.old.spawned + 1 }
-        ensures ended { tally.new.ended ≡ tally.old.ended }
+        ensures { result ≡ one (J.tag_of job) job parent }
     {
-        tally.count_spawned();
         Spawned {
-            job,
-            child: None,
-            links: Links::new(alloc),
+            tag: job.tag(),
+            stack: Stack::begin(alloc, job),
             sender,
             parent,
-            waits: false,
-            has_ended: false,
         }
     }
 
     /// Whether it is to have a core for itself.
     pub(crate) fn is_exclusive(&self) -> bool {
-        self.job.is_exclusive()
+        self.stack.is_exclusive()
     }
 
-    /// Whether it has forked no child that it has not joined.
-    pub(crate) fn is_alone(&self) -> bool {
-        self.child.is_none() && self.links.is_empty()
+    /// The most steps of a slice.
+    pub(crate) fn bound(&self) -> u32 {
+        self.stack.bound()
     }
 
-    /// A slice: it goes on for at most as many steps as its bound, until it forks, waits or has ended.
-    pub(crate) fn slice(&mut self, cells: &mut Cells<J>) -> Stop<J::Output>
-        ensures tag { J.tag_of self.new.job ≡ J.tag_of self.old.job }
-        ensures asked { self.new.asked ≡ self.old.asked }
-        ensures parent { self.new.parent ≡ self.old.parent }
-        ensures output { EndsAs (J.is_result self.old.asked) result }
+    /// It is told that it rests under this id.
+    pub(crate) fn sleeps_as(&self, id: ThreadId) {
+        self.stack.sleeps_as(id);
+    }
+
+    /// Whether a child waits here to begin.
+    pub(crate) fn has_aside(&self) -> bool {
+        self.stack.has_aside()
+    }
+
+    /// Whether the oldest of these is to have a core for itself.
+    pub(crate) fn is_oldest_exclusive(&self) -> bool {
+        self.stack.is_oldest_exclusive()
+    }
+
+    /// So many less those of this job that have not ended. None where these are more.
+    pub(crate) fn taken_from(&self, count: u64) -> Option<u64>
+        ensures { MatchOption result (count < self.now.many) (λ rest. rest + self.now.many ≡ count) }
     {
-        let most = self.job.bound().max(1);
-        for _ in 0..most {
-            match self.go_on(cells) {
-                Stop::Goes => {}
-                stop => return stop,
-            }
-        }
-        Stop::Goes
+        self.stack.taken_from(count)
     }
 
-    /// Goes on by a step, if it has not ended and doesn't wait, and its last child was parted off.
-    fn go_on(&mut self, cells: &mut Cells<J>) -> Stop<J::Output>
-        ensures tag { J.tag_of self.new.job ≡ J.tag_of self.old.job }
-        ensures asked { self.new.asked ≡ self.old.asked }
-        ensures parent { self.new.parent ≡ self.old.parent }
-        ensures output { EndsAs (J.is_result self.old.asked) result }
+    /// Goes on for at most as many steps as are left, until a child is forked while one may be posted, it waits or has
+    /// ended. Each job that begins or ends is counted.
+    pub(crate) fn slice(
+        &mut self,
+        cells: &mut Cells<J>,
+        tally: &mut Tally,
+        left: &mut u32,
+        may_post: bool,
+    ) -> Stop
+        ensures same { self.new ≡ record self.old { job = self.new.job; many = self.new.many } }
+        ensures left { left.new ≤ left.old }
+        ensures counts { CountsEach tally.old tally.new self.old.many self.new.many }
     {
-        if self.has_ended {
-            return Stop::Waits;
-        }
-        if self.child.is_some() {
-            return Stop::Forks;
-        }
-        if self.waits {
-            self.waits = !receive(&mut self.job, &mut self.links, cells);
-            if self.waits {
-                return Stop::Waits;
-            }
-        }
-        match self.job.step() {
-            Step::Again => Stop::Goes,
-            Step::Waits => {
-                self.waits = true;
-                Stop::Goes
-            }
-            Step::Forks(child) => {
-                self.child = Some(child);
-                Stop::Forks
-            }
-            Step::Done(output) => {
-                self.has_ended = true;
-                Stop::Ends(output)
-            }
-        }
+        self.stack.slice(cells, tally, left, may_post)
     }
 
-    /// The child that it has forked becomes a job of its own, whose parent runs under this id. None where it has
-    /// forked none. Where memory is refused all is as before.
-    pub(crate) fn part_child(
+    /// How many children one that has ended has not joined.
+    pub(crate) fn orphans(&self) -> usize {
+        self.stack.orphans()
+    }
+
+    /// One of these is awaited no longer. If it had not begun, it is a job of its own now, whose result comes to nobody.
+    pub(crate) fn let_go(&mut self, alloc: Global) -> Option<Spawned<J>>
+        ensures same { self.new ≡ record self.old { job = self.new.job; many = self.new.many } }
+        ensures many { MatchOption result (self.new.many ≡ self.old.many) (λ orphan. self.new.many + orphan.many ≡ self.old.many) }
+    {
+        let job = self.stack.let_go()?;
+        Some(Spawned::begin(alloc, job, None, None))
+    }
+
+    /// The oldest child that waits here becomes a job of its own, whose parent runs under this id. None where there is
+    /// none, or memory is refused: then all is as before.
+    pub(crate) fn part_oldest(
         &mut self,
         alloc: Global,
         cells: &mut Cells<J>,
-        tally: &mut Tally,
-        me: Option<ThreadId>,
-    ) -> Result<Option<Spawned<J>>, AllocError>
-        ensures same { self.new ≡ self.old }
-        ensures child { IfOk result (λ made. IfSome made (λ child. (child.job ≡ child.asked) × (child.parent ≡ me))) }
-        ensures spawned { IfOk result (λ made. IfSome made (λ _. tally.old.spawned < u64.MAX → tally.new.spawned ≡ tally.old.spawned + 1)) }
-        ensures refused { OnErr result (tally.new ≡ tally.old) }
-        ensures ended { tally.new.ended ≡ tally.old.ended }
+        me: ThreadId,
+    ) -> Option<Spawned<J>>
+        ensures same { self.new ≡ record self.old { job = self.new.job; many = self.new.many } }
+        ensures many { MatchOption result (self.new.many ≡ self.old.many) (λ child. self.new.many + child.many ≡ self.old.many) }
+        ensures child { IfSome result (λ child. child ≡ one child.tag child.asked (Some me)) }
     {
-        let Some(child) = self.child.take() else {
-            return Ok(None);
-        };
-        match self.links.open(alloc, cells, &child) {
-            Ok(sender) => Ok(Some(Spawned::begin(alloc, child, sender, me, tally))),
-            Err(refused) => {
-                self.child = Some(child);
-                Err(refused)
-            }
-        }
+        let (job, sender) = self.stack.part_oldest(alloc, cells)?;
+        Some(Spawned::begin(alloc, job, Some(sender), Some(me)))
     }
 
     /// Ends the job: its result goes to its handle or to its parent, and is one of the job as it was spawned. The
     /// parent, if that is to be woken.
-    pub(crate) fn leave(self, output: J::Output, tally: &mut Tally) -> Option<ThreadId>
-        requires { J.is_result self.asked output }
-        ensures parent { result ≡ self.parent }
-        ensures ended { tally.old.ended < u64.MAX → tally.new.ended ≡ tally.old.ended + 1 }
-        ensures spawned { tally.new.spawned ≡ tally.old.spawned }
+    pub(crate) fn leave(self) -> Option<ThreadId>
+        ensures { result ≡ self.parent }
     {
-        let Spawned { sender, parent, .. } = self;
-        sender.leave(Outcome { output });
-        tally.count_ended();
+        let Spawned {
+            stack,
+            sender,
+            parent,
+            ..
+        } = self;
+        leave_at(sender, stack.into_output());
         parent
     }
 
@@ -186,24 +163,28 @@ impl<J: PoolJob> Spawned<J> {
     pub fn into_job(self) -> J
         ensures { result ≡ self.job }
     {
-        self.job
+        self.stack.into_first()
+    }
+
+    /// The job and those that run or wait in its place, as they are now, but for those that have ended. It leaves no
+    /// result then, unless it has ended.
+    pub fn into_jobs(self) -> Jobs<J>
+        ensures { result ≡ self.many }
+    {
+        let Spawned { stack, sender, .. } = self;
+        let (jobs, output) = stack.into_jobs();
+        leave_at(sender, output);
+        jobs
     }
 }
 
-/// The result of the newest child goes to the job, if it has come. Whether the job goes on: it does too where it awaits
-/// no child.
-fn receive<J: PoolJob>(job: &mut J, links: &mut Links<J>, cells: &mut Cells<J>) -> bool
-    requires { J.awaits job.old links.old }
-    ensures tag { J.tag_of job.new ≡ J.tag_of job.old }
-    ensures results { KeepsResults J.is_result job.old job.new }
-    ensures children { J.awaits job.new links.new }
-    ensures waits { result ≡ false → job.new ≡ job.old }
+/// A result, if there is one, is left at an end, if there is one.
+fn leave_at<J: PoolJob>(sender: Option<ResultSender<J>>, output: Option<J::Output>)
+    requires { IfSome output (λ output. IfSome sender (λ sender. J.is_result sender.key.job.value output)) }
 {
-    match links.fetch(cells) {
-        Some(output) => {
-            job.joined(output);
-            true
-        }
-        None => links.is_empty(),
+    if let Some(sender) = sender
+        && let Some(output) = output
+    {
+        sender.leave(Outcome { output });
     }
 }

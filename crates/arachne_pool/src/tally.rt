@@ -1,5 +1,5 @@
 //! How many jobs were spawned, and how many have ended.
-ghost use Rattle.std.specs.Prelude.{◌≡◌, ◌+◌, ◌<◌, ◌≤◌};
+ghost use Rattle.std.specs.Prelude.{◌≡◌, ◌+◌, ◌≤◌, min};
 
 /// How many jobs a worker has spawned, and how many have ended with it. Each count stays at 2^64 - 1.
 #[derive(Clone, Copy, Debug, PartialEq, Eq)]
@@ -21,7 +21,8 @@ impl Tally {
 
     /// One more is spawned.
     pub(crate) fn count_spawned(&mut self)
-        ensures spawned { self.old.spawned < u64.MAX → self.new.spawned ≡ self.old.spawned + 1 }
+        ensures spawned { self.new.spawned ≡ min (self.old.spawned + 1) u64.MAX }
+        ensures grows { self.old.spawned ≤ self.new.spawned }
         ensures ended { self.new.ended ≡ self.old.ended }
     {
         self.spawned = self.spawned.saturating_add(1);
@@ -29,7 +30,8 @@ impl Tally {
 
     /// One more has ended.
     pub(crate) fn count_ended(&mut self)
-        ensures ended { self.old.ended < u64.MAX → self.new.ended ≡ self.old.ended + 1 }
+        ensures ended { self.new.ended ≡ min (self.old.ended + 1) u64.MAX }
+        ensures grows { self.old.ended ≤ self.new.ended }
         ensures spawned { self.new.spawned ≡ self.old.spawned }
     {
         self.ended = self.ended.saturating_add(1);

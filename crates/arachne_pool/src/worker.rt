@@ -1,17 +1,16 @@
 //! Workers of a pool: what each has of it, how one is split in two, and how two are put together.
 ghost use Rattle.std.specs.Option.{option_or};
-ghost use Rattle.std.specs.Prelude.{◌≡◌, ◌+◌, ◌≤◌, ℕ, IfErr, IfOk, vec_len};
+ghost use Rattle.std.specs.Prelude.{◌≡◌, ◌+◌, ◌≤◌, ℕ, IfErr, IfOk, None};
 ghost use Rattle.arachne_pool.specs.Workers.{IsArbiterFor};
 
-use crate::desk::Desk;
+use crate::bench::Bench;
 use crate::job::PoolJob;
-use crate::outcome::Cells;
 use crate::pool::Pool;
 use crate::tally::Tally;
-use arachne_arbiter::Arbiter;
+use arachne_arbiter::{Arbiter, Pace};
 use arachne_contexts::Seats;
-use rand_core::{Rng, SeedableRng};
-use rand_xoshiro::Xoshiro256PlusPlus;
+use arachne_workers::{Agenda, Halt};
+use rand_core::Rng;
 use std::alloc::Global;
 use std::marker::Model;
 use std::sync::Wait;
@@ -31,6 +30,29 @@ pub enum PoolFault {
     Stopped,
 }
 
+/// The worker's loop knows a fault by its number.
+impl From<PoolFault> for Halt {
+    fn from(fault: PoolFault) -> Halt {
+        Halt {
+            why: match fault {
+                PoolFault::Memory => 0,
+                PoolFault::Token => 1,
+                PoolFault::Stopped => 2,
+            },
+        }
+    }
+}
+
+impl From<Halt> for PoolFault {
+    fn from(halt: Halt) -> PoolFault {
+        match halt.why {
+            0 => PoolFault::Memory,
+            2 => PoolFault::Stopped,
+            _ => PoolFault::Token,
+        }
+    }
+}
+
 /// A worker: what a kernel thread has of a pool. One thread at a time has it, for one core.
 ///
 /// Contracts see its seat, which it has unless the table has disowned it; how many jobs it has that have no place; what
@@ -38,41 +60,39 @@ pub enum PoolFault {
 #[derive(Drop)]
 pub struct Worker<S, J: PoolJob> {
     pub(crate) seat: Option<S>,
-    pub(crate) desk: Desk<J>,
-    pub(crate) arbiter: Option<Arbiter>,
+    pub(crate) bench: Bench<J>,
+    pub(crate) agenda: Agenda,
+    pub(crate) pace: Pace,
 }
 
 impl<S, J: PoolJob> Model for Worker<S, J> {
-    ghost use Rattle.std.specs.Prelude.{vec_len};
+    ghost use Rattle.std.specs.VecDeque.{deque_len};
     ghost use Rattle.arachne_pool.specs.Workers.{WorkerView};
 
     ghost Value = { WorkerView S };
 
-    ghost view = { λ w. record { seat = w.seat; near = vec_len w.desk.near; tally = w.desk.tally; arbiter = w.arbiter } };
+    ghost view = { λ w. record { seat = w.seat; near = deque_len w.bench.near; tally = w.bench.tally; arbiter = w.bench.arbiter } };
 }
 
 impl<S, J: PoolJob> Worker<S, J> {
-    /// How many jobs it has spawned, and how many have ended with it.
+    /// How many jobs it has spawned, with those that jobs of its core have forked, and how many have ended with it.
     pub fn tally(&self) -> Tally
         ensures { result ≡ self.now.tally }
     {
-        self.desk.tally
+        self.bench.tally
     }
-}
 
-impl<J: PoolJob> Desk<J> {
-    /// A desk with no job, whose choices go by this seed.
-    pub(crate) fn new(alloc: Global, seed: u64) -> Desk<J>
-        ensures tally { (result.tally.spawned ≡ 0) × (result.tally.ended ≡ 0) }
-        ensures near { vec_len result.near ≡ 0 }
+    /// A worker with this seat, with nothing else and no orders, whose choices go by this seed.
+    pub(crate) fn new(alloc: Global, seat: Option<S>, seed: u64) -> Worker<S, J>
+        ensures seat { result.seat ≡ seat }
+        ensures nothing { (result.tally.spawned ≡ 0) × (result.tally.ended ≡ 0) × (result.near ≡ 0) }
+        ensures orders { result.arbiter ≡ None }
     {
-        Desk {
-            alloc,
-            near: Vec::new(alloc),
-            cells: Cells::new(alloc),
-            chooser: Xoshiro256PlusPlus::seed_from_u64(seed),
-            tally: Tally::new(),
-            is_short: false,
+        Worker {
+            seat,
+            bench: Bench::new(alloc, seed),
+            agenda: Agenda::new(alloc, None),
+            pace: Pace::new(),
         }
     }
 }
@@ -107,19 +127,17 @@ impl<C: Seats> Pool<C> {
     {
         let Worker {
             seat,
-            mut desk,
-            arbiter,
+            mut bench,
+            agenda,
+            pace,
         } = worker;
         let (seat, other) = self.split_seat(rt, seat);
-        let others = Worker {
-            seat: other,
-            desk: Desk::new(desk.alloc, desk.chooser.next_u64()),
-            arbiter: None,
-        };
+        let others = Worker::new(bench.alloc, other, bench.chooser.next_u64());
         let own = Worker {
             seat,
-            desk,
-            arbiter,
+            bench,
+            agenda,
+            pace,
         };
         (own, others)
     }
@@ -143,16 +161,18 @@ impl<C: Seats> Pool<C> {
         ensures second_back { IfErr result (λ back. back.1 ≡ other) }
     {
         let (mut worker, mut other) = (worker, other);
-        if worker.desk.near.append(&mut other.desk.near).is_err() {
+        if worker.bench.near.append(&mut other.bench.near).is_err() {
             return Err((worker, other));
         }
-        worker.desk.tally = worker.desk.tally.with(other.desk.tally);
-        worker.arbiter = first_of(worker.arbiter.take(), other.arbiter.take());
+        worker.bench.tally = worker.bench.tally.with(other.bench.tally);
+        worker.bench.told = worker.bench.tally;
+        worker.bench.orders = worker.bench.orders_or(&other.bench);
+        worker.bench.arbiter = first_of(worker.bench.arbiter.take(), other.bench.arbiter.take());
         worker.seat = self.join_seats(rt, worker.seat.take(), other.seat.take());
         Ok(worker)
     }
 
-    fn split_seat<H: Wait>(
+    pub(crate) fn split_seat<H: Wait>(
         &self,
         rt: &H,
         seat: Option<C::Seat>,
@@ -170,7 +190,7 @@ impl<C: Seats> Pool<C> {
         }
     }
 
-    fn join_seats<H: Wait>(
+    pub(crate) fn join_seats<H: Wait>(
         &self,
         rt: &H,
         first: Option<C::Seat>,

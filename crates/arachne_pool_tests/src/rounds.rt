@@ -8,10 +8,11 @@ use crate::orders::{Order, orders_of};
 use crate::tasks::{Sort, Task};
 use arachne_contexts::Contexts;
 use arachne_core::{CORES, OccWord, SLOTS};
-use arachne_pool::{Pool, PoolFault, Spawned, Worker};
+use arachne_pool::{Left, Pool, PoolFault, Spawned, Worker};
 use arachne_shortage::Hoard;
 use std::alloc::Global;
 use std::sync::Wait;
+use std::time::Clock;
 
 /// How many bytes are given back where a growth was refused.
 const FEW: usize = 40;
@@ -54,7 +55,8 @@ pub(crate) enum Is {
 }
 
 /// A row: a pool, what its worker does, how long two kernel threads work then, for core 0 and core 1, how many of them
-/// end a job at least, what one does after that, and how many jobs are left with a place and without.
+/// end a job at least, what one does after that, how many jobs are left with a place and without, and how many these are
+/// with those that run or wait in their places.
 pub(crate) struct Row {
     pub(crate) shows: &'static str,
     pub(crate) cores: u8,
@@ -65,10 +67,11 @@ pub(crate) struct Row {
     pub(crate) busy: usize,
     pub(crate) then: &'static [Act],
     pub(crate) left: (usize, usize),
+    pub(crate) alive: usize,
 }
 
 /// A row's pool and its worker, which has done the row's first acts. None where one doesn't come out as it says.
-pub(crate) fn begin<C: Contexts<Spawned<Task>> + Drop, R: Wait>(
+pub(crate) fn begin<C: Contexts<Spawned<Task>> + Drop, R: Wait + Clock>(
     rt: &R,
     alloc: Global,
     row: &Row,
@@ -90,7 +93,7 @@ pub(crate) fn begin<C: Contexts<Spawned<Task>> + Drop, R: Wait>(
 }
 
 /// Whether the acts that come last do too once both kernel threads have worked, and so many jobs are left.
-pub(crate) fn end<C: Contexts<Spawned<Task>> + Drop, R: Wait>(
+pub(crate) fn end<C: Contexts<Spawned<Task>> + Drop, R: Wait + Clock>(
     rt: &R,
     alloc: Global,
     pool: Pool<C>,
@@ -104,11 +107,38 @@ pub(crate) fn end<C: Contexts<Spawned<Task>> + Drop, R: Wait>(
     let Ok(left) = pool.close(rt, alloc, worker) else {
         return false;
     };
-    all && busy >= row.busy && left.placed.len() == row.left.0 && left.near.len() == row.left.1
+    let sizes = (left.placed.len(), left.near.len());
+    all && busy >= row.busy && sizes == row.left && count_left(left) == row.alive
+}
+
+/// How many jobs come out of those that are left.
+fn count_left(left: Left<Task>) -> usize {
+    let Left { placed, near } = left;
+    let mut count: usize = 0;
+    for (_, job) in placed {
+        count = count.saturating_add(count_in(job));
+    }
+    let mut near = near;
+    for _ in 0..near.len() {
+        if let Some(job) = near.pop_front() {
+            count = count.saturating_add(count_in(job));
+        }
+    }
+    count
+}
+
+/// How many jobs come out of one.
+fn count_in(job: Spawned<Task>) -> usize {
+    let mut jobs = job.into_jobs();
+    let mut count: usize = 0;
+    while jobs.take().is_some() {
+        count = count.saturating_add(1);
+    }
+    count
 }
 
 /// Whether each act comes out as it says.
-fn all_hold<C: Contexts<Spawned<Task>>, R: Wait>(
+fn all_hold<C: Contexts<Spawned<Task>>, R: Wait + Clock>(
     rt: &R,
     alloc: Global,
     pool: &Pool<C>,
@@ -127,7 +157,7 @@ fn all_hold<C: Contexts<Spawned<Task>>, R: Wait>(
 }
 
 /// Whether an act of one worker comes out as it says.
-fn holds<C: Contexts<Spawned<Task>>, R: Wait>(
+fn holds<C: Contexts<Spawned<Task>>, R: Wait + Clock>(
     rt: &R,
     alloc: Global,
     pool: &Pool<C>,
@@ -172,7 +202,7 @@ fn holds<C: Contexts<Spawned<Task>>, R: Wait>(
 }
 
 /// Spawns a job and joins it on core 0. Whether it gives this, or nothing where the pool is stopped.
-fn joins<C: Contexts<Spawned<Task>>, R: Wait>(
+fn joins<C: Contexts<Spawned<Task>>, R: Wait + Clock>(
     rt: &R,
     pool: &Pool<C>,
     worker: &mut Worker<C::Seat, Task>,
@@ -194,7 +224,7 @@ fn joins<C: Contexts<Spawned<Task>>, R: Wait>(
 
 /// Spawns a job where memory is used up, and works on core 0 until all have ended. What is refused is tried again with
 /// a little more. Whether a spawn was refused, and more than 20 rounds were.
-fn ends_in_need<C: Contexts<Spawned<Task>>, R: Wait>(
+fn ends_in_need<C: Contexts<Spawned<Task>>, R: Wait + Clock>(
     rt: &R,
     alloc: Global,
     pool: &Pool<C>,

@@ -27,15 +27,6 @@ const ALONE_PARENT: Sort = Sort {
     ..PARENT
 };
 
-/// One that ends at its fourth step.
-const FOUR: Sort = Sort { steps: 3, ..LEAF };
-
-/// One that forks a child of eleven steps, and joins it.
-const LONG_PARENT: Sort = Sort {
-    steps: 10,
-    ..PARENT
-};
-
 /// One that ends at its eleventh step.
 const ELEVEN: Sort = Sort { steps: 10, ..LEAF };
 
@@ -88,11 +79,12 @@ const NOTHING: Row = Row {
     busy: 0,
     then: &[],
     left: (0, 0),
+    alive: 0,
 };
 
 const ROWS: &[Row] = &[
     Row {
-        shows: "a pool that is stopped hands back what is left, with a place and without",
+        shows: "a pool that is stopped hands back what is left, with a place, in one, and without",
         cores: 2,
         slots: 1,
         acts: &[
@@ -101,14 +93,15 @@ const ROWS: &[Row] = &[
             Act::Spawns(ELEVEN),
             Act::Spawns(LEAF),
             Act::Turns(0, true),
-            Act::Lives(4),
+            Act::Lives(5),
             Act::Stops,
             Act::Works(0),
             Act::Works(1),
-            Act::Lives(4),
+            Act::Lives(5),
             Act::Joins(LEAF, None),
         ],
         left: (2, 3),
+        alive: 6,
         ..NOTHING
     },
     Row {
@@ -173,7 +166,7 @@ const ROWS: &[Row] = &[
         ..NOTHING
     },
     Row {
-        shows: "a job without a place has slices, and gets one once one is free",
+        shows: "a job without a place has no slice, and gets a place once one is free",
         cores: 1,
         slots: 1,
         acts: &[
@@ -193,7 +186,7 @@ const ROWS: &[Row] = &[
         ..NOTHING
     },
     Row {
-        shows: "a job without a place awaits its children",
+        shows: "a job runs the children for which there is no place in its own",
         cores: 1,
         slots: 1,
         acts: &[
@@ -219,25 +212,46 @@ const ROWS: &[Row] = &[
         ..NOTHING
     },
     Row {
-        shows: "a job without a place that awaits a child is kept, though a place is free, and asks each round",
+        shows: "the oldest child that waits with its parent gets a place once one is free",
         cores: 1,
         slots: 2,
         acts: &[
-            Act::Spawns(Sort { steps: 1, ..LEAF }),
-            Act::Spawns(Sort { steps: 1, ..LEAF }),
+            Act::Spawns(Sort { steps: 3, ..LEAF }),
+            Act::Spawns(Sort { forks: 2, ..PARENT }),
+            Act::Turns(0, true),
+            Act::Turns(0, true),
+            Act::Turns(0, true),
+            Act::Has(0, 2, Is::Open),
+            Act::Lives(4),
+            Act::Turns(0, true),
+            Act::Has(0, 2, Is::Open),
+            Act::Lives(2),
+            Act::Works(0),
+            Act::Lives(0),
+            Act::Has(0, 0, Is::Open),
+            Act::Counts(4),
+        ],
+        ..NOTHING
+    },
+    Row {
+        shows: "children that nobody joins and that have not begun go on, and end",
+        cores: 1,
+        slots: 1,
+        acts: &[
             Act::Spawns(Sort {
-                steps: 10,
+                joins: Joins::Never,
+                forks: 3,
                 ..PARENT
             }),
             Act::Turns(0, true),
             Act::Turns(0, true),
-            Act::Has(0, 1, Is::Open),
-            Act::Lives(2),
             Act::Turns(0, true),
+            Act::Lives(4),
             Act::Turns(0, true),
-            Act::Has(0, 1, Is::Open),
+            Act::Lives(3),
             Act::Works(0),
             Act::Lives(0),
+            Act::Counts(4),
         ],
         ..NOTHING
     },
@@ -262,13 +276,13 @@ const ROWS: &[Row] = &[
         ..NOTHING
     },
     Row {
-        shows: "where no core is empty an exclusive job is kept, and has slices",
+        shows: "where no core is empty an exclusive job shares one",
         cores: 1,
         slots: 4,
         acts: &[
             Act::Spawns(LEAF),
             Act::Spawns(ALONE),
-            Act::Has(0, 1, Is::Open),
+            Act::Has(0, 2, Is::Open),
             Act::Works(0),
             Act::Lives(0),
         ],
@@ -419,6 +433,7 @@ const ROWS: &[Row] = &[
         spells: (Spell::Rounds(100), Spell::ToTheEnd),
         then: &[Act::Lives(3)],
         left: (2, 1),
+        alive: 3,
         ..NOTHING
     },
     Row {
@@ -430,28 +445,25 @@ const ROWS: &[Row] = &[
         spells: (Spell::Rounds(10_000), Spell::ToTheEnd),
         then: &[Act::Lives(1)],
         left: (1, 0),
+        alive: 1,
         ..NOTHING
     },
     Row {
-        shows: "a round in which a job without a place awaits its child finds nothing",
+        shows: "a round in which jobs only wait, for a child and for a place, finds nothing",
         cores: 2,
         slots: 1,
         acts: &[
-            Act::Spawns(FOUR),
-            Act::Spawns(FOUR),
-            Act::Spawns(LONG_PARENT),
+            Act::Spawns(ALONE_PARENT),
+            Act::Turns(0, true),
+            Act::Spawns(LEAF),
             Act::Turns(0, true),
             Act::Turns(0, true),
-            Act::Turns(0, true),
-            Act::Turns(0, true),
-            Act::Turns(1, true),
-            Act::Turns(1, true),
-            Act::Turns(1, true),
-            Act::Turns(1, true),
-            Act::Turns(1, false),
-            Act::Lives(2),
+            Act::Turns(0, false),
+            Act::Turns(0, false),
+            Act::Lives(3),
         ],
-        left: (1, 1),
+        left: (2, 1),
+        alive: 3,
         ..NOTHING
     },
     Row {

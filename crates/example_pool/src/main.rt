@@ -8,6 +8,7 @@ use arachne_pool::{Pool, PoolJob, Spawned, Step};
 use arachne_table::{Contexts, Tagged, WordContexts};
 use std::alloc::Global;
 use std::sync::Wait;
+use std::time::Clock;
 
 /// A heap: how many grains it has, how many are with no child yet, and how many are counted.
 #[derive(Drop)]
@@ -54,7 +55,10 @@ impl PoolJob for Heap {
 }
 
 /// Counts a heap on a core of 8 places, over any form of table. Its grains, and how many heaps were not counted.
-fn count<C: Contexts<Spawned<Heap>> + Drop, R: Wait>(rt: &R, alloc: Global) -> Option<(u64, usize)>
+fn count<C: Contexts<Spawned<Heap>> + Drop, R: Wait + Clock>(
+    rt: &R,
+    alloc: Global,
+) -> Option<(u64, usize)>
     ensures { IfSome result (λ counted. counted.0 ≡ 10000) }
 {
     let (pool, mut worker) = Pool::<C>::new::<Heap>(alloc, 1, 8, Vec::new(alloc)).ok()?;

@@ -21,6 +21,8 @@ use std::time::Clock;
 pub struct Crew<'s, C: Seats> {
     pub alloc: Global,
     pub server: &'s Server<C>,
+    /// How late a request may be for which there is no place, in nanoseconds.
+    pub patience: u64,
     pub requests: &'s [Due],
     pub template: Request,
 }
@@ -42,8 +44,8 @@ pub struct Share<S> {
 
 impl<'s, C: Contexts<Spawned<Request>>> Team<Share<C::Seat>> for Crew<'s, C> {
     ghost has = { λ crew share. IsWorkerOf C.sits C.idle crew.server.now.pool.table crew.server.now.pool.cores share.worker
-        × IfSome share.begun (λ books. (books.keeper.most + 1 ≡ crew.server.now.pool.cores) × (vec_len books.report.answers ≡ 0))
-        × IfSome share.done (λ books. vec_len books.report.answers ≡ length crew.requests.now) };
+        × IfSome share.begun (λ books. (books.keeper.most + 1 ≡ crew.server.now.pool.cores) × (vec_len books.report.answers ≡ 0) × (books.report.refused ≡ 0))
+        × IfSome share.done (λ books. vec_len books.report.answers + books.report.refused ≡ length crew.requests.now) };
 
     ghost size = { λ crew. crew.server.now.pool.cores };
 
@@ -98,6 +100,7 @@ impl<'s, C: Contexts<Spawned<Request>>> Team<Share<C::Seat>> for Crew<'s, C> {
                     alloc,
                     self.server,
                     worker,
+                    self.patience,
                     requests,
                     self.template,
                     books,
@@ -136,6 +139,6 @@ impl<'s, C: Contexts<Spawned<Request>>> Team<Share<C::Seat>> for Crew<'s, C> {
     }
 
     fn fail<R: Wait>(&self, _rt: &R, _fault: TeamFault) {
-        self.server.end();
+        self.server.pool.stop();
     }
 }

@@ -21,7 +21,8 @@ pub struct Request {
 #[derive(Drop)]
 pub struct Answer {
     pub value: u64,
-    /// When its work was done, in nanoseconds of the clock.
+    /// When its work began and was done, in nanoseconds of the clock.
+    pub began: u64,
     pub ended: u64,
 }
 
@@ -79,9 +80,11 @@ impl PoolJob for Request {
     ghost awaits = { λ _ _. Unit {0} };
 
     fn step(&mut self) -> Step<Request, Answer> {
+        let began = now(&self.clock);
         let value = mix(self.work, self.number);
         Step::Done(Answer {
             value,
+            began,
             ended: now(&self.clock),
         })
     }

@@ -2,7 +2,6 @@
 ghost use Rattle.std.specs.Prelude.{◌≡◌, ◌+◌, ◌≤◌, IfOk};
 ghost use Rattle.arachne_policy.specs.Orders.{AreInOrder};
 
-use crate::station::Station;
 use arachne_policy::{Advice, CoreOrder, Estimator, OrderKind, Sample, check_orders};
 use std::alloc::{AllocError, Global};
 
@@ -62,11 +61,6 @@ impl Keeper {
         }
     }
 
-    /// Whether the places of the cores that it has are not all taken, where so many requests have places.
-    pub fn has_room(&self, requests: u64) -> bool {
-        requests < u64::from(self.held) * u64::from(Keeper::PLACES)
-    }
-
     /// All cores that it has were looked at, and so many requests were there.
     pub fn scan(&mut self, requests: u64)
         ensures { self.new.most ≡ self.old.most }
@@ -75,28 +69,25 @@ impl Keeper {
         self.scans = self.scans.saturating_add(u64::from(self.held));
     }
 
-    /// At the end of an interval, whether a core is to come or to go.
-    pub fn judge(&mut self, at: u64, stations: &[Station]) -> Advice
+    /// At the end of an interval, whether a core is to come or to go, where so many nanoseconds of work are done by now.
+    pub fn judge(&mut self, at: u64, busy: u64) -> Advice
         ensures { self.new.most ≡ self.old.most }
     {
         let elapsed = at.saturating_sub(self.begun);
         if self.interval == 0 || elapsed < self.interval {
             return Advice::Stay;
         }
-        let all = stations
-            .iter()
-            .fold(0u64, |sum, station| sum.wrapping_add(station.busy()));
         let cores = u64::from(self.held);
         let sample = Sample {
             cores,
             runnable: self.runnable,
             scans: self.scans,
-            busy: all
-                .wrapping_sub(self.busy)
+            busy: busy
+                .saturating_sub(self.busy)
                 .min(cores.saturating_mul(elapsed)),
             elapsed,
         };
-        self.busy = all;
+        self.busy = busy;
         self.begun = at;
         self.runnable = 0;
         self.scans = 0;
@@ -105,20 +96,18 @@ impl Keeper {
         advice
     }
 
-    /// Takes the advice: the station is told, and the pool is to be, by this order.
-    pub fn follow(&mut self, advice: Advice, stations: &[Station]) -> Option<CoreOrder>
+    /// Takes the advice: the pool is to be told, by this order.
+    pub fn follow(&mut self, advice: Advice) -> Option<CoreOrder>
         ensures { self.new.most ≡ self.old.most }
     {
         match advice {
             Advice::Add if self.held < self.most => {
                 let core = self.held;
-                stations.get(usize::from(core))?.hold();
                 self.held += 1;
                 Some(order(OrderKind::Grant, core))
             }
             Advice::Remove if self.held > 1 => {
                 self.held -= 1;
-                stations.get(usize::from(self.held))?.give_back();
                 Some(order(OrderKind::Release, self.held))
             }
             _ => None,

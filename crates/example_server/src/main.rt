@@ -1,7 +1,7 @@
 //! A server over the pool: it answers a list of requests, and holds as many cores as their load asks for.
 //!
-//! `example_server < LIST` says how many it has answered; `example_server CORES INTERVAL < LIST` also how long that
-//! took.
+//! `example_server < LIST` says how many it has answered; `example_server CORES INTERVAL [PATIENCE] < LIST` also how long
+//! that took. Times are in microseconds.
 #![tactic(auto)]
 
 mod crew;
@@ -13,7 +13,6 @@ mod requests;
 mod send;
 mod serve;
 mod start;
-mod station;
 
 use anyhow::{Result, bail};
 use crew::Books;
@@ -24,14 +23,27 @@ use start::run;
 use std::env;
 use std::io::Read;
 
-/// The numbers among the arguments: how many cores it may have, and how often it looks at the load.
-fn arguments(rt: &HostRuntime) -> Result<(Option<u64>, Option<u64>)> {
+/// The numbers among the arguments.
+struct Numbers {
+    /// How many cores it may have.
+    cores: Option<u64>,
+    /// How often it looks at the load.
+    interval: Option<u64>,
+    /// How late a request may be for which there is no place.
+    patience: Option<u64>,
+}
+
+fn arguments(rt: &HostRuntime) -> Result<Numbers> {
     let words: Vec<String> = env::args(rt)?.collect(rt.alloc())?;
     let mut numbers = words
         .iter()
         .skip(1)
         .map(|word| word.as_str().parse::<u64>().ok());
-    Ok((numbers.next().flatten(), numbers.next().flatten()))
+    Ok(Numbers {
+        cores: numbers.next().flatten(),
+        interval: numbers.next().flatten(),
+        patience: numbers.next().flatten(),
+    })
 }
 
 /// The list of requests, which is the input.
@@ -45,10 +57,15 @@ fn list(rt: &HostRuntime) -> Result<Vec<Due>> {
 }
 
 fn main(rt: HostRuntime) -> Result<()> {
-    let (cores, interval) = arguments(&rt)?;
+    let Numbers {
+        cores,
+        interval,
+        patience,
+    } = arguments(&rt)?;
     let list = list(&rt)?;
     let most = cores.unwrap_or(2).clamp(1, u64::from(Keeper::MOST)) as u8;
     let interval = interval.unwrap_or(1000).saturating_mul(1000);
+    let patience = patience.unwrap_or(u64::MAX).saturating_mul(1000);
     let keeper = Keeper::new(rt.alloc(), most, interval);
     let template = Request {
         clock: rt,
@@ -56,7 +73,7 @@ fn main(rt: HostRuntime) -> Result<()> {
         work: 0,
         class: Class::Normal,
     };
-    let done = run(&rt, rt.alloc(), list.as_slice(), keeper, template);
+    let done = run(&rt, rt.alloc(), list.as_slice(), keeper, patience, template);
     let Books { keeper, report } = match done {
         Ok(books) => books,
         Err(why) => bail!("{why}"),

@@ -40,9 +40,10 @@ pub fn times(rt: &impl Print, alloc: Global, report: &Report) -> io::Result<()> 
     row(rt, "exclusive", report.times(alloc, Class::Exclusive)?)?;
     row(rt, "sent late", report.late.as_slice().to_vec(alloc)?)?;
     println!(rt;
-        "{} requests in {} ms",
+        "{} requests in {} ms, {} refused",
         report.served(),
-        report.nanos / 1_000_000
+        report.nanos / 1_000_000,
+        report.refused
     )
 }
 

@@ -22,8 +22,12 @@ pub struct Answered {
 pub struct Report {
     /// The requests that were answered, each by its handle.
     pub answers: Vec<Answered>,
+    /// How many requests were refused.
+    pub refused: usize,
     /// How many nanoseconds after it was due each request was sent.
     pub late: Vec<u64>,
+    /// How many nanoseconds the work of those that were answered took.
+    pub busy: u64,
     /// From the begin to the last answer.
     pub nanos: u64,
 }
@@ -31,11 +35,13 @@ pub struct Report {
 impl Report {
     /// No answer has come, and there is room for so many.
     pub fn new(alloc: Global, requests: usize) -> Result<Report, AllocError>
-        ensures { IfOk result (λ report. vec_len report.answers ≡ 0) }
+        ensures { IfOk result (λ report. (vec_len report.answers ≡ 0) × (report.refused ≡ 0)) }
     {
         Ok(Report {
             answers: Vec::with_capacity(alloc, requests)?,
+            refused: 0,
             late: Vec::with_capacity(alloc, requests)?,
+            busy: 0,
             nanos: 0,
         })
     }

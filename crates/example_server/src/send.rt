@@ -9,11 +9,12 @@ use crate::keeper::Keeper;
 use crate::report::{Answered, Report};
 use crate::requests::Due;
 use crate::serve::Server;
-use arachne_pool::{Handle, Spawned, Worker};
+use arachne_pool::{Handle, Refusal, Spawned, Worker};
 use arachne_table::Contexts;
 use std::alloc::Global;
 use std::collections::VecDeque;
 use std::sync::Wait;
+use std::time::Clock;
 
 /// A request that was sent and not answered.
 #[derive(Drop)]
@@ -25,22 +26,23 @@ struct Sent {
     ghost work_right: { handle.work ≡ due.work },
 }
 
-/// Sends each request once its time has come and a place may be free, and takes the answers. Then the server is over.
-/// None where memory is refused.
-pub fn send<R: Wait, C: Contexts<Spawned<Request>>>(
+/// Sends each request once its time has come and a place is free, and takes the answers. One that is later than the
+/// patience before there is a place is refused. Then the server is over. None where memory is refused.
+pub fn send<R: Wait + Clock, C: Contexts<Spawned<Request>>>(
     rt: &R,
     alloc: Global,
     server: &Server<C>,
     worker: Worker<C::Seat, Request>,
+    patience: u64,
     requests: &[Due],
     template: Request,
     books: Books,
 ) -> Option<(Worker<C::Seat, Request>, Books)>
     requires worker { IsWorkerOf C.sits C.idle server.now.pool.table server.now.pool.cores worker }
     requires cores { books.keeper.most + 1 ≡ server.now.pool.cores }
-    requires none { vec_len books.report.answers ≡ 0 }
+    requires none { (vec_len books.report.answers ≡ 0) × (books.report.refused ≡ 0) }
     ensures worker { IfSome result (λ done. IsWorkerOf C.sits C.idle server.now.pool.table server.now.pool.cores done.0) }
-    ensures all { IfSome result (λ done. vec_len done.1.report.answers ≡ length requests.now) }
+    ensures all { IfSome result (λ done. vec_len done.1.report.answers + done.1.report.refused ≡ length requests.now) }
 {
     let (mut worker, mut books) = (worker, books);
     let mut sent: VecDeque<Sent> = VecDeque::new(alloc);
@@ -50,24 +52,31 @@ pub fn send<R: Wait, C: Contexts<Spawned<Request>>>(
         server,
         &mut worker,
         keeper,
+        patience,
         requests,
         report,
         template,
         &mut sent,
     );
-    server.end();
     match done {
-        Some(()) => Some((worker, books)),
-        None => None,
+        Some(()) => {
+            server.pool.finish();
+            Some((worker, books))
+        }
+        None => {
+            server.pool.stop();
+            None
+        }
     }
 }
 
-/// The same until all are answered. None where memory is refused, or the server is over before.
-fn send_all<R: Wait, C: Contexts<Spawned<Request>>>(
+/// The same until all are answered or refused. None where memory is refused, or the server is over before.
+fn send_all<R: Wait + Clock, C: Contexts<Spawned<Request>>>(
     rt: &R,
     server: &Server<C>,
     worker: &mut Worker<C::Seat, Request>,
     keeper: &mut Keeper,
+    patience: u64,
     requests: &[Due],
     report: &mut Report,
     template: Request,
@@ -75,38 +84,46 @@ fn send_all<R: Wait, C: Contexts<Spawned<Request>>>(
 ) -> Option<()>
     requires worker { IsWorkerOf C.sits C.idle server.now.pool.table server.now.pool.cores worker.old }
     requires cores { keeper.old.most + 1 ≡ server.now.pool.cores }
-    requires none { (vec_len report.old.answers ≡ 0) × (deque_len sent.old ≡ 0) }
+    requires none { (vec_len report.old.answers ≡ 0) × (report.old.refused ≡ 0) × (deque_len sent.old ≡ 0) }
     ensures worker { IsWorkerOf C.sits C.idle server.now.pool.table server.now.pool.cores worker.new }
-    ensures all { OnSome result (vec_len report.new.answers ≡ length requests.now) }
+    ensures all { OnSome result (vec_len report.new.answers + report.new.refused ≡ length requests.now) }
 {
+    server.await_kernel_threads(rt);
     let begin = now(&server.clock);
     let mut next: usize = 0;
     for _ in rt.forever() {
         let at = now(&server.clock).saturating_sub(begin);
         if let Some(due) = requests.get(next)
             && due.at <= at
-            && keeper.has_room(server.pool.live())
         {
-            report.late.push(at - due.at).ok()?;
-            let number = next as u64;
-            let Ok(handle) = server.pool.spawn(rt, worker, template.next(number, *due)) else {
-                return None;
-            };
-            let due = *due;
-            sent.push_back(Sent {
-                number,
-                due,
-                handle,
-            })
-            .ok()?;
-            next += 1;
-            continue;
+            let (due, number, late) = (*due, next as u64, at - due.at);
+            match server.pool.try_spawn(rt, worker, template.next(number, due)) {
+                Ok(handle) => {
+                    report.late.push(late).ok()?;
+                    let one = Sent {
+                        number,
+                        due,
+                        handle,
+                    };
+                    sent.push_back(one).ok()?;
+                    next += 1;
+                    continue;
+                }
+                Err(refused) if refused.why == Refusal::Memory => return None,
+                Err(_) if late > patience => {
+                    report.refused += 1;
+                    next += 1;
+                    continue;
+                }
+                // It waits until there is a place.
+                Err(_) => {}
+            }
         }
-        if server.is_over() {
+        if server.pool.is_stopped() {
             return None;
         }
         server.pool.turn(rt, worker, keeper.most).ok()?;
-        keep_cores(rt, server, worker, keeper, at)?;
+        keep_cores(rt, server, worker, keeper, report.busy, at)?;
         if !take_answer(sent, begin, report)? && next == requests.len() && sent.is_empty() {
             report.nanos = at;
             return Some(());
@@ -121,6 +138,7 @@ fn keep_cores<R: Wait, C: Contexts<Spawned<Request>>>(
     server: &Server<C>,
     worker: &mut Worker<C::Seat, Request>,
     keeper: &mut Keeper,
+    busy: u64,
     at: u64,
 ) -> Option<()>
     requires worker { IsWorkerOf C.sits C.idle server.now.pool.table server.now.pool.cores worker.old }
@@ -129,18 +147,18 @@ fn keep_cores<R: Wait, C: Contexts<Spawned<Request>>>(
     ensures cores { keeper.new.most ≡ keeper.old.most }
 {
     keeper.scan(server.pool.live());
-    let stations = server.stations.as_slice();
-    let advice = keeper.judge(at, stations);
-    if let Some(order) = keeper.follow(advice, stations) {
+    let advice = keeper.judge(at, busy);
+    if let Some(order) = keeper.follow(advice) {
         let orders = keeper.listed(*keeper.judged.allocator(), order).ok()?;
         server.pool.order(rt, worker, orders).ok()?;
     }
     Some(())
 }
 
-/// Takes the answer to the request that was sent first, if it has come. Whether it had.
+/// Takes the answer to the request that was sent first, if it has come, and adds up its work. Whether it had.
 fn take_answer(sent: &mut VecDeque<Sent>, begin: u64, report: &mut Report) -> Option<bool>
-    ensures { OnSome result (vec_len report.new.answers + deque_len sent.new ≡ vec_len report.old.answers + deque_len sent.old) }
+    ensures all { OnSome result (vec_len report.new.answers + deque_len sent.new ≡ vec_len report.old.answers + deque_len sent.old) }
+    ensures refused { report.new.refused ≡ report.old.refused }
 {
     let Some(first) = sent.pop_front() else {
         return Some(false);
@@ -153,6 +171,8 @@ fn take_answer(sent: &mut VecDeque<Sent>, begin: u64, report: &mut Report) -> Op
     match handle.poll() {
         Ok(answer) => {
             let nanos = answer.ended.saturating_sub(begin).saturating_sub(due.at);
+            let busy = answer.ended.saturating_sub(answer.began);
+            report.busy = report.busy.saturating_add(busy);
             report
                 .answers
                 .push(Answered {

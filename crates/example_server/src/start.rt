@@ -8,7 +8,6 @@ use crate::keeper::Keeper;
 use crate::report::Report;
 use crate::requests::Due;
 use crate::serve::Server;
-use crate::station::stations;
 use arachne_pool::{Pool, Spawned};
 use arachne_table::{Contexts, WordContexts};
 use arachne_team::work_together;
@@ -20,16 +19,17 @@ use std::time::Clock;
 /// The pool's table.
 type Table = WordContexts<Spawned<Request>>;
 
-/// Answers all requests of a list, with the cores of a keeper and one more core, on which nothing runs: the sender's.
+/// Answers or refuses all requests of a list, with the cores of a keeper and one more core, on which nothing runs: the sender's.
 /// What was done, or why that can't be.
 pub fn run<R: Threads + Wait + Clock + Sync>(
     rt: &R,
     alloc: Global,
     requests: &[Due],
     keeper: Keeper,
+    patience: u64,
     template: Request,
 ) -> Result<Books, &'static str>
-    ensures { IfOk result (λ books. vec_len books.report.answers ≡ length requests.now) }
+    ensures { IfOk result (λ books. vec_len books.report.answers + books.report.refused ≡ length requests.now) }
 {
     let Ok((server, share)) = begin::<Table>(alloc, requests.len(), keeper, template.clock) else {
         return Err("memory was refused");
@@ -37,6 +37,7 @@ pub fn run<R: Threads + Wait + Clock + Sync>(
     let crew = Crew {
         alloc,
         server: &server,
+        patience,
         requests,
         template,
     };
@@ -55,20 +56,19 @@ fn begin<C: Contexts<Spawned<Request>> + Drop>(
 ) -> Result<(Server<C>, Share<C::Seat>), AllocError>
     ensures worker { IfOk result (λ made. IsWorkerOf C.sits C.idle made.0.pool.table made.0.pool.cores made.1.worker) }
     ensures keeper { IfOk result (λ made. IfSome made.1.begun (λ books. books.keeper.most + 1 ≡ made.0.pool.cores)) }
-    ensures report { IfOk result (λ made. IfSome made.1.begun (λ books. vec_len books.report.answers ≡ 0)) }
+    ensures report { IfOk result (λ made. IfSome made.1.begun (λ books. (vec_len books.report.answers ≡ 0) × (books.report.refused ≡ 0))) }
     ensures done { IfOk result (λ made. IfSome made.1.done (λ books. ⊥)) }
     ensures some { IfOk result (λ made. 1 ≤ made.0.pool.cores) }
 {
     let report = Report::new(alloc, requests)?;
     let orders = keeper.listed(alloc, keeper.sender())?;
-    let stations = stations(alloc, keeper.most)?;
     let (pool, worker) = Pool::<C>::new::<Request>(alloc, keeper.most + 1, Keeper::PLACES, orders)?;
     let share = Share {
         worker,
         begun: Some(Books { keeper, report }),
         done: None,
     };
-    Ok((Server::new(pool, stations, clock), share))
+    Ok((Server::new(pool, clock), share))
 }
 
 /// Closes the pool of a server that is over. What it has done, or why that can't be told.

@@ -81,6 +81,9 @@ fn quota_of(group: &str) -> Option<usize> {
     Some(words.next()?? * 1000 / words.next()??.max(1))
 }
 
+/// After a core was asked for, the load is judged so many times sooner than else, so many times.
+const SOON: u32 = 4;
+
 /// What one worker judges for all.
 pub(crate) struct Judge {
     estimator: Estimator,
@@ -90,6 +93,8 @@ pub(crate) struct Judge {
     at: u64,
     looked: u64,
     most: usize,
+    /// So many judgements are made soon, since a core was asked for.
+    soon: u32,
 }
 
 /// What a worker has counted, and for how long it had no work or no processor.
@@ -105,7 +110,7 @@ impl Judge {
     pub(crate) fn new(policy: Policy, shared: &Shared) -> Option<Judge> {
         let most = shared.workers.len();
         let estimator = Estimator::new(policy.load, policy.hysteresis, most as u64)?;
-        Some(Judge { estimator, policy, last: totals(shared, most, now()), at: now(), looked: 0, most })
+        Some(Judge { estimator, policy, last: totals(shared, most, now()), at: now(), looked: 0, most, soon: 0 })
     }
 
     /// Milliseconds between two judgements, at most 20.
@@ -116,7 +121,9 @@ impl Judge {
     pub(crate) fn judge(&mut self, shared: &'static Shared) {
         let now = now();
         let elapsed = now - self.at;
-        if elapsed < self.policy.every.as_nanos() as u64 {
+        let every = self.policy.every.as_nanos() as u64;
+        // Where one more core was asked for, it is soon seen whether another one is wanted.
+        if elapsed < if self.soon != 0 { every / SOON as u64 } else { every } {
             return;
         }
         if now - self.looked > 1_000_000_000 {
@@ -128,6 +135,11 @@ impl Judge {
         let sample = sample(&self.last, &totals(shared, active, now), elapsed);
         let (adds, removes) = (&shared.counts.adds, &shared.counts.removes);
         let advice = self.estimator.judge(sample);
+        self.soon = match advice {
+            Some(Advice::Add) => SOON,
+            Some(Advice::Remove) => 0,
+            _ => self.soon.saturating_sub(1),
+        };
         if active > self.most || advice == Some(Advice::Remove) && active > self.policy.min_cores {
             removes.fetch_add(1, Relaxed);
             shared.set_active(active - 1);
@@ -179,7 +191,7 @@ impl Shared {
     pub(crate) fn give_back(&self, context: &Context, turn: &mut Turn) {
         self.lay_down(context, turn);
         let (gate, waits) = &self.workers[context.me].0.given_back;
-        self.workers[self.keeper(context.me)].0.reactor.notify();
+        self.ring(self.keeper(context.me));
         let mut given_back = gate.lock().unwrap();
         while *given_back && !self.stop.load(SeqCst) {
             given_back = waits.wait(given_back).unwrap();
@@ -188,25 +200,15 @@ impl Shared {
 
     pub(crate) fn set_active(&self, active: usize) {
         let before = self.active.0.load(Relaxed);
-        let all = |from: usize, to: usize| self.workers[from..to].iter().map(|line| &line.0).enumerate();
-        // Who looks after a lodger depends on how many are active: all that don't hold their cores move.
-        let count = self.workers.len();
-        for (i, worker) in all(before, count) {
-            self.workers[(before + i) % before].0.reactor.let_go(&worker.reactor);
-        }
-        for (_, worker) in all(active.min(before), before) {
-            *worker.given_back.0.lock().unwrap() = true;
-        }
-        for (_, worker) in all(before.min(active), active) {
-            *worker.given_back.0.lock().unwrap() = false;
-        }
+        let set = |from: usize, to: usize, away: bool| {
+            self.workers[from..to].iter().for_each(|line| *line.0.given_back.0.lock().unwrap() = away);
+        };
+        set(active.min(before), before, true);
+        set(before.min(active), active, false);
         self.active.0.store(active, SeqCst);
-        for (i, worker) in all(active, count) {
-            self.workers[(active + i) % active].0.reactor.look_after(active + i, &worker.reactor);
-        }
-        for (_, worker) in all(0, count) {
-            worker.given_back.1.notify_all();
-            worker.reactor.notify();
+        for (number, worker) in self.workers.iter().enumerate() {
+            worker.0.given_back.1.notify_all();
+            self.ring(number);
         }
     }
 }

@@ -46,12 +46,13 @@ pub fn is_stopping() -> bool {
 #[must_use = "it waits once it is awaited"]
 pub struct Stopping {
     shared: Option<&'static Shared>,
-    key: Option<u64>,
+    /// Where it waits, and the waker that it left there.
+    waits: Option<(u64, Waker)>,
 }
 
 /// Waits until `Runtime::shutdown_within` is called: a connection that has nothing in flight ends then.
 pub fn stopping() -> Stopping {
-    Stopping { shared: None, key: None }
+    Stopping { shared: None, waits: None }
 }
 
 impl Future for Stopping {
@@ -65,12 +66,15 @@ impl Future for Stopping {
         if shared.draining.has_begun() {
             return Poll::Ready(());
         }
+        if self.waits.as_ref().map_or(false, |(_, waker)| waker.will_wake(cx.waker())) {
+            return Poll::Pending;
+        }
         {
             let mut waiting = shared.draining.waiting.lock().unwrap();
-            let key = self.key.unwrap_or(waiting.0);
-            waiting.0 += u64::from(self.key.is_none());
+            let key = self.waits.take().map_or(waiting.0, |(key, _)| key);
+            waiting.0 = waiting.0.max(key + 1);
             waiting.1.insert(key, cx.waker().clone());
-            self.key = Some(key);
+            self.waits = Some((key, cx.waker().clone()));
         }
         // Whoever begins the end sets the word, and then takes the wakers.
         if shared.draining.has_begun() {
@@ -82,8 +86,8 @@ impl Future for Stopping {
 
 impl Drop for Stopping {
     fn drop(&mut self) {
-        if let (Some(shared), Some(key)) = (self.shared, self.key) {
-            shared.draining.waiting.lock().unwrap().1.remove(&key);
+        if let (Some(shared), Some((key, _))) = (self.shared, &self.waits) {
+            shared.draining.waiting.lock().unwrap().1.remove(key);
         }
     }
 }

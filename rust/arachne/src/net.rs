@@ -1,10 +1,9 @@
-//! TCP over the workers' reactors. A socket belongs to the reactor of the worker on which it first has to wait.
+//! TCP over the runtime's reactor. A socket belongs to the runtime in which it first has to wait.
 
 use crate::block_on::poll_fn;
 use crate::reactor::{Io, Key, READ, READ_CLOSED, WRITE, WRITE_CLOSED};
-use crate::shared::{here, Context as Current, Shared};
+use crate::shared::{here, Shared};
 use crate::sys;
-use crate::waker::NOBODY;
 use std::future::Future;
 use std::io::{self, ErrorKind::WouldBlock, IoSlice, Read, Write};
 use std::net::{Shutdown, SocketAddr, ToSocketAddrs};
@@ -17,7 +16,6 @@ use std::task::{Context, Poll};
 #[derive(Clone)]
 struct Registered {
     shared: &'static Shared,
-    worker: usize,
     io: Arc<Io>,
     key: Key,
 }
@@ -73,17 +71,6 @@ mod once {
     }
 }
 
-/// Where a socket that waits now belongs: to the worker whose task this is.
-fn reactor_here() -> io::Result<(&'static Shared, usize)> {
-    let shared = here().ok_or_else(|| io::Error::new(io::ErrorKind::Other, "a socket outside of a runtime"))?;
-    let worker = Current::with(|worker| {
-        let worker = worker.filter(|w| std::ptr::eq(w.shared, shared))?;
-        let name = worker.current.get();
-        Some(if name == NOBODY { worker.me } else { shared.home(crate::core::place_of(name)) })
-    });
-    Ok((shared, worker.unwrap_or(0)))
-}
-
 impl<S: AsRawFd> Source<S> {
     fn new(socket: S) -> Source<S> {
         Source { socket, at: once::Once::new(), registering: Mutex::new(()) }
@@ -95,9 +82,10 @@ impl<S: AsRawFd> Source<S> {
         }
         let _one = self.registering.lock().unwrap_or_else(|e| e.into_inner());
         if self.at.get().is_none() {
-            let (shared, worker) = reactor_here()?;
-            let (io, key) = shared.workers[worker].0.reactor.add(self.socket.as_raw_fd(), shared.table)?;
-            self.at.set(Registered { shared, worker, io, key });
+            let outside = || io::Error::new(io::ErrorKind::Other, "a socket outside of a runtime");
+            let shared = here().ok_or_else(outside)?;
+            let (io, key) = shared.reactor.add(self.socket.as_raw_fd(), shared.table)?;
+            self.at.set(Registered { shared, io, key });
         }
         Ok(self.at.get().expect("registered"))
     }
@@ -154,7 +142,7 @@ impl<S: AsRawFd> Source<S> {
 impl<S: AsRawFd> Drop for Source<S> {
     fn drop(&mut self) {
         if let Some(at) = self.at.get() {
-            at.shared.workers[at.worker].0.reactor.remove(self.socket.as_raw_fd(), at.key);
+            at.shared.reactor.remove(self.socket.as_raw_fd(), at.key);
         }
     }
 }

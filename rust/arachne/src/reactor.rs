@@ -1,12 +1,13 @@
-//! One epoll a worker: what its sockets tell, and how it is woken.
+//! One epoll for all workers: what the sockets tell, and how a worker that sleeps is woken.
 
 use crate::sys::{self, Event};
 use crate::waker::{name_in, wake_name, NOBODY};
 use std::io;
 use std::os::unix::io::RawFd;
 use std::sync::atomic::{AtomicU64, AtomicUsize, Ordering::*};
-use std::sync::{Arc, Mutex};
+use std::sync::{Arc, Condvar, Mutex};
 use std::task::Waker;
+use std::time::Duration;
 
 pub(crate) const READ: u64 = 1;
 pub(crate) const WRITE: u64 = 2;
@@ -15,8 +16,10 @@ pub(crate) const WRITE_CLOSED: u64 = 8;
 const TICK: u64 = 256;
 /// A waker that is no task's of this runtime.
 const OTHER: u64 = NOBODY - 1;
-/// The event's number in its own epoll.
+/// The number of the event that ends a wait.
 const WOKEN: u64 = 0;
+/// Events of one look.
+const EVENTS: usize = 64;
 
 /// Who is to be woken. A task of the runtime is one word, and needs no lock; any other waker has one.
 pub(crate) struct Slot {
@@ -108,11 +111,25 @@ struct Sources {
     free: Vec<u32>,
 }
 
+/// What one look at the epoll has found.
+pub(crate) struct Found {
+    events: [Event; EVENTS],
+    count: usize,
+}
+
+impl Found {
+    pub(crate) const NOTHING: Found = Found { events: [Event { events: 0, data: 0 }; EVENTS], count: 0 };
+
+    pub(crate) fn is_empty(&self) -> bool {
+        self.count == 0
+    }
+}
+
 pub(crate) struct Reactor {
     epoll: RawFd,
+    /// It stays raised until whoever waits has seen it.
     event: RawFd,
     used: AtomicUsize,
-    events: Mutex<Vec<Event>>,
     sources: Mutex<Sources>,
 }
 
@@ -123,14 +140,8 @@ pub(crate) struct Key(u64);
 impl Reactor {
     pub(crate) fn new() -> io::Result<Reactor> {
         let (epoll, event) = (sys::new_epoll()?, sys::new_event()?);
-        sys::watch(epoll, event, sys::IN | sys::EDGE, WOKEN)?;
-        Ok(Reactor {
-            epoll,
-            event,
-            used: AtomicUsize::new(0),
-            events: Mutex::new(vec![Event { events: 0, data: 0 }; 256]),
-            sources: Mutex::default(),
-        })
+        sys::watch(epoll, event, sys::IN, WOKEN)?;
+        Ok(Reactor { epoll, event, used: AtomicUsize::new(0), sources: Mutex::default() })
     }
 
     #[inline]
@@ -138,7 +149,7 @@ impl Reactor {
         self.used.load(Relaxed) != 0
     }
 
-    /// Ends the wait of its worker, now or at its next.
+    /// Ends the wait of the worker that waits here, or else the next wait.
     pub(crate) fn notify(&self) {
         sys::raise(self.event);
     }
@@ -182,37 +193,57 @@ impl Reactor {
         io.as_ref().filter(|_| *uses as u64 == data >> 32).cloned()
     }
 
-    /// Its epoll tells of another's too, by that one's number.
-    pub(crate) fn look_after(&self, number: usize, other: &Reactor) {
-        let _ = sys::watch(self.epoll, other.epoll, sys::IN, 1 << 63 | number as u64);
+    /// What there is now.
+    pub(crate) fn look(&self) -> Found {
+        let mut found = Found::NOTHING;
+        found.count = sys::wait(self.epoll, &mut found.events, 0);
+        found
     }
 
-    pub(crate) fn let_go(&self, other: &Reactor) {
-        sys::unwatch(self.epoll, other.epoll);
-    }
-
-    /// Waits so many milliseconds (-1: for ever), and wakes who is told of. How many descriptors told something, and
-    /// whether `notify` was called since the last wait.
-    /// `other` is called for the number of each other reactor that has something to tell.
-    pub(crate) fn poll(&self, timeout: i32, mut other: impl FnMut(usize) -> usize) -> (usize, bool) {
-        let mut events = match self.events.try_lock() {
-            Ok(events) => events,
-            Err(_) => return (0, false),
-        };
-        let count = sys::wait(self.epoll, &mut events, timeout);
-        let (mut told, mut notified) = (0, false);
-        for event in &events[..count] {
-            let (data, bits) = (event.data, event.events);
-            if data == WOKEN {
-                sys::lower(self.event);
-                notified = true;
-            } else if data >> 63 == 1 {
-                told += other(data as u32 as usize);
-            } else if let Some(io) = self.find(data) {
-                io.tell(bits);
-                told += 1;
-            }
+    /// Waits so many milliseconds (-1: for ever) for something, or for `notify`. One worker at a time waits.
+    pub(crate) fn wait(&self, timeout: i32) -> Found {
+        let mut found = Found::NOTHING;
+        found.count = sys::wait(self.epoll, &mut found.events, timeout);
+        if found.events[..found.count].iter().any(|event| event.data == WOKEN) {
+            sys::lower(self.event);
         }
-        (told, notified)
+        found
+    }
+
+    /// Wakes who is told of; how many descriptors told something.
+    pub(crate) fn tell(&self, found: &Found) -> usize {
+        let sockets = found.events[..found.count].iter().filter(|event| event.data != WOKEN);
+        sockets
+            .filter_map(|event| {
+                let (data, bits) = (event.data, event.events);
+                self.find(data).map(|io| io.tell(bits))
+            })
+            .count()
+    }
+}
+
+/// What a worker sleeps on while another waits in the epoll.
+#[derive(Default)]
+pub(crate) struct Bell {
+    rung: Mutex<bool>,
+    heard: Condvar,
+}
+
+impl Bell {
+    /// Ends a wait, now or at the next.
+    pub(crate) fn ring(&self) {
+        *self.rung.lock().unwrap() = true;
+        self.heard.notify_one();
+    }
+
+    /// Waits so many milliseconds (-1: for ever); whether it was rung since the last wait.
+    pub(crate) fn wait(&self, timeout: i32) -> bool {
+        let rung = self.rung.lock().unwrap();
+        let silent = |rung: &mut bool| !*rung;
+        let mut rung = match u64::try_from(timeout) {
+            Ok(millis) => self.heard.wait_timeout_while(rung, Duration::from_millis(millis), silent).unwrap().0,
+            Err(_) => self.heard.wait_while(rung, silent).unwrap(),
+        };
+        std::mem::take(&mut *rung)
     }
 }

@@ -30,6 +30,7 @@ pub struct Builder {
     places: usize,
     policy: Option<Policy>,
     pin: bool,
+    slice: Option<Duration>,
     blocking: usize,
     observed: bool,
     hooks: Option<Arc<dyn Hooks>>,
@@ -45,6 +46,7 @@ impl Builder {
             places: 65_536,
             policy: None,
             pin: false,
+            slice: Some(Duration::from_micros(100)),
             blocking: 64,
             observed: false,
             hooks: None,
@@ -69,6 +71,14 @@ impl Builder {
     /// Keeps each worker on a processor of its own.
     pub fn pinned(mut self, pin: bool) -> Builder {
         self.pin = pin;
+        self
+    }
+
+    /// For how long at a time a worker wants a processor that other kernel threads want too: Linux (6.12 and later)
+    /// gives one sooner to a worker that wakes and asks for less. 100 us, its least, unless it is said here; None leaves
+    /// what the system has (some 3 ms), for tasks that compute for long beside others that do.
+    pub fn slices(mut self, slice: Option<Duration>) -> Builder {
+        self.slice = slice;
         self
     }
 
@@ -111,9 +121,11 @@ impl Builder {
         for me in 0..self.cores {
             let (counts, policy) = (self.policy.is_some(), self.policy.filter(|_| me == 0));
             let cpu = cpus.get(me % cpus.len().max(1)).copied();
+            let slice = self.slice.map(|slice| slice.as_nanos() as u64);
             let hands = shared.root.lock().unwrap().hands(HANDS).ok_or(io::ErrorKind::OutOfMemory)?;
             let work = move || {
                 cpu.map(sys::pin);
+                slice.map(sys::ask_for_slices);
                 *shared.workers[me].0.account.lock().unwrap() = std::fs::File::open("/proc/thread-self/schedstat").ok();
                 let context = Context::new(shared, me, hands);
                 let judge = policy.and_then(|policy| Judge::new(policy, shared));
@@ -283,20 +295,17 @@ impl Runtime {
     fn end(&mut self) {
         let shared = self.shared;
         shared.stop.store(true, SeqCst);
-        for worker in &*shared.workers {
-            let _gate = worker.0.given_back.0.lock().unwrap();
+        for (number, worker) in shared.workers.iter().enumerate() {
+            let gate = worker.0.given_back.0.lock().unwrap();
             worker.0.given_back.1.notify_all();
-            worker.0.reactor.notify();
+            drop(gate);
+            shared.ring(number);
         }
         self.threads.drain(..).for_each(|thread| drop(thread.join()));
         if self.ended {
             return;
         }
         self.ended = true;
-        let active = shared.active.0.load(SeqCst);
-        for worker in active..shared.workers.len() {
-            shared.workers[worker % active].0.reactor.let_go(&shared.workers[worker].0.reactor);
-        }
         entered(shared, || end_all(shared));
         shared.blocking.close(None);
         entered(shared, || end_all(shared));

@@ -4,7 +4,7 @@ use crate::blocking::Pool;
 use crate::core::{Hands, Job, Line, Parking, Root, BLOCK, MOST_SHARDS, NUMBERS, SHARD};
 use crate::drain::Draining;
 use crate::observe::Observer;
-use crate::reactor::Reactor;
+use crate::reactor::{Bell, Reactor};
 use crate::task::{About, Label, Raw};
 use crate::timer::{now, Timers};
 use crate::waker::NOBODY;
@@ -14,11 +14,14 @@ use std::fs::File;
 use std::io;
 use std::panic::Location;
 use std::ptr;
-use std::sync::atomic::{AtomicBool, AtomicPtr, AtomicU64, AtomicUsize, Ordering::*};
+use std::sync::atomic::{AtomicBool, AtomicI32, AtomicPtr, AtomicU64, AtomicUsize, Ordering::*};
 use std::sync::{Condvar, Mutex};
 
 /// Runtimes of a process at a time, as each has wakers of its own.
 pub(crate) const TABLES: usize = 32;
+
+/// No worker's number.
+pub(crate) const NO_ONE: usize = usize::MAX;
 
 const NO_TABLE: AtomicPtr<Shared> = AtomicPtr::new(ptr::null_mut());
 static ALL: [AtomicPtr<Shared>; TABLES] = [NO_TABLE; TABLES];
@@ -30,6 +33,12 @@ pub(crate) struct Shared {
     pub(crate) table: usize,
     pub(crate) root: Mutex<Root>,
     pub(crate) workers: Box<[Line<Worker>]>,
+    pub(crate) reactor: Reactor,
+    /// Posts of workers that sleep: who waits in the epoll, and who looks at it now and then while that one runs tasks.
+    pub(crate) waits: Line<AtomicUsize>,
+    pub(crate) deputy: Line<AtomicUsize>,
+    /// Milliseconds between two looks of the deputy.
+    pub(crate) rests: AtomicI32,
     /// By shard: blocks that may have a free place.
     pub(crate) roomy: Box<[Line<AtomicU64>]>,
     /// By place: the name of the task that first waited there last, to end it when the runtime ends.
@@ -38,7 +47,7 @@ pub(crate) struct Shared {
     pub(crate) sleepers: Line<AtomicU64>,
     pub(crate) searching: Line<AtomicUsize>,
     pub(crate) active: Line<AtomicUsize>,
-    /// Workers in a poll that takes long, for whom another looks after words and epoll.
+    /// Workers in a poll that takes long, for whom another looks after words and timers.
     pub(crate) stuck: Line<AtomicU64>,
     /// Tasks that found no place, not yet begun.
     pub(crate) queue: Mutex<VecDeque<Raw>>,
@@ -68,7 +77,7 @@ pub(crate) struct Counts {
 
 /// What others see of a worker. Its counts are written by itself alone.
 pub(crate) struct Worker {
-    pub(crate) reactor: Reactor,
+    pub(crate) bell: Bell,
     pub(crate) timers: Timers,
     /// True while the core is given back.
     pub(crate) given_back: (Mutex<bool>, Condvar),
@@ -103,10 +112,10 @@ pub(crate) fn add(count: &AtomicU64, n: u64) {
 }
 
 impl Worker {
-    fn new(shards: Box<[usize]>, parking: Vec<Parking>) -> io::Result<Worker> {
+    fn new(shards: Box<[usize]>, parking: Vec<Parking>) -> Worker {
         let n = || AtomicU64::new(0);
-        Ok(Worker {
-            reactor: Reactor::new()?,
+        Worker {
+            bell: Bell::default(),
             timers: Timers::default(),
             given_back: (Mutex::new(false), Condvar::new()),
             shards,
@@ -126,7 +135,7 @@ impl Worker {
             running: AtomicU64::new(NOBODY),
             site: AtomicPtr::new(ptr::null_mut()),
             label: AtomicPtr::new(ptr::null_mut()),
-        })
+        }
     }
 
     /// For the watcher: the task whose poll begins.
@@ -210,13 +219,17 @@ impl Shared {
                 None => return Ok(None),
             };
             let mine = (0..shards).filter(|shard| shard % NUMBERS % workers == me).collect();
-            made.push(Line(Worker::new(mine, parking)?));
+            made.push(Line(Worker::new(mine, parking)));
         }
         let places = shards * SHARD * BLOCK;
         Ok(Some(Box::leak(Box::new(Shared {
             table,
             root: Mutex::new(root),
             workers: made.into(),
+            reactor: Reactor::new()?,
+            waits: Line(AtomicUsize::new(NO_ONE)),
+            deputy: Line(AtomicUsize::new(NO_ONE)),
+            rests: AtomicI32::new(1),
             roomy: (0..shards).map(|_| Line::default()).collect(),
             names: (0..places).map(|_| AtomicU64::new(NOBODY)).collect(),
             sleepers: Line::default(),
@@ -279,7 +292,7 @@ impl Shared {
         place / (BLOCK * SHARD) % NUMBERS % self.workers.len()
     }
 
-    /// The worker that looks after this one's words and epoll: itself, or where its core is given back, another.
+    /// The worker that looks after this one's words and timers: itself, or where its core is given back, another.
     #[inline]
     pub(crate) fn keeper(&self, worker: usize) -> usize {
         let active = self.active.0.load(SeqCst);
@@ -301,9 +314,11 @@ pub(crate) struct Context {
     /// The name of the task that runs here, and whether it woke itself.
     pub(crate) current: Cell<u64>,
     pub(crate) woken: Cell<bool>,
-    /// What a wake makes ready runs next here; and a wake that makes ready wakes no other worker.
+    /// What a wake makes ready runs next here. Where not, a wake that makes ready wakes no other worker, and the first
+    /// `room` tasks that are woken stay in this worker's hand, as `told`.
     pub(crate) keeps: Cell<bool>,
-    pub(crate) quiet: Cell<bool>,
+    pub(crate) room: Cell<usize>,
+    pub(crate) told: RefCell<Vec<Job>>,
     pub(crate) block: Cell<usize>,
     random: Cell<u64>,
 }
@@ -325,7 +340,8 @@ impl Context {
             current: Cell::new(NOBODY),
             woken: Cell::new(false),
             keeps: Cell::new(true),
-            quiet: Cell::new(false),
+            room: Cell::new(0),
+            told: RefCell::default(),
             block: Cell::new(shared.workers[me].0.shards[0] * SHARD),
             random,
         }

@@ -1,4 +1,4 @@
-//! Linux's calls that the crate needs, declared by hand: epoll, eventfd, sockets, affinity.
+//! Linux's calls that the crate needs, declared by hand: epoll, eventfd, sockets, affinity, slices.
 //!
 //! Every `unsafe` block here keeps one rule: the declarations are those of Linux's C library on 64 bits, and each
 //! pointer is to memory that lives through the call. The functions around them are safe.
@@ -29,6 +29,7 @@ extern "C" {
     fn sched_setaffinity(thread: i32, len: usize, mask: *const u64) -> i32;
     fn clock_gettime(clock: i32, time: *mut [i64; 2]) -> i32;
     fn signal(number: i32, handler: usize) -> usize;
+    fn syscall(number: i64, ...) -> i64;
 }
 
 pub(crate) const IN: u32 = 1;
@@ -151,7 +152,7 @@ extern "C" fn handler(number: i32) {
     }
 }
 
-/// Raises the event at that signal, in place of what the process did at it. One event a signal: the last that was given.
+/// Raises the event at that signal, in place of what the process did at it. A signal has one event: the last given.
 pub(crate) fn raise_at(number: i32, event: RawFd) -> io::Result<()> {
     let kept = SIGNALLED.get(number as usize).ok_or(io::ErrorKind::InvalidInput)?;
     kept.store(event, SeqCst);
@@ -170,4 +171,26 @@ pub(crate) fn await_event(event: RawFd) -> bool {
 /// As `new_event`, one that blocks who waits for it.
 pub(crate) fn new_blocking_event() -> io::Result<RawFd> {
     checked(unsafe { eventfd(0, CLOSE_ON_EXEC) })
+}
+
+/// The numbers of Linux's calls that set and get how a kernel thread is scheduled, where they are known.
+#[cfg(target_arch = "x86_64")]
+const SCHEDULING: Option<(i64, i64)> = Some((314, 315));
+#[cfg(any(target_arch = "aarch64", target_arch = "riscv64"))]
+const SCHEDULING: Option<(i64, i64)> = Some((274, 275));
+#[cfg(not(any(target_arch = "x86_64", target_arch = "aarch64", target_arch = "riscv64")))]
+const SCHEDULING: Option<(i64, i64)> = None;
+
+/// For how many nanoseconds at a time this kernel thread wants a processor that others want too (Linux 6.12): what asks
+/// for less is sooner given one when it wakes. Nothing changes for a thread of another policy than the usual one.
+pub(crate) fn ask_for_slices(nanos: u64) -> Option<()> {
+    let (set, get) = SCHEDULING?;
+    // Its own length and the policy, flags, priorities, the slice, and three that the usual policy doesn't have.
+    let mut attributes = [0u64; 7];
+    let got = unsafe { syscall(get, 0i32, attributes.as_mut_ptr(), 56u32, 0u32) };
+    if got != 0 || attributes[0] >> 32 != 0 {
+        return None;
+    }
+    attributes[3] = nanos;
+    (unsafe { syscall(set, 0i32, attributes.as_ptr(), 0u32) } == 0).then(|| ())
 }

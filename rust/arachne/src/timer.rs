@@ -1,4 +1,4 @@
-//! Sleeping and time limits: each worker has its timers, which it looks at when it looks at its epoll.
+//! Sleeping and time limits: each worker has its timers, which it looks at when it looks at the epoll.
 
 use crate::shared::{here, Context as Worker, Shared};
 use std::collections::BTreeMap;
@@ -37,7 +37,7 @@ impl Default for Timers {
 impl Timers {
     #[inline]
     pub(crate) fn next(&self) -> u64 {
-        self.next.load(Relaxed)
+        self.next.load(SeqCst)
     }
 
     /// Adds one; true where it is the first that is due.
@@ -118,7 +118,7 @@ impl Sleep {
         let worker = &shared.workers[me.unwrap_or(0)].0;
         let (key, first) = worker.timers.add(self.at, waker.clone());
         if first && me.is_none() {
-            worker.reactor.notify();
+            shared.ring(0);
         }
         self.waits = Some((&worker.timers, key));
     }

@@ -58,18 +58,21 @@ pub(crate) fn wake_name(table: usize, name: u64) {
                 worker.woken.set(true);
                 return;
             }
-            match worker.hands.wake(name, worker.keeps.get()) {
+            match worker.hands.wake(name, worker.keeps.get() || worker.room.get() != 0) {
                 Woken::Kept(job) => {
                     shared.woke(worker.me);
                     shared.observer.ready(place_of(name));
-                    if let Some(before) = worker.next.replace(Some(job)) {
+                    if !worker.keeps.get() {
+                        worker.room.set(worker.room.get() - 1);
+                        worker.told.borrow_mut().push(job);
+                    } else if let Some(before) = worker.next.replace(Some(job)) {
                         shared.make_ready(worker, &before);
                     }
                 }
                 Woken::Ready { unpark } => {
                     shared.woke(worker.me);
                     shared.observer.ready(place_of(name));
-                    shared.published(name, unpark, worker.quiet.get());
+                    shared.published(name, unpark, !worker.keeps.get());
                 }
                 Woken::Marked | Woken::Gone => {}
             }

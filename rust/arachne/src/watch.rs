@@ -73,20 +73,19 @@ fn tell(shared: &Shared, worker: usize, age: u64, log: bool) {
     }
 }
 
-/// In place of workers that are stuck: looks at their epolls and timers, and wakes another worker or, where each is
+/// In place of workers that are stuck: looks at the epoll and their timers, and wakes another worker or, where each is
 /// stuck, runs what is ready. Until each that was stuck gets on, or a while is over and others may be.
 fn rescue(shared: &'static Shared, hands: &Hands, stuck: u64) {
     let polls: Vec<u64> = shared.workers.iter().map(|w| w.0.polls.load(Relaxed)).collect();
     let all = u64::MAX >> (64 - shared.active.0.load(Relaxed));
     let (mut left, until) = (stuck, now() + TURN);
     while left != 0 && now() < until && !shared.stop.load(SeqCst) {
-        let mut found = 0;
+        let mut found = shared.reactor.tell(&shared.reactor.look());
         for worker in 0..polls.len() {
             if left >> worker & 1 == 0 {
                 continue;
             }
             let at = &shared.workers[worker].0;
-            found += shared.poll_for(worker);
             found += shared.fire(worker);
             if at.polls.load(Relaxed) != polls[worker] || at.running.load(Relaxed) == NOBODY {
                 left &= !(1 << worker);

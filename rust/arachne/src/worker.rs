@@ -1,39 +1,43 @@
-//! A worker's loop: runs what is ready, looks at its epoll and its timers, helps others, and sleeps.
+//! A worker's loop: runs what is ready, looks at the epoll and its timers, helps others, and sleeps.
 //!
 //! Who has a task and whether a worker may sleep is the core's to say. What is decided here is where a worker looks
 //! next, and whom it is worth to wake.
 
 use crate::core::{place_of, Hands, Job, Rested, Spawned, BATCH, BLOCK, SHARD};
 use crate::cores::Judge;
-use crate::shared::{add, Context, Shared};
+use crate::reactor::Found;
+use crate::shared::{add, Context, Shared, NO_ONE};
 use crate::task::{self, Raw};
 use crate::timer::{self, now};
 use crate::waker::{waker_of, NOBODY};
 use std::collections::VecDeque;
-use std::sync::atomic::Ordering::*;
+use std::sync::atomic::{AtomicUsize, Ordering::*};
 
 /// How often an idle worker looks around before it sleeps.
-const SPINS: usize = 24;
+const SPINS: usize = 4;
 /// How many tasks in a row may run that each was made ready by the one before.
 const NEXTS: u32 = 128;
-/// After so many polls, or about so many nanoseconds, a worker looks at its epoll, its timers and others, whatever is
+/// After so many polls, or about so many nanoseconds, a worker looks at the epoll, its timers and others, whatever is
 /// next.
 const LOOK_OUT: u32 = 64;
-const LOOK_TIME: u64 = 500_000;
+const LOOK_TIME: u64 = 100_000;
 /// After so many polls the worker that judges how many cores there should be looks at its clock.
 const JUDGED: u32 = 8;
-/// After so many of these looks at which another worker had not got on, its epoll is looked at too.
+/// After so many of these looks at which another worker had not got on, its timers are looked at too.
 const LONG: u32 = 8;
 /// After so many looks at blocks that are shown and have nothing, they are hidden.
 const STALE: u32 = 16;
-/// Ready jobs taken at once while somebody has nothing to do.
+/// Ready jobs taken at once, at most, while somebody has nothing to do, and tasks that one look at the epoll wakes for
+/// the worker that looks.
 const FEW: usize = 8;
 /// Jobs that woke themselves, or were next after many in a row, and stay with the worker that has them.
 pub(crate) const HAND: usize = 16;
 /// Jobs taken in advance, and two more that are between hands.
 pub(crate) const BATCHES: usize = BATCH + 2;
-/// From so many events of one look on another worker is woken to help.
+/// From so many events of one look on, that are left for others, another worker is woken to help.
 const MANY: usize = 4;
+/// Milliseconds between two looks of the deputy from which on it is woken once tasks run again.
+const LONG_REST: i32 = 8;
 
 /// The policy asks for no more cores for more ready jobs at a worker than that.
 const CROWD: u32 = 128;
@@ -63,6 +67,11 @@ pub(crate) struct Turn {
     /// By worker: its polls at the last look, and at how many looks in a row it had not got on.
     seen: Vec<u64>,
     stood: Vec<u32>,
+    /// Milliseconds between its looks as a deputy, and the polls of all workers at the last.
+    rests: i32,
+    watched: u64,
+    /// Whether it took ready tasks at its last look of one that gets on.
+    helped: bool,
 }
 
 impl Turn {
@@ -83,6 +92,9 @@ impl Turn {
             counts,
             seen: vec![0; shared.workers.len()],
             stood: vec![0; shared.workers.len()],
+            rests: 1,
+            watched: 0,
+            helped: false,
         }
     }
 
@@ -93,6 +105,18 @@ impl Turn {
             self.most = fitting.clamp(1, LOOK_OUT as u64) as u32;
         }
         (self.polls, self.looked) = (0, now);
+    }
+
+    /// Where polls are long enough to be timed: whether it is time to look.
+    #[inline]
+    fn is_over(&self) -> bool {
+        now().saturating_sub(self.looked) >= LOOK_TIME
+    }
+
+    /// Jobs that this worker takes at once while another has nothing to do: as many as run until its next look.
+    #[inline]
+    fn few(&self) -> usize {
+        FEW.min(self.most as usize)
     }
 }
 
@@ -124,16 +148,30 @@ impl Shared {
         }
         // It counts as looking around from now on, so that nobody else is woken until it is awake.
         self.searching.0.fetch_add(1, SeqCst);
-        self.workers[worker].0.reactor.notify();
+        self.ring(worker);
         true
     }
 
-    /// Wakes a worker that sleeps, unless one looks around.
+    /// Ends a worker's sleep, or else its next. A worker that can be heard of as asleep keeps its post: where it has
+    /// taken one after it was looked up here, it sees what the caller did before this call.
+    pub(crate) fn ring(&self, worker: usize) {
+        if self.waits.0.load(SeqCst) == worker {
+            self.reactor.notify();
+        } else {
+            self.workers[worker].0.bell.ring();
+        }
+    }
+
+    /// Wakes a worker that sleeps, unless one looks around: best one that has no post.
     #[inline]
     pub(crate) fn rouse_any(&self) {
         let sleepers = self.sleepers.0.load(SeqCst);
         if sleepers != 0 && self.searching.0.load(SeqCst) == 0 {
-            self.rouse(sleepers.trailing_zeros() as usize);
+            let post = |post: &AtomicUsize| 1u64.checked_shl(post.load(Relaxed) as u32).unwrap_or(0);
+            let others = sleepers & !post(&self.waits.0);
+            let plain = others & !post(&self.deputy.0);
+            let best = [plain, others, sleepers].into_iter().find(|&workers| workers != 0).unwrap_or(sleepers);
+            self.rouse(best.trailing_zeros() as usize);
         }
     }
 
@@ -147,17 +185,24 @@ impl Shared {
             return;
         }
         let overlooked = |worker| self.ready(hands, worker) > if sleepers >> worker & 1 == 1 { 0 } else { 1 };
-        if (0..self.workers.len()).any(overlooked) || self.has_queued() {
+        if (0..self.workers.len()).any(overlooked) || self.has_queued() || self.is_unattended() {
             self.rouse_any();
         }
     }
 
-    /// A worker that was about to sleep, or slept, is awake.
-    fn awake(&self, context: &Context) {
+    /// A worker that was about to sleep, or slept, is awake; whether it was woken by another.
+    fn awake(&self, context: &Context) -> bool {
         let bit = 1 << context.me;
-        if self.sleepers.0.load(SeqCst) & bit == 0 || self.sleepers.0.fetch_and(!bit, SeqCst) & bit == 0 {
+        let roused = self.sleepers.0.load(SeqCst) & bit == 0 || self.sleepers.0.fetch_and(!bit, SeqCst) & bit == 0;
+        if roused {
             self.stop_looking(&context.hands);
         }
+        roused
+    }
+
+    /// Nobody waits in the epoll, or stands in for one who does.
+    fn is_unattended(&self) -> bool {
+        self.waits.0.load(SeqCst) == NO_ONE && self.deputy.0.load(SeqCst) == NO_ONE
     }
 
     #[inline]
@@ -206,6 +251,7 @@ impl Shared {
         context.woken.set(false);
         // SAFETY: as above.
         let ended = unsafe { task::run(job.job, self.table, name, &mut cx) };
+        turn.polls += 1;
         context.current.set(NOBODY);
         worker.running.store(NOBODY, Relaxed);
         add(&worker.polls, 1);
@@ -262,11 +308,10 @@ impl Shared {
     /// The next job to run, in this worker's hand.
     #[inline]
     fn pick(&'static self, context: &Context, turn: &mut Turn) -> Option<Job> {
-        if turn.polls >= turn.most {
+        if turn.polls >= LOOK_OUT || turn.most < LOOK_OUT && turn.polls >= 1 && turn.is_over() {
             turn.pace(now());
             self.look_out(context, turn);
         }
-        turn.polls += 1;
         self.pick_next(context, turn).or_else(|| self.pick_ready(context, turn))
     }
 
@@ -299,7 +344,7 @@ impl Shared {
     fn pick_ready(&'static self, context: &Context, turn: &mut Turn) -> Option<Job> {
         loop {
             if turn.at < turn.count {
-                if turn.count - turn.at > FEW && !self.all_busy() {
+                if turn.count - turn.at > turn.few() && !self.all_busy() {
                     self.lay_down_batch(context, turn);
                     continue;
                 }
@@ -338,8 +383,7 @@ impl Shared {
             self.tidy(context.me);
         }
         for _ in 0..2 {
-            let most = if self.all_busy() { BATCH } else { FEW };
-            if self.take_from(&context.hands, context.me, turn, most) {
+            if self.take_from(&context.hands, context.me, turn, turn.few()) {
                 return true;
             }
             let began = turn.block != 0 || turn.index != 0;
@@ -435,7 +479,14 @@ impl Shared {
 
     /// Looks at epoll and timers, and takes a job of one that doesn't get on or has nobody: whatever is next here.
     fn look_out(&self, context: &Context, turn: &mut Turn) {
-        self.look_at_events(context, 0);
+        let (few, held) = (turn.few(), turn.hand.len() + turn.count - turn.at);
+        // What is ready here goes first, and where polls are long what is in hand goes last.
+        let takes = (held == 0 || few == FEW) && !self.mine(context);
+        let room = if takes { few.saturating_sub(held) } else { 0 };
+        if self.look_at_events(context, turn, room) != 0 {
+            // What was told of comes before what is behind all that is ready.
+            turn.hand_left = 0;
+        }
         if turn.counts {
             let here = turn.count - turn.at + turn.hand.len() + context.next.get().is_some() as usize;
             let mine = std::iter::once(context.me).chain(self.lodgers(context.me));
@@ -443,24 +494,26 @@ impl Shared {
             add(&self.workers[context.me].0.scans, 1);
             add(&self.workers[context.me].0.runnable, here as u64 + ready as u64);
         }
-        let active = self.active.0.load(Relaxed);
+        // One that runs a long poll doesn't get on either: but what is ready here isn't put off twice in a row.
+        let (active, long_polls) = (self.active.0.load(Relaxed), few < FEW && !turn.helped);
+        turn.helped = false;
         for other in 0..self.workers.len() {
-            let polls = self.workers[other].0.polls.load(Relaxed);
+            let worker = &self.workers[other].0;
+            let polls = worker.polls.load(Relaxed);
             let stands = other >= active || polls == turn.seen[other];
             turn.seen[other] = polls;
-            if other == context.me || !stands {
-                turn.stood[other] = 0;
+            turn.stood[other] = if other == context.me || !stands { 0 } else { (turn.stood[other] + 1) % LONG };
+            if other == context.me || !stands && !(long_polls && worker.running.load(Relaxed) != NOBODY) {
                 continue;
             }
-            turn.stood[other] = (turn.stood[other] + 1) % LONG;
-            let (long, sleeps) = (turn.stood[other] == 0, self.sleepers.0.load(Relaxed) >> other & 1 == 1);
-            if long && other < active {
-                // In a long poll, or without a processor: its sockets and timers would wait for it.
-                self.look_at_events_of(context, other);
+            let (long, sleeps) = (stands && turn.stood[other] == 0, self.sleepers.0.load(Relaxed) >> other & 1 == 1);
+            if long && other < active && !sleeps {
+                // In a long poll, or without a processor: its timers would wait for it.
+                self.fire_quietly(context, other);
             }
             // Who makes something ready for one that sleeps wakes somebody, so that is looked at now and then.
             if (long || !sleeps) && turn.at == turn.count && self.ready(&context.hands, other) != 0 {
-                self.help(context, turn, other, 2);
+                turn.helped |= self.help(context, turn, other, 2) && !stands;
             }
         }
     }
@@ -483,46 +536,35 @@ impl Shared {
         got
     }
 
-    /// Waits for events for so many milliseconds, and fires timers; how many there were.
-    fn look_at_events(&self, context: &Context, timeout: i32) -> usize {
-        let worker = &self.workers[context.me].0;
+    /// Looks at the epoll, and fires timers; how many there were.
+    fn look_at_events(&self, context: &Context, turn: &mut Turn, room: usize) -> usize {
+        let found = if self.reactor.is_used() { self.reactor.look() } else { Found::NOTHING };
+        self.hear(context, turn, &found, room)
+    }
+
+    /// Wakes who is told of, and fires timers; how many there were. The first `room` tasks stay in this worker's hand,
+    /// so that nobody else is woken for them.
+    fn hear(&self, context: &Context, turn: &mut Turn, found: &Found, room: usize) -> usize {
         context.keeps.set(false);
-        context.quiet.set(true);
-        let mut found = 0;
-        if timeout != 0 || worker.reactor.is_used() || self.active.0.load(Relaxed) < self.workers.len() {
-            found += worker.reactor.poll(timeout, |other| self.poll_for(other)).0;
-        }
+        context.room.set(room);
+        let mut heard = self.reactor.tell(found);
         for owner in std::iter::once(context.me).chain(self.lodgers(context.me)) {
-            found += self.fire(owner);
+            heard += self.fire(owner);
         }
+        context.room.set(0);
         context.keeps.set(true);
-        context.quiet.set(false);
-        if found >= MANY {
+        turn.hand.extend(context.told.borrow_mut().drain(..));
+        if heard >= room + MANY {
             self.rouse_any();
         }
-        found
+        heard
     }
 
-    /// Looks at the events and timers of a worker that doesn't get on.
-    fn look_at_events_of(&self, context: &Context, other: usize) {
-        if self.sleepers.0.load(Relaxed) >> other & 1 == 1 {
-            return;
-        }
+    /// Fires the timers of a worker that doesn't get on.
+    fn fire_quietly(&self, context: &Context, other: usize) {
         context.keeps.set(false);
-        self.poll_for(other);
         self.fire(other);
         context.keeps.set(true);
-    }
-
-    /// Looks at a worker's epoll in its place.
-    pub(crate) fn poll_for(&self, worker: usize) -> usize {
-        let reactor = &self.workers[worker].0.reactor;
-        let (found, notified) = reactor.poll(0, |lodger| self.workers[lodger].0.reactor.poll(0, |_| 0).0);
-        if notified && worker < self.active.0.load(SeqCst) {
-            // It may be about to sleep: the call that ends its sleep is its own to see.
-            reactor.notify();
-        }
-        found
     }
 
     pub(crate) fn fire(&self, owner: usize) -> usize {
@@ -560,25 +602,14 @@ impl Shared {
     }
 
     /// With nothing of its own to do: takes from others, or sleeps until it is woken.
-    fn look_around(&'static self, context: &Context, turn: &mut Turn, judge: &mut Option<Judge>) {
+    fn look_around(&'static self, context: &Context, turn: &mut Turn, judge: &Option<Judge>) {
         self.searching.0.fetch_add(1, SeqCst);
-        turn.seen.iter_mut().zip(self.workers.iter()).for_each(|(seen, w)| *seen = w.0.polls.load(Relaxed));
-        for spin in 0..SPINS {
-            if self.stop.load(Relaxed) || context.me >= self.active.0.load(Relaxed) {
-                break;
-            }
-            if self.has_queued() || context.next.get().is_some() || self.mine(context) {
-                self.stop_looking(&context.hands);
-                return;
-            }
-            if self.steal(context, turn, spin + 1 == SPINS) {
-                self.stop_looking(&context.hands);
-                return;
-            }
-            (0..8).for_each(|_| std::hint::spin_loop());
+        if self.finds_work(context, turn) {
+            return self.stop_looking(&context.hands);
         }
-        let bit = 1 << context.me;
-        self.sleepers.0.fetch_or(bit, SeqCst);
+        // A post is kept for as long as others may see this worker as asleep.
+        let waits = self.waits.0.compare_exchange(NO_ONE, context.me, SeqCst, SeqCst).is_ok();
+        self.sleepers.0.fetch_or(1 << context.me, SeqCst);
         self.searching.0.fetch_sub(1, SeqCst);
         let busy = self.has_queued()
             || (0..self.workers.len()).any(|other| {
@@ -588,11 +619,34 @@ impl Shared {
             || context.next.get().is_some()
             || self.stop.load(SeqCst)
             || context.me >= self.active.0.load(SeqCst);
-        if !busy && self.may_park(context) {
-            self.sleep(context, judge);
-        }
+        let sleeps = !busy && self.may_park(context);
+        let found = if sleeps { self.sleep(context, turn, judge, waits) } else { Found::NOTHING };
+        // Before anybody is woken: a wake of what is at this worker's own places would have it woken once more.
         self.wake_up(context);
-        self.awake(context);
+        let roused = self.awake(context);
+        if waits {
+            self.waits.0.store(NO_ONE, SeqCst);
+        }
+        let heard = sleeps && self.hear(context, turn, &found, turn.few()) != 0;
+        if waits && (roused || heard) {
+            self.leaves_epoll();
+        }
+    }
+
+    /// Looks for something to run for a short while.
+    fn finds_work(&'static self, context: &Context, turn: &mut Turn) -> bool {
+        turn.seen.iter_mut().zip(self.workers.iter()).for_each(|(seen, w)| *seen = w.0.polls.load(Relaxed));
+        for spin in 0..SPINS {
+            if self.stop.load(Relaxed) || context.me >= self.active.0.load(Relaxed) {
+                return false;
+            }
+            let own = self.has_queued() || context.next.get().is_some() || self.mine(context);
+            if own || self.steal(context, turn, spin + 1 == SPINS) {
+                return true;
+            }
+            (0..8).for_each(|_| std::hint::spin_loop());
+        }
+        false
     }
 
     /// Whether this worker's own words, or those of one after whom it looks, show something.
@@ -628,16 +682,85 @@ impl Shared {
         }
     }
 
-    fn sleep(&self, context: &Context, judge: &mut Option<Judge>) {
+    /// Sleeps in the epoll, where it `waits` there, or else until it is woken; what the epoll told.
+    fn sleep(&self, context: &Context, turn: &mut Turn, judge: &Option<Judge>, waits: bool) -> Found {
         add(&self.workers[context.me].0.parks, 1);
         let owners = std::iter::once(context.me).chain(self.lodgers(context.me));
         let mut timeout = timer::rest(self, owners);
         if let Some(judge) = judge {
-            if timeout < 0 || timeout > judge.millis() {
-                timeout = judge.millis();
+            timeout = sooner(timeout, judge.millis());
+        }
+        if waits {
+            return self.reactor.wait(timeout);
+        }
+        if self.deputy.0.compare_exchange(NO_ONE, context.me, SeqCst, SeqCst).is_err() {
+            self.workers[context.me].0.bell.wait(timeout);
+            return Found::NOTHING;
+        }
+        let found = self.stand_in(context, turn, timeout);
+        self.deputy.0.store(NO_ONE, SeqCst);
+        if self.is_unattended() {
+            self.rouse_any();
+        }
+        found
+    }
+
+    /// Sleeps as the deputy until it is woken, so much time is over, or it has something to do: where one who waits in
+    /// the epoll is told of something and has no processor, or nobody waits there and one who is awake doesn't get on.
+    fn stand_in(&self, context: &Context, turn: &mut Turn, timeout: i32) -> Found {
+        let bell = &self.workers[context.me].0.bell;
+        let mut left = timeout;
+        loop {
+            let rests = sooner(left, self.rests_of(turn));
+            if bell.wait(rests) {
+                turn.rests = 1;
+                return Found::NOTHING;
+            }
+            if left == rests {
+                return Found::NOTHING;
+            }
+            left -= if left < 0 { 0 } else { rests };
+            let stuck = self.waits.0.load(SeqCst) == NO_ONE;
+            if stuck && !self.stands_anybody(turn) {
+                continue;
+            }
+            let found = self.reactor.look();
+            if stuck || !found.is_empty() {
+                return found;
             }
         }
-        self.look_at_events(context, timeout);
+    }
+
+    /// Whether a worker that is awake has not got on since the last look.
+    fn stands_anybody(&self, turn: &mut Turn) -> bool {
+        let (active, sleepers) = (self.active.0.load(Relaxed), self.sleepers.0.load(Relaxed));
+        let mut stands = false;
+        for (number, seen) in turn.seen.iter_mut().enumerate() {
+            let polls = self.workers[number].0.polls.load(Relaxed);
+            stands |= number < active && sleepers >> number & 1 == 0 && polls == *seen;
+            *seen = polls;
+        }
+        stands
+    }
+
+    /// For how many milliseconds the deputy sleeps: one while tasks run, and twice as long each time that none has.
+    fn rests_of(&self, turn: &mut Turn) -> i32 {
+        let polls = self.workers.iter().map(|worker| worker.0.polls.load(Relaxed)).sum();
+        turn.rests = if polls != turn.watched { 1 } else { (2 * turn.rests).min(1 << 20) };
+        turn.watched = polls;
+        self.rests.store(turn.rests, Relaxed);
+        turn.rests
+    }
+
+    /// Whoever waited in the epoll has something to do, which may take long: where nobody stands in, another is woken
+    /// to wait there, and a deputy that sleeps for long is woken to look more often again.
+    fn leaves_epoll(&self) {
+        let deputy = self.deputy.0.load(SeqCst);
+        if deputy == NO_ONE {
+            self.rouse_any();
+        } else if self.rests.load(Relaxed) >= LONG_REST {
+            self.rouse(deputy);
+        }
     }
 
     // --------------------------------------------------------------------------------------- the loop
@@ -659,11 +782,11 @@ impl Shared {
                     break;
                 }
             }
-            if ran == 0 && self.look_at_events(context, 0) == 0 && !self.help_lodgers(context, &mut turn) {
+            if ran == 0 && self.look_when_idle(context, &mut turn) == 0 && !self.help_lodgers(context, &mut turn) {
                 let begin = now();
                 worker.idle_since.store(begin, Relaxed);
                 turn.pace(begin);
-                self.look_around(context, &mut turn, &mut judge);
+                self.look_around(context, &mut turn, &judge);
                 turn.looked = worker.ends_idling();
             }
             if let Some(judge) = &mut judge {
@@ -671,6 +794,14 @@ impl Shared {
             }
         }
         self.lay_down(context, &mut turn);
+    }
+
+    /// With nothing of its own to do: events, unless another waits for them; and timers.
+    fn look_when_idle(&self, context: &Context, turn: &mut Turn) -> usize {
+        if self.waits.0.load(Relaxed) == NO_ONE {
+            return self.look_at_events(context, turn, turn.few());
+        }
+        self.hear(context, turn, &Found::NOTHING, turn.few())
     }
 
     fn help_lodgers(&self, context: &Context, turn: &mut Turn) -> bool {
@@ -697,5 +828,14 @@ impl Shared {
             self.published(job.name, unpark, true);
         }
         (turn.at, turn.count, turn.hand_left) = (0, 0, 0);
+    }
+}
+
+/// The sooner of two times to sleep, in milliseconds; -1 is for ever.
+fn sooner(timeout: i32, other: i32) -> i32 {
+    if timeout < 0 {
+        other
+    } else {
+        timeout.min(other)
     }
 }

@@ -21,6 +21,15 @@ impl Wake for Nobody {
     fn wake(self: Arc<Self>) {}
 }
 
+/// Counts its wakes.
+#[derive(Default)]
+struct Woken(AtomicUsize);
+impl Wake for Woken {
+    fn wake(self: Arc<Self>) {
+        self.0.fetch_add(1, SeqCst);
+    }
+}
+
 /// One poll, with a waker of nobody's.
 fn poll_once<F: Future + Unpin>(future: &mut F) -> Poll<F::Output> {
     let waker = Arc::new(Nobody).into();
@@ -249,6 +258,21 @@ fn a_runtime_is_entered_and_ended_within_a_task_of_another_or_its_own() {
     *own.lock().unwrap() = Some(runtime);
     assert!(matches!(block_on(waits), Err(JoinError::Cancelled)));
     drop(block_on(drops));
+}
+
+/// The last waker with which a future of the end was polled is woken, and no other.
+#[test]
+fn who_waits_for_the_end_may_change() {
+    let runtime = Runtime::new(1);
+    let wakers: Vec<_> = (0..3).map(|_| Arc::new(Woken::default())).collect();
+    let mut end = stopping();
+    for woken in [&wakers[0], &wakers[0], &wakers[1], &wakers[2], &wakers[2]] {
+        let waker = woken.clone().into();
+        assert!(runtime.enter(|| Pin::new(&mut end).poll(&mut Context::from_waker(&waker))).is_pending());
+    }
+    runtime.shutdown_within(LONG);
+    let woken: Vec<_> = wakers.iter().map(|woken| woken.0.load(SeqCst)).collect();
+    assert_eq!(woken, [0, 0, 1]);
 }
 
 /// A wake reaches the worker that sleeps, whosever place the task has, where the other is in a poll that doesn't end.

@@ -1,6 +1,7 @@
 //! Trials of a server on arachne, bounded in count and time: trial NAME [CORES]; each prints its figures and ends.
 //! soak: tasks of eight kinds for so many seconds (a third word; 300), with their count and the resident memory.
-//! overload: requests of 100 us at 0.8, 1, 1.2 and 2 times what the cores can do, behind a limit.
+//! overload: requests of 100 us at 0.8, 1, 1.2 and 2 times what the cores can do, behind a limit of what is accepted at
+//! a time (a third word; one more than there are cores).
 //! blocking: 10,000 requests of 5 us a second, while a task on each of four workers blocks for 100 ms.
 //! waiting: a million tasks that wait, with bytes a task, and ping-pong among them and without.
 //! drain: SIGTERM to the server `redis` beside this program, under load and after a million answers.
@@ -28,6 +29,8 @@ async fn request(bytes: [u8; SIZE], out: Arc<Lock<Arc<TcpStream>>>, ticket: Opti
     let mut answer = bytes;
     let micros = u64::from_le_bytes(bytes[8..].try_into().unwrap());
     if ticket.is_some() {
+        // What can be read is read, and refused, before a request that takes long begins.
+        arachne::yield_now().await;
         spin(Duration::from_micros(micros));
     }
     answer[8..].copy_from_slice(&u64::from(ticket.is_some()).to_le_bytes());
@@ -167,9 +170,9 @@ fn resident() -> u64 {
     text.split(' ').nth(1).unwrap().parse::<u64>().unwrap() * 4
 }
 
-fn overload(cores: usize) {
+fn overload(cores: usize, limit: usize) {
     let runtime = Runtime::new(cores);
-    let at = serve(&runtime, 4 * cores);
+    let at = serve(&runtime, limit);
     let (time, able) = (Duration::from_secs(3), cores as f64 * 1e4);
     let mut best: f64 = 0.0;
     for part in [1.0, 1.2] {
@@ -422,7 +425,7 @@ fn main() {
     let words: Vec<String> = std::env::args().collect();
     let cores = words.get(2).map_or(2, |word| word.parse().unwrap());
     match words.get(1).map(|word| &**word) {
-        Some("overload") => overload(cores),
+        Some("overload") => overload(cores, words.get(3).map_or(cores + 1, |word| word.parse().unwrap())),
         Some("blocking") => blocking(),
         Some("waiting") => waiting(cores),
         Some("drain") => drain(cores),

@@ -8,5 +8,5 @@ abbrev pub invariant-loop : goal.invariant-loop
 invariant-loop g l =
     IsWorkerOf g.C.Seats.sits g.C.Seats.idle l.server.pool.table l.server.pool.cores l.worker
     × (l.keeper.most + 1 ≡ l.server.pool.cores)
-    × (vec_len l.report.answers + deque_len l.sent ≡ l.next)
+    × (vec_len l.report.answers + l.report.refused + deque_len l.sent ≡ l.next)
     × (l.next ≤ length l.requests)

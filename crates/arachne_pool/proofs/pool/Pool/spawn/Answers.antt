@@ -4,7 +4,7 @@ use Rattle.arachne_pool.proofs.pool.Pool.spawn.Goals as goal
 -- an idle seat has nothing out, and one with nothing out is idle
 pub place-requires-clause-known : goal.place-requires-clause-known
 place-requires-clause-known g c =
-    let none = g.met.C.Contexts.nothing_out c.args.self.now.table c.in-Some.seat in λ κs within. ([], none (search rules))
+    let none = g.met.C.Contexts.nothing_out c.args.self.now.table c.in-Some.seat in ([], none (search rules))
 
 pub returns-in-Ok-place-clause-worker : goal.returns-in-Ok-place-clause-worker
 returns-in-Ok-place-clause-worker g c =

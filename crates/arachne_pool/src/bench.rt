@@ -1,0 +1,144 @@
+//! What a worker has beside its seat.
+ghost use Rattle.std.specs.Prelude.{◌≡◌, ◌+◌, ◌<◌, [], IfErr, IfOk, None, OnErr};
+ghost use Rattle.std.specs.VecDeque.{deque_capacity, deque_len};
+
+use crate::job::PoolJob;
+use crate::outcome::{Cells, ResultReceiver, Wanted};
+use crate::spawned::Spawned;
+use crate::statistics::Statistics;
+use crate::tally::Tally;
+use arachne_arbiter::Arbiter;
+use rand_core::SeedableRng;
+use rand_xoshiro::Xoshiro256PlusPlus;
+use std::alloc::Global;
+use std::collections::VecDeque;
+use std::snapshot::Snapshot;
+
+/// What a worker has beside its seat.
+#[derive(Drop)]
+pub(crate) struct Bench<J: PoolJob> {
+    pub(crate) alloc: Global,
+    /// Jobs that wait for a place, the oldest first. They make no step before they have one.
+    pub(crate) near: VecDeque<Spawned<J>>,
+    pub(crate) cells: Cells<J>,
+    pub(crate) chooser: Xoshiro256PlusPlus,
+    pub(crate) tally: Tally,
+    /// What of that the pool was told.
+    pub(crate) told: Tally,
+    /// What it has done since it told of that.
+    pub(crate) done: Statistics,
+    /// The core that it works on, or has worked on. At first a number that is none.
+    pub(crate) core: u8,
+    pub(crate) arbiter: Option<Arbiter>,
+    /// How many orders that has.
+    pub(crate) orders: usize,
+    /// Memory was refused, and nobody was told yet.
+    pub(crate) is_short: bool,
+    /// A job has ended since this was looked at last.
+    pub(crate) has_ended: bool,
+}
+
+impl<J: PoolJob> Bench<J> {
+    ghost use Rattle.arachne_pool.specs.Jobs.{count_near, one};
+
+    /// One with no job, whose choices go by this seed.
+    pub(crate) fn new(alloc: Global, seed: u64) -> Bench<J>
+        ensures tally { (result.tally.spawned ≡ 0) × (result.tally.ended ≡ 0) }
+        ensures near { deque_len result.near ≡ 0 }
+        ensures arbiter { result.arbiter ≡ None }
+    {
+        Bench {
+            alloc,
+            near: VecDeque::new(alloc),
+            cells: Cells::new(alloc),
+            chooser: Xoshiro256PlusPlus::seed_from_u64(seed),
+            tally: Tally::new(),
+            told: Tally::new(),
+            done: Statistics::new(),
+            core: u8::MAX,
+            arbiter: None,
+            orders: 0,
+            is_short: false,
+            has_ended: false,
+        }
+    }
+
+    /// A job begins: the end that its result comes to, and the job, for which there is room among those that wait. Where
+    /// memory is refused it comes back.
+    pub(crate) fn begin(&mut self, job: J) -> Result<(ResultReceiver<J>, Spawned<J>), J>
+        requires fresh { J.awaits job [] }
+        ensures receiver { IfOk result (λ begun. begun.0.opening.key.job.value ≡ job) }
+        ensures job { IfOk result (λ begun. begun.1 ≡ one (J.tag_of job) job None) }
+        ensures room { IfOk result (λ _. deque_len self.new.near < deque_capacity self.new.near) }
+        ensures near { self.new.near.items ≡ self.old.near.items }
+        ensures spawned { IfOk result (λ _. self.old.tally.spawned < u64.MAX → self.new.tally.spawned ≡ self.old.tally.spawned + 1) }
+        ensures ended { self.new.tally.ended ≡ self.old.tally.ended }
+        ensures refused { OnErr result (self.new.tally ≡ self.old.tally) }
+        ensures handed_back { IfErr result (λ back. back ≡ job) }
+        ensures arbiter { self.new.arbiter ≡ self.old.arbiter }
+    {
+        if self.near.reserve(1).is_err() {
+            return Err(job);
+        }
+        let wanted = Wanted {
+            job: Snapshot::of(&job),
+        };
+        let Ok((receiver, sender)) = self.cells.open(self.alloc, &wanted) else {
+            return Err(job);
+        };
+        self.tally.count_spawned();
+        Ok((
+            receiver,
+            Spawned::begin(self.alloc, job, Some(sender), None),
+        ))
+    }
+
+    /// The children that this job, or one in its place, has ended without are let go: those that have not begun wait for
+    /// places of their own, and none is lost. Whether memory was there.
+    #[tactic(auto, using(crate::proofs::Counts::count_near_push))]
+    pub(crate) fn let_go(&mut self, job: &mut Spawned<J>) -> bool
+        ensures same { (self.new.tally ≡ self.old.tally) × (self.new.arbiter ≡ self.old.arbiter) }
+        ensures job { job.new ≡ record job.old { job = job.new.job; many = job.new.many } }
+        ensures many { count_near self.new.near.items + job.new.many ≡ count_near self.old.near.items + job.old.many }
+    {
+        for _ in 0..job.orphans() {
+            let Ok(()) = self.near.reserve(1) else {
+                self.is_short = true;
+                return false;
+            };
+            if let Some(orphan) = job.let_go(self.alloc) {
+                self.near.push_back_reserved(orphan);
+            }
+        }
+        true
+    }
+
+    /// How many jobs were spawned and have ended since the pool was told last, which it is now.
+    pub(crate) fn news(&mut self) -> Tally
+        ensures same { self.new ≡ record self.old { told = self.new.told } }
+    {
+        let news = Tally {
+            spawned: self.tally.spawned.wrapping_sub(self.told.spawned),
+            ended: self.tally.ended.wrapping_sub(self.told.ended),
+        };
+        self.told = self.tally;
+        news
+    }
+
+    /// How many orders it has, or else the other has.
+    pub(crate) fn orders_or(&self, other: &Bench<J>) -> usize {
+        match self.arbiter {
+            Some(_) => self.orders,
+            None => other.orders,
+        }
+    }
+
+    /// Whether memory was refused since this was asked last.
+    pub(crate) fn take_short(&mut self) -> bool
+        ensures same { self.new ≡ record self.old { is_short = self.new.is_short } }
+    {
+        let is_short = self.is_short;
+        self.is_short = false;
+        is_short
+    }
+}

@@ -1,0 +1,99 @@
+//! How many jobs of a pool were spawned and have ended, and what its workers have done, as they tell it.
+use crate::statistics::Statistics;
+use crate::tally::Tally;
+use crossbeam_utils::CachePadded;
+use std::alloc::{AllocError, Global};
+use std::sync::atomic::{AtomicU64, Ordering};
+
+/// What the workers of one core have told.
+#[derive(Drop)]
+struct Told {
+    spawned: AtomicU64,
+    ended: AtomicU64,
+    slices: AtomicU64,
+    steps: AtomicU64,
+    wakes: AtomicU64,
+    rests: AtomicU64,
+}
+
+impl Told {
+    /// Nothing was told.
+    fn new() -> Told {
+        Told {
+            spawned: AtomicU64::new(0),
+            ended: AtomicU64::new(0),
+            slices: AtomicU64::new(0),
+            steps: AtomicU64::new(0),
+            wakes: AtomicU64::new(0),
+            rests: AtomicU64::new(0),
+        }
+    }
+}
+
+/// What workers have told, for each core on a cache line of its own, and behind these for those that work on none.
+#[derive(Drop)]
+pub(crate) struct Live {
+    told: Vec<CachePadded<Told>>,
+}
+
+impl Live {
+    /// For so many cores. No job was spawned.
+    pub(crate) fn new(alloc: Global, cores: u8) -> Result<Live, AllocError> {
+        let mut told = Vec::new(alloc);
+        for _ in 0..=cores {
+            told.push(CachePadded::new(Told::new()))?;
+        }
+        Ok(Live { told })
+    }
+
+    /// So many more were spawned and have ended, by a worker of this core, or of none where there is no such core. A job
+    /// is told of before another kernel thread may have it.
+    pub(crate) fn add(&self, core: u8, news: Tally) {
+        let Some(told) = self.told.get(usize::from(core)).or(self.told.last()) else {
+            return;
+        };
+        if news.spawned != 0 {
+            told.spawned.fetch_add(news.spawned, Ordering::SeqCst);
+        }
+        if news.ended != 0 {
+            told.ended.fetch_add(news.ended, Ordering::SeqCst);
+        }
+    }
+
+    /// So much more was done by a worker of this core.
+    pub(crate) fn add_done(&self, core: u8, done: Statistics) {
+        let Some(told) = self.told.get(usize::from(core)) else {
+            return;
+        };
+        told.slices.fetch_add(done.slices, Ordering::SeqCst);
+        told.steps.fetch_add(done.steps, Ordering::SeqCst);
+        told.wakes.fetch_add(done.wakes, Ordering::SeqCst);
+        told.rests.fetch_add(done.rests, Ordering::SeqCst);
+    }
+
+    /// What the workers of a core have done.
+    pub(crate) fn done(&self, core: u8) -> Statistics {
+        match self.told.get(usize::from(core)) {
+            Some(told) => Statistics {
+                slices: told.slices.load(Ordering::SeqCst),
+                steps: told.steps.load(Ordering::SeqCst),
+                wakes: told.wakes.load(Ordering::SeqCst),
+                rests: told.rests.load(Ordering::SeqCst),
+            },
+            None => Statistics::new(),
+        }
+    }
+
+    /// How many were spawned and have not ended. Ends are looked at first: so no job lives where the answer is 0.
+    pub(crate) fn count(&self) -> u64 {
+        let ended = self.told.iter().fold(
+            0u64,
+            |sum, told| sum.wrapping_add(told.ended.load(Ordering::SeqCst)),
+        );
+        let spawned = self.told.iter().fold(
+            0u64,
+            |sum, told| sum.wrapping_add(told.spawned.load(Ordering::SeqCst)),
+        );
+        spawned.wrapping_sub(ended)
+    }
+}

@@ -1,0 +1,179 @@
+//! How jobs get their places.
+//!
+//! It may touch the table through the seat that it is given.
+ghost use Rattle.std.specs.Prelude.{◌≡◌, ◌+◌, ◌<◌, [], ◌∷◌, IfOk, MatchOption, OnOk};
+ghost use Rattle.std.specs.VecDeque.{deque_capacity, deque_len};
+ghost use Rattle.arachne_contexts.specs.Out.{Claim, HasOut, KeepsOut};
+ghost use Rattle.arachne_pool.specs.Grounds.{AddsOut, IsKnown, IsSpent, thread_in};
+ghost use Rattle.arachne_pool.specs.Jobs.{Being, count_near};
+
+use crate::bench::Bench;
+use crate::job::PoolJob;
+use crate::pool::Pool;
+use crate::spawned::Spawned;
+use arachne_contexts::{Contexts, Held, Placed};
+use arachne_workers::Post;
+use rand_xoshiro::Xoshiro256PlusPlus;
+use std::sync::Wait;
+
+/// The table didn't know a place or a job that a worker had of it.
+#[derive(Clone, Copy, Debug, PartialEq, Eq)]
+pub(crate) struct Disowned;
+
+/// A place for a job: on the core with fewer jobs of two that are drawn, else on another one that has a place; for an
+/// exclusive one an empty core, if there is one. None too where memory is refused.
+pub(crate) fn claim<H: Wait, J: PoolJob, C: Contexts<Spawned<J>>>(
+    rt: &H,
+    pool: &Pool<C>,
+    seat: &mut C::Seat,
+    chooser: &mut Xoshiro256PlusPlus,
+    is_exclusive: bool,
+) -> Option<C::Claim>
+    requires seat { C.sits pool.now.table seat.old }
+    ensures seat { C.sits pool.now.table seat.new }
+    ensures out { MatchOption result (KeepsOut (C.has pool.now.table) seat.old seat.new) (λ claim. AddsOut (C.has pool.now.table) (Claim claim) seat.old seat.new) }
+{
+    if !is_exclusive {
+        return claim_normal::<H, J, C>(rt, pool, seat, chooser);
+    }
+    pool.exclusive_comes();
+    let cores = pool.cores::<H, Spawned<J>>(rt);
+    match cores.claim_exclusive(seat) {
+        Ok(Some(claim)) => Some(claim),
+        _ => claim_normal::<H, J, C>(rt, pool, seat, chooser),
+    }
+}
+
+/// A place that the job shares with others on its core. That no core had one is told.
+fn claim_normal<H: Wait, J: PoolJob, C: Contexts<Spawned<J>>>(
+    rt: &H,
+    pool: &Pool<C>,
+    seat: &mut C::Seat,
+    chooser: &mut Xoshiro256PlusPlus,
+) -> Option<C::Claim>
+    requires seat { C.sits pool.now.table seat.old }
+    ensures seat { C.sits pool.now.table seat.new }
+    ensures out { MatchOption result (KeepsOut (C.has pool.now.table) seat.old seat.new) (λ claim. AddsOut (C.has pool.now.table) (Claim claim) seat.old seat.new) }
+{
+    let cores = pool.cores::<H, Spawned<J>>(rt);
+    let place = cores.claim_normal(seat, chooser);
+    if let Ok(None) = place {
+        pool.no_room_was_seen();
+    }
+    place.ok()?
+}
+
+/// A job is posted at a place.
+pub(crate) fn post<H: Wait, J: PoolJob, C: Contexts<Spawned<J>>>(
+    rt: &H,
+    pool: &Pool<C>,
+    seat: &mut C::Seat,
+    claim: C::Claim,
+    job: Spawned<J>,
+) -> Result<Post, Disowned>
+    requires seat { C.sits pool.now.table seat.old }
+    requires out { HasOut (C.has pool.now.table) (Claim claim) seat.old }
+    ensures seat { C.sits pool.now.table seat.new }
+    ensures out { OnOk result (IsSpent (C.has pool.now.table) (Claim claim) seat.old seat.new) }
+{
+    let place = claim.place();
+    match pool.table.post(rt, seat, claim, job) {
+        Ok(id) => Ok(Post { id, place }),
+        Err(_) => Err(Disowned),
+    }
+}
+
+/// A job gets a place, or waits for one with those that have none, among which there is room for it.
+#[tactic(auto, using(crate::proofs::Counts::count_near_push))]
+pub(crate) fn place<H: Wait, J: PoolJob, C: Contexts<Spawned<J>>>(
+    rt: &H,
+    pool: &Pool<C>,
+    seat: &mut C::Seat,
+    bench: &mut Bench<J>,
+    job: Spawned<J>,
+) -> Result<Option<Post>, Disowned>
+    requires seat { C.sits pool.now.table seat.old }
+    requires known { IsKnown (C.has pool.now.table) seat.old }
+    requires room { deque_len bench.old.near < deque_capacity bench.old.near }
+    ensures seat { C.sits pool.now.table seat.new }
+    ensures out { OnOk result (KeepsOut (C.has pool.now.table) seat.old seat.new) }
+    ensures same { (bench.new.tally ≡ bench.old.tally) × (bench.new.arbiter ≡ bench.old.arbiter) }
+    ensures near { IfOk result (λ posted. MatchOption posted (count_near bench.new.near.items ≡ count_near bench.old.near.items + job.many) (λ _. bench.new.near.items ≡ bench.old.near.items)) }
+{
+    let claim = claim::<H, J, C>(rt, pool, seat, &mut bench.chooser, job.is_exclusive());
+    let Some(claim) = claim else {
+        bench.near.push_back_reserved(job);
+        return Ok(None);
+    };
+    let post = post::<H, J, C>(rt, pool, seat, claim, job)?;
+    Ok(Some(post))
+}
+
+/// The oldest job that waits for a place gets one, if there is one.
+pub(crate) fn place_oldest<H: Wait, J: PoolJob, C: Contexts<Spawned<J>>>(
+    rt: &H,
+    pool: &Pool<C>,
+    seat: &mut C::Seat,
+    bench: &mut Bench<J>,
+) -> Result<Option<Post>, Disowned>
+    requires seat { C.sits pool.now.table seat.old }
+    requires known { IsKnown (C.has pool.now.table) seat.old }
+    ensures seat { C.sits pool.now.table seat.new }
+    ensures out { OnOk result (KeepsOut (C.has pool.now.table) seat.old seat.new) }
+    ensures same { (bench.new.tally ≡ bench.old.tally) × (bench.new.arbiter ≡ bench.old.arbiter) }
+    ensures near { IfOk result (λ posted. MatchOption posted (bench.new.near.items ≡ bench.old.near.items) (λ _. (job : Being J) × (bench.old.near.items ≡ job ∷ bench.new.near.items))) }
+{
+    let Some(job) = bench.near.front() else {
+        return Ok(None);
+    };
+    let is_exclusive = job.is_exclusive();
+    let claim = claim::<H, J, C>(rt, pool, seat, &mut bench.chooser, is_exclusive);
+    let Some(claim) = claim else {
+        return Ok(None);
+    };
+    let Some(job) = bench.near.pop_front() else {
+        unreachable!()
+    };
+    let post = post::<H, J, C>(rt, pool, seat, claim, job)?;
+    Ok(Some(post))
+}
+
+/// The oldest child that waits with the job in hand is parted off and posted, if a core has a place for it. Where memory
+/// is refused for it that is noted, and it waits on.
+#[inline(always)]
+pub(crate) fn post_oldest<H: Wait, J: PoolJob, C: Contexts<Spawned<J>>>(
+    rt: &H,
+    pool: &Pool<C>,
+    seat: &mut C::Seat,
+    bench: &mut Bench<J>,
+    held: &mut Held<Spawned<J>, C::Hold>,
+) -> Result<Option<Post>, Disowned>
+    requires seat { C.sits pool.now.table seat.old }
+    requires out { C.has pool.now.table seat.old (thread_in (λ s. s.tag) held.old ∷ []) }
+    ensures seat { C.sits pool.now.table seat.new }
+    ensures out { OnOk result (C.has pool.now.table seat.new (thread_in (λ s. s.tag) held.new ∷ [])) }
+    ensures same { (bench.new.tally ≡ bench.old.tally) × (bench.new.arbiter ≡ bench.old.arbiter) }
+{
+    if !held.value.has_aside() {
+        return Ok(None);
+    }
+    if !pool.has_room() {
+        return Ok(None);
+    }
+    let is_exclusive = held.value.is_oldest_exclusive();
+    let claim = claim::<H, J, C>(rt, pool, seat, &mut bench.chooser, is_exclusive);
+    let Some(claim) = claim else {
+        return Ok(None);
+    };
+    let me = held.id();
+    let child = held.value.part_oldest(bench.alloc, &mut bench.cells, me);
+    let Some(child) = child else {
+        bench.is_short = true;
+        return match pool.table.give_back(rt, seat, claim) {
+            Ok(()) => Ok(None),
+            Err(_) => Err(Disowned),
+        };
+    };
+    let post = post::<H, J, C>(rt, pool, seat, claim, child)?;
+    Ok(Some(post))
+}

@@ -1,0 +1,465 @@
+//! A worker's seat at the table of a pool, and what is out with it: the job in hand, and nothing else between two calls.
+ghost use Rattle.std.specs.Prelude.{◌≡◌, ◌≤◌, IfSome, false};
+ghost use Rattle.arachne_pool.specs.Grounds.{in_hand};
+ghost use Rattle.arachne_pool.specs.Workers.{IsIdleAt};
+
+use crate::bench::Bench;
+use crate::job::PoolJob;
+use crate::place::{Disowned, place_oldest, post_oldest};
+use crate::pool::Pool;
+use crate::spawned::Spawned;
+use crate::stop::Stop as JobStop;
+use crate::worker::PoolFault;
+use arachne_arbiter::Pace;
+use arachne_contexts::{Contexts, Held, Moved, Rested, Taken, Woken};
+use arachne_core::{MarkWord, OccWord, Place, Rest, ThreadId};
+use arachne_workers::{Desk, Drained, Event, Grip, Halt, Post, Stop, Ticket};
+use std::marker::Model;
+use std::mem::replace;
+use std::sync::Wait;
+use std::sync::atomic::Ordering;
+
+/// Which call of the pool a worker is in.
+#[derive(Clone, Copy, Debug, PartialEq, Eq)]
+pub(crate) enum Call {
+    /// One round, in which each job has one slice. It doesn't wait.
+    Turn,
+    /// Until no job lives. It parks where its core is closed.
+    Work,
+    /// Until a job has ended, of which nobody tells it.
+    Join,
+}
+
+/// What a worker has at the table. Contracts see what it is a seat at: its invariant says what is out with it.
+#[derive(Drop)]
+pub(crate) struct Seat<'a, H, J: PoolJob, C: Contexts<Spawned<J>>> {
+    pub(crate) rt: &'a H,
+    pub(crate) pool: &'a Pool<C>,
+    pub(crate) core: u8,
+    pub(crate) call: Call,
+    /// Something else may be out with the seat, since the table has not known a token. The worker is at its end then.
+    pub(crate) is_broken: bool,
+    pub(crate) seat: C::Seat,
+    pub(crate) held: Option<Held<Spawned<J>, C::Hold>>,
+    /// The job in hand awaits a child.
+    pub(crate) blocks: bool,
+    /// A job was taken since the worker looked last whether others have too many.
+    pub(crate) has_taken: bool,
+    /// The core was seen to be closed and empty.
+    pub(crate) is_drained: bool,
+    pub(crate) bench: Bench<J>,
+}
+
+impl<'a, H, J: PoolJob, C: Contexts<Spawned<J>>> Model for Seat<'a, H, J, C> {
+    ghost use Rattle.std.specs.Prelude.{◌≡◌, ◌<◌, false};
+    ghost use Rattle.arachne_pool.specs.Grounds.{Ground, ground_at, in_hand};
+    ghost use Rattle.arachne_pool.specs.Workers.{IsArbiterFor};
+
+    ghost Value = { Ground C };
+
+    ghost view = { λ s. ground_at s.pool.now.table s.pool.now.cores };
+
+    ghost invariant = { λ s. (s.core < s.pool.now.cores) × C.sits s.pool.now.table s.seat × IsArbiterFor s.pool.now.cores s.bench.arbiter
+        × (s.is_broken ≡ false → C.has s.pool.now.table s.seat (in_hand (λ job. job.tag) s.held)) };
+}
+
+impl<'a, H: Wait, J: PoolJob, C: Contexts<Spawned<J>>> Desk for Seat<'a, H, J, C> {
+    #[inline(always)]
+    fn take(&mut self, index: u8) -> Grip {
+        if index >= self.pool.slots || self.held.is_some() || self.is_broken {
+            return Grip::None;
+        }
+        let table = &self.pool.table;
+        match table.take(self.rt, &mut self.seat, self.core, index) {
+            Taken::Run(held) => {
+                self.held = Some(held);
+                self.has_taken = true;
+                Grip::Taken
+            }
+            Taken::NotReady(_) => Grip::None,
+            Taken::Lost(_) => Grip::Lost,
+        }
+    }
+
+    fn quantum(&self) -> u32 {
+        match &self.held {
+            Some(held) => held.value.bound().max(1),
+            None => 1,
+        }
+    }
+
+    #[inline(always)]
+    fn advance(&mut self, _pace: &mut Pace, left: &mut u32) -> Result<Stop, Halt> {
+        let before = *left;
+        let mut stop = self.go_on(left);
+        if stop == JobStop::LetsGo && self.let_go() {
+            stop = self.go_on(left);
+        }
+        let done = &mut self.bench.done;
+        done.steps = done
+            .steps
+            .wrapping_add(u64::from(before.wrapping_sub(*left)));
+        if stop == JobStop::Sleeps {
+            stop = self.fall_asleep(left);
+        }
+        self.blocks = stop == JobStop::Waits || stop == JobStop::Sleeps;
+        self.pool.live.add(self.core, self.bench.news());
+        match stop {
+            JobStop::Ends => Ok(Stop::Ends),
+            JobStop::Waits | JobStop::Sleeps => Ok(Stop::Blocks),
+            JobStop::Goes | JobStop::Forks => self.post_oldest(),
+            JobStop::LetsGo => Ok(Stop::Goes),
+            JobStop::Short => {
+                // The next slice tries again.
+                *left = 0;
+                self.bench.is_short = true;
+                Ok(Stop::Goes)
+            }
+        }
+    }
+
+    #[inline(always)]
+    fn holds(&self) -> bool {
+        false
+    }
+
+    #[inline(always)]
+    fn rest(&mut self) -> Result<Rest, Halt> {
+        if self.is_broken {
+            return Err(Halt::from(PoolFault::Token));
+        }
+        let Some(held) = self.held.take() else {
+            return Err(Halt::from(PoolFault::Token));
+        };
+        let rest = if self.blocks {
+            Rest::Blocked
+        } else {
+            Rest::Ready
+        };
+        let table = &self.pool.table;
+        match table.put_back(self.rt, &mut self.seat, held, rest) {
+            Ok(Rested::AsAsked) => Ok(rest),
+            Ok(Rested::WokenMeanwhile) => Ok(Rest::Ready),
+            Err(held) => {
+                self.held = Some(held);
+                Err(Halt::from(PoolFault::Token))
+            }
+        }
+    }
+
+    #[inline(always)]
+    fn end(&mut self) -> Result<Option<ThreadId>, Halt> {
+        if self.is_broken {
+            return Err(Halt::from(PoolFault::Token));
+        }
+        let Some(held) = self.held.take() else {
+            return Err(Halt::from(PoolFault::Token));
+        };
+        self.bench.has_ended = true;
+        let table = &self.pool.table;
+        match table.finish(self.rt, &mut self.seat, held) {
+            Ok(job) => {
+                self.pool.room_was_seen();
+                Ok(job.leave())
+            }
+            Err(held) => {
+                self.is_broken = true;
+                held.value.leave();
+                Err(Halt::from(PoolFault::Token))
+            }
+        }
+    }
+
+    fn keep_place(&mut self, _before: OccWord) -> Result<(), Halt> {
+        Ok(())
+    }
+
+    fn kept(&self) -> usize {
+        0
+    }
+
+    fn give_one_back(&mut self) -> Result<bool, Halt> {
+        Ok(false)
+    }
+
+    #[inline(always)]
+    fn look(&mut self) -> OccWord {
+        let table = &self.pool.table;
+        let word = table.look(self.rt, &mut self.seat, self.core);
+        let Some(now) = OccWord::from_word(word) else {
+            unreachable!()
+        };
+        if !now.is_closed() && !now.is_exclusive() && now.count() < self.pool.slots {
+            self.pool.room_was_seen();
+        }
+        now
+    }
+
+    fn mark_of(&mut self, context: u32) -> Option<MarkWord> {
+        if context >= u32::from(self.pool.cores) * u32::from(self.pool.slots) {
+            return None;
+        }
+        let table = &self.pool.table;
+        let word = table.look_mark(self.rt, &mut self.seat, context);
+        MarkWord::from_word(word)
+    }
+
+    fn try_wake(&mut self, id: ThreadId) -> Woken {
+        let table = &self.pool.table;
+        let woken = table.wake(self.rt, &mut self.seat, id);
+        if woken == Woken::Woken {
+            self.bench.done.wakes = self.bench.done.wakes.wrapping_add(1);
+        }
+        woken
+    }
+
+    fn pull(&mut self, place: Place) -> bool {
+        !self.pool.has_exclusive() && self.move_here(place)
+    }
+
+    #[inline(always)]
+    fn may_take_ticket(&mut self) -> bool {
+        if self.held.is_some() && (self.call == Call::Turn || self.bench.is_short) {
+            // It has had its slice: others are to go on.
+            return true;
+        }
+        if !self.bench.near.is_empty() && self.pool.has_room() {
+            return true;
+        }
+        self.held.is_none() && !replace(&mut self.has_taken, false) && self.is_any_waiting()
+    }
+
+    fn take_ticket(&mut self) -> Result<Ticket, Halt> {
+        if self.is_broken {
+            return Err(Halt::from(PoolFault::Token));
+        }
+        self.is_broken = true;
+        let posted = place_oldest::<H, J, C>(self.rt, self.pool, &mut self.seat, &mut self.bench)?;
+        self.is_broken = false;
+        let Some(post) = posted else {
+            return Ok(if self.fetch() {
+                Ticket::Gone
+            } else {
+                Ticket::None
+            });
+        };
+        if post.place.core == self.core {
+            return Ok(Ticket::Posted(post));
+        }
+        self.pool.shared.hint(post.place);
+        Ok(Ticket::Gone)
+    }
+
+    fn tend(&mut self) -> (Option<usize>, u64) {
+        let pool = self.pool;
+        let Some(arbiter) = &mut self.bench.arbiter else {
+            return (None, 0);
+        };
+        let before = arbiter.applied();
+        let cores = pool.cores::<H, Spawned<J>>(self.rt);
+        let shared = &pool.shared;
+        let receivers = arbiter.tend(&cores, &mut self.seat, shared.parking(), shared.slices());
+        let after = arbiter.applied();
+        let applied = if after != before { Some(after) } else { None };
+        (applied, receivers)
+    }
+
+    #[inline(always)]
+    fn has_orders(&self) -> bool {
+        self.bench.orders != 0
+    }
+
+    fn is_waited_for(&self) -> bool {
+        if self.call != Call::Work || !self.bench.near.is_empty() {
+            return true;
+        }
+        match &self.bench.arbiter {
+            Some(arbiter) => arbiter.applied() < self.bench.orders,
+            None => false,
+        }
+    }
+
+    fn is_drained(&mut self) -> Option<Drained> {
+        let drained = Drained::shown_by(self.look());
+        self.is_drained = drained.is_some();
+        drained
+    }
+
+    fn begins(&self, _nth: u64) {}
+
+    fn told(&self, _event: Event) {}
+}
+
+impl<'a, H: Wait, J: PoolJob, C: Contexts<Spawned<J>>> Seat<'a, H, J, C> {
+    /// The job in hand goes on for at most as many steps as are left. Without one it waits.
+    #[inline(always)]
+    fn go_on(&mut self, left: &mut u32) -> JobStop
+        ensures desk { self.new ≡ self.old }
+        ensures left { left.new ≤ left.old }
+    {
+        let Some(held) = &mut self.held else {
+            return JobStop::Waits;
+        };
+        let bench = &mut self.bench;
+        let may_post = self.pool.has_room();
+        held.value
+            .slice(&mut bench.cells, &mut bench.tally, left, may_post)
+    }
+
+    /// The oldest child that waits with the job in hand gets a place, if there is one and memory is not refused.
+    #[inline(always)]
+    fn post_oldest(&mut self) -> Result<Stop, Halt>
+        ensures { self.new ≡ self.old }
+    {
+        if self.is_broken {
+            return Err(Halt::from(PoolFault::Token));
+        }
+        let Some(held) = &mut self.held else {
+            return Err(Halt::from(PoolFault::Token));
+        };
+        self.is_broken = true;
+        let bench = &mut self.bench;
+        let posted = post_oldest::<H, J, C>(self.rt, self.pool, &mut self.seat, bench, held)?;
+        self.is_broken = false;
+        Ok(self.stop_after(posted))
+    }
+
+    /// What it is to this worker that a child was posted there: on its own core that is what it does next. One on
+    /// another core is for others to take, so they are told at once.
+    #[inline(always)]
+    fn stop_after(&self, posted: Option<Post>) -> Stop {
+        let Some(post) = posted else {
+            return Stop::Goes;
+        };
+        if post.place.core == self.core {
+            return Stop::Posted(post);
+        }
+        self.pool.shared.hint(post.place);
+        Stop::Goes
+    }
+
+    /// The job in hand is to rest until it is woken, and is told its id. While a child waits with it, it goes on in place
+    /// of that, once a slice: so the child gets the first place that is free.
+    fn fall_asleep(&self, left: &mut u32) -> JobStop
+        ensures { left.new ≤ left.old }
+    {
+        let Some(held) = &self.held else {
+            return JobStop::Waits;
+        };
+        if held.value.has_aside() {
+            *left = 0;
+            return JobStop::Goes;
+        }
+        held.value.sleeps_as(held.id());
+        JobStop::Sleeps
+    }
+
+    /// Whether a job waits on another core (`waiting_on`).
+    fn is_any_waiting(&self) -> bool {
+        for core in 0..self.pool.cores {
+            if self.waiting_on(core).is_some() {
+                return true;
+            }
+        }
+        false
+    }
+
+    /// A job that waits on another core is moved here, if there is one. Whether there was.
+    fn fetch(&mut self) -> bool
+        ensures { self.new ≡ self.old }
+    {
+        if self.held.is_some() {
+            return false;
+        }
+        for core in 0..self.pool.cores {
+            if let Some(place) = self.waiting_on(core)
+                && self.move_here(place)
+            {
+                let hints = self.pool.shared.hints();
+                hints.hint(self.core, self.occupied(self.core));
+                return true;
+            }
+        }
+        false
+    }
+
+    /// Moves the job at a place of another core here, unless it runs or has its core alone. Whether it was.
+    fn move_here(&mut self, place: Place) -> bool
+        ensures { self.new ≡ self.old }
+    {
+        if place.core == self.core
+            || place.core >= self.pool.cores
+            || place.index >= self.pool.slots
+        {
+            return false;
+        }
+        let table = &self.pool.table;
+        matches!(
+            table.move_one(self.rt, &mut self.seat, place, self.core),
+            Moved::Moved
+        )
+    }
+
+    /// Where a job may be ready on another core, whose worker is awake and has not come to it.
+    fn waiting_on(&self, core: u8) -> Option<Place> {
+        if core == self.core || self.call == Call::Turn {
+            return None;
+        }
+        let word = self.pool.shared.hints().word(core)?;
+        let seen = word.load(Ordering::SeqCst);
+        // The lowest bit says that the worker sleeps. The others are of the indexes.
+        let waiting = seen >> 1 & self.occupied(core);
+        if seen & 1 != 0 || waiting == 0 {
+            return None;
+        }
+        let index = u8::try_from(waiting.trailing_zeros()).ok()?;
+        Some(Place { core, index })
+    }
+
+    /// The indexes of a core that are occupied, a bit for each.
+    fn occupied(&self, core: u8) -> u64 {
+        if core >= self.pool.cores {
+            return 0;
+        }
+        match OccWord::from_word(self.pool.table.glance(self.rt, core)) {
+            Some(now) => now.mask(),
+            None => 0,
+        }
+    }
+
+    /// The children that the job in hand, or one in its place, has ended without are let go. Whether memory was there.
+    fn let_go(&mut self) -> bool
+        ensures { self.new ≡ self.old }
+    {
+        match &mut self.held {
+            Some(held) => self.bench.let_go(&mut held.value),
+            None => true,
+        }
+    }
+}
+
+/// The seat of a worker whose rounds are over, unless something is out with it.
+pub(crate) fn idle_seat<J: PoolJob, C: Contexts<Spawned<J>>>(
+    pool: &Pool<C>,
+    seat: C::Seat,
+    is_broken: bool,
+    held: &Option<Held<Spawned<J>, C::Hold>>,
+) -> Option<C::Seat>
+    requires seat { C.sits pool.now.table seat }
+    requires out { is_broken ≡ false → C.has pool.now.table seat (in_hand (λ job. job.tag) held.now) }
+    ensures { IfSome result (IsIdleAt C.sits C.idle pool.now.table) }
+{
+    if is_broken {
+        return None;
+    }
+    match held {
+        Some(_) => None,
+        None => Some(seat),
+    }
+}
+
+impl From<Disowned> for Halt {
+    fn from(_: Disowned) -> Halt {
+        Halt::from(PoolFault::Token)
+    }
+}

@@ -1,0 +1,284 @@
+//! Spawns that keep no job: one for which no core has a place comes back at once.
+ghost use Rattle.std.specs.Prelude.{◌≡◌, ◌<◌, [], ◌∷◌, IfErr, IfOk, OnErr, OnOk};
+ghost use Rattle.arachne_contexts.specs.Out.{Claim, KeepsOut};
+ghost use Rattle.arachne_pool.specs.Grounds.{AddsOut};
+ghost use Rattle.arachne_pool.specs.Spawning.{HandsBack, RefusesFor, SpawnsOne};
+ghost use Rattle.arachne_pool.specs.declared.spawning.Refusal.TheVariants.{Memory};
+
+use crate::handle::Handle;
+use crate::job::PoolJob;
+use crate::place::{claim, post};
+use crate::pool::Pool;
+use crate::spawned::Spawned;
+use crate::worker::Worker;
+use arachne_contexts::{Claimed, Contexts, Placed, Seats};
+use arachne_core::Place;
+use rand_xoshiro::Xoshiro256PlusPlus;
+use std::sync::Wait;
+use thiserror::Error;
+
+/// Of the cores that were asked: how many were full, or one job's alone, and how many were closed.
+#[derive(Clone, Copy, Debug, PartialEq, Eq)]
+pub struct NoPlaces {
+    pub full: u8,
+    pub closed: u8,
+}
+
+/// Why a job was not spawned.
+#[derive(Clone, Copy, Debug, PartialEq, Eq, Error)]
+pub enum Refusal {
+    /// Each core that the job may be on was asked in this call, and had no place.
+    #[error("no core has a place")]
+    NoPlace(NoPlaces),
+    #[error("out of memory")]
+    Memory,
+    /// The table has disowned the worker's seat.
+    #[error("the worker has no seat")]
+    NoSeat,
+}
+
+/// A job that was not spawned.
+#[derive(Drop)]
+pub struct Refused<J: PoolJob> {
+    pub job: J,
+    pub why: Refusal,
+}
+
+impl<C: Seats> Pool<C> {
+    ghost use Rattle.arachne_pool.specs.Workers.{IsWorkerOf};
+
+    /// Spawns a job where a core has a place for it: the core with fewer jobs of two that are drawn, else the first that
+    /// has one. Its handle gives its result. Else the job comes back, and all is as before. So there are at most as many
+    /// jobs as places, and those that run or wait in these.
+    pub fn try_spawn<H: Wait, J: PoolJob>(
+        &self,
+        rt: &H,
+        worker: &mut Worker<C::Seat, J>,
+        job: J,
+    ) -> Result<Handle<J>, Refused<J>>
+    where
+        C: Contexts<Spawned<J>>,
+        requires worker { IsWorkerOf C.sits C.idle self.now.table self.now.cores worker.old }
+        requires fresh { J.awaits job [] }
+        ensures worker { IsWorkerOf C.sits C.idle self.now.table self.now.cores worker.new }
+        ensures begun { IfOk result (λ handle. (handle ≡ job) × SpawnsOne worker.old worker.new) }
+        ensures handed_back { IfErr result (λ back. HandsBack self.now.cores job worker.old worker.new back.job back.why) }
+    {
+        let Some(mut seat) = worker.seat.take() else {
+            return Err(Refused {
+                job,
+                why: Refusal::NoSeat,
+            });
+        };
+        let chooser = &mut worker.bench.chooser;
+        match claim_any::<H, J, C>(rt, self, &mut seat, chooser, job.is_exclusive()) {
+            Ok(claim) => self.begin_at(rt, worker, seat, claim, job),
+            Err(why) => {
+                worker.seat = Some(seat);
+                Err(Refused { job, why })
+            }
+        }
+    }
+
+    /// Spawns a job on this core, if that has a place. Its handle, and the place.
+    pub fn try_spawn_on<H: Wait, J: PoolJob>(
+        &self,
+        rt: &H,
+        worker: &mut Worker<C::Seat, J>,
+        core: u8,
+        job: J,
+    ) -> Result<(Handle<J>, Place), Refused<J>>
+    where
+        C: Contexts<Spawned<J>>,
+        requires worker { IsWorkerOf C.sits C.idle self.now.table self.now.cores worker.old }
+        requires core { core < self.now.cores }
+        requires fresh { J.awaits job [] }
+        ensures worker { IsWorkerOf C.sits C.idle self.now.table self.now.cores worker.new }
+        ensures begun { IfOk result (λ begun. (begun.0 ≡ job) × (begun.1.core ≡ core) × SpawnsOne worker.old worker.new) }
+        ensures handed_back { IfErr result (λ back. HandsBack 1 job worker.old worker.new back.job back.why) }
+    {
+        let Some(mut seat) = worker.seat.take() else {
+            return Err(Refused {
+                job,
+                why: Refusal::NoSeat,
+            });
+        };
+        match claim_on::<H, J, C>(rt, self, &mut seat, core) {
+            Ok(claim) => {
+                let place = claim.place();
+                match self.begin_at(rt, worker, seat, claim, job) {
+                    Ok(handle) => Ok((handle, place)),
+                    Err(refused) => Err(refused),
+                }
+            }
+            Err(why) => {
+                worker.seat = Some(seat);
+                Err(Refused { job, why })
+            }
+        }
+    }
+
+    /// Spawns a job as `try_spawn` does, with no handle: its result comes to nobody.
+    pub fn spawn_detached<H: Wait, J: PoolJob>(
+        &self,
+        rt: &H,
+        worker: &mut Worker<C::Seat, J>,
+        job: J,
+    ) -> Result<(), Refused<J>>
+    where
+        C: Contexts<Spawned<J>>,
+        requires worker { IsWorkerOf C.sits C.idle self.now.table self.now.cores worker.old }
+        requires fresh { J.awaits job [] }
+        ensures worker { IsWorkerOf C.sits C.idle self.now.table self.now.cores worker.new }
+        ensures begun { OnOk result (SpawnsOne worker.old worker.new) }
+        ensures handed_back { IfErr result (λ back. HandsBack self.now.cores job worker.old worker.new back.job back.why) }
+    {
+        let Some(mut seat) = worker.seat.take() else {
+            return Err(Refused {
+                job,
+                why: Refusal::NoSeat,
+            });
+        };
+        let chooser = &mut worker.bench.chooser;
+        match claim_any::<H, J, C>(rt, self, &mut seat, chooser, job.is_exclusive()) {
+            Ok(claim) => {
+                worker.bench.tally.count_spawned();
+                let job = Spawned::begin(worker.bench.alloc, job, None, None);
+                self.post_at(rt, worker, seat, claim, job);
+                Ok(())
+            }
+            Err(why) => {
+                worker.seat = Some(seat);
+                Err(Refused { job, why })
+            }
+        }
+    }
+
+    /// A job begins at a place that a worker's seat has claimed. Where memory is refused the place is given back.
+    fn begin_at<H: Wait, J: PoolJob>(
+        &self,
+        rt: &H,
+        worker: &mut Worker<C::Seat, J>,
+        seat: C::Seat,
+        claim: C::Claim,
+        job: J,
+    ) -> Result<Handle<J>, Refused<J>>
+    where
+        C: Contexts<Spawned<J>>,
+        requires worker { IsWorkerOf C.sits C.idle self.now.table self.now.cores worker.old }
+        requires seat { C.sits self.now.table seat × C.has self.now.table seat (Claim claim ∷ []) }
+        requires fresh { J.awaits job [] }
+        ensures worker { IsWorkerOf C.sits C.idle self.now.table self.now.cores worker.new }
+        ensures begun { IfOk result (λ handle. (handle ≡ job) × SpawnsOne worker.old worker.new) }
+        ensures handed_back { IfErr result (λ back. (back.why ≡ Memory) × HandsBack self.now.cores job worker.old worker.new back.job back.why) }
+    {
+        match worker.bench.begin(job) {
+            Ok((receiver, job)) => {
+                self.post_at(rt, worker, seat, claim, job);
+                Ok(Handle::of(receiver))
+            }
+            Err(job) => {
+                let refused = Refused {
+                    job,
+                    why: Refusal::Memory,
+                };
+                let mut seat = seat;
+                match self.table.give_back(rt, &mut seat, claim) {
+                    Ok(()) => {
+                        worker.seat = Some(seat);
+                        Err(refused)
+                    }
+                    Err(_) => {
+                        worker.seat = None;
+                        Err(refused)
+                    }
+                }
+            }
+        }
+    }
+
+    /// A job that a worker has counted is posted at a place that its seat has claimed, and that core's kernel thread is
+    /// told of it.
+    fn post_at<H: Wait, J: PoolJob>(
+        &self,
+        rt: &H,
+        worker: &mut Worker<C::Seat, J>,
+        seat: C::Seat,
+        claim: C::Claim,
+        job: Spawned<J>,
+    )
+    where
+        C: Contexts<Spawned<J>>,
+        requires worker { IsWorkerOf C.sits C.idle self.now.table self.now.cores worker.old }
+        requires seat { C.sits self.now.table seat × C.has self.now.table seat (Claim claim ∷ []) }
+        ensures worker { IsWorkerOf C.sits C.idle self.now.table self.now.cores worker.new }
+        ensures kept { worker.new ≡ record worker.old { seat = worker.new.seat } }
+    {
+        self.live.add(worker.bench.core, worker.bench.news());
+        let mut seat = seat;
+        match post::<H, J, C>(rt, self, &mut seat, claim, job) {
+            Ok(post) => {
+                self.shared.hint(post.place);
+                worker.seat = Some(seat);
+            }
+            Err(_) => worker.seat = None,
+        }
+    }
+}
+
+/// A place for a job, by choice, else on the first core that has one. Where none has one each was asked.
+fn claim_any<H: Wait, J: PoolJob, C: Contexts<Spawned<J>>>(
+    rt: &H,
+    pool: &Pool<C>,
+    seat: &mut C::Seat,
+    chooser: &mut Xoshiro256PlusPlus,
+    is_exclusive: bool,
+) -> Result<C::Claim, Refusal>
+    requires { C.sits pool.now.table seat.old }
+    ensures seat { C.sits pool.now.table seat.new }
+    ensures out { IfOk result (λ claim. AddsOut (C.has pool.now.table) (Claim claim) seat.old seat.new) }
+    ensures kept { OnErr result (KeepsOut (C.has pool.now.table) seat.old seat.new) }
+    ensures seen { IfErr result (RefusesFor pool.now.cores) }
+{
+    if let Some(claim) = claim::<H, J, C>(rt, pool, seat, chooser, is_exclusive) {
+        return Ok(claim);
+    }
+    let mut seen = NoPlaces { full: 0, closed: 0 };
+    for core in 0..pool.cores {
+        match claim_on::<H, J, C>(rt, pool, seat, core) {
+            Err(Refusal::NoPlace(one)) => {
+                seen.full += one.full;
+                seen.closed += one.closed;
+            }
+            claimed => return claimed,
+        }
+    }
+    Err(Refusal::NoPlace(seen))
+}
+
+/// A place on this core, if it has one. Tries again where another took the place meanwhile.
+fn claim_on<H: Wait, J: PoolJob, C: Contexts<Spawned<J>>>(
+    rt: &H,
+    pool: &Pool<C>,
+    seat: &mut C::Seat,
+    core: u8,
+) -> Result<C::Claim, Refusal>
+    requires seat { C.sits pool.now.table seat.old }
+    requires core { core < pool.now.cores }
+    ensures seat { C.sits pool.now.table seat.new }
+    ensures out { IfOk result (λ claim. AddsOut (C.has pool.now.table) (Claim claim) seat.old seat.new) }
+    ensures place { IfOk result (λ claim. (C.Claim.place_of claim).core ≡ core) }
+    ensures kept { OnErr result (KeepsOut (C.has pool.now.table) seat.old seat.new) }
+    ensures seen { IfErr result (RefusesFor 1) }
+{
+    for _ in rt.forever() {
+        match pool.table.claim(rt, seat, core) {
+            Ok(Claimed::Place(claim)) => return Ok(claim),
+            Ok(Claimed::Full(_)) => return Err(Refusal::NoPlace(NoPlaces { full: 1, closed: 0 })),
+            Ok(Claimed::Closed(_)) => return Err(Refusal::NoPlace(NoPlaces { full: 0, closed: 1 })),
+            Ok(Claimed::Lost(_)) => {}
+            Err(_) => return Err(Refusal::Memory),
+        }
+    }
+    unreachable!()
+}

@@ -1,0 +1,426 @@
+//! A job and those that run in its place.
+ghost use Rattle.std.specs.Prelude.{◌≡◌, ◌+◌, ◌<◌, ◌≤◌, [], None, IfSome, MatchOption};
+ghost use Rattle.arachne_pool.specs.Frames.{CountsEach, KeepsMany};
+
+use crate::job::{PoolJob, Step};
+use crate::links::Links;
+use crate::outcome::{Cells, ResultSender};
+use crate::stop::Stop;
+use crate::tally::Tally;
+use arachne_core::ThreadId;
+use std::alloc::Global;
+use std::collections::VecDeque;
+use std::marker::Model;
+use std::mem::replace;
+use std::snapshot::Snapshot;
+
+/// A job in a place: as it was forked, as it is now, and how many children it has forked and not joined, beside one that
+/// runs in its place.
+#[derive(Drop)]
+struct Frame<J: PoolJob> {
+    /// It has no bytes.
+    asked: Snapshot<J>,
+    job: J,
+    awaited: usize,
+}
+
+impl<J: PoolJob> Model for Frame<J> {
+    ghost use Rattle.arachne_pool.specs.Frames.{Framed};
+
+    ghost Value = { Framed J };
+
+    ghost view = { λ f. record { asked = f.asked.value; job = f.job; awaited = f.awaited } };
+}
+
+impl<J: PoolJob> Frame<J> {
+    /// A job that begins here.
+    fn begin(job: J) -> Frame<J>
+        ensures { result ≡ record { asked = job; job = job; awaited = 0 } }
+    {
+        Frame {
+            asked: Snapshot::of(&job),
+            job,
+            awaited: 0,
+        }
+    }
+}
+
+/// A job, and those that run in its place: each was forked by the one below it, which awaits it and had no place to give
+/// it. Only the topmost makes steps.
+///
+/// Contracts see the first job, as it was spawned and as it is now; how many jobs there are that have not ended, with
+/// those that wait here to begin; and what the topmost has forked just now, or has ended with.
+#[derive(Drop)]
+pub(crate) struct Stack<J: PoolJob> {
+    /// The first job as it was spawned. It has no bytes.
+    asked: Snapshot<J>,
+    top: Frame<J>,
+    /// Those below it, the first job first.
+    below: Vec<Frame<J>>,
+    /// The children of all of them, but for those that run here.
+    links: Links<J>,
+    /// A child that the topmost has forked, and that is to wait here.
+    child: Option<J>,
+    /// What the topmost has ended with.
+    ended: Option<J::Output>,
+    /// The topmost is to get the result of its newest child before its next step.
+    waits: bool,
+}
+
+impl<J: PoolJob> Model for Stack<J> {
+    ghost use Rattle.std.specs.Prelude.{◌+◌, reverse, vec_len};
+    ghost use Rattle.arachne_pool.specs.Frames.{RunTogether, Stacked, count_none, count_one, first_job};
+
+    ghost Value = { Stacked J J.Output };
+
+    ghost view = { λ s. record {
+      asked = s.asked.value;
+      job = first_job s.below.items s.top.job;
+      many = count_none s.ended + vec_len s.below + s.links.aside + count_one s.child;
+      child = s.child;
+      ended = s.ended;
+    } };
+
+    ghost invariant = { λ s. RunTogether J.is_result J.awaits s.top (reverse s.below.items) s.links.all s.child s.ended s.asked.value };
+}
+
+impl<J: PoolJob> Stack<J> {
+    /// A job that begins, alone.
+    pub(crate) fn begin(alloc: Global, job: J) -> Stack<J>
+        requires { J.awaits job [] }
+        ensures { result ≡ record { asked = job; job = job; many = 1; child = None; ended = None } }
+    {
+        Stack {
+            asked: Snapshot::of(&job),
+            top: Frame::begin(job),
+            below: Vec::new(alloc),
+            links: Links::new(alloc),
+            child: None,
+            ended: None,
+            waits: false,
+        }
+    }
+
+    /// Whether the topmost is to have a core for itself.
+    pub(crate) fn is_exclusive(&self) -> bool {
+        self.top.job.is_exclusive()
+    }
+
+    /// The most steps of a slice.
+    pub(crate) fn bound(&self) -> u32 {
+        self.top.job.bound()
+    }
+
+    /// The topmost is told that it rests under this id.
+    pub(crate) fn sleeps_as(&self, id: ThreadId) {
+        self.top.job.sleeps_as(id);
+    }
+
+    /// Whether a child waits here to begin.
+    pub(crate) fn has_aside(&self) -> bool {
+        self.links.aside() > 0
+    }
+
+    /// Whether the oldest of these is to have a core for itself.
+    pub(crate) fn is_oldest_exclusive(&self) -> bool {
+        self.links.is_oldest_exclusive()
+    }
+
+    /// So many less those that are here and have not ended. None where these are more.
+    pub(crate) fn taken_from(&self, count: u64) -> Option<u64>
+        ensures { MatchOption result (count < self.now.many) (λ rest. rest + self.now.many ≡ count) }
+    {
+        count
+            .checked_sub(u64::from(self.ended.is_none()))?
+            .checked_sub(self.below.len() as u64)?
+            .checked_sub(self.links.aside() as u64)?
+            .checked_sub(u64::from(self.child.is_some()))
+    }
+
+    /// Goes on for at most as many steps as are left, until a child is forked while one may be posted, the topmost waits
+    /// or the first has ended. Each job that begins or ends is counted.
+    #[tactic(auto, using(crate::proofs::Together::counting))]
+    pub(crate) fn slice(
+        &mut self,
+        cells: &mut Cells<J>,
+        tally: &mut Tally,
+        left: &mut u32,
+        may_post: bool,
+    ) -> Stop
+        ensures asked { self.new.asked ≡ self.old.asked }
+        ensures left { left.new ≤ left.old }
+        ensures counts { CountsEach tally.old tally.new self.old.many self.new.many }
+    {
+        // Before each step there may be a join, and after the last one an end.
+        for _ in 0..left.saturating_mul(2).saturating_add(1) {
+            if *left == 0 && self.ended.is_none() {
+                break;
+            }
+            match self.go_on(cells, tally, left, may_post) {
+                Stop::Goes => {}
+                stop => return stop,
+            }
+        }
+        Stop::Goes
+    }
+
+    /// Goes on by a step, or by what is to be done before the next one.
+    fn go_on(
+        &mut self,
+        cells: &mut Cells<J>,
+        tally: &mut Tally,
+        left: &mut u32,
+        may_post: bool,
+    ) -> Stop
+        ensures asked { self.new.asked ≡ self.old.asked }
+        ensures left { left.new ≤ left.old }
+        ensures counts { CountsEach tally.old tally.new self.old.many self.new.many }
+    {
+        if self.ended.is_some() {
+            return self.pass_on();
+        }
+        if self.child.is_some() {
+            return self.put_aside(may_post);
+        }
+        if self.waits {
+            return self.receive(cells);
+        }
+        *left = left.saturating_sub(1);
+        self.step(tally, may_post)
+    }
+
+    /// A step of the topmost.
+    fn step(&mut self, tally: &mut Tally, may_post: bool) -> Stop
+        requires running { (self.old.ended ≡ None) × (self.old.child ≡ None) }
+        ensures asked { self.new.asked ≡ self.old.asked }
+        ensures counts { CountsEach tally.old tally.new self.old.many self.new.many }
+    {
+        match self.top.job.step() {
+            Step::Again => Stop::Goes,
+            Step::Sleeps => Stop::Sleeps,
+            Step::Waits => {
+                self.waits = true;
+                Stop::Goes
+            }
+            Step::Forks(child) => {
+                tally.count_spawned();
+                self.child = Some(child);
+                self.put_aside(may_post)
+            }
+            Step::Done(output) => {
+                tally.count_ended();
+                self.ended = Some(output);
+                self.pass_on()
+            }
+        }
+    }
+
+    /// The child that was forked just now waits here to begin.
+    fn put_aside(&mut self, may_post: bool) -> Stop
+        requires { self.old.ended ≡ None }
+        ensures { KeepsMany self.old self.new }
+    {
+        let Some(awaited) = self.top.awaited.checked_add(1) else {
+            return Stop::Short;
+        };
+        let Some(child) = self.child.take() else {
+            return Stop::Goes;
+        };
+        match self.links.put_aside(child) {
+            Ok(()) => {
+                self.top.awaited = awaited;
+                if may_post { Stop::Forks } else { Stop::Goes }
+            }
+            Err(child) => {
+                self.child = Some(child);
+                Stop::Short
+            }
+        }
+    }
+
+    /// The topmost gets the result of its newest child, if it has one and that has ended. One that has not begun begins
+    /// here.
+    fn receive(&mut self, cells: &mut Cells<J>) -> Stop
+        requires running { (self.old.ended ≡ None) × (self.old.child ≡ None) }
+        ensures { KeepsMany self.old self.new }
+    {
+        let Some(awaited) = self.top.awaited.checked_sub(1) else {
+            self.waits = false;
+            return Stop::Goes;
+        };
+        if self.links.aside() > 0 {
+            return self.enter();
+        }
+        match self.links.fetch_newest(cells) {
+            Some(output) => {
+                self.top.awaited = awaited;
+                self.top.job.joined(output);
+                self.waits = false;
+                Stop::Goes
+            }
+            None => Stop::Waits,
+        }
+    }
+
+    /// The newest child, which has not begun, begins here, above the one that awaits it.
+    fn enter(&mut self) -> Stop
+        requires running { (self.old.ended ≡ None) × (self.old.child ≡ None) }
+        ensures { KeepsMany self.old self.new }
+    {
+        let Some(awaited) = self.top.awaited.checked_sub(1) else {
+            return Stop::Goes;
+        };
+        if self.below.try_reserve(1).is_err() {
+            return Stop::Short;
+        }
+        let Some(child) = self.links.take_newest() else {
+            return Stop::Goes;
+        };
+        self.top.awaited = awaited;
+        let frame = replace(&mut self.top, Frame::begin(child));
+        self.below.push_reserved(frame);
+        self.waits = false;
+        Stop::Goes
+    }
+
+    /// What the topmost has ended with goes to the one below it, which goes on. The first one keeps it.
+    fn pass_on(&mut self) -> Stop
+        ensures { KeepsMany self.old self.new }
+    {
+        if self.top.awaited > 0 {
+            return Stop::LetsGo;
+        }
+        let Some(output) = self.ended.take() else {
+            return Stop::Goes;
+        };
+        let Some(frame) = self.below.pop() else {
+            self.ended = Some(output);
+            return Stop::Ends;
+        };
+        self.top = frame;
+        self.top.job.joined(output);
+        self.waits = false;
+        Stop::Goes
+    }
+
+    /// How many children one that has ended has not joined.
+    pub(crate) fn orphans(&self) -> usize {
+        if self.ended.is_some() {
+            self.top.awaited
+        } else {
+            0
+        }
+    }
+
+    /// One of these is awaited no longer. It comes back if it had not begun.
+    pub(crate) fn let_go(&mut self) -> Option<J>
+        ensures asked { self.new.asked ≡ self.old.asked }
+        ensures many { MatchOption result (self.new.many ≡ self.old.many) (λ child. self.new.many + 1 ≡ self.old.many) }
+        ensures fresh { IfSome result (λ child. J.awaits child []) }
+    {
+        if self.ended.is_none() {
+            return None;
+        }
+        self.top.awaited = self.top.awaited.checked_sub(1)?;
+        self.links.forget_newest()
+    }
+
+    /// The oldest child that waits here begins elsewhere: it, and the end at which it leaves its result. None where
+    /// there is none, or memory is refused.
+    pub(crate) fn part_oldest(
+        &mut self,
+        alloc: Global,
+        cells: &mut Cells<J>,
+    ) -> Option<(J, ResultSender<J>)>
+        ensures asked { self.new.asked ≡ self.old.asked }
+        ensures many { MatchOption result (self.new.many ≡ self.old.many) (λ parted. self.new.many + 1 ≡ self.old.many) }
+        ensures child { IfSome result (λ parted. (parted.1.key.job.value ≡ parted.0) × J.awaits parted.0 []) }
+    {
+        self.links.part_oldest(alloc, cells)
+    }
+
+    /// What the first job has ended with, if it has.
+    pub(crate) fn into_output(self) -> Option<J::Output>
+        ensures { IfSome result (J.is_result self.asked) }
+    {
+        let Stack { below, ended, .. } = self;
+        if below.is_empty() { ended } else { None }
+    }
+
+    /// The first job as it is now.
+    pub(crate) fn into_first(self) -> J
+        ensures { result ≡ self.job }
+    {
+        let Stack { top, below, .. } = self;
+        let mut below = below;
+        if below.is_empty() {
+            top.job
+        } else {
+            below.swap_remove(0).job
+        }
+    }
+
+    /// All that have not ended, and what the first job has ended with, if it has.
+    pub(crate) fn into_jobs(self) -> (Jobs<J>, Option<J::Output>)
+        ensures many { result.0 ≡ self.many }
+        ensures output { IfSome result.1 (J.is_result self.asked) }
+    {
+        let Stack {
+            top,
+            below,
+            links,
+            child,
+            ended,
+            ..
+        } = self;
+        let has_ended = ended.is_some();
+        let output = if below.is_empty() { ended } else { None };
+        let jobs = Jobs {
+            top: if has_ended { None } else { Some(top.job) },
+            below,
+            aside: links.into_aside(),
+            child,
+        };
+        (jobs, output)
+    }
+}
+
+/// The jobs of one that was taken apart, which have not ended. They make no step more here; those that had not begun may
+/// be spawned.
+///
+/// Contracts see how many are left.
+#[derive(Drop)]
+pub struct Jobs<J: PoolJob> {
+    child: Option<J>,
+    aside: VecDeque<J>,
+    top: Option<J>,
+    below: Vec<Frame<J>>,
+}
+
+impl<J: PoolJob> Model for Jobs<J> {
+    ghost use Rattle.std.specs.Prelude.{ℕ, ◌+◌, vec_len};
+    ghost use Rattle.std.specs.VecDeque.{deque_len};
+    ghost use Rattle.arachne_pool.specs.Frames.{count_one};
+
+    ghost Value = { ℕ };
+
+    ghost view = { λ j. count_one j.top + vec_len j.below + deque_len j.aside + count_one j.child };
+}
+
+impl<J: PoolJob> Jobs<J> {
+    /// The next one: those that had not begun come first, then those that had, the newest first.
+    pub fn take(&mut self) -> Option<J>
+        ensures { MatchOption result ((self.old ≡ 0) × (self.new ≡ 0)) (λ job. self.new + 1 ≡ self.old) }
+    {
+        if let Some(child) = self.child.take() {
+            return Some(child);
+        }
+        if let Some(child) = self.aside.pop_back() {
+            return Some(child);
+        }
+        if let Some(job) = self.top.take() {
+            return Some(job);
+        }
+        Some(self.below.pop()?.job)
+    }
+}

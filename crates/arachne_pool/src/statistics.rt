@@ -1,0 +1,27 @@
+//! What the workers of a core have done.
+
+/// What the workers of a core have done, as they told when they last found nothing to do, returned, or had so much to tell.
+/// Each count wraps at 2^64.
+#[derive(Clone, Copy, Debug, PartialEq, Eq)]
+pub struct Statistics {
+    /// Slices of jobs.
+    pub slices: u64,
+    /// Steps of jobs, and ends of jobs in the place of others.
+    pub steps: u64,
+    /// Jobs that were woken as a child of theirs ended.
+    pub wakes: u64,
+    /// Rounds that found nothing to do, after each of which the worker has waited.
+    pub rests: u64,
+}
+
+impl Statistics {
+    /// Nothing was done.
+    pub(crate) fn new() -> Statistics {
+        Statistics {
+            slices: 0,
+            steps: 0,
+            wakes: 0,
+            rests: 0,
+        }
+    }
+}

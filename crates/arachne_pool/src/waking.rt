@@ -1,0 +1,115 @@
+//! Jobs that sleep are woken, by any kernel thread that has a seat.
+ghost use Rattle.std.specs.Prelude.{◌≡◌, IfSome};
+ghost use Rattle.arachne_contexts.specs.Out.{KeepsOut};
+ghost use Rattle.arachne_pool.specs.Waking.{HasWoken};
+ghost use Rattle.arachne_pool.specs.Workers.{IsIdleAt};
+
+use crate::job::PoolJob;
+use crate::pool::Pool;
+use crate::spawned::Spawned;
+use crate::worker::Worker;
+use arachne_contexts::{Contexts, Seats, Woken};
+use arachne_core::{MarkWord, ThreadId};
+use std::marker::Model;
+use std::sync::Wait;
+
+/// A seat alone, by which a kernel thread that is no worker, as a timer, wakes jobs. One kernel thread at a time has it.
+#[derive(Drop)]
+pub struct Waker<S> {
+    pub(crate) seat: S,
+}
+
+impl<S> Model for Waker<S> {
+    ghost Value = { S };
+
+    ghost view = { λ w. w.seat };
+}
+
+impl<C: Seats> Pool<C> {
+    ghost use Rattle.arachne_pool.specs.Workers.{IsWorkerOf};
+
+    /// A worker without a part of its seat's weight, which a waker has. Nothing else of it has changed. None comes where
+    /// the worker has no seat.
+    pub fn split_waker<H: Wait, J: PoolJob>(
+        &self,
+        rt: &H,
+        worker: Worker<C::Seat, J>,
+    ) -> (Worker<C::Seat, J>, Option<Waker<C::Seat>>)
+        requires { IsWorkerOf C.sits C.idle self.now.table self.now.cores worker }
+        ensures worker { IsWorkerOf C.sits C.idle self.now.table self.now.cores result.0 }
+        ensures waker { IfSome result.1 (IsIdleAt C.sits C.idle self.now.table) }
+        ensures kept { result.0 ≡ record worker { seat = result.0.seat } }
+    {
+        let mut worker = worker;
+        let (seat, other) = self.split_seat(rt, worker.seat.take());
+        worker.seat = seat;
+        match other {
+            Some(seat) => (worker, Some(Waker { seat })),
+            None => (worker, None),
+        }
+    }
+
+    /// A worker with the weight of a waker's seat too. Nothing else of it has changed.
+    pub fn join_waker<H: Wait, J: PoolJob>(
+        &self,
+        rt: &H,
+        worker: Worker<C::Seat, J>,
+        waker: Waker<C::Seat>,
+    ) -> Worker<C::Seat, J>
+        requires worker { IsWorkerOf C.sits C.idle self.now.table self.now.cores worker }
+        requires waker { IsIdleAt C.sits C.idle self.now.table waker }
+        ensures worker { IsWorkerOf C.sits C.idle self.now.table self.now.cores result }
+        ensures kept { result ≡ record worker { seat = result.seat } }
+    {
+        let mut worker = worker;
+        worker.seat = self.join_seats(rt, worker.seat.take(), Some(waker.seat));
+        worker
+    }
+
+    /// Wakes the job of this id. `Woken`: it was blocked, and its core's kernel thread is told that it is ready; or it is
+    /// in hand, and doesn't rest then. `Already`: it was woken before, or goes on without. `Gone`: the job of the id has
+    /// ended; no other has the id ever again, but for jobs that ran in the same place at the same time.
+    pub fn wake<H: Wait, J: PoolJob>(
+        &self,
+        rt: &H,
+        waker: &mut Waker<C::Seat>,
+        id: ThreadId,
+    ) -> Woken
+    where
+        C: Contexts<Spawned<J>>,
+        requires { IsIdleAt C.sits C.idle self.now.table waker.old }
+        ensures waker { IsIdleAt C.sits C.idle self.now.table waker.new }
+        ensures answer { HasWoken id result }
+    {
+        let seat = &mut waker.seat;
+        for _ in rt.forever() {
+            match self.table.wake(rt, seat, id) {
+                Woken::Lost(_) => {}
+                Woken::Woken => {
+                    self.tell_of_woken::<H, J>(rt, seat, id);
+                    return Woken::Woken;
+                }
+                woken => return woken,
+            }
+        }
+        unreachable!()
+    }
+
+    /// The kernel thread of the core on which the job of this id is now is told that it may be ready. If it is moved
+    /// meanwhile, the arbiter says so of its new core.
+    fn tell_of_woken<H: Wait, J: PoolJob>(&self, rt: &H, seat: &mut C::Seat, id: ThreadId)
+    where
+        C: Contexts<Spawned<J>>,
+        requires { C.sits self.now.table seat.old }
+        ensures seat { C.sits self.now.table seat.new }
+        ensures out { KeepsOut (C.has self.now.table) seat.old seat.new }
+    {
+        if id.context >= u32::from(self.cores) * u32::from(self.slots) {
+            return;
+        }
+        let word = self.table.look_mark(rt, seat, id.context);
+        if let Some(mark) = MarkWord::from_word(word) {
+            self.shared.hint(mark.place());
+        }
+    }
+}

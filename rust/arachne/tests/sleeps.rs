@@ -1,0 +1,219 @@
+//! Who sleeps and what wakes it: one worker waits in the epoll, one stands in for it, and the others are woken.
+use arachne::{block_on, net, spawn_balanced, yield_now, Builder, Runtime, Semaphore};
+use std::io::{Read, Write};
+use std::net::SocketAddr;
+use std::sync::atomic::{AtomicBool, AtomicUsize, Ordering::*};
+use std::sync::{Arc, Mutex};
+use std::thread;
+use std::time::Duration;
+
+const MS: Duration = Duration::from_millis(1);
+/// Longer than a machine with much else to do keeps anything waiting.
+const LONG: Duration = Duration::from_secs(120);
+
+/// A server that sends each byte back. At a `b` it blocks its worker until that flag is set, and counts that it does.
+fn echo(runtime: &Runtime, ends: &Arc<AtomicBool>, blocked: &Arc<AtomicUsize>) -> SocketAddr {
+    let listener = net::TcpListener::bind("127.0.0.1:0").unwrap();
+    let at = listener.local_addr().unwrap();
+    let (ends, blocked) = (ends.clone(), blocked.clone());
+    runtime.spawn(async move {
+        while let Ok((stream, _)) = listener.accept().await {
+            let (ends, blocked) = (ends.clone(), blocked.clone());
+            spawn_balanced(async move {
+                let mut byte = [0];
+                while stream.read_exact(&mut byte).await.is_ok() {
+                    if byte == *b"b" {
+                        blocked.fetch_add(1, SeqCst);
+                        while !ends.load(SeqCst) {
+                            thread::sleep(MS);
+                        }
+                    }
+                    stream.write_all(&byte).await.unwrap();
+                }
+            });
+        }
+    });
+    at
+}
+
+fn connect(to: SocketAddr) -> std::net::TcpStream {
+    let stream = std::net::TcpStream::connect(to).unwrap();
+    stream.set_nodelay(true).unwrap();
+    stream.set_read_timeout(Some(LONG)).unwrap();
+    stream
+}
+
+fn ask(stream: &mut std::net::TcpStream, byte: u8) {
+    stream.write_all(&[byte]).unwrap();
+    answer(stream, byte);
+}
+
+fn answer(stream: &mut std::net::TcpStream, wanted: u8) {
+    let mut byte = [0];
+    stream.read_exact(&mut byte).unwrap();
+    assert_eq!(byte, [wanted]);
+}
+
+fn until(done: impl Fn() -> bool) {
+    while !done() {
+        thread::sleep(MS / 4);
+    }
+}
+
+/// Whoever waited in the epoll is in a poll that doesn't end, and then each but one: without a watcher the sockets of
+/// all are seen, also those that come later.
+#[test]
+fn sockets_are_seen_beside_polls_that_block() {
+    for cores in 2..5 {
+        let (runtime, ends, blocked) = (Runtime::new(cores), Arc::default(), Arc::default());
+        let at = echo(&runtime, &ends, &blocked);
+        let mut before = connect(at);
+        ask(&mut before, 1);
+        let mut blockers: Vec<_> = (1..cores)
+            .map(|i| {
+                let mut stream = connect(at);
+                ask(&mut stream, 2);
+                // All sleep, so that this one is told to who waits.
+                thread::sleep(20 * MS);
+                stream.write_all(b"b").unwrap();
+                until(|| blocked.load(SeqCst) == i);
+                stream
+            })
+            .collect();
+        (0..20).for_each(|i| ask(&mut before, i));
+        (0..20).for_each(|i| ask(&mut connect(at), i));
+        ends.store(true, SeqCst);
+        blockers.iter_mut().for_each(|stream| answer(stream, b'b'));
+    }
+}
+
+/// More sockets are ready at one look than a worker may have in hand, and than one look tells of.
+#[test]
+fn more_is_told_at_once_than_one_worker_takes() {
+    for cores in 1..4 {
+        let (runtime, ends, blocked) = (Runtime::new(cores), Arc::default(), Arc::default());
+        let at = echo(&runtime, &ends, &blocked);
+        let mut streams: Vec<_> = (0..150).map(|_| connect(at)).collect();
+        for round in 0..5 {
+            streams.iter_mut().for_each(|stream| ask(stream, round));
+            ends.store(false, SeqCst);
+            blocked.store(0, SeqCst);
+            let (blockers, others) = streams.split_at_mut(cores);
+            for (i, stream) in blockers.iter_mut().enumerate() {
+                stream.write_all(b"b").unwrap();
+                until(|| blocked.load(SeqCst) == i + 1);
+            }
+            others.iter_mut().for_each(|stream| stream.write_all(&[round]).unwrap());
+            ends.store(true, SeqCst);
+            blockers.iter_mut().for_each(|stream| answer(stream, b'b'));
+            others.iter_mut().for_each(|stream| answer(stream, round));
+        }
+    }
+}
+
+/// Whoever looks at the epoll now and then takes no wake from the worker that waits in it.
+#[test]
+fn a_wake_of_who_waits_is_left_to_it() {
+    let runtime = Runtime::new(2);
+    let at = echo(&runtime, &Arc::default(), &Arc::default());
+    let mut stream = connect(at);
+    ask(&mut stream, 1);
+    for round in 0..20 {
+        let [blocks, blocked, ends] = [(); 3].map(|()| Arc::new(AtomicBool::new(false)));
+        let (block, told, end) = (blocks.clone(), blocked.clone(), ends.clone());
+        let busy = runtime.spawn(async move {
+            while !block.load(SeqCst) {
+                yield_now().await;
+            }
+            told.store(true, SeqCst);
+            while !end.load(SeqCst) {
+                thread::sleep(MS);
+            }
+        });
+        for _ in 0..20 {
+            thread::sleep(MS / 8);
+            block_on(runtime.spawn(async {})).unwrap();
+        }
+        blocks.store(true, SeqCst);
+        until(|| blocked.load(SeqCst));
+        // The other one is woken yet.
+        let gate = Arc::new(Semaphore::new(0));
+        let waits: Vec<_> = (0..64)
+            .map(|_| {
+                let gate = gate.clone();
+                runtime.spawn(async move { gate.acquire(1).await.forget() })
+            })
+            .collect();
+        gate.release(64);
+        waits.into_iter().for_each(|task| block_on(task).unwrap());
+        ask(&mut stream, round);
+        ends.store(true, SeqCst);
+        block_on(busy).unwrap();
+    }
+}
+
+/// How often the threads of these folders have slept.
+fn sleeps(threads: &[String]) -> u64 {
+    let of = |thread: &String| {
+        let text = std::fs::read_to_string(format!("/proc/{thread}/status")).unwrap();
+        let line = text.lines().find(|line| line.starts_with("voluntary_ctxt_switches")).unwrap();
+        line.split_whitespace().nth(1).unwrap().parse::<u64>().unwrap()
+    };
+    threads.iter().map(of).sum()
+}
+
+/// By a worker each, what `about` says there.
+fn at_each_worker<T: Send + 'static>(runtime: &Runtime, cores: usize, about: fn() -> T) -> Vec<T> {
+    let all: Arc<Mutex<Vec<T>>> = Arc::default();
+    let each = all.clone();
+    block_on(runtime.spawn(async move {
+        for _ in 0..cores {
+            let all = each.clone();
+            spawn_balanced(async move {
+                all.lock().unwrap().push(about());
+                // Until each has one, so that it has a worker of its own.
+                until(|| all.lock().unwrap().len() == cores);
+            });
+        }
+    }))
+    .unwrap();
+    until(|| Arc::strong_count(&all) == 1);
+    Arc::try_unwrap(all).ok().unwrap().into_inner().unwrap()
+}
+
+#[test]
+fn an_idle_runtime_sleeps_on() {
+    let runtime = Runtime::new(3);
+    let at = echo(&runtime, &Arc::default(), &Arc::default());
+    let mut stream = connect(at);
+    ask(&mut stream, 1);
+    let threads =
+        at_each_worker(&runtime, 3, || std::fs::read_link("/proc/thread-self").unwrap().to_str().unwrap().to_string());
+    thread::sleep(600 * MS);
+    let (before, parks) = (sleeps(&threads), runtime.stats().parks);
+    thread::sleep(400 * MS);
+    let (after, parked) = (sleeps(&threads), runtime.stats().parks);
+    // One looks around after 1, 2, 4 .. milliseconds of which nothing is left by now.
+    assert!(after - before < 40 && parked - parks < 10, "{} sleeps, {} parks", after - before, parked - parks);
+    ask(&mut stream, 2);
+}
+
+/// The slices that the kernel says this thread asks for, where it says so.
+fn slice() -> Option<u64> {
+    let text = std::fs::read_to_string("/proc/thread-self/sched").ok()?;
+    text.lines().find(|line| line.starts_with("se.slice "))?.split(':').nth(1)?.trim().parse().ok()
+}
+
+#[test]
+fn workers_ask_for_short_slices() {
+    let release = std::fs::read_to_string("/proc/sys/kernel/osrelease").unwrap();
+    let mut numbers = release.split(|c: char| !c.is_ascii_digit()).map(|word| word.parse::<u32>().unwrap_or(0));
+    let (is_new, usual) = ((numbers.next(), numbers.next()) >= (Some(6), Some(12)), slice());
+    if !is_new || usual.is_none() {
+        return;
+    }
+    let asked = |builder: Builder| at_each_worker(&builder.build().unwrap(), 2, slice);
+    assert_eq!(asked(Builder::new(2)), [Some(100_000); 2]);
+    assert_eq!(asked(Builder::new(2).slices(Some(MS))), [Some(1_000_000); 2]);
+    assert_eq!(asked(Builder::new(2).slices(None)), [usual; 2]);
+}
