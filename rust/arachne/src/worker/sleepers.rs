@@ -41,7 +41,7 @@ impl Shared {
             self.waits.0.store(NO_ONE, SeqCst);
         }
         let heard = sleeps && self.hear(context, turn, &found, turn.few()) != 0;
-        if waits && (roused || heard) {
+        if waits && (!sleeps || roused || heard) {
             self.leaves_epoll();
         }
     }
