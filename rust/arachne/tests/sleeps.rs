@@ -64,7 +64,7 @@ fn until(done: impl Fn() -> bool) {
 /// all are seen, also those that come later.
 #[test]
 fn sockets_are_seen_beside_polls_that_block() {
-    for cores in 2..5 {
+    for (cores, pause) in (2..5).flat_map(|cores| [(cores, MS / 4), (cores, 20 * MS)]) {
         let (runtime, ends, blocked) = (Runtime::new(cores), Arc::default(), Arc::default());
         let at = echo(&runtime, &ends, &blocked);
         let mut before = connect(at);
@@ -73,8 +73,8 @@ fn sockets_are_seen_beside_polls_that_block() {
             .map(|i| {
                 let mut stream = connect(at);
                 ask(&mut stream, 2);
-                // All sleep, so that this one is told to who waits.
-                thread::sleep(20 * MS);
+                // All sleep, so that this one is told to who waits; the deputy for a short or a long time.
+                thread::sleep(pause);
                 stream.write_all(b"b").unwrap();
                 until(|| blocked.load(SeqCst) == i);
                 stream
