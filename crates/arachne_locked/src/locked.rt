@@ -165,6 +165,9 @@ impl<T: Tagged + Drop> Contexts<T> for LockedContexts<T> {
 
     ghost has = { λ table seat outs. CountsOut seat outs };
 
+    // A seat of this form doesn't know what was posted.
+    ghost settles = { λ table seat left. Unit {0} };
+
     fn glance<R: Wait>(&self, rt: &R, core: u8) -> u64 {
         word_of(self.state.lock(rt).look(core))
     }

@@ -184,6 +184,8 @@ impl<T: Tagged + Drop> Contexts<T> for Altered<T> {
 
     ghost has = { λ table seat outs. CountsOut seat outs };
 
+    ghost settles = { λ table seat left. Unit {0} };
+
     fn glance<R: Wait>(&self, rt: &R, core: u8) -> u64 {
         match self.alteration {
             Alteration::AwaitsPlace if core == 1 => self.glance_at_place(rt, core),

@@ -1,7 +1,9 @@
 -- What is out with a seat, as the trait of all forms of table speaks of it.
-use Rattle.std.specs.Prelude.{◌≡◌, ℕ, ◌<◌, List, [], ◌∷◌}
+use Rattle.std.specs.Prelude.{◌≡◌, ℕ, ◌+◌, ◌<◌, ◌≤◌, List, [], ◌∷◌, count_by}
+use Rattle.arachne_core.specs.World.{Thread as ThreadOf, same_thread}
 use Rattle.arachne_contexts.specs.Out.{Out, Claim, Thread}
 use Rattle.arachne_rule.specs.declared.view.Carried.{Carried}
+use Rattle.arachne_rule.specs.declared.view.Known.{Known}
 use Rattle.arachne_rule.specs.Layout.{Contexts}
 use Rattle.arachne_rule.specs.Views.{carried_at, without}
 use Rattle.arachne_words.specs.Seats.{SeatView, ClaimView, HoldView, claimed_by, held_by}
@@ -20,3 +22,8 @@ AreOutAs c cs (o ∷ outs) = (a : Carried) × IsOutAs c a o × (carried_at a.con
 -- these are out with the seat
 abbrev pub IsOutWith : Contexts → SeatView → List (Out ClaimView HoldView) → Type 0
 IsOutWith c seat outs = AreOutAs c seat.known.carried outs
+
+-- what was posted has ended or is one of these, each thread once, by its id and its tag
+pub record AreAllLeft (k : Known) (left : List ThreadOf) : Type 0 where
+  pub once : (t : ThreadOf) → count_by (same_thread t) k.given ≤ 1
+  pub settled : (t : ThreadOf) → count_by (same_thread t) k.given ≡ count_by (same_thread t) k.ended + count_by (same_thread t) left

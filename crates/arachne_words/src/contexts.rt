@@ -6,18 +6,17 @@ ghost use Rattle.arachne_core.specs.Occupancy.{IsOccupancyWord};
 ghost use Rattle.arachne_core.specs.Marked.{IsMarkWord};
 ghost use Rattle.arachne_core.specs.World.{Thread};
 ghost use Rattle.arachne_weights.specs.Weight.{whole, first_part, second_part, joined};
-ghost use Rattle.arachne_contexts.specs.Answers.{ClaimsOn, ClaimsWhole, TakesAt, RestsAs, WakesAs, MovesAs, IsByContext};
+ghost use Rattle.arachne_contexts.specs.Answers.{ClaimsOn, ClaimsWhole, TakesAt, RestsAs, WakesAs, MovesAs, IsByContext, tagged_threads};
 ghost use Rattle.arachne_contexts.specs.Out.{Claim as a_claim, Thread as a_thread, HasOut, KeepsOut, GetsClaim, GetsThread, Spends};
 ghost use Rattle.arachne_contexts.specs.declared.answers.Woken.TheVariants as woken;
 ghost use Rattle.arachne_rule.specs.declared.view.Kind.TheVariants as kind;
 ghost use Rattle.arachne_rule.specs.Changes.{release_sum};
-ghost use Rattle.arachne_rule.specs.Ending.{IsSettled};
 ghost use Rattle.arachne_rule.specs.Layout.{occ_index};
 ghost use Rattle.arachne_rule.specs.Plays.{Carries, HasEnded};
 ghost use Rattle.arachne_rule.specs.Views.{blank, joined_known, noted};
 ghost use Rattle.arachne_words.specs.Calls.{looked, released, ClaimAnswer, ClaimAloneAnswer, HasPosted, TakeAnswer, RestAnswer, HasFinished, WakeAnswer, DrainAnswer};
 ghost use Rattle.arachne_words.specs.Moves.{MoveAnswer};
-ghost use Rattle.arachne_words.specs.Out.{IsOutWith};
+ghost use Rattle.arachne_words.specs.Out.{AreAllLeft, IsOutWith};
 ghost use Rattle.arachne_words.specs.Seats.{claimed_by, HasNothingOut};
 ghost use Rattle.arachne_words.specs.Swapped.{swapped-out};
 
@@ -96,6 +95,8 @@ impl<T: Tagged + Drop + Send> Contexts<T> for WordContexts<T> {
     type Hold = WordHold;
 
     ghost has = { IsOutWith };
+
+    ghost settles = { λ table seat left. AreAllLeft seat.known left };
 
     fn glance<R: Wait>(&self, rt: &R, core: u8) -> u64
         requires core { core < self.now.shape.cores }
@@ -349,7 +350,7 @@ impl<T: Tagged + Drop + Send> Contexts<T> for WordContexts<T> {
         requires seat { seat.table ≡ self.table }
         requires all { seat.weight ≡ whole }
         requires idle { HasNothingOut seat.known }
-        ensures settled { IfOk result (λ rest. IsSettled T.tag_of seat.known rest.items) }
+        ensures settled { IfOk result (λ rest. AreAllLeft seat.known (tagged_threads T.tag_of rest.items)) }
         ensures order { IfOk result (λ rest. IsByContext rest.items) }
         ensures handed_back { IfErr result (λ back. back ≡ (self, seat)) }
     {
