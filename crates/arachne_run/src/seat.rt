@@ -18,7 +18,9 @@ use arachne_contexts::{Claimed, Contexts, Held, Moved, Placed, Rested, Taken, Wo
 use arachne_core::{MarkWord, OccWord, Place, Rest, ThreadId};
 use arachne_jobs::{Openings, PlaceLeft, RunJob, RunSpares, RunThread, RunTicket};
 use arachne_spill::SpillPass;
-use arachne_workers::{Desk, Drained, Event, Grip, Halt, Post, Stop, Ticket, keeps_place, may_take_ticket};
+use arachne_workers::{
+    Desk, Drained, Event, Grip, Halt, Post, Stop, Ticket, keeps_place, may_take_ticket,
+};
 use rand_core::Rng;
 use std::alloc::Global;
 use std::marker::Model;
