@@ -3,67 +3,77 @@ ghost use Rattle.std.specs.Prelude.{◌≡◌, ◌++◌, OnOk, IfOk, map, string
 ghost use Rattle.std.specs.List.{flat_map};
 ghost use Rattle.arachne_commands.specs.Output.{output_of, ledger_lines, thread_line, name_text};
 
-use arachne_lang::{Line, Name};
-use arachne_machine::ThreadLine;
+use arachne_lang::{Line, Name, Sequence};
+use arachne_machine::ThreadLines;
 use std::alloc::{AllocError, Global};
 use std::fmt::Write;
 
-/// What is printed of a thread: its name, and how often it held each lock.
-pub trait PrintedThread {
+/// Threads of which lines are printed: of each its name, and how often it held each lock.
+pub trait PrintedThreads {
+    ghost use Rattle.std.specs.Prelude.{List, length};
     ghost use Rattle.arachne_lang.specs.declared.meaning.Line.{Line as Shown};
 
-    ghost shown: { Self → Shown };
+    ghost shown: { Self → List Shown };
 
-    fn name(&self) -> &Name
-        ensures { result.now ≡ (shown self.now).name };
+    /// How many there are.
+    fn count(&self) -> usize
+        ensures { result ≡ length (shown self.now) };
 
-    fn holds(&self) -> &[u64]
-        ensures { result.now ≡ (shown self.now).holds };
+    /// Writes a line for each.
+    fn write(&self, text: &mut String) -> Result<(), AllocError>
+        ensures { OnOk result (string_bytes text.new ≡ string_bytes text.old ++ flat_map thread_line (shown self.now)) };
 }
 
-impl PrintedThread for Line {
-    ghost shown = { λ line. line };
+impl PrintedThreads for Sequence<Line> {
+    ghost shown = { λ lines. lines };
 
-    fn name(&self) -> &Name {
-        &self.name
+    fn count(&self) -> usize {
+        self.as_slice().len()
     }
 
-    fn holds(&self) -> &[u64] {
-        self.holds.as_slice()
+    fn write(&self, text: &mut String) -> Result<(), AllocError> {
+        for line in self.as_slice() {
+            write_thread(text, &line.name, line.holds.as_slice())?;
+        }
+        Ok(())
     }
 }
 
-impl PrintedThread for ThreadLine {
+impl PrintedThreads for ThreadLines {
+    ghost use Rattle.std.specs.Prelude.{map};
     ghost use Rattle.arachne_machine.specs.Outcome.{named_holds};
 
-    ghost shown = { named_holds };
+    ghost shown = { λ lines. map named_holds lines };
 
-    fn name(&self) -> &Name {
-        &self.name
+    fn count(&self) -> usize {
+        self.len()
     }
 
-    fn holds(&self) -> &[u64] {
-        self.holds.as_slice()
+    fn write(&self, text: &mut String) -> Result<(), AllocError> {
+        for line in self.iter() {
+            write_thread(text, &line.name, line.holds.as_slice())?;
+        }
+        Ok(())
     }
 }
 
 /// What is printed of a value, the totals of the ledgers and the threads, with a line for each thread where the names
 /// are wanted.
-pub fn render<T: PrintedThread>(
+pub fn render<L: PrintedThreads>(
     alloc: Global,
     value: u64,
     totals: &[u64],
-    threads: &[T],
+    threads: &L,
     names: bool,
 ) -> Result<String, AllocError>
-    ensures { IfOk result (λ text. string_bytes text ≡ output_of names (record { value = value; totals = totals.now; threads = map T.shown threads.now })) }
+    ensures { IfOk result (λ text. string_bytes text ≡ output_of names (record { value = value; totals = totals.now; threads = L.shown threads.now })) }
 {
     let mut text = String::new(alloc);
     writeln!(text, "value {}", value)?;
     write_totals(&mut text, totals)?;
-    writeln!(text, "threads {}", threads.len())?;
+    writeln!(text, "threads {}", threads.count())?;
     if names {
-        write_threads(&mut text, threads)?;
+        threads.write(&mut text)?;
     }
     Ok(text)
 }
@@ -79,24 +89,14 @@ fn write_totals(text: &mut String, totals: &[u64]) -> Result<(), AllocError>
     Ok(())
 }
 
-/// Writes a line for each thread.
-fn write_threads<T: PrintedThread>(text: &mut String, threads: &[T]) -> Result<(), AllocError>
-    ensures { OnOk result (string_bytes text.new ≡ string_bytes text.old ++ flat_map thread_line (map T.shown threads.now)) }
-{
-    for thread in threads {
-        write_thread(text, thread)?;
-    }
-    Ok(())
-}
-
 /// Writes a thread's line.
 #[tactic(auto, using(crate::proofs::Lines::after_spaces_append))]
-fn write_thread<T: PrintedThread>(text: &mut String, thread: &T) -> Result<(), AllocError>
-    ensures { OnOk result (string_bytes text.new ≡ string_bytes text.old ++ thread_line (T.shown thread.now)) }
+fn write_thread(text: &mut String, name: &Name, holds: &[u64]) -> Result<(), AllocError>
+    ensures { OnOk result (string_bytes text.new ≡ string_bytes text.old ++ thread_line (record { name = name.now; holds = holds.now })) }
 {
     text.push_str("thread ")?;
-    write_name(text, thread.name())?;
-    for hold in thread.holds() {
+    write_name(text, name)?;
+    for hold in holds {
         write!(text, " {hold}")?;
     }
     text.push_str("\n")?;

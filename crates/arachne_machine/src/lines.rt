@@ -6,6 +6,7 @@ ghost use Rattle.arachne_machine.specs.Strands.{own_line};
 
 use crate::line::ThreadLine;
 use crate::state::Own;
+use crate::thread_lines::ThreadLines;
 use std::alloc::{AllocError, Global};
 use std::marker::Model;
 use std::mem::replace;
@@ -16,7 +17,7 @@ const MOST_MOVED: usize = 1000;
 /// How many lines there are at most.
 const MOST: usize = usize::MAX / 2;
 
-/// The lines of threads, in order, in few lists, so that many of them are moved once only, when they are complete.
+/// The lines of threads, in order, in few lists, so that many of them are never moved.
 #[derive(Debug, Drop)]
 pub struct Lines {
     earlier: Vec<Vec<ThreadLine>>,
@@ -163,18 +164,22 @@ impl Lines {
         Ok(())
     }
 
-    /// What becomes this line, and behind it the others, as one list. Where memory is refused nothing has changed.
-    pub fn complete(&mut self, alloc: Global, own: &mut Own) -> Result<Vec<ThreadLine>, AllocError>
-        ensures lines { IfOk result (λ list. list.items ≡ own_line own.old ∷ self.old) }
+    /// What becomes this line, and behind it the others, in the lists in which they are. Where memory is refused nothing
+    /// has changed.
+    pub fn complete(&mut self, alloc: Global, own: &mut Own) -> Result<ThreadLines, AllocError>
+        ensures lines { IfOk result (λ all. all ≡ own_line own.old ∷ self.old) }
         ensures err { OnErr result (self.new ≡ self.old) }
         ensures own { OnErr result (own.new ≡ own.old) }
     {
-        let mut all = Vec::with_capacity(alloc, self.len() + 1)?;
-        all.push_reserved(own.take(alloc));
+        let count = self.len() + 1;
+        let mut first = Vec::with_capacity(alloc, 1)?;
+        let mut lists = Vec::with_capacity(alloc, self.earlier.len() + 2)?;
+        first.push_reserved(own.take(alloc));
+        lists.push_reserved(first);
         self.count = 0;
-        move_lines(replace(&mut self.earlier, Vec::new(alloc)), &mut all);
-        let _ = all.append(&mut self.last);
-        Ok(all)
+        let _ = lists.append(&mut self.earlier);
+        lists.push_reserved(replace(&mut self.last, Vec::new(alloc)));
+        Ok(ThreadLines::of(lists, count))
     }
 }
 
@@ -209,16 +214,4 @@ fn count_hold_in(alloc: Global, lists: &mut Vec<Vec<ThreadLine>>, place: usize, 
     }
     let list = &mut lists[at];
     list[left].count_hold(alloc, lock);
-}
-
-/// Moves all lines to the end of the list, which has room for them.
-fn move_lines(lists: Vec<Vec<ThreadLine>>, lines: &mut Vec<ThreadLine>)
-    requires { vec_len lines.old + length (lines_in lists.items) ≤ vec_capacity lines.old }
-    ensures items { lines.new.items ≡ lines.old.items ++ lines_in lists.items }
-    ensures room { vec_capacity lines.old ≤ vec_capacity lines.new }
-{
-    for list in lists {
-        let mut list = list;
-        let _ = lines.append(&mut list);
-    }
 }

@@ -2,8 +2,8 @@
 ghost use Rattle.std.specs.Prelude.{◌≡◌, ◌∷◌, IfOk, IfErr};
 ghost use Rattle.arachne_machine.specs.Outcome.{IsOfItsName};
 
-use crate::line::ThreadLine;
 use crate::state::State;
+use crate::thread_lines::ThreadLines;
 use arachne_lang::{Name, Program, Sequence};
 use std::alloc::AllocError;
 use std::fmt;
@@ -49,7 +49,7 @@ pub struct OutcomeParts {
     /// For each ledger its sum, modulo 2^64.
     pub sums: Sequence<u64>,
     /// The own line, then those below.
-    pub lines: Sequence<ThreadLine>,
+    pub lines: ThreadLines,
 }
 
 impl<'p> Outcome<'p> {
@@ -75,8 +75,8 @@ impl<'p> Outcome<'p> {
         self.state.value()
     }
 
-    /// The value, the sums and the lines. It takes memory for the list of lines; where that is refused the outcome
-    /// comes back.
+    /// The value, the sums and the lines, which stay in their lists. It takes memory for the list of these; where that is
+    /// refused the outcome comes back.
     pub fn into_parts(self) -> Result<OutcomeParts, Outcome<'p>>
         ensures value { IfOk result (λ parts. parts.value ≡ self.entry.value) }
         ensures sums { IfOk result (λ parts. parts.sums ≡ self.entry.sums) }
@@ -110,7 +110,7 @@ impl<'p> State<'p> {
         Ok(OutcomeParts {
             value,
             sums: Sequence::from(sums),
-            lines: Sequence::from(lines),
+            lines,
         })
     }
 }

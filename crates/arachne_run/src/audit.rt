@@ -6,14 +6,14 @@ ghost use Rattle.arachne_run.specs.Distinct.{AreDistinct, AreMarksOf};
 ghost use Rattle.arachne_run.specs.Histories.{GrantsAreHolds, IsGrantedAsHeld, grants_to};
 
 use crate::fault::WorkerFault;
-use arachne_machine::ThreadLine;
+use arachne_machine::ThreadLines;
 use arachne_sleep::{History, LockEvent};
 use std::alloc::{AllocError, Global};
 
 /// Looks whether no two threads have one tag, and each lock was granted to each thread as often as that held it.
 pub(crate) fn audit(
     alloc: Global,
-    threads: &[ThreadLine],
+    threads: &ThreadLines,
     histories: &[History],
 ) -> Result<(), WorkerFault>
     ensures distinct { OnOk result (AreDistinct (map (λ line. line.tag) threads.now)) }
@@ -31,13 +31,13 @@ pub(crate) fn audit(
 
 /// The marks of the threads' tags, each below 2^64 - 1, if no two are the same. They take a byte for each tag up to the
 /// greatest, and for each thread at least.
-fn marks_of(alloc: Global, threads: &[ThreadLine]) -> Result<Option<Vec<bool>>, AllocError>
+fn marks_of(alloc: Global, threads: &ThreadLines) -> Result<Option<Vec<bool>>, AllocError>
     ensures distinct { IfOk result (λ found. IfSome found (λ marks. AreDistinct (map (λ line. line.tag) threads.now))) }
     ensures marks { IfOk result (λ found. IfSome found (λ marks. AreMarksOf (map (λ line. line.tag) threads.now) marks.items)) }
 {
     let mut marks = Vec::new(alloc);
     marks.resize(threads.len(), false)?;
-    for line in threads {
+    for line in threads.iter() {
         let place = line.tag as usize;
         if place == usize::MAX {
             return Ok(None);
@@ -57,7 +57,7 @@ fn marks_of(alloc: Global, threads: &[ThreadLine]) -> Result<Option<Vec<bool>>, 
 /// threads' tags.
 fn are_grants_holds(
     alloc: Global,
-    threads: &[ThreadLine],
+    threads: &ThreadLines,
     marks: &[bool],
     histories: &[History],
 ) -> Result<bool, AllocError>
@@ -75,7 +75,7 @@ fn are_grants_holds(
 /// The same of one lock, in a time that grows with its events and the threads.
 fn is_granted_as_held(
     alloc: Global,
-    threads: &[ThreadLine],
+    threads: &ThreadLines,
     marks: &[bool],
     lock: usize,
     history: &History,
@@ -86,7 +86,7 @@ fn is_granted_as_held(
     let Some(grants) = grants_by_tag(alloc, marks, history)? else {
         return Ok(false);
     };
-    for line in threads {
+    for line in threads.iter() {
         let held = number_at(line.holds.as_slice(), lock);
         if number_at(grants.as_slice(), line.tag as usize) != held {
             return Ok(false);

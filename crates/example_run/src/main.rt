@@ -91,7 +91,7 @@ fn main(rt: HostRuntime) -> Result<()> {
     for total in report.totals.as_slice() {
         println!(rt; "a ledger's total {total}")?;
     }
-    println!(rt; "{} threads", report.threads.as_slice().len())?;
+    println!(rt; "{} threads", report.threads.len())?;
     for history in report.histories.as_slice() {
         println!(rt; "{} events of a lock", history.len())?;
     }

@@ -54,12 +54,9 @@ pub(super) enum Fact {
 pub(super) fn number(report: &Report, watch: &Watch, fact: Fact) -> u64 {
     match fact {
         Fact::Value => report.value,
-        Fact::Threads => report.threads.as_slice().len() as u64,
+        Fact::Threads => report.threads.len() as u64,
         Fact::Slot => count_of(report, Ran::Slot),
-        Fact::LastTwoInSlots => match report.threads.as_slice() {
-            [.., first, second] => u64::from(first.ran == Ran::Slot && second.ran == Ran::Slot),
-            _ => 0,
-        },
+        Fact::LastTwoInSlots => u64::from(are_last_two_in_slots(report)),
         Fact::Spill => count_of(report, Ran::Spill),
         Fact::InPlace => count_of(report, Ran::InPlace),
         Fact::InPlaceUpTo(most) => u64::from(count_of(report, Ran::InPlace) <= most),
@@ -78,10 +75,20 @@ pub(super) fn number(report: &Report, watch: &Watch, fact: Fact) -> u64 {
     }
 }
 
+/// Whether the last two threads ran in places that they got as they were forked.
+fn are_last_two_in_slots(report: &Report) -> bool {
+    let (mut first, mut second) = (false, false);
+    for line in report.threads.iter() {
+        first = second;
+        second = line.ran == Ran::Slot;
+    }
+    first && second
+}
+
 /// How many threads ran so.
 fn count_of(report: &Report, ran: Ran) -> u64 {
     let mut count = 0u64;
-    for line in report.threads.as_slice() {
+    for line in report.threads.iter() {
         count = count.wrapping_add(u64::from(line.ran == ran));
     }
     count
@@ -117,7 +124,7 @@ pub(super) fn told(
 /// How each thread ran: a word for each, the root's first.
 fn ran_of(alloc: Global, report: &Report) -> Result<String, Fail> {
     let mut text = String::new(alloc);
-    for line in report.threads.as_slice() {
+    for line in report.threads.iter() {
         let word = match line.ran {
             Ran::Slot => "slot ",
             Ran::Spill => "spill ",
