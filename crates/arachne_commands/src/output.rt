@@ -51,7 +51,7 @@ impl PrintedThreads for ThreadLines {
 
     fn write(&self, text: &mut String) -> Result<(), AllocError> {
         for line in self.iter() {
-            write_thread(text, &line.name, line.holds.as_slice())?;
+            write_thread(text, line.name(), line.holds())?;
         }
         Ok(())
     }

@@ -1,16 +1,38 @@
 -- The lines of threads as they are kept until a run is over.
-use Rattle.std.specs.Prelude.{◌≡◌, ◌≤◌, ◌<◌, ℕ, ◌+◌, ◌^◌, ◌==◌, if◌then◌else◌, List, [], ◌∷◌, ◌++◌, get_or, length, set}
+use Rattle.std.specs.Prelude.{◌≡◌, ◌≤◌, ◌<◌, ℕ, ◌+◌, ◌*◌, ◌^◌, ◌==◌, if◌then◌else◌, List, [], ◌∷◌, ◌++◌, drop, get_or, length, set, take}
 use Rattle.arachne_lang.specs.Effects.{tabulated}
-use Rattle.std.specs.Global.{Vec}
+use Rattle.arachne_machine.specs.declared.line.DenseLine.{DenseLine}
 use Rattle.arachne_machine.specs.declared.line.ThreadLine.{ThreadLine}
 
+-- a line with these holds
+abbrev pub with_holds_of : DenseLine → List ℕ → ThreadLine
+with_holds_of line holds = record { name = line.name; tag = line.tag; holds = holds; ran = line.ran }
+
+-- lines with the numbers that stand apart, so many for each
+abbrev pub with_holds : ℕ → List DenseLine → List ℕ → List ThreadLine
+with_holds locks [] holds = []
+with_holds locks (line ∷ lines) holds = with_holds_of line (take locks holds) ∷ with_holds locks lines (drop locks holds)
+
+-- there are so many numbers for each line
+abbrev pub AreHoldsOf : ℕ → List DenseLine → List ℕ → Type 0
+AreHoldsOf locks lines holds = length holds ≡ length lines * locks
+
+-- this is the line without its holds
+abbrev pub IsLineOf : ThreadLine → DenseLine → Type 0
+IsLineOf line dense = dense ≡ record { name = line.name; tag = line.tag; ran = line.ran }
+
+-- lines in one list, and how many numbers each has
+pub record Listed : Type 0 where
+  pub locks : ℕ
+  pub items : List ThreadLine
+
 -- the lines in these lists
-abbrev pub lines_in : List (Vec ThreadLine) → List ThreadLine
+abbrev pub lines_in : List Listed → List ThreadLine
 lines_in [] = []
 lines_in (list ∷ lists) = list.items ++ lines_in lists
 
 -- so many lines are in these lists, and with those in the last one there are few enough to be counted
-pub record IsCounted (earlier : List (Vec ThreadLine)) (count last : ℕ) : Type 0 where
+pub record IsCounted (earlier : List Listed) (count last : ℕ) : Type 0 where
   pub counted : count ≡ length (lines_in earlier)
   pub few : count + last < 2 ^ 63
 

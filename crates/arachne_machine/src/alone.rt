@@ -139,9 +139,7 @@ fn meaning(alloc: Global, outcome: Outcome) -> Result<Meaning, AllocError>
     let Ok(parts) = outcome.into_parts() else {
         return Err(AllocError);
     };
-    let Ok(lines) = parts.lines.into_vec(alloc) else {
-        return Err(AllocError);
-    };
+    let lines = parts.lines.into_vec(alloc)?;
     let threads: Vec<Line> = lines.into_iter().map(line_of_thread).collect(alloc)?;
     Ok(Meaning {
         value: parts.value,

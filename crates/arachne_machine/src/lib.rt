@@ -10,6 +10,7 @@ mod give;
 mod join;
 mod level;
 mod line;
+mod line_list;
 mod lines;
 mod lookup;
 mod outcome;
@@ -26,6 +27,7 @@ mod worth;
 
 pub use alone::run_alone;
 pub use line::{Ran, ThreadLine};
+pub use line_list::LineView;
 pub use outcome::{Outcome, OutcomeParts};
 pub use pause::{NotJoined, NotPlaced, Pause, Pending};
 pub use placing::{Everywhere, Placing};

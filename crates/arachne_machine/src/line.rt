@@ -1,10 +1,5 @@
 //! What is known of a thread that has ended.
-ghost use Rattle.arachne_machine.specs.Lines.{HoldsOnceMore};
-
-use crate::tables::add_at;
 use arachne_lang::{Name, Sequence};
-use std::alloc::Global;
-use std::mem::replace;
 
 /// Where a thread ran.
 #[derive(Clone, Copy, Debug, PartialEq, Eq)]
@@ -38,13 +33,10 @@ pub struct ThreadLine {
     pub ran: Ran,
 }
 
-impl ThreadLine {
-    /// Counts that it held this lock once more.
-    pub(crate) fn count_hold(&mut self, alloc: Global, lock: u64)
-        ensures { HoldsOnceMore self.old self.new lock }
-    {
-        let mut holds = replace(&mut self.holds, Sequence::from(Vec::new(alloc))).into_vec();
-        add_at(&mut holds, lock, 1);
-        self.holds = Sequence::from(holds);
-    }
+/// A line without its holds, which stand apart.
+#[derive(Debug, Drop)]
+pub struct DenseLine {
+    pub name: Name,
+    pub tag: u64,
+    pub ran: Ran,
 }

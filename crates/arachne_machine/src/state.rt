@@ -1,13 +1,13 @@
 //! What a thread is between two steps.
 use crate::frame::{Control, Frame};
 use crate::level::{Level, Parent};
-use crate::line::{Label, Ran, ThreadLine};
+use crate::line::{DenseLine, Label, Ran};
 use crate::lines::Lines;
 use crate::pause::Pending;
 use crate::placing::Placing;
 use crate::spares::Spares;
 use crate::tables::{zero_all, zeros};
-use arachne_lang::{Class, Expr, Name, Program, Sequence};
+use arachne_lang::{Class, Expr, Name, Program};
 use std::alloc::{AllocError, Global};
 use std::mem::replace;
 
@@ -22,7 +22,6 @@ pub struct Own {
 
 impl Own {
     ghost use Rattle.std.specs.Prelude.{◌≡◌};
-    ghost use Rattle.arachne_machine.specs.Strands.{own_line};
 
     /// That of no thread. It allocates nothing.
     fn vacant(alloc: Global) -> Own {
@@ -36,17 +35,16 @@ impl Own {
         }
     }
 
-    /// It as a line, and nothing is left of it.
+    /// Its line without the holds, which stay. Its name is gone.
     #[inline(always)]
-    pub fn take(&mut self, alloc: Global) -> ThreadLine
-        ensures { result ≡ own_line self.old }
+    pub fn take(&mut self, alloc: Global) -> DenseLine
+        ensures line { result ≡ record { name = self.old.name; tag = self.old.label.tag; ran = self.old.label.ran } }
+        ensures holds { self.new.holds ≡ self.old.holds }
     {
-        let Own { name, label, holds } = replace(self, Own::vacant(alloc));
-        ThreadLine {
-            name,
-            tag: label.tag,
-            holds: Sequence::from(holds),
-            ran: label.ran,
+        DenseLine {
+            name: replace(&mut self.name, Name::root(alloc)),
+            tag: self.label.tag,
+            ran: self.label.ran,
         }
     }
 }
@@ -164,7 +162,7 @@ impl<'p> State<'p> {
         self.environment.extend_from_slice(environment)?;
         self.frames.clear();
         self.parents.clear();
-        self.lines.clear();
+        self.lines.clear(program.locks);
         self.program = program;
         self.own = own;
         self.level = Level::outermost();

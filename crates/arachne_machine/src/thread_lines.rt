@@ -1,17 +1,18 @@
 //! The lines of a run's threads, in the lists in which they were made.
-ghost use Rattle.std.specs.Prelude.{◌≡◌, ◌==◌, ◌≤◌, ◌+◌, ◌∷◌, ◌++◌, [], length, vec_len, vec_capacity, IfOk, IfErr, MatchOption};
-ghost use Rattle.std.specs.Iterator.{YieldsFirstRef, item_count};
-ghost use Rattle.arachne_machine.specs.Lines.{lines_in};
+ghost use Rattle.std.specs.Prelude.{◌≡◌, ◌==◌, ◌≤◌, ◌+◌, ◌∷◌, ◌++◌, [], length, IfOk, IfSome, MatchOption};
+ghost use Rattle.std.specs.Iterator.{YieldsFirst, item_count};
+ghost use Rattle.arachne_machine.specs.Lines.{AreHoldsOf, lines_in, with_holds};
 
 use crate::line::ThreadLine;
-use std::alloc::Global;
+use crate::line_list::{LineList, LineView, ListLeft};
+use std::alloc::{AllocError, Global};
 use std::marker::Model;
 
 /// Lines in order, in the lists in which they were made: none is moved until a `Vec` of them is wanted.
 #[derive(Debug, Drop)]
 pub struct ThreadLines {
     count: usize,
-    lists: Vec<Vec<ThreadLine>>,
+    lists: Vec<LineList>,
 }
 
 // Clauses see one list.
@@ -29,7 +30,7 @@ impl Model for ThreadLines {
 
 impl ThreadLines {
     /// The lines of these lists, of which there are so many.
-    pub(crate) fn of(lists: Vec<Vec<ThreadLine>>, count: usize) -> ThreadLines
+    pub(crate) fn of(lists: Vec<LineList>, count: usize) -> ThreadLines
         requires { count ≡ length (lines_in lists.items) }
         ensures { result ≡ lines_in lists.items }
     {
@@ -55,75 +56,63 @@ impl ThreadLines {
         ensures { result ≡ self.now }
     {
         LinesLeft {
-            list: &[],
+            list: ListLeft::none(),
             lists: &self.lists,
         }
     }
 
-    /// The lines in one `Vec`. Where memory is refused they come back.
-    pub fn into_vec(self, alloc: Global) -> Result<Vec<ThreadLine>, ThreadLines>
-        ensures items { IfOk result (λ lines. lines.items ≡ self) }
-        ensures handed_back { IfErr result (λ lines. lines ≡ self) }
+    /// The lines in one `Vec`. Where memory is refused they are gone.
+    pub fn into_vec(self, alloc: Global) -> Result<Vec<ThreadLine>, AllocError>
+        ensures { IfOk result (λ lines. lines.items ≡ self) }
     {
-        let Ok(mut lines) = Vec::with_capacity(alloc, self.count) else {
-            return Err(self);
-        };
-        let ThreadLines { count: _, lists } = self;
-        move_lines(lists, &mut lines);
+        let ThreadLines { count, lists } = self;
+        let mut lines = Vec::with_capacity(alloc, count)?;
+        for list in lists {
+            list.move_to(alloc, &mut lines)?;
+        }
         Ok(lines)
-    }
-}
-
-/// Moves all lines to the end of the list, which has room for them.
-fn move_lines(lists: Vec<Vec<ThreadLine>>, lines: &mut Vec<ThreadLine>)
-    requires { vec_len lines.old + length (lines_in lists.items) ≤ vec_capacity lines.old }
-    ensures items { lines.new.items ≡ lines.old.items ++ lines_in lists.items }
-    ensures room { vec_capacity lines.old ≤ vec_capacity lines.new }
-{
-    for list in lists {
-        let mut list = list;
-        let _ = lines.append(&mut list);
     }
 }
 
 /// What is left of some lines.
 #[derive(Drop)]
 pub struct LinesLeft<'a> {
-    /// Those of the list that was begun.
-    list: &'a [ThreadLine],
+    /// What is left of the list that was begun.
+    list: ListLeft<'a>,
     /// The lists behind it.
-    lists: &'a [Vec<ThreadLine>],
+    lists: &'a [LineList],
 }
 
 impl<'a> Model for LinesLeft<'a> {
     ghost use Rattle.std.specs.Prelude.{◌++◌, List};
     ghost use Rattle.arachne_machine.specs.declared.line.ThreadLine.{ThreadLine};
-    ghost use Rattle.arachne_machine.specs.Lines.{lines_in};
+    ghost use Rattle.arachne_machine.specs.Lines.{AreHoldsOf, lines_in, with_holds};
 
     ghost Value = { List ThreadLine };
 
-    ghost view = { λ l. l.list.now ++ lines_in l.lists.now };
+    ghost view = { λ l. with_holds l.list.locks l.list.lines.now l.list.holds.now ++ lines_in l.lists.now };
+
+    ghost invariant = { λ l. AreHoldsOf l.list.locks l.list.lines.now l.list.holds.now };
 }
 
 /// A line, what is left of its list, and the lists behind that.
 struct FirstLine<'a> {
-    line: &'a ThreadLine,
-    list: &'a [ThreadLine],
-    lists: &'a [Vec<ThreadLine>],
+    line: LineView<'a>,
+    list: ListLeft<'a>,
+    lists: &'a [LineList],
 }
 
-/// The first line of a list and of those behind it.
-fn first_line<'a>(
-    list: &'a [ThreadLine],
-    lists: &'a [Vec<ThreadLine>],
-) -> Option<FirstLine<'a>>
-    ensures { MatchOption result (list.now ++ lines_in lists.now ≡ [])
-        (λ first. list.now ++ lines_in lists.now ≡ first.line.now ∷ (first.list.now ++ lines_in first.lists.now)) }
+/// The first line of what is left of a list and of those behind it.
+fn first_line<'a>(list: ListLeft<'a>, lists: &'a [LineList]) -> Option<FirstLine<'a>>
+    requires { AreHoldsOf list.locks list.lines.now list.holds.now }
+    ensures first { MatchOption result (with_holds list.entry.locks list.entry.lines.now list.entry.holds.now ++ lines_in lists.now ≡ [])
+        (λ first. with_holds list.entry.locks list.entry.lines.now list.entry.holds.now ++ lines_in lists.now ≡ first.line ∷ (with_holds first.list.locks first.list.lines.now first.list.holds.now ++ lines_in first.lists.now)) }
+    ensures holds { IfSome result (λ first. AreHoldsOf first.list.locks first.list.lines.now first.list.holds.now) }
 {
     let (mut list, mut lists) = (list, lists);
-    while list.is_empty() {
+    while list.lines.is_empty() {
         let (first, others) = lists.split_first()?;
-        list = first.as_slice();
+        list = first.left();
         lists = others;
     }
     let (line, list) = list.split_first()?;
@@ -131,13 +120,13 @@ fn first_line<'a>(
 }
 
 impl<'a> Iterator for LinesLeft<'a> {
-    type Item = &'a ThreadLine;
+    type Item = LineView<'a>;
 
-    ghost next_gives = { YieldsFirstRef (λ lines. lines) };
+    ghost next_gives = { YieldsFirst (λ lines. lines) };
 
     ghost remaining = { item_count (λ lines. lines) };
 
-    fn next(&mut self) -> Option<&'a ThreadLine> {
+    fn next(&mut self) -> Option<LineView<'a>> {
         let FirstLine { line, list, lists } = first_line(self.list, self.lists)?;
         self.list = list;
         self.lists = lists;

@@ -38,7 +38,7 @@ fn marks_of(alloc: Global, threads: &ThreadLines) -> Result<Option<Vec<bool>>, A
     let mut marks = Vec::new(alloc);
     marks.resize(threads.len(), false)?;
     for line in threads.iter() {
-        let place = line.tag as usize;
+        let place = line.tag() as usize;
         if place == usize::MAX {
             return Ok(None);
         }
@@ -87,8 +87,8 @@ fn is_granted_as_held(
         return Ok(false);
     };
     for line in threads.iter() {
-        let held = number_at(line.holds.as_slice(), lock);
-        if number_at(grants.as_slice(), line.tag as usize) != held {
+        let held = number_at(line.holds(), lock);
+        if number_at(grants.as_slice(), line.tag() as usize) != held {
             return Ok(false);
         }
     }

@@ -80,7 +80,7 @@ fn are_last_two_in_slots(report: &Report) -> bool {
     let (mut first, mut second) = (false, false);
     for line in report.threads.iter() {
         first = second;
-        second = line.ran == Ran::Slot;
+        second = line.ran() == Ran::Slot;
     }
     first && second
 }
@@ -89,7 +89,7 @@ fn are_last_two_in_slots(report: &Report) -> bool {
 fn count_of(report: &Report, ran: Ran) -> u64 {
     let mut count = 0u64;
     for line in report.threads.iter() {
-        count = count.wrapping_add(u64::from(line.ran == ran));
+        count = count.wrapping_add(u64::from(line.ran() == ran));
     }
     count
 }
@@ -125,7 +125,7 @@ pub(super) fn told(
 fn ran_of(alloc: Global, report: &Report) -> Result<String, Fail> {
     let mut text = String::new(alloc);
     for line in report.threads.iter() {
-        let word = match line.ran {
+        let word = match line.ran() {
             Ran::Slot => "slot ",
             Ran::Spill => "spill ",
             Ran::InPlace => "in place ",
