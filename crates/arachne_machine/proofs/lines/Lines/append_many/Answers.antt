@@ -1,7 +1,52 @@
+use Rattle.std.proofs.Common.{rules, ◌≡◌, ◌+◌, ◌≤◌, ◌<◌, ◌^◌, ◌∷◌, ◌++◌, [], List, length, ap, ◌∙◌, arith, length-append}
+use Rattle.std.specs.Prelude.{vec_len, vec_capacity}
+use Rattle.std.specs.Result.{is_ok}
+use Rattle.arachne_machine.specs.declared.line.ThreadLine.{ThreadLine}
+use Rattle.arachne_machine.specs.Lines.{lines_in}
+use Rattle.arachne_machine.specs.Strands.{own_line}
+use Rattle.arachne_machine.proofs.Listing.{own_behind, two_behind}
 use Rattle.arachne_machine.proofs.lines.Lines.append_many.Goals as goal
 
+-- the earlier lists, with the last one, that of the own line, and those of the child behind them
+earlier : (c : goal.After-append) →
+    lines_in c.append.new.self.items ≡ ((lines_in c.self.inside.earlier.items ++ c.self.inside.last.items) ++ own_line c.args.own.now ∷ []) ++ lines_in c.below.inside.earlier.items
+earlier c =
+    let room : vec_len c.try_reserve.new.self + (c.len.result + 2) ≤ vec_capacity c.try_reserve.new.self = search rules in
+    let fits : vec_len c.push_reserved-2.new.self + vec_len c.below.inside.earlier ≤ vec_capacity c.push_reserved-2.new.self =
+    omega (arith, room, c.push_reserved.ensures.capacity, c.push_reserved.ensures.len, c.push_reserved-2.ensures.capacity, c.push_reserved-2.ensures.len, c.len.ensures) in
+    two_behind c.try_reserve.new.self.items c.push_reserved.new.self.items c.push_reserved-2.new.self.items c.append.new.self.items c.below.inside.earlier.items
+    c.replace-list.result c.in_ok-first.first (is_ok c.append.result) c.push_reserved.ensures.items c.push_reserved-2.ensures.items c.append.ensures.items (c.append.ensures.succeeds fits)
+    ∙ ap (λ l. ((lines_in l ++ c.replace-list.result.items) ++ c.in_ok-first.first.items) ++ lines_in c.below.inside.earlier.items) c.in_ok-try_reserve.ensures.items
+    ∙ ap (λ v. ((lines_in c.self.inside.earlier.items ++ v.items) ++ c.in_ok-first.first.items) ++ lines_in c.below.inside.earlier.items) c.replace-list.ensures.value
+    ∙ ap (λ l. ((lines_in c.self.inside.earlier.items ++ c.self.inside.last.items) ++ l) ++ lines_in c.below.inside.earlier.items) c.in_ok-first.ensures.line
+
 pub invariant_of-self-2 : goal.invariant_of-self-2
-invariant_of-self-2 c = ?
+invariant_of-self-2 c =
+    let first : List ThreadLine = lines_in c.self.inside.earlier.items in
+    let last : List ThreadLine = c.self.inside.last.items in
+    let own : List ThreadLine = own_line c.args.own.now ∷ [] in
+    let others : List ThreadLine = lines_in c.below.inside.earlier.items in
+    let many : length (lines_in c.append.new.self.items) ≡ length first + length last + 1 + length others =
+    omega (arith, ap length (earlier c), length-append ((first ++ last) ++ own) others, length-append (first ++ last) own, length-append first last) in
+    let came : length c.args.below.now ≡ length others + length c.below.inside.last.items =
+    omega (arith, ap length c.below.view_is, length-append others c.below.inside.last.items) in
+    let were : length c.args.self.now ≡ length first + length last = omega (arith, ap length c.self.view_is, length-append first last) in
+    let dest : length c.replace-list.new.dest.items ≡ length c.below.inside.last.items = ap (λ v. length v.items) (c.replace-list.ensures.after ∙ c.replace-last.ensures.value) in
+    record {
+      counted = omega (arith, many, c.self.invariant.counted, c.below.invariant.counted, c.len-2.ensures);
+      few = omega (arith, came, were, c.requires, c.self.invariant.counted, c.below.invariant.counted, c.len-2.ensures, dest);
+    }
+
+pub returns-clause-few : goal.returns-clause-few
+returns-clause-few c =
+    let kept = invariant_of-self-2 c in
+    omega (arith, kept.counted, kept.few, length-append (lines_in c.append.new.self.items) c.replace-list.new.dest.items)
 
 pub returns-clause-lines : goal.returns-clause-lines
-returns-clause-lines c = ?
+returns-clause-lines c =
+    ap (λ l. l ++ c.replace-list.new.dest.items) (earlier c)
+    ∙ ap (λ l. (((lines_in c.self.inside.earlier.items ++ c.self.inside.last.items) ++ own_line c.args.own.now ∷ []) ++ lines_in c.below.inside.earlier.items) ++ l)
+    (ap (λ v. v.items) (c.replace-list.ensures.after ∙ c.replace-last.ensures.value))
+    ∙ own_behind (lines_in c.self.inside.earlier.items) c.self.inside.last.items (lines_in c.below.inside.earlier.items) c.below.inside.last.items (own_line c.args.own.now)
+    ∙ ap (λ v. v ++ own_line c.args.own.now ∷ (lines_in c.below.inside.earlier.items ++ c.below.inside.last.items)) c.self.view_is
+    ∙ ap (λ v. c.args.self.now ++ own_line c.args.own.now ∷ v) c.below.view_is
