@@ -482,10 +482,7 @@ impl Shared {
         // What is ready here goes first, and where polls are long what is in hand goes last.
         let takes = (held == 0 || few == FEW) && !self.mine(context);
         let room = if takes { few.saturating_sub(held) } else { 0 };
-        if self.look_at_events(context, turn, room) != 0 {
-            // What was told of comes before what is behind all that is ready.
-            turn.hand_left = 0;
-        }
+        self.look_at_events(context, turn, room);
         if turn.counts {
             let here = turn.count - turn.at + turn.hand.len() + context.next.get().is_some() as usize;
             let mine = std::iter::once(context.me).chain(self.lodgers(context.me));

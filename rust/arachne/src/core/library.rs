@@ -10,7 +10,7 @@
 
 use super::{Asked, Freed, Job, Rested, Spawned, Woken, BLOCK, MOST_SHARDS, NUMBERS};
 use crate::cores::{Advice, Sample};
-use std::cell::{RefCell, UnsafeCell};
+use std::cell::{Cell, RefCell, UnsafeCell};
 use std::ptr;
 use std::sync::atomic::{AtomicBool, AtomicU64, Ordering::*};
 use std::sync::Mutex;
@@ -60,7 +60,8 @@ pub(crate) struct Root(Handle);
 /// What a kernel thread has of an executor, to take and lay down jobs: a seat for each job that it may have in hand.
 pub(crate) struct Hands {
     seats: Vec<Handle>,
-    free: RefCell<Vec<u8>>,
+    /// Seats with nothing in hand, as bits.
+    free: Cell<u64>,
 }
 
 /// The right to sleep in the name of the shards of one number.
@@ -78,7 +79,7 @@ impl Root {
     /// Seats for a thread that has at most so many jobs in hand.
     pub(crate) fn hands(&mut self, most: usize) -> Option<Hands> {
         let seats = (0..most).map(|_| self.0.split()).collect::<Option<Vec<_>>>()?;
-        Some(Hands { seats, free: RefCell::new((0..most as u8).collect()) })
+        Some(Hands { seats, free: Cell::new(u64::MAX >> (64 - most)) })
     }
 
     /// Gets a thread's seats back, with nothing in hand.
@@ -146,7 +147,7 @@ impl Hands {
     /// Puts a job into a place of the block; with `keep` it stays in this thread's hand.
     #[inline]
     pub(crate) fn spawn(&self, block: usize, job: u64, keep: bool) -> Spawned {
-        let own = if keep { self.free.borrow_mut().pop() } else { None };
+        let own = if keep { self.last_free() } else { None };
         loop {
             // SAFETY, here and below: a handle.
             let told = match own {
@@ -175,7 +176,7 @@ impl Hands {
     /// One ready job of a block: the library goes round it. Where no other thread takes, None means that there is none.
     #[inline]
     pub(crate) fn take_any(&self, block: usize) -> Option<Job> {
-        let seat = self.free.borrow_mut().pop()?;
+        let seat = self.first_free()?;
         // SAFETY: a handle.
         let told = unsafe { arachne_exec_take(self.seat(seat), block) };
         if told.code == ARACHNE_RUN {
@@ -230,7 +231,25 @@ impl Hands {
 
     #[inline]
     fn is_free(&self, seat: u8) {
-        self.free.borrow_mut().push(seat);
+        self.free.set(self.free.get() | 1 << seat);
+    }
+
+    /// A seat to take by, from the first on: each goes round a block by itself, and only where the same few take again
+    /// and again are jobs side by side taken as often as others.
+    #[inline]
+    fn first_free(&self) -> Option<u8> {
+        let free = self.free.get();
+        self.free.set(free & free.wrapping_sub(1));
+        (free != 0).then(|| free.trailing_zeros() as u8)
+    }
+
+    /// A seat for what isn't taken, from the last on.
+    #[inline]
+    fn last_free(&self) -> Option<u8> {
+        let free = self.free.get();
+        let last = 63u32.checked_sub(free.leading_zeros())?;
+        self.free.set(free & !(1 << last));
+        Some(last as u8)
     }
 
     /// Makes a job in hand ready; whether the shard's thread has to be woken.
@@ -272,7 +291,7 @@ impl Hands {
     /// Wakes the job of this name; with `keep` it comes into this thread's hand where it waited.
     #[inline]
     pub(crate) fn wake(&self, name: u64, keep: bool) -> Woken {
-        let own = if keep { self.free.borrow_mut().pop() } else { None };
+        let own = if keep { self.last_free() } else { None };
         loop {
             // SAFETY, here and below: a handle.
             let told = match own {
