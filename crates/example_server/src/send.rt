@@ -16,6 +16,9 @@ use std::collections::VecDeque;
 use std::sync::Wait;
 use std::time::Clock;
 
+/// How many nanoseconds lie between two looks at the cores, which take time from the requests.
+const BETWEEN_LOOKS: u64 = 20_000;
+
 /// A request that was sent and not answered.
 #[derive(Drop)]
 struct Sent {
@@ -91,6 +94,8 @@ fn send_all<R: Wait + Clock, C: Contexts<Spawned<Request>>>(
     server.await_kernel_threads(rt);
     let begin = now(&server.clock);
     let mut next: usize = 0;
+    // When the cores are to be looked at.
+    let mut look: u64 = 0;
     for _ in rt.forever() {
         let at = now(&server.clock).saturating_sub(begin);
         if let Some(due) = requests.get(next)
@@ -122,8 +127,7 @@ fn send_all<R: Wait + Clock, C: Contexts<Spawned<Request>>>(
         if server.pool.is_stopped() {
             return None;
         }
-        server.pool.turn(rt, worker, keeper.most).ok()?;
-        keep_cores(rt, server, worker, keeper, report.busy, at)?;
+        look = keep_cores(rt, server, worker, keeper, report.busy, at, look)?;
         if !take_answer(sent, begin, report)? && next == requests.len() && sent.is_empty() {
             report.nanos = at;
             return Some(());
@@ -132,27 +136,32 @@ fn send_all<R: Wait + Clock, C: Contexts<Spawned<Request>>>(
     unreachable!()
 }
 
-/// Looks at the load, and orders a core or gives one back where that is due.
-fn keep_cores<R: Wait, C: Contexts<Spawned<Request>>>(
+/// Where that is due, has orders applied, looks at the load, and orders a core or gives one back. When it is due again.
+fn keep_cores<R: Wait + Clock, C: Contexts<Spawned<Request>>>(
     rt: &R,
     server: &Server<C>,
     worker: &mut Worker<C::Seat, Request>,
     keeper: &mut Keeper,
     busy: u64,
     at: u64,
-) -> Option<()>
+    look: u64,
+) -> Option<u64>
     requires worker { IsWorkerOf C.sits C.idle server.now.pool.table server.now.pool.cores worker.old }
     requires cores { keeper.old.most + 1 ≡ server.now.pool.cores }
     ensures worker { IsWorkerOf C.sits C.idle server.now.pool.table server.now.pool.cores worker.new }
     ensures cores { keeper.new.most ≡ keeper.old.most }
 {
+    if at < look {
+        return Some(look);
+    }
+    server.pool.turn(rt, worker, keeper.most).ok()?;
     keeper.scan(server.pool.live());
     let advice = keeper.judge(at, busy);
     if let Some(order) = keeper.follow(advice) {
         let orders = keeper.listed(*keeper.judged.allocator(), order).ok()?;
         server.pool.order(rt, worker, orders).ok()?;
     }
-    Some(())
+    Some(at.saturating_add(BETWEEN_LOOKS))
 }
 
 /// Takes the answer to the request that was sent first, if it has come, and adds up its work. Whether it had.

@@ -48,8 +48,9 @@ pub fn serve<R: Wait + Clock, J: PoolJob, C: Contexts<Spawned<J>>>(
     requires worker { IsWorkerOf C.sits C.idle server.now.pool.table server.now.pool.cores worker }
     ensures { IfSome result (IsWorkerOf C.sits C.idle server.now.pool.table server.now.pool.cores) }
 {
-    if core < server.pool.cores {
-        server.pool.work(rt, &mut worker, core).ok()?;
+    if core >= server.pool.cores {
+        return Some(worker);
     }
+    server.pool.work(rt, &mut worker, core).ok()?;
     Some(worker)
 }
