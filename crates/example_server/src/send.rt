@@ -102,7 +102,10 @@ fn send_all<R: Wait + Clock, C: Contexts<Spawned<Request>>>(
             && due.at <= at
         {
             let (due, number, late) = (*due, next as u64, at - due.at);
-            match server.pool.try_spawn(rt, worker, template.next(number, due)) {
+            match server
+                .pool
+                .try_spawn(rt, worker, template.next(number, due))
+            {
                 Ok(handle) => {
                     report.late.push(late).ok()?;
                     let one = Sent {
