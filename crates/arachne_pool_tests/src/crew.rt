@@ -2,11 +2,12 @@
 ghost use Rattle.std.specs.Prelude.{◌≡◌, ◌<◌, IfSome};
 ghost use Rattle.arachne_pool.specs.Workers.{IsWorkerOf};
 
-use crate::tasks::Task;
+use crate::tasks::{LEAF, Task};
 use arachne_contexts::{Contexts, Seats};
 use arachne_pool::{Pool, Spawned, Worker};
 use arachne_team::{Team, TeamFault};
 use std::sync::Wait;
+use std::thread::yield_now;
 use std::time::Clock;
 
 /// How long a kernel thread works.
@@ -18,6 +19,10 @@ pub(crate) enum Spell {
     ToTheEnd,
     /// So many rounds. Then it stops the pool.
     Rounds(u32),
+    /// It spawns so many jobs for core 1, each once the one before has ended. Then no more come.
+    Feeds(u32),
+    /// It spawns so many leaves, and works for no core.
+    Spawns(u32),
 }
 
 /// Two kernel threads, for core 0 and core 1, and how long each works.
@@ -118,5 +123,36 @@ fn work<C: Contexts<Spawned<Task>>, R: Wait + Clock>(
             }
             pool.stop();
         }
+        Spell::Spawns(jobs) => {
+            for _ in 0..jobs {
+                let _ = pool.spawn(rt, worker, Task::new(LEAF));
+            }
+        }
+        Spell::Feeds(jobs) => {
+            for _ in 0..jobs {
+                feed::<C, R>(rt, pool, worker);
+            }
+            pool.finish();
+        }
+    }
+}
+
+/// Spawns a job on core 1, if there is one, and waits until no job lives or the pool is stopped.
+fn feed<C: Contexts<Spawned<Task>>, R: Wait + Clock>(
+    rt: &R,
+    pool: &Pool<C>,
+    worker: &mut Worker<C::Seat, Task>,
+)
+    requires { IsWorkerOf C.sits C.idle pool.now.table pool.now.cores worker.old }
+    ensures { IsWorkerOf C.sits C.idle pool.now.table pool.now.cores worker.new }
+{
+    if pool.cores < 2 || pool.try_spawn_on(rt, worker, 1, Task::new(LEAF)).is_err() {
+        return;
+    }
+    for _ in rt.forever() {
+        if pool.live() == 0 || pool.is_stopped() {
+            return;
+        }
+        yield_now();
     }
 }

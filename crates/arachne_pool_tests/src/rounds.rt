@@ -6,9 +6,9 @@ ghost use Rattle.arachne_pool.specs.Workers.{IsWorkerOf};
 use crate::crew::{Share, Spell};
 use crate::orders::{Order, orders_of};
 use crate::tasks::{Sort, Task};
-use arachne_contexts::Contexts;
-use arachne_core::{CORES, OccWord, SLOTS};
-use arachne_pool::{Left, Pool, PoolFault, Spawned, Worker};
+use arachne_contexts::{Contexts, Woken};
+use arachne_core::{CORES, OccWord, SLOTS, ThreadId};
+use arachne_pool::{Left, NoPlaces, Pool, PoolFault, Refusal, Refused, Spawned, Worker};
 use arachne_shortage::Hoard;
 use std::alloc::Global;
 use std::sync::Wait;
@@ -27,6 +27,18 @@ pub(crate) enum Act {
     Spawns(Sort),
     /// A job is spawned and joined on core 0, and gives this, or nothing, as in a pool that is stopped.
     Joins(Sort, Option<u64>),
+    /// A job is spawned where a core has a place, or so many cores are seen full and closed.
+    Tries(Sort, Option<(u8, u8)>),
+    /// A job is spawned on this core, or that is seen full or closed.
+    TriesOn(u8, Sort, Option<(u8, u8)>),
+    /// The same as the first of these with no handle.
+    Detaches(Sort, Option<(u8, u8)>),
+    /// The job of this context and generation is woken, and this comes of it.
+    Wakes(u32, u64, Wakes),
+    /// So many slices, steps and wakes were done on a core.
+    Did(u8, u64, u64, u64),
+    /// The pool is kept open.
+    KeepsOpen,
     /// A round on a core; whether it finds anything.
     Turns(u8, bool),
     /// So many places of a core are taken, and so it is.
@@ -52,6 +64,17 @@ pub(crate) enum Is {
     Closed,
     /// One job has it alone.
     Alone,
+}
+
+/// What comes of a wake.
+#[derive(Clone, Copy, PartialEq)]
+pub(crate) enum Wakes {
+    /// The job slept.
+    It,
+    /// It was awake.
+    Awake,
+    /// There is no such job.
+    Nobody,
 }
 
 /// A row: a pool, what its worker does, how long two kernel threads work then, for core 0 and core 1, how many of them
@@ -84,11 +107,9 @@ pub(crate) fn begin<C: Contexts<Spawned<Task>> + Drop, R: Wait + Clock>(
     }
     let orders = orders_of(alloc, row.orders, cores)?;
     let (pool, worker) = Pool::<C>::new::<Task>(alloc, cores, slots, orders).ok()?;
-    let mut worker = worker;
-    if all_hold::<C, R>(rt, alloc, &pool, &mut worker, row.acts) {
-        Some((pool, worker))
-    } else {
-        None
+    match all_hold::<C, R>(rt, alloc, &pool, worker, row.acts) {
+        Some(worker) => Some((pool, worker)),
+        None => None,
     }
 }
 
@@ -102,13 +123,15 @@ pub(crate) fn end<C: Contexts<Spawned<Task>> + Drop, R: Wait + Clock>(
 ) -> bool
     requires { IsWorkerOf C.sits C.idle pool.table pool.cores share.worker }
 {
-    let Share { mut worker, busy } = share;
-    let all = all_hold::<C, R>(rt, alloc, &pool, &mut worker, row.then);
+    let Share { worker, busy } = share;
+    let Some(worker) = all_hold::<C, R>(rt, alloc, &pool, worker, row.then) else {
+        return false;
+    };
     let Ok(left) = pool.close(rt, alloc, worker) else {
         return false;
     };
     let sizes = (left.placed.len(), left.near.len());
-    all && busy >= row.busy && sizes == row.left && count_left(left) == row.alive
+    busy >= row.busy && sizes == row.left && count_left(left) == row.alive
 }
 
 /// How many jobs come out of those that are left.
@@ -137,23 +160,44 @@ fn count_in(job: Spawned<Task>) -> usize {
     count
 }
 
-/// Whether each act comes out as it says.
+/// The worker, where each act comes out as it says. A waker has a part of its seat meanwhile.
 fn all_hold<C: Contexts<Spawned<Task>>, R: Wait + Clock>(
     rt: &R,
     alloc: Global,
     pool: &Pool<C>,
-    worker: &mut Worker<C::Seat, Task>,
+    worker: Worker<C::Seat, Task>,
     acts: &[Act],
-) -> bool
-    requires worker { IsWorkerOf C.sits C.idle pool.now.table pool.now.cores worker.old }
-    ensures worker { IsWorkerOf C.sits C.idle pool.now.table pool.now.cores worker.new }
+) -> Option<Worker<C::Seat, Task>>
+    requires worker { IsWorkerOf C.sits C.idle pool.now.table pool.now.cores worker }
+    ensures worker { IfSome result (IsWorkerOf C.sits C.idle pool.now.table pool.now.cores) }
 {
+    let (mut worker, waker) = pool.split_waker(rt, worker);
+    let mut waker = waker?;
     for act in acts {
-        if !holds::<C, R>(rt, alloc, pool, worker, *act) {
-            return false;
+        let holds = match *act {
+            Act::Wakes(context, generation, wakes) => {
+                let id = ThreadId {
+                    context,
+                    generation,
+                };
+                wakes_as(pool.wake::<R, Task>(rt, &mut waker, id)) == wakes
+            }
+            act => holds::<C, R>(rt, alloc, pool, &mut worker, act),
+        };
+        if !holds {
+            return None;
         }
     }
-    true
+    Some(pool.join_waker(rt, worker, waker))
+}
+
+/// What came of a wake.
+fn wakes_as(woken: Woken) -> Wakes {
+    match woken {
+        Woken::Woken => Wakes::It,
+        Woken::Already(_) => Wakes::Awake,
+        Woken::Gone | Woken::Lost(_) => Wakes::Nobody,
+    }
 }
 
 /// Whether an act of one worker comes out as it says.
@@ -177,6 +221,26 @@ fn holds<C: Contexts<Spawned<Task>>, R: Wait + Clock>(
         Act::EndsInNeed(sort) if pool.cores > 0 => {
             ends_in_need::<C, R>(rt, alloc, pool, worker, sort)
         }
+        Act::Tries(sort, refused) => {
+            let tried = pool.try_spawn(rt, worker, Task::new(sort));
+            is_refused(tried.err(), refused)
+        }
+        Act::TriesOn(core, sort, refused) if core < pool.cores => {
+            let tried = pool.try_spawn_on(rt, worker, core, Task::new(sort));
+            is_refused(tried.err(), refused)
+        }
+        Act::Detaches(sort, refused) => {
+            let tried = pool.spawn_detached(rt, worker, Task::new(sort));
+            is_refused(tried.err(), refused)
+        }
+        Act::Did(core, slices, steps, wakes) => {
+            let done = pool.statistics(core);
+            done.slices == slices && done.steps == steps && done.wakes == wakes
+        }
+        Act::KeepsOpen => {
+            pool.keep_open();
+            true
+        }
         Act::Orders(orders) => match orders_of(alloc, orders, pool.cores) {
             Some(orders) => pool.order(rt, worker, orders).is_ok(),
             None => false,
@@ -196,6 +260,17 @@ fn holds<C: Contexts<Spawned<Task>>, R: Wait + Clock>(
         Act::Stops => {
             pool.stop();
             true
+        }
+        _ => false,
+    }
+}
+
+/// Whether a job was spawned, or refused since so many cores were seen full and closed.
+fn is_refused(refused: Option<Refused<Task>>, wanted: Option<(u8, u8)>) -> bool {
+    match (refused, wanted) {
+        (None, None) => true,
+        (Some(refused), Some((full, closed))) => {
+            refused.why == Refusal::NoPlace(NoPlaces { full, closed })
         }
         _ => false,
     }

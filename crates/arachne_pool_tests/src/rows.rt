@@ -1,7 +1,7 @@
 //! Rows of acts, over the table on words.
 use crate::crew::{Crew, Share, Spell};
 use crate::orders::{GRANT, Order, RELEASE};
-use crate::rounds::{Act, Is, Row, begin, end};
+use crate::rounds::{Act, Is, Row, Wakes, begin, end};
 use crate::tasks::{Joins, LEAF, PARENT, Sort, Task};
 use arachne_pool::Spawned;
 use arachne_team::work_together;
@@ -36,6 +36,9 @@ const TREE: Sort = Sort {
     forks: 3,
     ..LEAF
 };
+
+/// One that sleeps once.
+const SLEEPER: Sort = Sort { naps: 1, ..LEAF };
 
 /// One that goes on for longer than any test.
 const ENDLESS: Sort = Sort {
@@ -464,6 +467,149 @@ const ROWS: &[Row] = &[
         ],
         left: (2, 1),
         alive: 3,
+        ..NOTHING
+    },
+    Row {
+        shows: "a job that sleeps has no slice until it is woken, and a late wake hits no later job at its place",
+        cores: 1,
+        slots: 1,
+        acts: &[
+            Act::Spawns(SLEEPER),
+            Act::Turns(0, true),
+            Act::Turns(0, false),
+            Act::Wakes(0, 0, Wakes::It),
+            Act::Wakes(0, 0, Wakes::Awake),
+            Act::Turns(0, true),
+            Act::Lives(0),
+            Act::Wakes(0, 0, Wakes::Nobody),
+            Act::Spawns(SLEEPER),
+            Act::Turns(0, true),
+            Act::Wakes(0, 0, Wakes::Nobody),
+            Act::Turns(0, false),
+            Act::Lives(1),
+            Act::Wakes(0, 1, Wakes::It),
+            Act::Turns(0, true),
+            Act::Lives(0),
+        ],
+        ..NOTHING
+    },
+    Row {
+        shows: "jobs that sleep one after the other in one place are woken by one id",
+        cores: 1,
+        slots: 1,
+        acts: &[
+            Act::Spawns(Sort { naps: 1, ..PARENT }),
+            Act::Turns(0, true),
+            Act::Turns(0, true),
+            Act::Turns(0, false),
+            Act::Lives(2),
+            Act::Wakes(0, 0, Wakes::It),
+            Act::Turns(0, true),
+            Act::Lives(1),
+            Act::Turns(0, true),
+            Act::Turns(0, false),
+            Act::Wakes(0, 0, Wakes::It),
+            Act::Turns(0, true),
+            Act::Lives(0),
+        ],
+        ..NOTHING
+    },
+    Row {
+        shows: "a job that sleeps beside a child that waits goes on, so that the child gets a place once one is free",
+        cores: 1,
+        slots: 2,
+        acts: &[
+            Act::Spawns(Sort { naps: 1, ..LEAF }),
+            Act::Spawns(Sort {
+                joins: Joins::Never,
+                naps: 9,
+                ..PARENT
+            }),
+            Act::Turns(0, true),
+            Act::Turns(0, true),
+            Act::Turns(0, true),
+            Act::Has(0, 2, Is::Open),
+            Act::Wakes(0, 0, Wakes::It),
+            Act::Turns(0, true),
+            Act::Turns(0, true),
+            Act::Turns(0, true),
+            Act::Lives(2),
+            Act::Stops,
+        ],
+        left: (2, 0),
+        alive: 2,
+        ..NOTHING
+    },
+    Row {
+        shows: "a job comes back where each core is full, one job's alone or closed, and only there",
+        cores: 3,
+        slots: 1,
+        orders: &[(0, RELEASE, 2)],
+        acts: &[
+            Act::Turns(0, false),
+            Act::Tries(ALONE, None),
+            Act::Tries(LEAF, None),
+            Act::Has(1, 1, Is::Open),
+            Act::Tries(LEAF, Some((2, 1))),
+            Act::Tries(ALONE, Some((2, 1))),
+            Act::Detaches(LEAF, Some((2, 1))),
+            Act::TriesOn(0, LEAF, Some((1, 0))),
+            Act::TriesOn(2, LEAF, Some((0, 1))),
+            Act::Lives(2),
+            Act::Counts(2),
+            Act::Turns(1, true),
+            Act::TriesOn(1, LEAF, None),
+            Act::Has(1, 1, Is::Open),
+            Act::Turns(1, true),
+            Act::Detaches(LEAF, None),
+            Act::Has(1, 1, Is::Open),
+            Act::Turns(0, true),
+            Act::Turns(1, true),
+            Act::Lives(0),
+            Act::Counts(4),
+        ],
+        ..NOTHING
+    },
+    Row {
+        shows: "a worker that was split off and has worked for no core keeps no job, and the first one keeps it",
+        cores: 2,
+        slots: 1,
+        spells: (Spell::Not, Spell::Spawns(4)),
+        then: &[Act::Lives(2), Act::Counts(2), Act::Spawns(LEAF)],
+        left: (2, 1),
+        alive: 3,
+        ..NOTHING
+    },
+    Row {
+        shows: "each core's slices, steps and wakes are told",
+        cores: 2,
+        slots: 1,
+        acts: &[
+            Act::TriesOn(1, Sort { bound: 4, ..ELEVEN }, None),
+            Act::Turns(1, true),
+            Act::Did(1, 1, 4, 0),
+            Act::Turns(1, true),
+            Act::Turns(1, true),
+            Act::Turns(1, false),
+            Act::Did(1, 3, 11, 0),
+            Act::Did(0, 0, 0, 0),
+            Act::Spawns(ALONE_PARENT),
+            Act::Turns(0, true),
+            Act::Turns(0, true),
+            Act::Turns(1, true),
+            Act::Did(1, 4, 12, 1),
+            Act::Turns(0, true),
+            Act::Lives(0),
+        ],
+        ..NOTHING
+    },
+    Row {
+        shows: "in a pool that is kept open a kernel thread works on though no job lives, until no more come",
+        cores: 2,
+        slots: 1,
+        acts: &[Act::KeepsOpen],
+        spells: (Spell::Feeds(100), Spell::ToTheEnd),
+        then: &[Act::Lives(0), Act::Counts(100)],
         ..NOTHING
     },
     Row {

@@ -9,7 +9,9 @@ pub(crate) struct Sort {
     pub(crate) depth: u32,
     /// How many children it forks.
     pub(crate) forks: u32,
-    /// How many steps it goes on once it has joined them.
+    /// How often it sleeps once it has joined them.
+    pub(crate) naps: u32,
+    /// How many steps it goes on then.
     pub(crate) steps: u32,
     /// The most steps of a slice.
     pub(crate) bound: u32,
@@ -32,6 +34,7 @@ pub(crate) enum Joins {
 pub(crate) const LEAF: Sort = Sort {
     depth: 0,
     forks: 0,
+    naps: 0,
     steps: 0,
     bound: 1,
     joins: Joins::AtLast,
@@ -45,13 +48,14 @@ pub(crate) const PARENT: Sort = Sort {
     ..LEAF
 };
 
-/// A job in a pool: how many children it has forked and not joined, how many steps it has gone on, and how many jobs it
-/// has counted.
+/// A job in a pool: how many children it has forked and not joined, how often it has slept, how many steps it has gone on,
+/// and how many jobs it has counted.
 #[derive(Drop)]
 pub(crate) struct Task {
     sort: Sort,
     forked: u32,
     awaited: u32,
+    naps: u32,
     steps: u32,
     counted: u64,
 }
@@ -62,6 +66,7 @@ impl Task {
             sort,
             forked: 0,
             awaited: 0,
+            naps: 0,
             steps: 0,
             counted: 1,
         }
@@ -103,6 +108,10 @@ impl PoolJob for Task {
                 depth: self.sort.depth - 1,
                 ..self.sort
             }));
+        }
+        if self.naps < self.sort.naps {
+            self.naps += 1;
+            return Step::Sleeps;
         }
         if self.steps < self.sort.steps {
             self.steps += 1;
