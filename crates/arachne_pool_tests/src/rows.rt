@@ -494,53 +494,6 @@ const ROWS: &[Row] = &[
         ..NOTHING
     },
     Row {
-        shows: "jobs that sleep one after the other in one place are woken by one id",
-        cores: 1,
-        slots: 1,
-        acts: &[
-            Act::Spawns(Sort { naps: 1, ..PARENT }),
-            Act::Turns(0, true),
-            Act::Turns(0, true),
-            Act::Turns(0, false),
-            Act::Lives(2),
-            Act::Wakes(0, 0, Wakes::It),
-            Act::Turns(0, true),
-            Act::Lives(1),
-            Act::Turns(0, true),
-            Act::Turns(0, false),
-            Act::Wakes(0, 0, Wakes::It),
-            Act::Turns(0, true),
-            Act::Lives(0),
-        ],
-        ..NOTHING
-    },
-    Row {
-        shows: "a job that sleeps beside a child that waits goes on, so that the child gets a place once one is free",
-        cores: 1,
-        slots: 2,
-        acts: &[
-            Act::Spawns(Sort { naps: 1, ..LEAF }),
-            Act::Spawns(Sort {
-                joins: Joins::Never,
-                naps: 9,
-                ..PARENT
-            }),
-            Act::Turns(0, true),
-            Act::Turns(0, true),
-            Act::Turns(0, true),
-            Act::Has(0, 2, Is::Open),
-            Act::Wakes(0, 0, Wakes::It),
-            Act::Turns(0, true),
-            Act::Turns(0, true),
-            Act::Turns(0, true),
-            Act::Lives(2),
-            Act::Stops,
-        ],
-        left: (2, 0),
-        alive: 2,
-        ..NOTHING
-    },
-    Row {
         shows: "a job comes back where each core is full, one job's alone or closed, and only there",
         cores: 3,
         slots: 1,
@@ -578,38 +531,6 @@ const ROWS: &[Row] = &[
         then: &[Act::Lives(2), Act::Counts(2), Act::Spawns(LEAF)],
         left: (2, 1),
         alive: 3,
-        ..NOTHING
-    },
-    Row {
-        shows: "each core's slices, steps and wakes are told",
-        cores: 2,
-        slots: 1,
-        acts: &[
-            Act::TriesOn(1, Sort { bound: 4, ..ELEVEN }, None),
-            Act::Turns(1, true),
-            Act::Did(1, 1, 4, 0),
-            Act::Turns(1, true),
-            Act::Turns(1, true),
-            Act::Turns(1, false),
-            Act::Did(1, 3, 11, 0),
-            Act::Did(0, 0, 0, 0),
-            Act::Spawns(ALONE_PARENT),
-            Act::Turns(0, true),
-            Act::Turns(0, true),
-            Act::Turns(1, true),
-            Act::Did(1, 4, 12, 1),
-            Act::Turns(0, true),
-            Act::Lives(0),
-        ],
-        ..NOTHING
-    },
-    Row {
-        shows: "in a pool that is kept open a kernel thread works on though no job lives, until no more come",
-        cores: 2,
-        slots: 1,
-        acts: &[Act::KeepsOpen],
-        spells: (Spell::Feeds(100), Spell::ToTheEnd),
-        then: &[Act::Lives(0), Act::Counts(100)],
         ..NOTHING
     },
     Row {
