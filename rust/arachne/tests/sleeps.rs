@@ -118,7 +118,7 @@ fn a_wake_of_who_waits_is_left_to_it() {
     let at = echo(&runtime, &Arc::default(), &Arc::default());
     let mut stream = connect(at);
     ask(&mut stream, 1);
-    for round in 0..20 {
+    for round in 0..60 {
         let [blocks, blocked, ends] = [(); 3].map(|()| Arc::new(AtomicBool::new(false)));
         let (block, told, end) = (blocks.clone(), blocked.clone(), ends.clone());
         let busy = runtime.spawn(async move {

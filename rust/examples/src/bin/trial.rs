@@ -418,7 +418,10 @@ fn soak(cores: usize, seconds: u64) {
             );
         }
     }
-    println!("{} tasks in {:?}, live at the end {}", total * 9 / 8, start.elapsed(), runtime.live());
+    let time = start.elapsed();
+    // Whoever waits for a task may be told before its worker has laid it down.
+    (0..1000).take_while(|_| runtime.live() != 0).for_each(|_| thread::sleep(Duration::from_millis(1)));
+    println!("{} tasks in {time:?}, live at the end {}", total * 9 / 8, runtime.live());
 }
 
 fn main() {
