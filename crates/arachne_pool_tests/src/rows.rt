@@ -71,8 +71,8 @@ const ORDERS: &[Order] = &[
     (1_000_000_000, GRANT, 1),
 ];
 
-/// How many seconds two kernel threads may take. Where each of a thousand signals is lost, and each sleep ends by its time,
-/// they take twice as many.
+/// How many seconds two kernel threads may take. Where each of 1,000 signals is lost, so that each sleep ends by its time
+/// alone, they take 20.
 const MOST_SECONDS: u64 = 10;
 
 /// A row in which nothing is done.

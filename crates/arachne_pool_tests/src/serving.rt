@@ -17,8 +17,15 @@ const LONG: Sort = Sort {
     ..LEAF
 };
 
+/// One that goes on for a microsecond or so.
+const SHORT: Sort = Sort {
+    steps: 100,
+    bound: 1_000,
+    ..LEAF
+};
+
 /// How often a kernel thread is woken.
-const OFTEN: u32 = 1_000;
+const OFTEN: u32 = 2_000;
 
 const ROWS: &[Row] = &[
     Row {
@@ -247,10 +254,10 @@ const ROWS: &[Row] = &[
         cores: 1,
         slots: 1,
         acts: &[Act::Spawns(Sort {
-            answers: 4 * OFTEN as u64,
+            answers: 2 * OFTEN as u64,
             ..LEAF
         })],
-        spells: (Spell::ToTheEnd, Spell::Wakes(4 * OFTEN, false)),
+        spells: (Spell::ToTheEnd, Spell::Wakes(2 * OFTEN, false)),
         then: &[Act::Lives(0)],
         ..NOTHING
     },
@@ -284,10 +291,10 @@ const ROWS: &[Row] = &[
         cores: 2,
         slots: 2,
         spells: (
-            Spell::Polls(20 * OFTEN, LEAF, Until::NoneLives),
+            Spell::Polls(5 * OFTEN, SHORT, Until::NoneLives),
             Spell::ToTheStop,
         ),
-        then: &[Act::Answered(20 * OFTEN as u64)],
+        then: &[Act::Answered(5 * OFTEN as u64)],
         ..NOTHING
     },
     Row {
@@ -295,10 +302,10 @@ const ROWS: &[Row] = &[
         cores: 2,
         slots: 2,
         spells: (
-            Spell::Polls(OFTEN, LONG, Until::WorkReturns),
+            Spell::Polls(OFTEN / 2, LONG, Until::WorkReturns),
             Spell::ToTheStop,
         ),
-        then: &[Act::Answered(OFTEN as u64)],
+        then: &[Act::Answered(OFTEN as u64 / 2)],
         ..NOTHING
     },
 ];
