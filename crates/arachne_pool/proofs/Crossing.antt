@@ -31,12 +31,21 @@ use Rattle.arachne_arbiter.proofs.pace.Pace.TheSendSync as pace
 use Rattle.arachne_join.specs.contracts.ends.Receiver as receiver
 use Rattle.arachne_pool.specs.contracts.worker.Worker as worker
 use Rattle.arachne_pool.specs.contracts.worker.Worker.TheInside as worker_inside
+use Rattle.arachne_pool.specs.contracts.waking.Waker as waker
+use Rattle.arachne_pool.specs.contracts.waking.Waker.TheInside as waker_inside
 use Rattle.arachne_pool.specs.contracts.handle.Handle as handle
 use Rattle.arachne_pool.specs.contracts.handle.Handle.TheInside as handle_inside
 
 -- a struct may cross where its fields may
 fields_send : (D : struct.Declared) → AllSend (struct.fields D) → IsSend (struct.row D)
 fields_send D all = recorded_send (Struct (struct.shape D)) D.D D.to D.to_one (struct_send (struct.shape D) all)
+
+-- a waker may cross where its seat may
+waker_in_send : (S : RattleType) → IsSend S → IsSend (waker_inside.the_row S)
+waker_in_send S seat = fields_send (waker_inside.the_type S) (seat, tt)
+
+pub waker_send : (S : RattleType) → IsSend S → IsSend (waker.the_row S)
+waker_send S seat = search (sendable, waker_in_send S seat) depth 10
 
 module _ (J O : RattleType) (P : pool_job.Ghosts J.Denot O.Denot) (G : tagged.Ghosts J.Denot) (s : IsSend J) (o : IsSend O) where
   outcome_send : IsSend (outcome.the_row J O)

@@ -2,28 +2,20 @@
 ghost use Rattle.std.specs.Prelude.{◌≡◌, ◌<◌, IfSome};
 ghost use Rattle.arachne_pool.specs.Workers.{IsWorkerOf};
 
+use crate::board::Board;
+use crate::spells::{Spell, work};
 use crate::tasks::Task;
 use arachne_contexts::{Contexts, Seats};
 use arachne_pool::{Pool, Spawned, Worker};
 use arachne_team::{Team, TeamFault};
-use std::sync::Wait;
+use std::sync::{Arc, Wait};
 use std::time::Clock;
 
-/// How long a kernel thread works.
-#[derive(Clone, Copy)]
-pub(crate) enum Spell {
-    /// Not at all.
-    Not,
-    /// Until no job is left, or the pool is stopped.
-    ToTheEnd,
-    /// So many rounds. Then it stops the pool.
-    Rounds(u32),
-}
-
-/// Two kernel threads, for core 0 and core 1, and how long each works.
+/// Two kernel threads, for core 0 and core 1, and what each does.
 #[derive(Drop)]
 pub(crate) struct Crew<'p, C: Seats> {
     pub(crate) pool: &'p Pool<C>,
+    pub(crate) board: &'p Arc<Board>,
     pub(crate) spells: (Spell, Spell),
 }
 
@@ -66,13 +58,13 @@ impl<'p, C: Contexts<Spawned<Task>>> Team<Share<C::Seat>> for Crew<'p, C> {
         number: u8,
         share: Share<C::Seat>,
     ) -> Option<Share<C::Seat>> {
-        let Share { mut worker, .. } = share;
+        let Share { worker, .. } = share;
         let spell = if number == 0 {
             self.spells.0
         } else {
             self.spells.1
         };
-        work::<C, R>(rt, self.pool, &mut worker, number, spell);
+        let worker = work::<C, R>(rt, self.pool, self.board, worker, number, spell)?;
         let busy = usize::from(worker.tally().ended > 0);
         Some(Share { worker, busy })
     }
@@ -90,33 +82,5 @@ impl<'p, C: Contexts<Spawned<Task>>> Team<Share<C::Seat>> for Crew<'p, C> {
 
     fn fail<R: Wait>(&self, _rt: &R, _fault: TeamFault) {
         self.pool.stop();
-    }
-}
-
-/// Works for a core, which may be none of the pool's, for so long.
-fn work<C: Contexts<Spawned<Task>>, R: Wait + Clock>(
-    rt: &R,
-    pool: &Pool<C>,
-    worker: &mut Worker<C::Seat, Task>,
-    core: u8,
-    spell: Spell,
-)
-    requires { IsWorkerOf C.sits C.idle pool.now.table pool.now.cores worker.old }
-    ensures { IsWorkerOf C.sits C.idle pool.now.table pool.now.cores worker.new }
-{
-    if core >= pool.cores {
-        return;
-    }
-    match spell {
-        Spell::Not => {}
-        Spell::ToTheEnd => {
-            let _ = pool.work(rt, worker, core);
-        }
-        Spell::Rounds(rounds) => {
-            for _ in 0..rounds {
-                let _ = pool.turn(rt, worker, core);
-            }
-            pool.stop();
-        }
     }
 }

@@ -1,7 +1,9 @@
 //! Rows of acts, over the table on words.
-use crate::crew::{Crew, Share, Spell};
+use crate::board::Board;
+use crate::crew::{Crew, Share};
 use crate::orders::{GRANT, Order, RELEASE};
 use crate::rounds::{Act, Is, Row, begin, end};
+use crate::spells::Spell;
 use crate::tasks::{Joins, LEAF, PARENT, Sort, Task};
 use arachne_pool::Spawned;
 use arachne_team::work_together;
@@ -16,19 +18,19 @@ use std::time::Clock;
 type Table = WordContexts<Spawned<Task>>;
 
 /// A job that has a core for itself, the first that is empty.
-const ALONE: Sort = Sort {
+pub(crate) const ALONE: Sort = Sort {
     is_exclusive: true,
     ..LEAF
 };
 
 /// One that forks another for a core of its own and joins it.
-const ALONE_PARENT: Sort = Sort {
+pub(crate) const ALONE_PARENT: Sort = Sort {
     is_exclusive: true,
     ..PARENT
 };
 
 /// One that ends at its eleventh step.
-const ELEVEN: Sort = Sort { steps: 10, ..LEAF };
+pub(crate) const ELEVEN: Sort = Sort { steps: 10, ..LEAF };
 
 /// A tree of jobs with three children each, four generations deep: 121 jobs.
 const TREE: Sort = Sort {
@@ -57,7 +59,7 @@ const TREES: &[Act] = &[
 ];
 
 /// Two kernel threads work until no job is left.
-const TO_THE_END: (Spell, Spell) = (Spell::ToTheEnd, Spell::ToTheEnd);
+pub(crate) const TO_THE_END: (Spell, Spell) = (Spell::ToTheEnd, Spell::ToTheEnd);
 
 /// Core 1 is taken back and granted again.
 const ORDERS: &[Order] = &[
@@ -69,8 +71,12 @@ const ORDERS: &[Order] = &[
     (1_000_000_000, GRANT, 1),
 ];
 
+/// How many seconds two kernel threads may take. Where each of 1,000 signals is lost, so that each sleep ends by its time
+/// alone, they take 20.
+const MOST_SECONDS: u64 = 10;
+
 /// A row in which nothing is done.
-const NOTHING: Row = Row {
+pub(crate) const NOTHING: Row = Row {
     shows: "nothing",
     cores: 1,
     slots: 1,
@@ -486,18 +492,34 @@ const ROWS: &[Row] = &[
     },
 ];
 
-/// Whether a row comes out as it says.
-fn holds<R: Threads + Wait + Clock + Sync>(rt: &R, alloc: Global, row: &Row) -> bool {
-    let Some((pool, worker)) = begin::<Table, R>(rt, alloc, row) else {
+/// Whether a row comes out as it says, and in time.
+pub(crate) fn holds<R: Threads + Wait + Clock + Sync>(rt: &R, alloc: Global, row: &Row) -> bool {
+    let Some(board) = Board::new(alloc) else {
+        return false;
+    };
+    let Some((pool, worker)) = begin::<Table, R>(rt, alloc, &board, row) else {
         return false;
     };
     let crew = Crew {
         pool: &pool,
+        board: &board,
         spells: row.spells,
     };
+    let begun = seconds(rt);
     match work_together(rt, alloc, &crew, Share { worker, busy: 0 }) {
-        Some(share) => end::<Table, R>(rt, alloc, pool, share, row),
+        Some(share) => {
+            let took = seconds(rt).saturating_sub(begun);
+            took < MOST_SECONDS && end::<Table, R>(rt, alloc, &board, pool, share, row)
+        }
         None => false,
+    }
+}
+
+/// The seconds of the clock, 0 where it can't be read.
+fn seconds<R: Clock>(rt: &R) -> u64 {
+    match rt.monotonic() {
+        Ok(time) => time.as_secs(),
+        Err(_) => 0,
     }
 }
 

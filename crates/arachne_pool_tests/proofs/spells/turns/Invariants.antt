@@ -1,5 +1,5 @@
 use Rattle.arachne_pool.specs.Workers.{IsWorkerOf}
-use Rattle.arachne_pool_tests.proofs.crew.work.Given as goal
+use Rattle.arachne_pool_tests.proofs.spells.turns.Given as goal
 
 -- between two rounds the worker is the pool's
 abbrev pub invariant-loop : goal.invariant-loop

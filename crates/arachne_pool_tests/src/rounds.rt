@@ -3,15 +3,17 @@ ghost use Rattle.std.specs.Prelude.{◌≡◌, ◌<◌, ◌≤◌, IfSome};
 ghost use Rattle.arachne_core.specs.declared.layout.TheConstants.{CORES, SLOTS};
 ghost use Rattle.arachne_pool.specs.Workers.{IsWorkerOf};
 
-use crate::crew::{Share, Spell};
+use crate::board::Board;
+use crate::crew::Share;
 use crate::orders::{Order, orders_of};
+use crate::spells::Spell;
 use crate::tasks::{Sort, Task};
-use arachne_contexts::Contexts;
-use arachne_core::{CORES, OccWord, SLOTS};
-use arachne_pool::{Left, Pool, PoolFault, Spawned, Worker};
+use arachne_contexts::{Contexts, Woken};
+use arachne_core::{CORES, OccWord, SLOTS, ThreadId};
+use arachne_pool::{Left, Pool, PoolFault, Refusal, Refused, Spawned, Worker};
 use arachne_shortage::Hoard;
 use std::alloc::Global;
-use std::sync::Wait;
+use std::sync::{Arc, Wait};
 use std::time::Clock;
 
 /// How many bytes are given back where a growth was refused.
@@ -27,6 +29,14 @@ pub(crate) enum Act {
     Spawns(Sort),
     /// A job is spawned and joined on core 0, and gives this, or nothing, as in a pool that is stopped.
     Joins(Sort, Option<u64>),
+    /// A job is spawned that no worker keeps, and this comes of it.
+    Tries(On, Sort, Comes),
+    /// The job of this context and generation is woken, and this comes of it.
+    Wakes(u32, u64, Wakes),
+    /// An answer comes for those that sleep. They aren't woken by that.
+    Answers,
+    /// So many have come.
+    Answered(u64),
     /// A round on a core; whether it finds anything.
     Turns(u8, bool),
     /// So many places of a core are taken, and so it is.
@@ -37,12 +47,53 @@ pub(crate) enum Act {
     Lives(u64),
     /// The worker has counted so many that were spawned.
     Counts(u64),
+    /// So many slices, steps, wakes and rests were told of a core.
+    Did(u8, u64, u64, u64, u64),
     /// The worker works on a core until no job is left, or it is to stop.
     Works(u8),
     /// A job and those that it forks end while memory is used up.
     EndsInNeed(Sort),
+    /// From now on memory is used up.
+    Hoards,
+    /// No longer.
+    Frees,
+    /// From now on more jobs may come though none lives.
+    KeepsOpen,
     /// The worker is to stop.
     Stops,
+}
+
+/// Where a job is spawned that no worker keeps.
+#[derive(Clone, Copy)]
+pub(crate) enum On {
+    /// On any core.
+    Any,
+    /// The same, with no handle.
+    AnyDetached,
+    /// On this one.
+    Core(u8),
+}
+
+/// What comes of that.
+#[derive(Clone, Copy, PartialEq)]
+pub(crate) enum Comes {
+    /// It is spawned.
+    Begins,
+    /// So many cores were seen full, or one job's alone, and so many closed.
+    NoPlace(u8, u8),
+    NoMemory,
+    NoSeat,
+}
+
+/// What comes of a wake.
+#[derive(Clone, Copy, PartialEq)]
+pub(crate) enum Wakes {
+    /// The job slept.
+    It,
+    /// It was awake.
+    Awake,
+    /// There is no such job.
+    Nobody,
 }
 
 /// How a core is.
@@ -74,6 +125,7 @@ pub(crate) struct Row {
 pub(crate) fn begin<C: Contexts<Spawned<Task>> + Drop, R: Wait + Clock>(
     rt: &R,
     alloc: Global,
+    board: &Arc<Board>,
     row: &Row,
 ) -> Option<(Pool<C>, Worker<C::Seat, Task>)>
     ensures { IfSome result (λ made. IsWorkerOf C.sits C.idle made.0.table made.0.cores made.1) }
@@ -84,11 +136,9 @@ pub(crate) fn begin<C: Contexts<Spawned<Task>> + Drop, R: Wait + Clock>(
     }
     let orders = orders_of(alloc, row.orders, cores)?;
     let (pool, worker) = Pool::<C>::new::<Task>(alloc, cores, slots, orders).ok()?;
-    let mut worker = worker;
-    if all_hold::<C, R>(rt, alloc, &pool, &mut worker, row.acts) {
-        Some((pool, worker))
-    } else {
-        None
+    match all_hold::<C, R>(rt, alloc, &pool, board, worker, row.acts) {
+        Some(worker) => Some((pool, worker)),
+        None => None,
     }
 }
 
@@ -96,19 +146,22 @@ pub(crate) fn begin<C: Contexts<Spawned<Task>> + Drop, R: Wait + Clock>(
 pub(crate) fn end<C: Contexts<Spawned<Task>> + Drop, R: Wait + Clock>(
     rt: &R,
     alloc: Global,
+    board: &Arc<Board>,
     pool: Pool<C>,
     share: Share<C::Seat>,
     row: &Row,
 ) -> bool
     requires { IsWorkerOf C.sits C.idle pool.table pool.cores share.worker }
 {
-    let Share { mut worker, busy } = share;
-    let all = all_hold::<C, R>(rt, alloc, &pool, &mut worker, row.then);
+    let Share { worker, busy } = share;
+    let Some(worker) = all_hold::<C, R>(rt, alloc, &pool, board, worker, row.then) else {
+        return false;
+    };
     let Ok(left) = pool.close(rt, alloc, worker) else {
         return false;
     };
     let sizes = (left.placed.len(), left.near.len());
-    all && busy >= row.busy && sizes == row.left && count_left(left) == row.alive
+    busy >= row.busy && sizes == row.left && count_left(left) == row.alive
 }
 
 /// How many jobs come out of those that are left.
@@ -137,23 +190,54 @@ fn count_in(job: Spawned<Task>) -> usize {
     count
 }
 
-/// Whether each act comes out as it says.
+/// The worker, where each act comes out as it says. A waker has a part of its seat meanwhile.
 fn all_hold<C: Contexts<Spawned<Task>>, R: Wait + Clock>(
     rt: &R,
     alloc: Global,
     pool: &Pool<C>,
-    worker: &mut Worker<C::Seat, Task>,
+    board: &Arc<Board>,
+    worker: Worker<C::Seat, Task>,
     acts: &[Act],
-) -> bool
-    requires worker { IsWorkerOf C.sits C.idle pool.now.table pool.now.cores worker.old }
-    ensures worker { IsWorkerOf C.sits C.idle pool.now.table pool.now.cores worker.new }
+) -> Option<Worker<C::Seat, Task>>
+    requires { IsWorkerOf C.sits C.idle pool.now.table pool.now.cores worker }
+    ensures { IfSome result (IsWorkerOf C.sits C.idle pool.now.table pool.now.cores) }
 {
+    let (mut worker, waker) = pool.split_waker(rt, worker);
+    let mut waker = waker?;
+    let mut hoard: Option<Hoard> = None;
     for act in acts {
-        if !holds::<C, R>(rt, alloc, pool, worker, *act) {
-            return false;
+        let holds = match *act {
+            Act::Wakes(context, generation, wakes) => {
+                let id = ThreadId {
+                    context,
+                    generation,
+                };
+                wakes_of(pool.wake::<R, Task>(rt, &mut waker, id)) == wakes
+            }
+            Act::Hoards => {
+                hoard = Hoard::take(alloc).ok();
+                hoard.is_some()
+            }
+            Act::Frees => {
+                hoard = None;
+                true
+            }
+            act => holds::<C, R>(rt, alloc, pool, board, &mut worker, act),
+        };
+        if !holds {
+            return None;
         }
     }
-    true
+    Some(pool.join_waker(rt, worker, waker))
+}
+
+/// What came of a wake.
+fn wakes_of(woken: Woken) -> Wakes {
+    match woken {
+        Woken::Woken => Wakes::It,
+        Woken::Already(_) => Wakes::Awake,
+        Woken::Gone | Woken::Lost(_) => Wakes::Nobody,
+    }
 }
 
 /// Whether an act of one worker comes out as it says.
@@ -161,6 +245,7 @@ fn holds<C: Contexts<Spawned<Task>>, R: Wait + Clock>(
     rt: &R,
     alloc: Global,
     pool: &Pool<C>,
+    board: &Arc<Board>,
     worker: &mut Worker<C::Seat, Task>,
     act: Act,
 ) -> bool
@@ -168,19 +253,38 @@ fn holds<C: Contexts<Spawned<Task>>, R: Wait + Clock>(
     ensures worker { IsWorkerOf C.sits C.idle pool.now.table pool.now.cores worker.new }
 {
     match act {
-        Act::Spawns(sort) => pool.spawn(rt, worker, Task::new(sort)).is_ok(),
+        Act::Spawns(sort) => match Task::new(sort, board) {
+            Some(task) => pool.spawn(rt, worker, task).is_ok(),
+            None => false,
+        },
         Act::Turns(core, finds) if core < pool.cores => pool.turn(rt, worker, core) == Ok(finds),
         Act::Works(core) if core < pool.cores => pool.work(rt, worker, core).is_ok(),
         Act::Joins(sort, wanted) if pool.cores > 0 => {
-            joins::<C, R>(rt, pool, worker, sort, wanted)
+            joins::<C, R>(rt, pool, board, worker, sort, wanted)
+        }
+        Act::Tries(on, sort, comes) => {
+            tried::<C, R>(rt, pool, board, worker, on, sort) == Some(comes)
         }
         Act::EndsInNeed(sort) if pool.cores > 0 => {
-            ends_in_need::<C, R>(rt, alloc, pool, worker, sort)
+            ends_in_need::<C, R>(rt, alloc, pool, board, worker, sort)
         }
         Act::Orders(orders) => match orders_of(alloc, orders, pool.cores) {
             Some(orders) => pool.order(rt, worker, orders).is_ok(),
             None => false,
         },
+        Act::Counts(count) => worker.tally().spawned == count,
+        act => is_so::<C, R>(rt, pool, board, act),
+    }
+}
+
+/// Whether an act without a worker comes out as it says.
+fn is_so<C: Contexts<Spawned<Task>>, R: Wait>(
+    rt: &R,
+    pool: &Pool<C>,
+    board: &Board,
+    act: Act,
+) -> bool {
+    match act {
         Act::Has(core, taken, is) if core < pool.cores => {
             match OccWord::from_word(pool.table.glance(rt, core)) {
                 Some(now) => {
@@ -192,7 +296,20 @@ fn holds<C: Contexts<Spawned<Task>>, R: Wait + Clock>(
             }
         }
         Act::Lives(count) => pool.live() == count,
-        Act::Counts(count) => worker.tally().spawned == count,
+        Act::Did(core, slices, steps, wakes, rests) => {
+            let done = pool.statistics(core);
+            (done.slices, done.steps) == (slices, steps)
+                && (done.wakes, done.rests) == (wakes, rests)
+        }
+        Act::Answers => {
+            board.answer();
+            true
+        }
+        Act::Answered(count) => board.answers() == count,
+        Act::KeepsOpen => {
+            pool.keep_open();
+            true
+        }
         Act::Stops => {
             pool.stop();
             true
@@ -201,10 +318,45 @@ fn holds<C: Contexts<Spawned<Task>>, R: Wait + Clock>(
     }
 }
 
+/// What comes of a spawn of a job that no worker keeps, on a core that there is.
+fn tried<C: Contexts<Spawned<Task>>, R: Wait>(
+    rt: &R,
+    pool: &Pool<C>,
+    board: &Arc<Board>,
+    worker: &mut Worker<C::Seat, Task>,
+    on: On,
+    sort: Sort,
+) -> Option<Comes>
+    requires worker { IsWorkerOf C.sits C.idle pool.now.table pool.now.cores worker.old }
+    ensures worker { IsWorkerOf C.sits C.idle pool.now.table pool.now.cores worker.new }
+{
+    let task = Task::new(sort, board)?;
+    let refused = match on {
+        On::Any => pool.try_spawn(rt, worker, task).err(),
+        On::AnyDetached => pool.spawn_detached(rt, worker, task).err(),
+        On::Core(core) if core < pool.cores => pool.try_spawn_on(rt, worker, core, task).err(),
+        On::Core(_) => return None,
+    };
+    Some(comes_of(refused))
+}
+
+/// Why a job came back, if it did.
+fn comes_of(refused: Option<Refused<Task>>) -> Comes {
+    match refused {
+        None => Comes::Begins,
+        Some(Refused { why, .. }) => match why {
+            Refusal::NoPlace(seen) => Comes::NoPlace(seen.full(), seen.closed()),
+            Refusal::Memory => Comes::NoMemory,
+            Refusal::NoSeat => Comes::NoSeat,
+        },
+    }
+}
+
 /// Spawns a job and joins it on core 0. Whether it gives this, or nothing where the pool is stopped.
 fn joins<C: Contexts<Spawned<Task>>, R: Wait + Clock>(
     rt: &R,
     pool: &Pool<C>,
+    board: &Arc<Board>,
     worker: &mut Worker<C::Seat, Task>,
     sort: Sort,
     wanted: Option<u64>,
@@ -213,7 +365,10 @@ fn joins<C: Contexts<Spawned<Task>>, R: Wait + Clock>(
     requires core { 0 < pool.now.cores }
     ensures worker { IsWorkerOf C.sits C.idle pool.now.table pool.now.cores worker.new }
 {
-    let Ok(handle) = pool.spawn(rt, worker, Task::new(sort)) else {
+    let Some(task) = Task::new(sort, board) else {
+        return false;
+    };
+    let Ok(handle) = pool.spawn(rt, worker, task) else {
         return false;
     };
     match pool.join(rt, worker, 0, handle) {
@@ -228,6 +383,7 @@ fn ends_in_need<C: Contexts<Spawned<Task>>, R: Wait + Clock>(
     rt: &R,
     alloc: Global,
     pool: &Pool<C>,
+    board: &Arc<Board>,
     worker: &mut Worker<C::Seat, Task>,
     sort: Sort,
 ) -> bool
@@ -249,7 +405,10 @@ fn ends_in_need<C: Contexts<Spawned<Task>>, R: Wait + Clock>(
             rounds = rounds.saturating_add(u32::from(!turned));
             turned
         } else {
-            is_spawned = pool.spawn(rt, worker, Task::new(sort)).is_ok();
+            is_spawned = match Task::new(sort, board) {
+                Some(task) => pool.spawn(rt, worker, task).is_ok(),
+                None => false,
+            };
             spawns = spawns.saturating_add(u32::from(!is_spawned));
             is_spawned
         };

@@ -3,6 +3,8 @@
 #![tactic(auto)]
 
 #[cfg(test)]
+mod board;
+#[cfg(test)]
 mod crew;
 #[cfg(test)]
 mod orders;
@@ -10,5 +12,9 @@ mod orders;
 mod rounds;
 #[cfg(test)]
 mod rows;
+#[cfg(test)]
+mod serving;
+#[cfg(test)]
+mod spells;
 #[cfg(test)]
 mod tasks;

@@ -1,15 +1,21 @@
 //! The jobs of all tests: each counts itself and the jobs that it has joined.
+use crate::board::Board;
 use arachne_contexts::Tagged;
+use arachne_core::ThreadId;
 use arachne_pool::{PoolJob, Step};
+use std::sync::Arc;
 
-/// What a job does: it forks children, joins them, goes on for some steps and ends.
+/// What a job does: it forks children, joins them, sleeps until answers come, goes on for some steps and ends.
 #[derive(Clone, Copy)]
 pub(crate) struct Sort {
     /// How many generations there are below it.
     pub(crate) depth: u32,
     /// How many children it forks.
     pub(crate) forks: u32,
-    /// How many steps it goes on once it has joined them.
+    /// How many answers it wants, once it has forked the last one and joined them: it sleeps until so many have come. A
+    /// child wants one fewer.
+    pub(crate) answers: u64,
+    /// How many steps it goes on before each fork, and before it ends.
     pub(crate) steps: u32,
     /// The most steps of a slice.
     pub(crate) bound: u32,
@@ -32,6 +38,7 @@ pub(crate) enum Joins {
 pub(crate) const LEAF: Sort = Sort {
     depth: 0,
     forks: 0,
+    answers: 0,
     steps: 0,
     bound: 1,
     joins: Joins::AtLast,
@@ -45,11 +52,13 @@ pub(crate) const PARENT: Sort = Sort {
     ..LEAF
 };
 
-/// A job in a pool: how many children it has forked and not joined, how many steps it has gone on, and how many jobs it
-/// has counted.
+/// A job in a pool: whether it has made a step, how many children it has forked and not joined, how many steps it has gone
+/// on, and how many jobs it has counted.
 #[derive(Drop)]
 pub(crate) struct Task {
+    board: Arc<Board>,
     sort: Sort,
+    has_begun: bool,
     forked: u32,
     awaited: u32,
     steps: u32,
@@ -57,14 +66,34 @@ pub(crate) struct Task {
 }
 
 impl Task {
-    pub(crate) fn new(sort: Sort) -> Task {
-        Task {
+    /// A job of this sort. None where too many have the board.
+    pub(crate) fn new(sort: Sort, board: &Arc<Board>) -> Option<Task> {
+        Some(Task {
+            board: board.clone().ok()?,
             sort,
+            has_begun: false,
             forked: 0,
             awaited: 0,
             steps: 0,
             counted: 1,
+        })
+    }
+
+    /// The child that it forks next.
+    fn child(&mut self) -> Option<Task> {
+        if self.sort.depth == 0 || self.forked >= self.sort.forks {
+            return None;
         }
+        let sort = Sort {
+            depth: self.sort.depth - 1,
+            answers: self.sort.answers.saturating_sub(1),
+            ..self.sort
+        };
+        let child = Task::new(sort, &self.board)?;
+        self.forked += 1;
+        self.awaited = self.awaited.wrapping_add(1);
+        self.steps = 0;
+        Some(child)
     }
 
     /// Whether it is to join a child before it goes on.
@@ -93,20 +122,22 @@ impl PoolJob for Task {
     ghost awaits = { λ task children. Unit {0} };
 
     fn step(&mut self) -> Step<Task, u64> {
+        if !self.has_begun {
+            self.has_begun = true;
+            self.board.begins();
+        }
         if self.is_to_join() {
             return Step::Waits;
-        }
-        if self.sort.depth > 0 && self.forked < self.sort.forks {
-            self.forked += 1;
-            self.awaited = self.awaited.wrapping_add(1);
-            return Step::Forks(Task::new(Sort {
-                depth: self.sort.depth - 1,
-                ..self.sort
-            }));
         }
         if self.steps < self.sort.steps {
             self.steps += 1;
             return Step::Again;
+        }
+        if let Some(child) = self.child() {
+            return Step::Forks(child);
+        }
+        if self.board.answers() < self.sort.answers {
+            return Step::Sleeps;
         }
         Step::Done(self.counted)
     }
@@ -118,6 +149,10 @@ impl PoolJob for Task {
 
     fn bound(&self) -> u32 {
         self.sort.bound
+    }
+
+    fn sleeps_as(&self, id: ThreadId) {
+        self.board.sleeps_as(id);
     }
 
     fn is_exclusive(&self) -> bool {

@@ -1,5 +1,5 @@
 use Rattle.arachne_pool_tests.proofs.rounds.count_in.Given as goal
 
 -- with each job that comes out fewer are left
-abbrev pub decreases-loop : goal.decreases-loop
-decreases-loop l = l.jobs
+abbrev pub decreases-loop-count : goal.decreases-loop-count
+decreases-loop-count l = l.jobs

@@ -1,0 +1,319 @@
+//! Rows of what a server wants of a pool: sleeps and wakes, refusals, statistics, and kernel threads that are woken at
+//! once.
+use crate::orders::RELEASE;
+use crate::rounds::{Act, Comes, Is, On, Row, Wakes};
+use crate::rows::{ALONE, ALONE_PARENT, ELEVEN, NOTHING, TO_THE_END, holds};
+use crate::spells::{Spell, Until};
+use crate::tasks::{Joins, LEAF, PARENT, Sort};
+use std::test::Fail;
+
+/// One that sleeps until an answer has come.
+const SLEEPER: Sort = Sort { answers: 1, ..LEAF };
+
+/// One that goes on for so long that a kernel thread which waits for it sleeps.
+const LONG: Sort = Sort {
+    steps: 50_000,
+    bound: 1_000,
+    ..LEAF
+};
+
+/// One that goes on for a microsecond or so.
+const SHORT: Sort = Sort {
+    steps: 100,
+    bound: 1_000,
+    ..LEAF
+};
+
+/// How often a kernel thread is woken.
+const OFTEN: u32 = 2_000;
+
+const ROWS: &[Row] = &[
+    Row {
+        shows: "a job that sleeps has no slice until it is woken, and a late wake hits no later job at its place",
+        cores: 1,
+        slots: 1,
+        acts: &[
+            Act::Spawns(SLEEPER),
+            Act::Wakes(0, 0, Wakes::Awake),
+            Act::Turns(0, true),
+            Act::Turns(0, false),
+            Act::Answers,
+            Act::Turns(0, false),
+            Act::Wakes(0, 0, Wakes::It),
+            Act::Wakes(0, 0, Wakes::Awake),
+            Act::Turns(0, true),
+            Act::Lives(0),
+            Act::Wakes(0, 0, Wakes::Nobody),
+            Act::Spawns(Sort { answers: 2, ..LEAF }),
+            Act::Turns(0, true),
+            Act::Answers,
+            Act::Wakes(0, 0, Wakes::Nobody),
+            Act::Turns(0, false),
+            Act::Lives(1),
+            Act::Wakes(0, 1, Wakes::It),
+            Act::Turns(0, true),
+            Act::Lives(0),
+        ],
+        ..NOTHING
+    },
+    Row {
+        shows: "a job that is woken before its answer has come sleeps again",
+        cores: 1,
+        slots: 1,
+        acts: &[
+            Act::Spawns(SLEEPER),
+            Act::Turns(0, true),
+            Act::Wakes(0, 0, Wakes::It),
+            Act::Turns(0, true),
+            Act::Turns(0, false),
+            Act::Answers,
+            Act::Wakes(0, 0, Wakes::It),
+            Act::Turns(0, true),
+            Act::Lives(0),
+        ],
+        ..NOTHING
+    },
+    Row {
+        shows: "a child that ends in its parent's place with its wake to come wakes the parent, which looks and sleeps again",
+        cores: 1,
+        slots: 1,
+        acts: &[
+            Act::Spawns(Sort {
+                answers: 2,
+                ..PARENT
+            }),
+            Act::Turns(0, true),
+            Act::Turns(0, true),
+            Act::Turns(0, true),
+            Act::Turns(0, false),
+            Act::Lives(2),
+            Act::Answers,
+            Act::Wakes(0, 0, Wakes::It),
+            Act::Turns(0, true),
+            Act::Lives(1),
+            Act::Turns(0, true),
+            Act::Turns(0, false),
+            Act::Wakes(0, 0, Wakes::It),
+            Act::Turns(0, true),
+            Act::Turns(0, false),
+            Act::Lives(1),
+            Act::Answers,
+            Act::Wakes(0, 0, Wakes::It),
+            Act::Turns(0, true),
+            Act::Lives(0),
+        ],
+        ..NOTHING
+    },
+    Row {
+        shows: "a job that sleeps beside a child that waits goes on, so that the child gets a place once one is free",
+        cores: 1,
+        slots: 2,
+        acts: &[
+            Act::Spawns(SLEEPER),
+            Act::Spawns(Sort {
+                joins: Joins::Never,
+                answers: 9,
+                ..PARENT
+            }),
+            Act::Turns(0, true),
+            Act::Turns(0, true),
+            Act::Turns(0, true),
+            Act::Has(0, 2, Is::Open),
+            Act::Lives(3),
+            Act::Answers,
+            Act::Wakes(0, 0, Wakes::It),
+            Act::Turns(0, true),
+            Act::Has(0, 2, Is::Open),
+            Act::Lives(2),
+            Act::Turns(0, true),
+            Act::Turns(0, false),
+        ],
+        left: (2, 0),
+        alive: 2,
+        ..NOTHING
+    },
+    Row {
+        shows: "a job comes back where each core is full, one job's alone or closed, and only there",
+        cores: 3,
+        slots: 1,
+        orders: &[(0, RELEASE, 2)],
+        acts: &[
+            Act::Turns(0, false),
+            Act::Tries(On::Any, ALONE, Comes::Begins),
+            Act::Tries(On::Any, LEAF, Comes::Begins),
+            Act::Has(1, 1, Is::Open),
+            Act::Tries(On::Any, LEAF, Comes::NoPlace(2, 1)),
+            Act::Tries(On::Any, ALONE, Comes::NoPlace(2, 1)),
+            Act::Tries(On::AnyDetached, LEAF, Comes::NoPlace(2, 1)),
+            Act::Tries(On::Core(0), LEAF, Comes::NoPlace(1, 0)),
+            Act::Tries(On::Core(1), LEAF, Comes::NoPlace(1, 0)),
+            Act::Tries(On::Core(2), LEAF, Comes::NoPlace(0, 1)),
+            Act::Lives(2),
+            Act::Counts(2),
+            Act::Turns(1, true),
+            Act::Tries(On::Core(1), LEAF, Comes::Begins),
+            Act::Has(1, 1, Is::Open),
+            Act::Turns(1, true),
+            Act::Tries(On::AnyDetached, LEAF, Comes::Begins),
+            Act::Has(1, 1, Is::Open),
+            Act::Turns(0, true),
+            Act::Turns(1, true),
+            Act::Lives(0),
+            Act::Counts(4),
+        ],
+        ..NOTHING
+    },
+    Row {
+        shows: "a worker that was split off and has worked for no core keeps no job, and the first one keeps it",
+        cores: 2,
+        slots: 1,
+        acts: &[Act::Works(0)],
+        spells: (Spell::Not, Spell::Spawns(4)),
+        then: &[Act::Lives(2), Act::Counts(2), Act::Spawns(LEAF)],
+        left: (2, 1),
+        alive: 3,
+        ..NOTHING
+    },
+    Row {
+        shows: "each core's slices, steps, wakes by ends and rests are told",
+        cores: 2,
+        slots: 1,
+        acts: &[
+            Act::Tries(On::Core(1), Sort { bound: 4, ..ELEVEN }, Comes::Begins),
+            Act::Turns(1, true),
+            Act::Did(1, 1, 4, 0, 0),
+            Act::Turns(1, true),
+            Act::Turns(1, true),
+            Act::Turns(1, false),
+            Act::Did(1, 3, 11, 0, 0),
+            Act::Did(0, 0, 0, 0, 0),
+            Act::Spawns(ALONE_PARENT),
+            Act::Turns(0, true),
+            Act::Turns(0, true),
+            Act::Turns(0, true),
+            Act::Turns(1, true),
+            Act::Did(1, 4, 12, 1, 0),
+            Act::Works(0),
+            Act::Lives(0),
+            Act::Did(0, 4, 3, 0, 1),
+        ],
+        ..NOTHING
+    },
+    Row {
+        shows: "a stop leaves jobs that sleep, which are handed back",
+        cores: 2,
+        slots: 2,
+        acts: &[
+            Act::Spawns(SLEEPER),
+            Act::Spawns(SLEEPER),
+            Act::Spawns(SLEEPER),
+            Act::Turns(0, true),
+            Act::Turns(1, true),
+        ],
+        spells: (Spell::Rounds(10_000), Spell::ToTheEnd),
+        then: &[Act::Lives(3)],
+        left: (3, 0),
+        alive: 3,
+        ..NOTHING
+    },
+    Row {
+        shows: "a spawn that is refused memory leaves all as it was, and a wake and a spawn without a handle take none",
+        cores: 1,
+        slots: 3,
+        acts: &[
+            Act::Hoards,
+            Act::Tries(On::Any, LEAF, Comes::NoMemory),
+            Act::Tries(On::Core(0), LEAF, Comes::NoMemory),
+            Act::Has(0, 0, Is::Open),
+            Act::Lives(0),
+            Act::Tries(On::AnyDetached, SLEEPER, Comes::Begins),
+            Act::Turns(0, true),
+            Act::Answers,
+            Act::Wakes(0, 0, Wakes::It),
+            Act::Counts(1),
+            Act::Frees,
+            Act::Works(0),
+            Act::Lives(0),
+        ],
+        ..NOTHING
+    },
+    Row {
+        shows: "a job that sleeps on a core whose kernel thread does is woken at once, each time",
+        cores: 1,
+        slots: 1,
+        acts: &[Act::Spawns(Sort {
+            answers: OFTEN as u64,
+            ..LEAF
+        })],
+        spells: (Spell::ToTheEnd, Spell::Wakes(OFTEN, true)),
+        then: &[Act::Lives(0)],
+        ..NOTHING
+    },
+    Row {
+        shows: "a wake that comes before the rest is not lost",
+        cores: 1,
+        slots: 1,
+        acts: &[Act::Spawns(Sort {
+            answers: 2 * OFTEN as u64,
+            ..LEAF
+        })],
+        spells: (Spell::ToTheEnd, Spell::Wakes(2 * OFTEN, false)),
+        then: &[Act::Lives(0)],
+        ..NOTHING
+    },
+    Row {
+        shows: "in a pool that is kept open a kernel thread that sleeps is woken by each spawn, until no more come",
+        cores: 2,
+        slots: 1,
+        acts: &[Act::Works(0), Act::Spawns(ALONE), Act::KeepsOpen],
+        spells: (Spell::Feeds(2 * OFTEN), Spell::ToTheEnd),
+        then: &[Act::Lives(0), Act::Counts(2 * OFTEN as u64 + 1)],
+        ..NOTHING
+    },
+    Row {
+        shows: "a fork wakes the kernel thread of its core, and an end that of its parent's",
+        cores: 2,
+        slots: 1,
+        acts: &[Act::Spawns(Sort {
+            forks: OFTEN,
+            joins: Joins::InTurn,
+            steps: LONG.steps,
+            bound: LONG.bound,
+            ..ALONE_PARENT
+        })],
+        spells: TO_THE_END,
+        busy: 2,
+        then: &[Act::Lives(0), Act::Counts(OFTEN as u64 + 1)],
+        ..NOTHING
+    },
+    Row {
+        shows: "once no job lives each result is there",
+        cores: 2,
+        slots: 2,
+        spells: (
+            Spell::Polls(5 * OFTEN, SHORT, Until::NoneLives),
+            Spell::ToTheStop,
+        ),
+        then: &[Act::Answered(5 * OFTEN as u64)],
+        ..NOTHING
+    },
+    Row {
+        shows: "the last end wakes a kernel thread that sleeps, and once it returns from its work each result is there",
+        cores: 2,
+        slots: 2,
+        spells: (
+            Spell::Polls(OFTEN / 2, LONG, Until::WorkReturns),
+            Spell::ToTheStop,
+        ),
+        then: &[Act::Answered(OFTEN as u64 / 2)],
+        ..NOTHING
+    },
+];
+
+#[test]
+fn each_row_of_a_server_holds(rt: HostRuntime) -> Result<(), Fail> {
+    for row in ROWS {
+        assert!(rt; holds(&rt, rt.alloc(), row), "{}", row.shows);
+    }
+    Ok(())
+}

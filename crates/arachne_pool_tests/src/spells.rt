@@ -1,0 +1,291 @@
+//! What a kernel thread of a row does.
+ghost use Rattle.std.specs.Prelude.{◌≡◌, ◌<◌, IfSome};
+ghost use Rattle.arachne_pool.specs.Workers.{IsWorkerOf};
+
+use crate::board::Board;
+use crate::tasks::{LEAF, Sort, Task};
+use arachne_contexts::{Contexts, Seats};
+use arachne_pool::{Pool, Spawned, Worker};
+use std::hint::spin_loop;
+use std::sync::atomic::{AtomicU64, Ordering};
+use std::sync::{Arc, Wait};
+use std::thread::yield_now;
+use std::time::Clock;
+
+/// How often a kernel thread looks again at once before it yields its processor.
+const LOOKS: u32 = 10_000;
+
+/// How often in turn a count has to be seen unchanged for its core's kernel thread to be taken to sleep.
+const SAME: u32 = 3_000;
+
+/// What a kernel thread does.
+#[derive(Clone, Copy)]
+pub(crate) enum Spell {
+    /// Nothing.
+    Not,
+    /// It works on its core until no job is left, or the pool is stopped.
+    ToTheEnd,
+    /// It does so again each time when it is its turn, until the pool is stopped.
+    ToTheStop,
+    /// It works so many rounds. Then it stops the pool.
+    Rounds(u32),
+    /// It spawns so many leaves, which no worker may keep, and works for no core.
+    Spawns(u32),
+    /// It spawns so many leaves for core 1, each once that core's kernel thread sleeps and one job alone lives. Then it
+    /// works to the end, and no more come.
+    Feeds(u32),
+    /// So many times an answer comes, once the job that wants it sleeps, which is woken then; its core's kernel thread
+    /// sleeps too, or that isn't waited for.
+    Wakes(u32, bool),
+    /// So many times it spawns a job on core 1, passes the turn, and once that job has begun there works to the end, or
+    /// looks until no job lives. Then it takes the result, if it is there, as an answer. At last it stops the pool.
+    Polls(u32, Sort, Until),
+}
+
+/// How a kernel thread waits until no job lives.
+#[derive(Clone, Copy, PartialEq)]
+pub(crate) enum Until {
+    WorkReturns,
+    NoneLives,
+}
+
+/// Does this as the kernel thread of a core, which may be none of the pool's. The worker, if it has its seat still.
+pub(crate) fn work<C: Contexts<Spawned<Task>>, R: Wait + Clock>(
+    rt: &R,
+    pool: &Pool<C>,
+    board: &Arc<Board>,
+    worker: Worker<C::Seat, Task>,
+    core: u8,
+    spell: Spell,
+) -> Option<Worker<C::Seat, Task>>
+    requires { IsWorkerOf C.sits C.idle pool.now.table pool.now.cores worker }
+    ensures { IfSome result (IsWorkerOf C.sits C.idle pool.now.table pool.now.cores) }
+{
+    let mut worker = worker;
+    match spell {
+        Spell::Not => {}
+        Spell::ToTheEnd if core < pool.cores => {
+            let _ = pool.work(rt, &mut worker, core);
+        }
+        Spell::ToTheStop if core < pool.cores => {
+            to_the_stop::<C, R>(rt, pool, board, &mut worker, core);
+        }
+        Spell::Rounds(rounds) if core < pool.cores => {
+            turns::<C, R>(rt, pool, &mut worker, core, rounds);
+        }
+        Spell::Spawns(jobs) => spawns::<C, R>(rt, pool, board, &mut worker, jobs),
+        Spell::Feeds(jobs) if pool.cores > 1 => {
+            feeds::<C, R>(rt, pool, board, &mut worker, jobs);
+        }
+        Spell::Wakes(times, sleeps) => {
+            return wakes::<C, R>(rt, pool, board, worker, times, sleeps);
+        }
+        Spell::Polls(times, sort, until) if pool.cores > 1 => {
+            polls::<C, R>(rt, pool, board, &mut worker, times, sort, until);
+        }
+        _ => pool.stop(),
+    }
+    Some(worker)
+}
+
+/// `Spell::ToTheStop`, with a wait before each time.
+fn to_the_stop<C: Contexts<Spawned<Task>>, R: Wait + Clock>(
+    rt: &R,
+    pool: &Pool<C>,
+    board: &Board,
+    worker: &mut Worker<C::Seat, Task>,
+    core: u8,
+)
+    requires worker { IsWorkerOf C.sits C.idle pool.now.table pool.now.cores worker.old }
+    requires core { core < pool.now.cores }
+    ensures worker { IsWorkerOf C.sits C.idle pool.now.table pool.now.cores worker.new }
+{
+    let mut turns: u64 = 0;
+    for _ in rt.forever() {
+        if pool.is_stopped() {
+            return;
+        }
+        board.await_turn(rt, turns);
+        turns = board.turns();
+        let _ = pool.work(rt, worker, core);
+    }
+}
+
+/// `Spell::Rounds`.
+fn turns<C: Contexts<Spawned<Task>>, R: Wait + Clock>(
+    rt: &R,
+    pool: &Pool<C>,
+    worker: &mut Worker<C::Seat, Task>,
+    core: u8,
+    rounds: u32,
+)
+    requires worker { IsWorkerOf C.sits C.idle pool.now.table pool.now.cores worker.old }
+    requires core { core < pool.now.cores }
+    ensures worker { IsWorkerOf C.sits C.idle pool.now.table pool.now.cores worker.new }
+{
+    for _ in 0..rounds {
+        let _ = pool.turn(rt, worker, core);
+    }
+    pool.stop();
+}
+
+/// `Spell::Spawns`.
+fn spawns<C: Contexts<Spawned<Task>>, R: Wait>(
+    rt: &R,
+    pool: &Pool<C>,
+    board: &Arc<Board>,
+    worker: &mut Worker<C::Seat, Task>,
+    jobs: u32,
+)
+    requires worker { IsWorkerOf C.sits C.idle pool.now.table pool.now.cores worker.old }
+    ensures worker { IsWorkerOf C.sits C.idle pool.now.table pool.now.cores worker.new }
+{
+    for _ in 0..jobs {
+        if let Some(task) = Task::new(LEAF, board) {
+            let _ = pool.spawn(rt, worker, task);
+        }
+    }
+}
+
+/// `Spell::Feeds`: every other leaf is one that a worker might keep, if it had no place.
+fn feeds<C: Contexts<Spawned<Task>>, R: Wait + Clock>(
+    rt: &R,
+    pool: &Pool<C>,
+    board: &Arc<Board>,
+    worker: &mut Worker<C::Seat, Task>,
+    jobs: u32,
+)
+    requires worker { IsWorkerOf C.sits C.idle pool.now.table pool.now.cores worker.old }
+    requires core { 1 < pool.now.cores }
+    ensures worker { IsWorkerOf C.sits C.idle pool.now.table pool.now.cores worker.new }
+{
+    for job in 0..jobs {
+        let Some(task) = Task::new(LEAF, board) else {
+            return;
+        };
+        await_sleep(rt, pool, 1);
+        let is_begun = if job % 2 == 0 {
+            pool.spawn(rt, worker, task).is_ok()
+        } else {
+            pool.try_spawn(rt, worker, task).is_ok()
+        };
+        if !is_begun {
+            pool.stop();
+        }
+        await_ends(rt, pool, 1);
+    }
+    pool.finish();
+    let _ = pool.work(rt, worker, 0);
+}
+
+/// `Spell::Wakes`.
+fn wakes<C: Contexts<Spawned<Task>>, R: Wait + Clock>(
+    rt: &R,
+    pool: &Pool<C>,
+    board: &Board,
+    worker: Worker<C::Seat, Task>,
+    times: u32,
+    sleeps: bool,
+) -> Option<Worker<C::Seat, Task>>
+    requires { IsWorkerOf C.sits C.idle pool.now.table pool.now.cores worker }
+    ensures { IfSome result (IsWorkerOf C.sits C.idle pool.now.table pool.now.cores) }
+{
+    let (worker, waker) = pool.split_waker(rt, worker);
+    let mut waker = waker?;
+    for time in 0..times {
+        await_more(rt, pool, &board.sleeps, time);
+        if sleeps {
+            await_sleep(rt, pool, 0);
+        }
+        board.answer();
+        let _ = pool.wake::<R, Task>(rt, &mut waker, board.id());
+    }
+    Some(pool.join_waker(rt, worker, waker))
+}
+
+/// `Spell::Polls`.
+fn polls<C: Contexts<Spawned<Task>>, R: Wait + Clock>(
+    rt: &R,
+    pool: &Pool<C>,
+    board: &Arc<Board>,
+    worker: &mut Worker<C::Seat, Task>,
+    times: u32,
+    sort: Sort,
+    until: Until,
+)
+    requires worker { IsWorkerOf C.sits C.idle pool.now.table pool.now.cores worker.old }
+    requires core { 1 < pool.now.cores }
+    ensures worker { IsWorkerOf C.sits C.idle pool.now.table pool.now.cores worker.new }
+{
+    for time in 0..times {
+        let Some(task) = Task::new(sort, board) else {
+            break;
+        };
+        let Ok((handle, _)) = pool.try_spawn_on(rt, worker, 1, task) else {
+            break;
+        };
+        board.pass_turn();
+        await_more(rt, pool, &board.begun, time);
+        match until {
+            Until::WorkReturns => {
+                let _ = pool.work(rt, worker, 0);
+            }
+            Until::NoneLives => await_ends(rt, pool, 0),
+        }
+        if handle.poll().is_ok() {
+            board.answer();
+        }
+    }
+    pool.stop();
+    board.pass_turn();
+}
+
+/// Waits until a count of the board is over this, or the pool is stopped.
+fn await_more<C: Seats, R: Wait>(rt: &R, pool: &Pool<C>, count: &AtomicU64, than: u32) {
+    let mut looks: u32 = 0;
+    for _ in rt.forever() {
+        if count.load(Ordering::SeqCst) > u64::from(than) || pool.is_stopped() {
+            return;
+        }
+        looks = look_again(looks);
+    }
+}
+
+/// Waits until so many jobs live at most, or the pool is stopped.
+fn await_ends<C: Seats, R: Wait>(rt: &R, pool: &Pool<C>, most: u64) {
+    let mut looks: u32 = 0;
+    for _ in rt.forever() {
+        if pool.live() <= most || pool.is_stopped() {
+            return;
+        }
+        looks = look_again(looks);
+    }
+}
+
+/// Waits until the kernel thread of a core is likely to sleep: its rests have stayed the same for a while.
+fn await_sleep<C: Seats, R: Wait>(rt: &R, pool: &Pool<C>, core: u8) {
+    let mut rests = pool.statistics(core).rests;
+    let mut same: u32 = 0;
+    for _ in rt.forever() {
+        if same >= SAME || pool.is_stopped() {
+            return;
+        }
+        spin_loop();
+        let now = pool.statistics(core).rests;
+        same = if now == rests {
+            same.saturating_add(1)
+        } else {
+            0
+        };
+        rests = now;
+    }
+}
+
+/// Another look is taken, at once for a while, and then after others had the processor. How many there were.
+fn look_again(looks: u32) -> u32 {
+    if looks < LOOKS {
+        return looks + 1;
+    }
+    yield_now();
+    looks
+}
