@@ -27,7 +27,6 @@ use Rattle.arachne_pool.specs.contracts.stack.Frame as frame
 use Rattle.arachne_pool.specs.contracts.stack.Frame.TheInside as frame_inside
 use Rattle.arachne_pool.specs.contracts.stack.Stack as stack
 use Rattle.arachne_pool.specs.contracts.stack.Stack.TheInside as stack_inside
-use Rattle.arachne_workers.proofs.queue.Agenda.TheSendSync as agenda
 use Rattle.arachne_arbiter.proofs.pace.Pace.TheSendSync as pace
 use Rattle.arachne_join.specs.contracts.ends.Receiver as receiver
 use Rattle.arachne_pool.specs.contracts.worker.Worker as worker

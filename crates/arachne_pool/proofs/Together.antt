@@ -1,6 +1,6 @@
 -- How jobs that run together go on together.
-use Rattle.std.proofs.Common.{◌≡◌, refl, ℕ, suc, ◌+◌, ◌-◌, ◌^◌, ◌<◌, ◌≤◌, List, [], ◌∷◌, length, get_or, take, drop, Option, None, Some, arith, add-one}
-use Rattle.arachne_pool.specs.Frames.{CountsEach, Framed, RunTogether, first_job}
+use Rattle.std.proofs.Common.{◌≡◌, refl, ℕ, ◌+◌, List, [], ◌∷◌, take, drop, Option, None, Some, arith, add-one}
+use Rattle.arachne_pool.specs.Frames.{CountsEach, Framed, RunTogether}
 use Rattle.arachne_pool.specs.declared.tally.Tally.{Tally}
 
 module _ {A : Type 0} where
@@ -9,11 +9,6 @@ module _ {A : Type 0} where
 
   pub drop-first : (n : ℕ) (x : A) (xs : List A) → drop (n + 1) (x ∷ xs) ≡ drop n xs
   drop-first n x xs = rw add-one refl
-
-pub first_job-is : {Job : Type 0} (items : List (Framed Job)) (top : Job) (x : Framed Job) → 0 < length items → x ≡ get_or items 0 x
-    → x.job ≡ first_job items top
-first_job-is [] top x within same = grind arith
-first_job-is (y ∷ ys) top x within same = rw same refl
 
 pub CountsEach-none : (tally : Tally) (many : ℕ) → CountsEach tally tally many many
 CountsEach-none tally many = record { spawned = omega arith; ended = omega arith; each = λ s e. omega arith }

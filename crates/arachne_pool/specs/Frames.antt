@@ -10,11 +10,10 @@ pub record Framed (Job : Type 0) : Type 0 where
   pub job : Job
   pub awaited : ℕ
 
--- all of them together: the first as it was spawned and as it is now; how many there are that have not ended, with those
--- that wait in the place to begin; a child that the topmost has forked just now; and what it has ended with
+-- all of them together: the first as it was spawned; how many there are that have not ended, with those that wait in
+-- the place to begin; a child that the topmost has forked just now; and what it has ended with
 pub record Stacked (Job Output : Type 0) : Type 0 where
   pub asked : Job
-  pub job : Job
   pub many : ℕ
   pub child : Option Job
   pub ended : Option Output
@@ -32,11 +31,6 @@ count_one (Some value) = 1
 abbrev pub count_none : {A : Type 0} → Option A → ℕ
 count_none None = 1
 count_none (Some value) = 0
-
--- the first of these as it is now, or else the topmost
-abbrev pub first_job : {Job : Type 0} → List (Framed Job) → Job → Job
-first_job [] top = top
-first_job (frame ∷ rest) top = frame.job
 
 module _ {Job Output : Type 0} (is_result : Job → Output → Type 0) (awaits : Job → List Job → Type 0) where
   -- each of these jobs, the newest first, awaits the one above it as its newest child, and behind that the next of the

@@ -5,18 +5,17 @@ use Rattle.arachne_core.specs.declared.thread_id.ThreadId.{ThreadId}
 use Rattle.arachne_pool.specs.declared.job.Step.{Step}
 use Rattle.arachne_pool.specs.declared.job.Step.TheVariants.{Again, Waits, Sleeps, Forks, Done}
 
--- a job in a pool: its tag, as it is now, as it was spawned, the id under which its parent runs, if it is to be woken,
--- and how many jobs it is that have not ended, with those that run or wait in its place
+-- a job in a pool: its tag, as it was spawned, the id under which its parent runs, if it is to be woken, and how many
+-- jobs it is that have not ended, with those that run or wait in its place
 pub record Being (Job : Type 0) : Type 0 where
   pub tag : ℕ
-  pub job : Job
   pub asked : Job
   pub parent : Option ThreadId
   pub many : ℕ
 
 -- a job that has made no step, alone
 abbrev pub one : {Job : Type 0} → ℕ → Job → Option ThreadId → Being Job
-one tag job parent = record { tag = tag; job = job; asked = job; parent = parent; many = 1 }
+one tag job parent = record { tag = tag; asked = job; parent = parent; many = 1 }
 
 -- how many jobs these are, each with those that run or wait in its place
 abbrev pub count_near : {Job : Type 0} → List (Being Job) → ℕ

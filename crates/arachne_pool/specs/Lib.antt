@@ -6,3 +6,4 @@ pub mod Workers
 pub mod Leftover
 pub mod Spawning
 pub mod Waking
+pub mod Calls

@@ -1,25 +1,48 @@
--- What comes of a spawn that keeps no job.
-use Rattle.std.specs.Prelude.{◌≡◌, ℕ, ◌+◌, ◌-◌, ◌^◌, ◌<◌, Option, None}
-use Rattle.arachne_pool.specs.Workers.{WorkerView}
-use Rattle.arachne_pool.specs.declared.spawning.NoPlaces.{NoPlaces}
+-- What comes of a spawn.
+use Rattle.std.specs.Prelude.{◌≡◌, ℕ, ◌+◌, ◌-◌, ◌^◌, ◌<◌, ◌≤◌, Option, None}
+use Rattle.arachne_pool.specs.Workers.{HasNoCore, WorkerView}
+use Rattle.arachne_pool.specs.declared.seen.NoPlaces.{NoPlaces}
 use Rattle.arachne_pool.specs.declared.spawning.Refusal.{Refusal}
 use Rattle.arachne_pool.specs.declared.spawning.Refusal.TheVariants.{NoPlace, Memory, NoSeat}
 
--- so many cores were asked, and each was seen without a place: full or one job's alone, or closed
-abbrev pub AreSeen : ℕ → NoPlaces → Type 0
-AreSeen cores seen = seen.full + seen.closed ≡ cores
+-- of the cores that were asked, so many were full or one job's alone
+abbrev pub full_in : NoPlaces → ℕ
+full_in seen = seen.full
 
--- a job is refused so by a worker that has a seat: each of so many cores was seen without a place, or memory was refused
-abbrev pub RefusesFor : ℕ → Refusal → Type 0
-RefusesFor cores (NoPlace seen) = AreSeen cores seen
-RefusesFor cores Memory = Unit {0}
-RefusesFor cores NoSeat = ⊥
+-- so many were closed
+abbrev pub closed_in : NoPlaces → ℕ
+closed_in seen = seen.closed
+
+-- so many cores were asked, this one and those that follow it, and each was seen without a place
+abbrev pub AreSeen : ℕ → ℕ → NoPlaces → Type 0
+AreSeen first cores seen = (seen.first ≡ first) × (full_in seen + closed_in seen ≡ cores)
+
+-- this core is the next one to be asked
+abbrev pub IsNext : ℕ → NoPlaces → Type 0
+IsNext core seen = core ≡ seen.first + (full_in seen + closed_in seen)
+
+-- the next core was seen without a place too
+abbrev pub WithOneMore : NoPlaces → NoPlaces → Type 0
+WithOneMore old new = (new.first ≡ old.first) × (full_in new + closed_in new ≡ full_in old + closed_in old + 1)
+
+-- a job is refused so by a worker that has a seat: each of so many cores, from this one on, was seen without a place,
+-- or memory was refused
+abbrev pub RefusesFor : ℕ → ℕ → Refusal → Type 0
+RefusesFor first cores (NoPlace seen) = AreSeen first cores seen
+RefusesFor first cores Memory = Unit {0}
+RefusesFor first cores NoSeat = ⊥
 
 -- the same by any worker: this one may have none
-abbrev pub IsRefusedBy : {Seat : Type 0} → ℕ → Option Seat → Refusal → Type 0
-IsRefusedBy cores seat (NoPlace seen) = AreSeen cores seen
-IsRefusedBy cores seat Memory = Unit {0}
-IsRefusedBy cores seat NoSeat = seat ≡ None
+abbrev pub IsRefusedBy : {Seat : Type 0} → ℕ → ℕ → Option Seat → Refusal → Type 0
+IsRefusedBy first cores seat (NoPlace seen) = AreSeen first cores seen
+IsRefusedBy first cores seat Memory = Unit {0}
+IsRefusedBy first cores seat NoSeat = seat ≡ None
+
+-- a job is refused so where these were seen before: the next core was seen without a place too, or memory was refused
+abbrev pub RefusesAfter : NoPlaces → Refusal → Type 0
+RefusesAfter seen (NoPlace more) = WithOneMore seen more
+RefusesAfter seen Memory = Unit {0}
+RefusesAfter seen NoSeat = ⊥
 
 -- a worker has counted one job more, as long as its count is exact, and keeps as many as before
 pub record SpawnsOne {Seat : Type 0} (old new : WorkerView Seat) : Type 0 where
@@ -28,8 +51,14 @@ pub record SpawnsOne {Seat : Type 0} (old new : WorkerView Seat) : Type 0 where
   pub near : new.near ≡ old.near
 
 -- a worker has spawned nothing, and the job comes back with why
-pub record HandsBack {Seat Job : Type 0} (cores : ℕ) (job : Job) (old new : WorkerView Seat) (back : Job) (why : Refusal) : Type 0 where
+pub record HandsBack {Seat Job : Type 0} (first cores : ℕ) (job : Job) (old new : WorkerView Seat) (back : Job) (why : Refusal) : Type 0 where
   pub same : back ≡ job
-  pub refused : IsRefusedBy cores old.seat why
+  pub refused : IsRefusedBy first cores old.seat why
   pub tally : new.tally ≡ old.tally
   pub near : new.near ≡ old.near
+
+-- of the jobs that it keeps a worker loses none, and has one more at most, none more where it has worked for none of so
+-- many cores
+abbrev pub KeepsOneAtMost : {Seat : Type 0} → ℕ → WorkerView Seat → WorkerView Seat → Type 0
+KeepsOneAtMost cores old new =
+    (old.near ≤ new.near) × (new.near ≤ old.near + 1) × (HasNoCore cores old → new.near ≡ old.near)

@@ -1,17 +1,22 @@
 -- What contracts see of a worker, and whose worker it is.
-use Rattle.std.specs.Prelude.{◌≡◌, ℕ, List, ◌++◌, Option, IfSome, All}
+use Rattle.std.specs.Prelude.{◌≡◌, ℕ, ◌≤◌, List, ◌++◌, Option, IfSome, All}
 use Rattle.arachne_arbiter.specs.Orders.{Progress}
 use Rattle.arachne_pool.specs.declared.tally.Tally.{Tally}
 use Rattle.arachne_policy.specs.declared.orders.CoreOrder.{CoreOrder}
 use Rattle.arachne_policy.specs.declared.orders.OrderKind.TheVariants.{Release}
 
--- its seat, unless the table has disowned it; how many jobs it has that have no place; what it has counted; and its
--- orders, if it has some
+-- its seat, unless the table has disowned it; how many jobs it has that have no place; what it has counted; its orders,
+-- if it has some; and the core for which it has worked last, at first a number that is no core's
 pub record WorkerView (Seat : Type 0) : Type 0 where
   pub seat : Option Seat
   pub near : ℕ
   pub tally : Tally
   pub arbiter : Option Progress
+  pub core : ℕ
+
+-- it has worked for none of so many cores
+abbrev pub HasNoCore : {Seat : Type 0} → ℕ → WorkerView Seat → Type 0
+HasNoCore cores worker = cores ≤ worker.core
 
 -- the orders, if there are some, are for so many cores
 abbrev pub IsArbiterFor : ℕ → Option Progress → Type 0

@@ -46,6 +46,7 @@ impl<J: PoolJob> Bench<J> {
         ensures tally { (result.tally.spawned ≡ 0) × (result.tally.ended ≡ 0) }
         ensures near { deque_len result.near ≡ 0 }
         ensures arbiter { result.arbiter ≡ None }
+        ensures core { result.core ≡ u8.MAX }
     {
         Bench {
             alloc,
@@ -75,7 +76,7 @@ impl<J: PoolJob> Bench<J> {
         ensures ended { self.new.tally.ended ≡ self.old.tally.ended }
         ensures refused { OnErr result (self.new.tally ≡ self.old.tally) }
         ensures handed_back { IfErr result (λ back. back ≡ job) }
-        ensures arbiter { self.new.arbiter ≡ self.old.arbiter }
+        ensures same { (self.new.arbiter ≡ self.old.arbiter) × (self.new.core ≡ self.old.core) }
     {
         if self.near.reserve(1).is_err() {
             return Err(job);
@@ -93,20 +94,28 @@ impl<J: PoolJob> Bench<J> {
         ))
     }
 
-    /// The children that this job, or one in its place, has ended without are let go: those that have not begun wait for
-    /// places of their own, and none is lost. Whether memory was there.
+    /// The children that this job, or one in its place, has ended without are let go: those that have not begun wait
+    /// for places of their own, and none is lost. Whether memory was there. Where it was not, one is left that has not
+    /// begun.
     #[tactic(auto, using(crate::proofs::Counts::count_near_push))]
     pub(crate) fn let_go(&mut self, job: &mut Spawned<J>) -> bool
         ensures same { (self.new.tally ≡ self.old.tally) × (self.new.arbiter ≡ self.old.arbiter) }
-        ensures job { job.new ≡ record job.old { job = job.new.job; many = job.new.many } }
+        ensures job { job.new ≡ record job.old { many = job.new.many } }
         ensures many { count_near self.new.near.items + job.new.many ≡ count_near self.old.near.items + job.old.many }
     {
         for _ in 0..job.orphans() {
             let Ok(()) = self.near.reserve(1) else {
-                self.is_short = true;
-                return false;
+                if job.has_aside() {
+                    self.is_short = true;
+                    return false;
+                }
+                // Those that are left have begun elsewhere, and take no room.
+                let None = job.let_go(self.alloc, false) else {
+                    unreachable!()
+                };
+                continue;
             };
-            if let Some(orphan) = job.let_go(self.alloc) {
+            if let Some(orphan) = job.let_go(self.alloc, true) {
                 self.near.push_back_reserved(orphan);
             }
         }

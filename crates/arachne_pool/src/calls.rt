@@ -1,6 +1,7 @@
 //! What a worker does at its pool: it spawns jobs, works, and gets results.
 ghost use Rattle.std.specs.Prelude.{◌≡◌, ◌+◌, ◌<◌, [], IfErr, IfOk, IsSome, OnErr, OnOk};
 
+use crate::came::Came;
 use crate::handle::Handle;
 use crate::job::PoolJob;
 use crate::place::{Disowned, place};
@@ -19,12 +20,14 @@ use std::time::Clock;
 const MOST_UNTOLD: u64 = 1024;
 
 impl<C: Seats> Pool<C> {
+    ghost use Rattle.arachne_pool.specs.Calls.{AnswersFor};
     ghost use Rattle.arachne_pool.specs.Grounds.{ground_at};
+    ghost use Rattle.arachne_pool.specs.Spawning.{KeepsOneAtMost};
     ghost use Rattle.arachne_pool.specs.Workers.{IsWorkerOf};
 
-    /// Spawns a job, which gets a place of the table where a core has one, and else waits for one with the worker; but a
-    /// worker that was split off and has worked for no core keeps none (`try_spawn`). Its handle gives its result. Where
-    /// memory is refused, or the worker has no seat, the job comes back.
+    /// Spawns a job, which gets a place of the table where a core has one, and else waits for one with the worker; but
+    /// a worker that has worked for no core keeps none (`try_spawn`): it may never come to a round, and the job comes
+    /// back. Its handle gives its result. It comes back too where memory is refused, or the worker has no seat.
     pub fn spawn<H: Wait, J: PoolJob>(
         &self,
         rt: &H,
@@ -40,7 +43,8 @@ impl<C: Seats> Pool<C> {
         ensures handed_back { IfErr result (λ back. back ≡ job) }
         ensures spawned { OnOk result (worker.old.tally.spawned < u64.MAX → worker.new.tally.spawned ≡ worker.old.tally.spawned + 1) }
         ensures ended { worker.new.tally.ended ≡ worker.old.tally.ended }
-        ensures refused { OnErr result (worker.new.tally ≡ worker.old.tally) }
+        ensures near { KeepsOneAtMost self.now.cores worker.old worker.new }
+        ensures refused { OnErr result ((worker.new.tally ≡ worker.old.tally) × (worker.new.near ≡ worker.old.near)) }
     {
         if worker.bench.core >= self.cores {
             return match self.try_spawn(rt, worker, job) {
@@ -59,11 +63,12 @@ impl<C: Seats> Pool<C> {
         self.live.add(bench.core, bench.news());
         let handle = Handle::of(receiver);
         match place::<H, J, C>(rt, self, seat, bench, job) {
-            Ok(post) => {
+            Ok(Some(post)) => {
                 // Its core's kernel thread is told at once: the spawner may not come to a round of its own.
-                self.tell_of(post);
+                self.shared.hint(post.place);
                 Ok(handle)
             }
+            Ok(None) => Ok(handle),
             Err(Disowned) => {
                 worker.seat = None;
                 Ok(handle)
@@ -86,43 +91,13 @@ impl<C: Seats> Pool<C> {
         ensures worker { IsWorkerOf C.sits C.idle self.now.table self.now.cores worker.new }
         ensures seat { OnOk result (IsSome worker.new.seat) }
     {
-        let mut kernel = self.open(rt, worker, core, Call::Turn)?;
-        kernel.tend();
-        let found = kernel.round(0);
-        self.tell_done(&mut kernel);
-        let Loop {
-            agenda,
-            pace,
-            desk,
-            ..
-        } = kernel;
-        let Seat {
-            pool,
-            is_broken,
-            seat,
-            held,
-            mut bench,
-            ..
-        } = desk;
-        let is_short = bench.take_short();
-        if replace(&mut bench.has_ended, false) {
-            self.tell_if_over();
-        }
-        *worker = Worker {
-            seat: idle_seat::<J, C>(pool, seat, is_broken, &held),
-            bench,
-            agenda,
-            pace,
-        };
+        let came = self.operate(rt, worker, core, Call::Turn, None);
         if worker.seat.is_none() {
             return Err(PoolFault::Token);
         }
-        if is_short {
-            return Err(PoolFault::Memory);
-        }
-        match found {
-            Ok(found) => Ok(found),
-            Err(halt) => Err(PoolFault::from(halt)),
+        match came {
+            Came::Ran(found) => found,
+            Came::Joined(_) => unreachable!(),
         }
     }
 
@@ -140,34 +115,17 @@ impl<C: Seats> Pool<C> {
         requires core { core < self.now.cores }
         ensures worker { IsWorkerOf C.sits C.idle self.now.table self.now.cores worker.new }
     {
-        let mut kernel = self.open(rt, worker, core, Call::Work)?;
-        let done = self.run(rt, &mut kernel);
-        self.tell_done(&mut kernel);
-        let Loop {
-            agenda,
-            pace,
-            desk,
-            ..
-        } = kernel;
-        let Seat {
-            pool,
-            is_broken,
-            seat,
-            held,
-            bench,
-            ..
-        } = desk;
-        *worker = Worker {
-            seat: idle_seat::<J, C>(pool, seat, is_broken, &held),
-            bench,
-            agenda,
-            pace,
-        };
-        match done {
-            Ok(()) => self.tell_if_over(),
-            Err(_) => self.stop(),
+        match self.operate(rt, worker, core, Call::Work, None) {
+            Came::Ran(Ok(_)) => {
+                self.tell_if_over();
+                Ok(())
+            }
+            Came::Ran(Err(fault)) => {
+                self.stop();
+                Err(fault)
+            }
+            Came::Joined(_) => unreachable!(),
         }
-        done
     }
 
     /// Works on a core until the job of this handle has ended. Its result. Where the workers are to stop before, the
@@ -187,11 +145,40 @@ impl<C: Seats> Pool<C> {
         ensures output { IfOk result (J.is_result handle) }
         ensures handed_back { IfErr result (λ back. back.1 ≡ handle) }
     {
-        let mut kernel = match self.open(rt, worker, core, Call::Join) {
-            Ok(kernel) => kernel,
-            Err(fault) => return Err((fault, handle)),
+        let joined = match self.operate(rt, worker, core, Call::Join, Some(handle)) {
+            Came::Joined(joined) => joined,
+            Came::Ran(_) => unreachable!(),
         };
-        let joined = self.run_until(rt, &mut kernel, handle);
+        match joined {
+            Ok(_) | Err((PoolFault::Stopped, _)) => self.tell_if_over(),
+            Err(_) => self.stop(),
+        }
+        joined
+    }
+
+    /// What a worker does on a core in a call, for the job of a handle if there is one. The worker has nothing
+    /// meanwhile.
+    #[inline(always)]
+    fn operate<'a, H: Wait + Clock, J: PoolJob>(
+        &'a self,
+        rt: &'a H,
+        worker: &mut Worker<C::Seat, J>,
+        core: u8,
+        call: Call,
+        handle: Option<Handle<J>>,
+    ) -> Came<J>
+    where
+        C: Contexts<Spawned<J>>,
+        requires worker { IsWorkerOf C.sits C.idle self.now.table self.now.cores worker.old }
+        requires core { core < self.now.cores }
+        ensures worker { IsWorkerOf C.sits C.idle self.now.table self.now.cores worker.new }
+        ensures answer { AnswersFor J.is_result handle result }
+    {
+        let mut kernel = match self.open(rt, worker, core, call) {
+            Ok(kernel) => kernel,
+            Err(fault) => return Came::failed(fault, handle),
+        };
+        let came = self.go_on(rt, &mut kernel, handle);
         self.tell_done(&mut kernel);
         let Loop {
             agenda,
@@ -213,11 +200,29 @@ impl<C: Seats> Pool<C> {
             agenda,
             pace,
         };
-        match joined {
-            Ok(_) | Err((PoolFault::Stopped, _)) => self.tell_if_over(),
-            Err(_) => self.stop(),
+        came
+    }
+
+    /// What the call in hand asks for: a round, or rounds until all jobs, or that of a handle, have ended.
+    #[inline(always)]
+    fn go_on<'a, H: Wait + Clock, J: PoolJob>(
+        &self,
+        rt: &H,
+        kernel: &mut Loop<'a, H, Seat<'a, H, J, C>>,
+        handle: Option<Handle<J>>,
+    ) -> Came<J>
+    where
+        C: Contexts<Spawned<J>>,
+        ensures desk { kernel.new.desk ≡ kernel.old.desk }
+        ensures answer { AnswersFor J.is_result handle result }
+    {
+        if let Some(handle) = handle {
+            return Came::Joined(self.run_until(rt, kernel, handle));
         }
-        joined
+        if kernel.desk.call == Call::Turn {
+            return Came::Ran(self.run_once(kernel));
+        }
+        Came::Ran(self.run(rt, kernel))
     }
 
     /// What works with a worker on a core, if the worker has a seat. The worker has nothing meanwhile.
@@ -274,12 +279,33 @@ impl<C: Seats> Pool<C> {
         })
     }
 
-    /// Rounds until no job lives and none is to come, or the workers are to stop.
+    /// One round, before which orders that are due are applied. Whether it found anything.
+    fn run_once<'a, H: Wait + Clock, J: PoolJob>(
+        &self,
+        kernel: &mut Loop<'a, H, Seat<'a, H, J, C>>,
+    ) -> Result<bool, PoolFault>
+    where
+        C: Contexts<Spawned<J>>,
+        ensures { kernel.new.desk ≡ kernel.old.desk }
+    {
+        kernel.tend();
+        let found = kernel.round(0);
+        let is_short = kernel.desk.bench.take_short();
+        if replace(&mut kernel.desk.bench.has_ended, false) {
+            self.tell_if_over();
+        }
+        if is_short {
+            return Err(PoolFault::Memory);
+        }
+        Ok(found?)
+    }
+
+    /// Rounds until no job lives and none is to come, or the workers are to stop. Whether the last one found anything.
     fn run<'a, H: Wait + Clock, J: PoolJob>(
         &self,
         rt: &H,
         kernel: &mut Loop<'a, H, Seat<'a, H, J, C>>,
-    ) -> Result<(), PoolFault>
+    ) -> Result<bool, PoolFault>
     where
         C: Contexts<Spawned<J>>,
         ensures { kernel.new.desk ≡ kernel.old.desk }
@@ -288,7 +314,7 @@ impl<C: Seats> Pool<C> {
         let (mut idle, mut looks) = (0u32, true);
         for _ in rt.forever() {
             if self.is_stopped() || looks && self.is_over() {
-                return Ok(());
+                return Ok(idle == 0);
             }
             let found = self.round(kernel, idle)?;
             looks = !found || kernel.desk.is_drained;

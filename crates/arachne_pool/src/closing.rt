@@ -42,9 +42,10 @@ pub enum NotClosed<C: Seats, J: PoolJob> {
 }
 
 impl<C: Seats + Drop> Pool<C> {
-    ghost use Rattle.arachne_pool.specs.Workers.{IsWorkerOf};
+    ghost use Rattle.arachne_pool.specs.Workers.{HasNoCore, IsWorkerOf};
 
-    /// A pool with no job, and its one worker. The orders take cores back and grant them again while it works.
+    /// A pool with no job, and its one worker, which has worked for no core. The orders take cores back and grant them
+    /// again while it works.
     pub fn new<J: PoolJob>(
         alloc: Global,
         cores: u8,
@@ -63,6 +64,7 @@ impl<C: Seats + Drop> Pool<C> {
         ensures tally { IfOk result (λ made. (made.1.tally.spawned ≡ 0) × (made.1.tally.ended ≡ 0)) }
         ensures near { IfOk result (λ made. made.1.near ≡ 0) }
         ensures orders { IfOk result (λ made. made.1.arbiter ≡ Some (record { list = orders.items; cores = cores; applied = 0 })) }
+        ensures core { IfOk result (λ made. HasNoCore made.0.cores made.1) }
     {
         let count = orders.len();
         let arbiter = Arbiter::new(alloc, orders, cores)?;
@@ -70,8 +72,6 @@ impl<C: Seats + Drop> Pool<C> {
         let mut worker = Worker::new(alloc, Some(seat), 0);
         worker.bench.arbiter = Some(arbiter);
         worker.bench.orders = count;
-        // It is to work for a core, and so keeps what it spawns before.
-        worker.bench.core = 0;
         Ok((pool, worker))
     }
 }

@@ -6,6 +6,7 @@
 
 mod bench;
 mod calls;
+mod came;
 mod closing;
 mod handle;
 mod job;
@@ -15,6 +16,7 @@ mod outcome;
 mod place;
 mod pool;
 mod seat;
+mod seen;
 mod spawned;
 mod spawning;
 mod stack;
@@ -29,8 +31,9 @@ pub use handle::Handle;
 pub use job::{PoolJob, Step};
 pub use outcome::{Outcome, Wanted};
 pub use pool::Pool;
+pub use seen::NoPlaces;
 pub use spawned::Spawned;
-pub use spawning::{NoPlaces, Refusal, Refused};
+pub use spawning::{Refusal, Refused};
 pub use stack::Jobs;
 pub use statistics::Statistics;
 pub use tally::Tally;

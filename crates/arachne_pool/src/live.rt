@@ -71,6 +71,13 @@ impl Live {
         told.rests.fetch_add(done.rests, Ordering::SeqCst);
     }
 
+    /// A job of this core was woken by a call that is no worker's.
+    pub(crate) fn add_woken(&self, core: u8) {
+        if let Some(told) = self.told.get(usize::from(core)) {
+            told.wakes.fetch_add(1, Ordering::SeqCst);
+        }
+    }
+
     /// What the workers of a core have done.
     pub(crate) fn done(&self, core: u8) -> Statistics {
         match self.told.get(usize::from(core)) {

@@ -1,11 +1,11 @@
 //! How jobs get their places.
 //!
 //! It may touch the table through the seat that it is given.
-ghost use Rattle.std.specs.Prelude.{◌≡◌, ◌+◌, ◌<◌, [], ◌∷◌, IfOk, MatchOption, OnOk};
+ghost use Rattle.std.specs.Prelude.{◌≡◌, ◌<◌, [], ◌∷◌, ◌++◌, IfOk, MatchOption, OnErr, OnOk};
 ghost use Rattle.std.specs.VecDeque.{deque_capacity, deque_len};
 ghost use Rattle.arachne_contexts.specs.Out.{Claim, HasOut, KeepsOut};
 ghost use Rattle.arachne_pool.specs.Grounds.{AddsOut, IsKnown, IsSpent, thread_in};
-ghost use Rattle.arachne_pool.specs.Jobs.{Being, count_near};
+ghost use Rattle.arachne_pool.specs.Jobs.{Being};
 
 use crate::bench::Bench;
 use crate::job::PoolJob;
@@ -84,7 +84,6 @@ pub(crate) fn post<H: Wait, J: PoolJob, C: Contexts<Spawned<J>>>(
 }
 
 /// A job gets a place, or waits for one with those that have none, among which there is room for it.
-#[tactic(auto, using(crate::proofs::Counts::count_near_push))]
 pub(crate) fn place<H: Wait, J: PoolJob, C: Contexts<Spawned<J>>>(
     rt: &H,
     pool: &Pool<C>,
@@ -98,7 +97,8 @@ pub(crate) fn place<H: Wait, J: PoolJob, C: Contexts<Spawned<J>>>(
     ensures seat { C.sits pool.now.table seat.new }
     ensures out { OnOk result (KeepsOut (C.has pool.now.table) seat.old seat.new) }
     ensures same { (bench.new.tally ≡ bench.old.tally) × (bench.new.arbiter ≡ bench.old.arbiter) }
-    ensures near { IfOk result (λ posted. MatchOption posted (count_near bench.new.near.items ≡ count_near bench.old.near.items + job.many) (λ _. bench.new.near.items ≡ bench.old.near.items)) }
+    ensures near { IfOk result (λ posted. MatchOption posted (bench.new.near.items ≡ bench.old.near.items ++ job ∷ []) (λ _. bench.new.near.items ≡ bench.old.near.items)) }
+    ensures disowned { OnErr result (bench.new.near.items ≡ bench.old.near.items) }
 {
     let claim = claim::<H, J, C>(rt, pool, seat, &mut bench.chooser, job.is_exclusive());
     let Some(claim) = claim else {

@@ -8,7 +8,7 @@ use crate::statistics::Statistics;
 use arachne_arbiter::Cores;
 use arachne_contexts::Seats;
 use arachne_core::{CORES, Place, SLOTS};
-use arachne_workers::{Post, Shared};
+use arachne_workers::Shared;
 use crossbeam_utils::CachePadded;
 use std::alloc::{AllocError, Global};
 use std::marker::PhantomData;
@@ -73,7 +73,8 @@ impl<C: Seats + Drop> Pool<C> {
 }
 
 impl<C: Seats> Pool<C> {
-    /// How many jobs were spawned or forked and have not ended, as the workers have told. None lives where it is 0.
+    /// How many jobs were spawned or forked and have not ended, as the workers have told. Where it is 0 none makes a
+    /// step more, the result of each is left, and its place is free.
     pub fn live(&self) -> u64 {
         self.live.count()
     }
@@ -119,13 +120,6 @@ impl<C: Seats> Pool<C> {
                 self.shared.hint(Place { core, index: 0 });
             }
             self.shared.parking().unpark_all();
-        }
-    }
-
-    /// The kernel thread of the core at which a job was posted, if one was, is told of it.
-    pub(crate) fn tell_of(&self, post: Option<Post>) {
-        if let Some(post) = post {
-            self.shared.hint(post.place);
         }
     }
 

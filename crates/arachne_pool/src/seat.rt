@@ -103,7 +103,10 @@ impl<'a, H: Wait, J: PoolJob, C: Contexts<Spawned<J>>> Desk for Seat<'a, H, J, C
             stop = self.fall_asleep(left);
         }
         self.blocks = stop == JobStop::Waits || stop == JobStop::Sleeps;
-        self.pool.live.add(self.core, self.bench.news());
+        if stop != JobStop::Ends {
+            // Of an end the pool is told once the result is left and the place is free (`end`).
+            self.tell();
+        }
         match stop {
             JobStop::Ends => Ok(Stop::Ends),
             JobStop::Waits | JobStop::Sleeps => Ok(Stop::Blocks),
@@ -160,11 +163,14 @@ impl<'a, H: Wait, J: PoolJob, C: Contexts<Spawned<J>>> Desk for Seat<'a, H, J, C
         match table.finish(self.rt, &mut self.seat, held) {
             Ok(job) => {
                 self.pool.room_was_seen();
-                Ok(job.leave())
+                let parent = job.leave();
+                self.tell();
+                Ok(parent)
             }
             Err(held) => {
                 self.is_broken = true;
                 held.value.leave();
+                self.tell();
                 Err(Halt::from(PoolFault::Token))
             }
         }
@@ -304,6 +310,15 @@ impl<'a, H: Wait, J: PoolJob, C: Contexts<Spawned<J>>> Seat<'a, H, J, C> {
         let may_post = self.pool.has_room();
         held.value
             .slice(&mut bench.cells, &mut bench.tally, left, may_post)
+    }
+
+    /// The pool is told of the jobs that began, before another kernel thread may have one of them, and of those that
+    /// ended, once the last result is left.
+    #[inline(always)]
+    fn tell(&mut self)
+        ensures { self.new ≡ self.old }
+    {
+        self.pool.live.add(self.core, self.bench.news());
     }
 
     /// The oldest child that waits with the job in hand gets a place, if there is one and memory is not refused.

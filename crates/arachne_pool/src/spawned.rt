@@ -1,5 +1,5 @@
 //! A job in a pool, with those that run in its place, and the end at which it leaves its result.
-ghost use Rattle.std.specs.Prelude.{◌≡◌, ◌+◌, ◌<◌, ◌≤◌, [], IfSome, MatchOption, Some, None};
+ghost use Rattle.std.specs.Prelude.{◌≡◌, ◌+◌, ◌<◌, ◌≤◌, [], IfSome, IsSome, MatchOption, Some, None, true};
 ghost use Rattle.arachne_pool.specs.Frames.{CountsEach};
 
 use crate::job::PoolJob;
@@ -15,8 +15,8 @@ use std::marker::Model;
 /// A job that was spawned, and has not ended. It is moved and never copied, and whoever has it alone steps it. A child
 /// that it has forked while no place was free waits here, and runs in its place once it is awaited.
 ///
-/// Contracts see its tag; the job as it is now and as it was spawned; the id under which its parent runs, if that is to
-/// be woken; and how many jobs it is that have not ended, with those that run or wait in its place.
+/// Contracts see its tag; the job as it was spawned; the id under which its parent runs, if that is to be woken; and
+/// how many jobs it is that have not ended, with those that run or wait in its place.
 #[derive(Drop)]
 pub struct Spawned<J: PoolJob> {
     tag: u64,
@@ -31,7 +31,7 @@ impl<J: PoolJob> Model for Spawned<J> {
 
     ghost Value = { Being J };
 
-    ghost view = { λ s. record { tag = s.tag; job = s.stack.job; asked = s.stack.asked; parent = s.parent; many = s.stack.many } };
+    ghost view = { λ s. record { tag = s.tag; asked = s.stack.asked; parent = s.parent; many = s.stack.many } };
 
     ghost invariant = { λ s. IfSome s.sender (λ sender. sender.key.job.value ≡ s.stack.asked) };
 }
@@ -107,7 +107,7 @@ impl<J: PoolJob> Spawned<J> {
         left: &mut u32,
         may_post: bool,
     ) -> Stop
-        ensures same { self.new ≡ record self.old { job = self.new.job; many = self.new.many } }
+        ensures same { self.new ≡ record self.old { many = self.new.many } }
         ensures left { left.new ≤ left.old }
         ensures counts { CountsEach tally.old tally.new self.old.many self.new.many }
     {
@@ -119,12 +119,14 @@ impl<J: PoolJob> Spawned<J> {
         self.stack.orphans()
     }
 
-    /// One of these is awaited no longer. If it had not begun, it is a job of its own now, whose result comes to nobody.
-    pub(crate) fn let_go(&mut self, alloc: Global) -> Option<Spawned<J>>
-        ensures same { self.new ≡ record self.old { job = self.new.job; many = self.new.many } }
+    /// One of these is awaited no longer. If it had not begun, it is a job of its own now, whose result comes to
+    /// nobody. Where there is no room for such a one none comes, and one that has not begun stays.
+    pub(crate) fn let_go(&mut self, alloc: Global, has_room: bool) -> Option<Spawned<J>>
+        ensures room { IsSome result → has_room ≡ true }
+        ensures same { self.new ≡ record self.old { many = self.new.many } }
         ensures many { MatchOption result (self.new.many ≡ self.old.many) (λ orphan. self.new.many + orphan.many ≡ self.old.many) }
     {
-        let job = self.stack.let_go()?;
+        let job = self.stack.let_go(has_room)?;
         Some(Spawned::begin(alloc, job, None, None))
     }
 
@@ -136,7 +138,7 @@ impl<J: PoolJob> Spawned<J> {
         cells: &mut Cells<J>,
         me: ThreadId,
     ) -> Option<Spawned<J>>
-        ensures same { self.new ≡ record self.old { job = self.new.job; many = self.new.many } }
+        ensures same { self.new ≡ record self.old { many = self.new.many } }
         ensures many { MatchOption result (self.new.many ≡ self.old.many) (λ child. self.new.many + child.many ≡ self.old.many) }
         ensures child { IfSome result (λ child. child ≡ one child.tag child.asked (Some me)) }
     {
@@ -157,13 +159,6 @@ impl<J: PoolJob> Spawned<J> {
         } = self;
         leave_at(sender, stack.into_output());
         parent
-    }
-
-    /// The job as it is now. It leaves no result then, and the results of its children come to nobody.
-    pub fn into_job(self) -> J
-        ensures { result ≡ self.job }
-    {
-        self.stack.into_first()
     }
 
     /// The job and those that run or wait in its place, as they are now, but for those that have ended. It leaves no

@@ -2,13 +2,14 @@
 ghost use Rattle.std.specs.Prelude.{◌≡◌, ◌<◌, [], ◌∷◌, IfErr, IfOk, OnErr, OnOk};
 ghost use Rattle.arachne_contexts.specs.Out.{Claim, KeepsOut};
 ghost use Rattle.arachne_pool.specs.Grounds.{AddsOut};
-ghost use Rattle.arachne_pool.specs.Spawning.{HandsBack, RefusesFor, SpawnsOne};
+ghost use Rattle.arachne_pool.specs.Spawning.{HandsBack, IsNext, RefusesAfter, RefusesFor, SpawnsOne};
 ghost use Rattle.arachne_pool.specs.declared.spawning.Refusal.TheVariants.{Memory};
 
 use crate::handle::Handle;
 use crate::job::PoolJob;
 use crate::place::{claim, post};
 use crate::pool::Pool;
+use crate::seen::NoPlaces;
 use crate::spawned::Spawned;
 use crate::worker::Worker;
 use arachne_contexts::{Claimed, Contexts, Placed, Seats};
@@ -16,13 +17,6 @@ use arachne_core::Place;
 use rand_xoshiro::Xoshiro256PlusPlus;
 use std::sync::Wait;
 use thiserror::Error;
-
-/// Of the cores that were asked: how many were full, or one job's alone, and how many were closed.
-#[derive(Clone, Copy, Debug, PartialEq, Eq)]
-pub struct NoPlaces {
-    pub full: u8,
-    pub closed: u8,
-}
 
 /// Why a job was not spawned.
 #[derive(Clone, Copy, Debug, PartialEq, Eq, Error)]
@@ -62,7 +56,7 @@ impl<C: Seats> Pool<C> {
         requires fresh { J.awaits job [] }
         ensures worker { IsWorkerOf C.sits C.idle self.now.table self.now.cores worker.new }
         ensures begun { IfOk result (λ handle. (handle ≡ job) × SpawnsOne worker.old worker.new) }
-        ensures handed_back { IfErr result (λ back. HandsBack self.now.cores job worker.old worker.new back.job back.why) }
+        ensures handed_back { IfErr result (λ back. HandsBack 0 self.now.cores job worker.old worker.new back.job back.why) }
     {
         let Some(mut seat) = worker.seat.take() else {
             return Err(Refused {
@@ -95,7 +89,7 @@ impl<C: Seats> Pool<C> {
         requires fresh { J.awaits job [] }
         ensures worker { IsWorkerOf C.sits C.idle self.now.table self.now.cores worker.new }
         ensures begun { IfOk result (λ begun. (begun.0 ≡ job) × (begun.1.core ≡ core) × SpawnsOne worker.old worker.new) }
-        ensures handed_back { IfErr result (λ back. HandsBack 1 job worker.old worker.new back.job back.why) }
+        ensures handed_back { IfErr result (λ back. HandsBack core 1 job worker.old worker.new back.job back.why) }
     {
         let Some(mut seat) = worker.seat.take() else {
             return Err(Refused {
@@ -103,7 +97,7 @@ impl<C: Seats> Pool<C> {
                 why: Refusal::NoSeat,
             });
         };
-        match claim_on::<H, J, C>(rt, self, &mut seat, core) {
+        match claim_on::<H, J, C>(rt, self, &mut seat, core, NoPlaces::before(core)) {
             Ok(claim) => {
                 let place = claim.place();
                 match self.begin_at(rt, worker, seat, claim, job) {
@@ -131,7 +125,7 @@ impl<C: Seats> Pool<C> {
         requires fresh { J.awaits job [] }
         ensures worker { IsWorkerOf C.sits C.idle self.now.table self.now.cores worker.new }
         ensures begun { OnOk result (SpawnsOne worker.old worker.new) }
-        ensures handed_back { IfErr result (λ back. HandsBack self.now.cores job worker.old worker.new back.job back.why) }
+        ensures handed_back { IfErr result (λ back. HandsBack 0 self.now.cores job worker.old worker.new back.job back.why) }
     {
         let Some(mut seat) = worker.seat.take() else {
             return Err(Refused {
@@ -170,7 +164,7 @@ impl<C: Seats> Pool<C> {
         requires fresh { J.awaits job [] }
         ensures worker { IsWorkerOf C.sits C.idle self.now.table self.now.cores worker.new }
         ensures begun { IfOk result (λ handle. (handle ≡ job) × SpawnsOne worker.old worker.new) }
-        ensures handed_back { IfErr result (λ back. (back.why ≡ Memory) × HandsBack self.now.cores job worker.old worker.new back.job back.why) }
+        ensures handed_back { IfErr result (λ back. (back.why ≡ Memory) × HandsBack 0 self.now.cores job worker.old worker.new back.job back.why) }
     {
         match worker.bench.begin(job) {
             Ok((receiver, job)) => {
@@ -238,44 +232,48 @@ fn claim_any<H: Wait, J: PoolJob, C: Contexts<Spawned<J>>>(
     ensures seat { C.sits pool.now.table seat.new }
     ensures out { IfOk result (λ claim. AddsOut (C.has pool.now.table) (Claim claim) seat.old seat.new) }
     ensures kept { OnErr result (KeepsOut (C.has pool.now.table) seat.old seat.new) }
-    ensures seen { IfErr result (RefusesFor pool.now.cores) }
+    ensures seen { IfErr result (RefusesFor 0 pool.now.cores) }
 {
     if let Some(claim) = claim::<H, J, C>(rt, pool, seat, chooser, is_exclusive) {
         return Ok(claim);
     }
-    let mut seen = NoPlaces { full: 0, closed: 0 };
+    let mut seen = NoPlaces::before(0);
     for core in 0..pool.cores {
-        match claim_on::<H, J, C>(rt, pool, seat, core) {
-            Err(Refusal::NoPlace(one)) => {
-                seen.full += one.full;
-                seen.closed += one.closed;
-            }
+        match claim_on::<H, J, C>(rt, pool, seat, core, seen) {
+            Err(Refusal::NoPlace(more)) => seen = more,
             claimed => return claimed,
         }
     }
     Err(Refusal::NoPlace(seen))
 }
 
-/// A place on this core, if it has one. Tries again where another took the place meanwhile.
+/// A place on this core, if it has one; else it was seen without one, after these. Tries again where another took the
+/// place meanwhile.
 fn claim_on<H: Wait, J: PoolJob, C: Contexts<Spawned<J>>>(
     rt: &H,
     pool: &Pool<C>,
     seat: &mut C::Seat,
     core: u8,
+    seen: NoPlaces,
 ) -> Result<C::Claim, Refusal>
     requires seat { C.sits pool.now.table seat.old }
     requires core { core < pool.now.cores }
+    requires next { IsNext core seen }
     ensures seat { C.sits pool.now.table seat.new }
     ensures out { IfOk result (λ claim. AddsOut (C.has pool.now.table) (Claim claim) seat.old seat.new) }
     ensures place { IfOk result (λ claim. (C.Claim.place_of claim).core ≡ core) }
     ensures kept { OnErr result (KeepsOut (C.has pool.now.table) seat.old seat.new) }
-    ensures seen { IfErr result (RefusesFor 1) }
+    ensures seen { IfErr result (RefusesAfter seen) }
 {
     for _ in rt.forever() {
         match pool.table.claim(rt, seat, core) {
             Ok(Claimed::Place(claim)) => return Ok(claim),
-            Ok(Claimed::Full(_)) => return Err(Refusal::NoPlace(NoPlaces { full: 1, closed: 0 })),
-            Ok(Claimed::Closed(_)) => return Err(Refusal::NoPlace(NoPlaces { full: 0, closed: 1 })),
+            Ok(Claimed::Full(word)) => {
+                return Err(Refusal::NoPlace(seen.with_full(core, pool.slots, word)));
+            }
+            Ok(Claimed::Closed(word)) => {
+                return Err(Refusal::NoPlace(seen.with_closed(core, word)));
+            }
             Ok(Claimed::Lost(_)) => {}
             Err(_) => return Err(Refusal::Memory),
         }

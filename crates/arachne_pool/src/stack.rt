@@ -1,5 +1,5 @@
 //! A job and those that run in its place.
-ghost use Rattle.std.specs.Prelude.{◌≡◌, ◌+◌, ◌<◌, ◌≤◌, [], None, IfSome, MatchOption};
+ghost use Rattle.std.specs.Prelude.{◌≡◌, ◌+◌, ◌<◌, ◌≤◌, [], None, IfSome, IsSome, MatchOption, true};
 ghost use Rattle.arachne_pool.specs.Frames.{CountsEach, KeepsMany};
 
 use crate::job::{PoolJob, Step};
@@ -48,8 +48,8 @@ impl<J: PoolJob> Frame<J> {
 /// A job, and those that run in its place: each was forked by the one below it, which awaits it and had no place to give
 /// it. Only the topmost makes steps.
 ///
-/// Contracts see the first job, as it was spawned and as it is now; how many jobs there are that have not ended, with
-/// those that wait here to begin; and what the topmost has forked just now, or has ended with.
+/// Contracts see the first job, as it was spawned; how many jobs there are that have not ended, with those that wait
+/// here to begin; and what the topmost has forked just now, or has ended with.
 #[derive(Drop)]
 pub(crate) struct Stack<J: PoolJob> {
     /// The first job as it was spawned. It has no bytes.
@@ -69,13 +69,12 @@ pub(crate) struct Stack<J: PoolJob> {
 
 impl<J: PoolJob> Model for Stack<J> {
     ghost use Rattle.std.specs.Prelude.{◌+◌, reverse, vec_len};
-    ghost use Rattle.arachne_pool.specs.Frames.{RunTogether, Stacked, count_none, count_one, first_job};
+    ghost use Rattle.arachne_pool.specs.Frames.{RunTogether, Stacked, count_none, count_one};
 
     ghost Value = { Stacked J J.Output };
 
     ghost view = { λ s. record {
       asked = s.asked.value;
-      job = first_job s.below.items s.top.job;
       many = count_none s.ended + vec_len s.below + s.links.aside + count_one s.child;
       child = s.child;
       ended = s.ended;
@@ -88,7 +87,7 @@ impl<J: PoolJob> Stack<J> {
     /// A job that begins, alone.
     pub(crate) fn begin(alloc: Global, job: J) -> Stack<J>
         requires { J.awaits job [] }
-        ensures { result ≡ record { asked = job; job = job; many = 1; child = None; ended = None } }
+        ensures { result ≡ record { asked = job; many = 1; child = None; ended = None } }
     {
         Stack {
             asked: Snapshot::of(&job),
@@ -312,13 +311,15 @@ impl<J: PoolJob> Stack<J> {
         }
     }
 
-    /// One of these is awaited no longer. It comes back if it had not begun.
-    pub(crate) fn let_go(&mut self) -> Option<J>
+    /// One of these is awaited no longer. It comes back if it had not begun. Where there is no room for such a one all
+    /// is as before.
+    pub(crate) fn let_go(&mut self, has_room: bool) -> Option<J>
+        ensures room { IsSome result → has_room ≡ true }
         ensures asked { self.new.asked ≡ self.old.asked }
         ensures many { MatchOption result (self.new.many ≡ self.old.many) (λ child. self.new.many + 1 ≡ self.old.many) }
         ensures fresh { IfSome result (λ child. J.awaits child []) }
     {
-        if self.ended.is_none() {
+        if self.ended.is_none() || !has_room && self.links.aside() > 0 {
             return None;
         }
         self.top.awaited = self.top.awaited.checked_sub(1)?;
@@ -345,19 +346,6 @@ impl<J: PoolJob> Stack<J> {
     {
         let Stack { below, ended, .. } = self;
         if below.is_empty() { ended } else { None }
-    }
-
-    /// The first job as it is now.
-    pub(crate) fn into_first(self) -> J
-        ensures { result ≡ self.job }
-    {
-        let Stack { top, below, .. } = self;
-        let mut below = below;
-        if below.is_empty() {
-            top.job
-        } else {
-            below.swap_remove(0).job
-        }
     }
 
     /// All that have not ended, and what the first job has ended with, if it has.

@@ -6,9 +6,10 @@
 pub struct Statistics {
     /// Slices of jobs.
     pub slices: u64,
-    /// Steps of jobs, and ends of jobs in the place of others.
+    /// Steps of jobs, those in the place of others too.
     pub steps: u64,
-    /// Jobs that were woken as a child of theirs ended.
+    /// How often a job was woken: by a worker of this core, as a child of the job ended, or by `Pool::wake`, as the job
+    /// was on this core. The latter is counted at once.
     pub wakes: u64,
     /// Rounds that found nothing to do, after each of which the worker has waited.
     pub rests: u64,

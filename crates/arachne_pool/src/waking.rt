@@ -95,8 +95,8 @@ impl<C: Seats> Pool<C> {
         unreachable!()
     }
 
-    /// The kernel thread of the core on which the job of this id is now is told that it may be ready. If it is moved
-    /// meanwhile, the arbiter says so of its new core.
+    /// The kernel thread of the core on which the job of this id is now is told that it may be ready, and the wake
+    /// counts there. If it is moved meanwhile, the arbiter says so of its new core.
     fn tell_of_woken<H: Wait, J: PoolJob>(&self, rt: &H, seat: &mut C::Seat, id: ThreadId)
     where
         C: Contexts<Spawned<J>>,
@@ -109,7 +109,9 @@ impl<C: Seats> Pool<C> {
         }
         let word = self.table.look_mark(rt, seat, id.context);
         if let Some(mark) = MarkWord::from_word(word) {
-            self.shared.hint(mark.place());
+            let place = mark.place();
+            self.shared.hint(place);
+            self.live.add_woken(place.core);
         }
     }
 }

@@ -1,7 +1,7 @@
 //! Workers of a pool: what each has of it, how one is split in two, and how two are put together.
 ghost use Rattle.std.specs.Option.{option_or};
 ghost use Rattle.std.specs.Prelude.{◌≡◌, ◌+◌, ◌≤◌, ℕ, IfErr, IfOk, None};
-ghost use Rattle.arachne_pool.specs.Workers.{IsArbiterFor};
+ghost use Rattle.arachne_pool.specs.Workers.{HasNoCore, IsArbiterFor};
 
 use crate::bench::Bench;
 use crate::job::PoolJob;
@@ -56,7 +56,8 @@ impl From<Halt> for PoolFault {
 /// A worker: what a kernel thread has of a pool. One thread at a time has it, for one core.
 ///
 /// Contracts see its seat, which it has unless the table has disowned it; how many jobs it has that have no place; what
-/// it has counted; and for one of the workers the orders by which cores come and go.
+/// it has counted; for one of the workers the orders by which cores come and go; and the core for which it has worked
+/// last.
 #[derive(Drop)]
 pub struct Worker<S, J: PoolJob> {
     pub(crate) seat: Option<S>,
@@ -71,7 +72,7 @@ impl<S, J: PoolJob> Model for Worker<S, J> {
 
     ghost Value = { WorkerView S };
 
-    ghost view = { λ w. record { seat = w.seat; near = deque_len w.bench.near; tally = w.bench.tally; arbiter = w.bench.arbiter } };
+    ghost view = { λ w. record { seat = w.seat; near = deque_len w.bench.near; tally = w.bench.tally; arbiter = w.bench.arbiter; core = w.bench.core } };
 }
 
 impl<S, J: PoolJob> Worker<S, J> {
@@ -82,11 +83,12 @@ impl<S, J: PoolJob> Worker<S, J> {
         self.bench.tally
     }
 
-    /// A worker with this seat, with nothing else and no orders, whose choices go by this seed.
+    /// A worker with this seat, with nothing else and no orders, for no core, whose choices go by this seed.
     pub(crate) fn new(alloc: Global, seat: Option<S>, seed: u64) -> Worker<S, J>
         ensures seat { result.seat ≡ seat }
         ensures nothing { (result.tally.spawned ≡ 0) × (result.tally.ended ≡ 0) × (result.near ≡ 0) }
         ensures orders { result.arbiter ≡ None }
+        ensures core { result.core ≡ u8.MAX }
     {
         Worker {
             seat,
@@ -112,8 +114,8 @@ impl<C: Seats> Pool<C> {
     ghost use Rattle.std.specs.Prelude.{IfSome};
     ghost use Rattle.arachne_pool.specs.Workers.{IsIdleAt, IsWorkerOf};
 
-    /// Two workers of one, which keeps its jobs, its counts and its orders. The other has half of the weight of its
-    /// seat.
+    /// Two workers of one, which keeps its jobs, its counts, its orders and its core. The other has half of the weight
+    /// of its seat, and has worked for no core.
     pub fn split<H: Wait, J: PoolJob>(
         &self,
         rt: &H,
@@ -124,6 +126,7 @@ impl<C: Seats> Pool<C> {
         ensures others { IsWorkerOf C.sits C.idle self.now.table self.now.cores result.1 }
         ensures kept { (result.0.tally ≡ worker.tally) × (result.0.near ≡ worker.near) × (result.0.arbiter ≡ worker.arbiter) }
         ensures nothing { (result.1.tally.spawned ≡ 0) × (result.1.tally.ended ≡ 0) × (result.1.near ≡ 0) }
+        ensures cores { (result.0.core ≡ worker.core) × HasNoCore self.now.cores result.1 }
     {
         let Worker {
             seat,

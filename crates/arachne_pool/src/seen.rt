@@ -1,0 +1,71 @@
+//! Cores that were asked for a place and have none.
+ghost use Rattle.std.specs.Prelude.{◌≡◌, ◌+◌, ◌<◌};
+ghost use Rattle.arachne_contexts.specs.Words.{ShowsClosed, ShowsFull};
+
+/// The cores that one call has asked for a place, one after the other, and that had none: how many were full or one
+/// job's alone, and how many were closed. A core is counted by its word alone, which shows that it has no place.
+#[derive(Clone, Copy, Debug, PartialEq, Eq)]
+pub struct NoPlaces {
+    /// The core that was asked first.
+    first: u8,
+    full: u8,
+    closed: u8,
+}
+
+impl NoPlaces {
+    ghost use Rattle.arachne_pool.specs.Spawning.{AreSeen, IsNext, closed_in, full_in};
+
+    /// How many of them were full, or one job's alone.
+    pub fn full(&self) -> u8
+        ensures { result ≡ full_in self.now }
+    {
+        self.full
+    }
+
+    /// How many of them were closed.
+    pub fn closed(&self) -> u8
+        ensures { result ≡ closed_in self.now }
+    {
+        self.closed
+    }
+
+    /// None was asked yet. This core is the next one.
+    pub(crate) fn before(core: u8) -> NoPlaces
+        ensures seen { AreSeen core 0 result }
+        ensures next { IsNext core result }
+    {
+        NoPlaces {
+            first: core,
+            full: 0,
+            closed: 0,
+        }
+    }
+
+    /// The next core too, whose word shows that it is full, or one job's alone.
+    pub(crate) fn with_full(self, core: u8, slots: u8, word: u64) -> NoPlaces
+        requires next { IsNext core self }
+        requires below { core < u8.MAX }
+        requires shows { ShowsFull slots word }
+        ensures { result ≡ record self { full = full_in self + 1 } }
+    {
+        let _ = (core, slots, word);
+        NoPlaces {
+            full: self.full + 1,
+            ..self
+        }
+    }
+
+    /// The next core too, whose word shows that it is closed.
+    pub(crate) fn with_closed(self, core: u8, word: u64) -> NoPlaces
+        requires next { IsNext core self }
+        requires below { core < u8.MAX }
+        requires shows { ShowsClosed word }
+        ensures { result ≡ record self { closed = closed_in self + 1 } }
+    {
+        let _ = (core, word);
+        NoPlaces {
+            closed: self.closed + 1,
+            ..self
+        }
+    }
+}
