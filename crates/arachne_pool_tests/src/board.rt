@@ -1,12 +1,11 @@
 //! What the jobs of a row have in common with whoever wakes them.
 use arachne_core::ThreadId;
 use std::alloc::Global;
-use std::hint::spin_loop;
 use std::sync::atomic::{AtomicU64, Ordering};
 use std::sync::{Arc, Wait};
 
-/// How often a kernel thread spins before a job rests.
-const MOMENT: u32 = 100;
+/// How often a kernel thread looks at a word before a job rests: for some microseconds.
+const MOMENT: u32 = 2_000;
 
 /// What the jobs of a row have told, and how many answers have come.
 #[derive(Drop)]
@@ -47,7 +46,7 @@ impl Board {
         self.generation.store(id.generation, Ordering::SeqCst);
         self.sleeps.fetch_add(1, Ordering::SeqCst);
         for _ in 0..MOMENT {
-            spin_loop();
+            let _ = self.sleeps.load(Ordering::SeqCst);
         }
     }
 

@@ -73,7 +73,7 @@ const ORDERS: &[Order] = &[
 
 /// How many seconds two kernel threads may take. Where each of 1,000 signals is lost, so that each sleep ends by its time
 /// alone, they take 20.
-const MOST_SECONDS: u64 = 10;
+const MOST_SECONDS: u64 = 15;
 
 /// A row in which nothing is done.
 pub(crate) const NOTHING: Row = Row {
