@@ -13,8 +13,8 @@ ghost use Rattle.std.specs.Prelude.{◌≡◌, ◌≤◌};
 
 use anyhow::{Result, bail};
 use arachne_pool::{Pool, Spawned};
-use arachne_table::WordContexts;
 use arachne_team::work_together;
+use arachne_words::WordContexts;
 use crew::{Crew, Share};
 use request::Request;
 use serve::Served;

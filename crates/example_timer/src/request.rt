@@ -1,10 +1,10 @@
 //! A request as a job of the pool.
-ghost use Rattle.std.specs.Prelude.{◌≡◌, ◌+◌, ◌<◌, IfSome, map, sum};
+ghost use Rattle.std.specs.Prelude.{◌≡◌, ◌+◌, ◌<◌, IfSome, MatchOption, map, sum};
 
 use crate::timer::{Timer, now};
+use arachne_contexts::Tagged;
 use arachne_core::ThreadId;
 use arachne_pool::{PoolJob, Step};
-use arachne_table::Tagged;
 use std::sync::Arc;
 
 /// How many nanoseconds something slow takes.
@@ -12,7 +12,7 @@ const SLOW: u64 = 2_000_000;
 
 /// What a request waits for.
 #[derive(Clone, Copy, PartialEq)]
-pub enum Kind {
+enum Kind {
     /// Nothing.
     Short,
     /// For something that takes a while.
@@ -38,8 +38,21 @@ pub struct Request {
 }
 
 impl Request {
+    /// The request of this index: they are short, slow and for two others in turn. None where too many have the timer.
+    pub fn nth(index: usize, clock: HostRuntime, timer: &Arc<Timer>) -> Option<Request>
+        ensures { IfSome result (λ request. request.rest + request.counted ≡ request.number) }
+    {
+        let kind = match index % 3 {
+            0 => Kind::Short,
+            1 => Kind::Slow,
+            _ => Kind::Both,
+        };
+        let number = (index as u64).saturating_add(1);
+        Request::new(number, kind, index.saturating_mul(3), clock, timer)
+    }
+
     /// A request that has not begun. None where too many have the timer.
-    pub fn new(
+    fn new(
         number: u64,
         kind: Kind,
         entry: usize,
@@ -71,7 +84,7 @@ impl Request {
     fn part(&mut self) -> Option<Request>
         requires { 0 < self.old.rest }
         ensures part { IfSome result (λ part. part.rest + part.counted ≡ part.number) }
-        ensures rest { IfSome result (λ part. part.number + self.new.rest ≡ self.old.rest) }
+        ensures rest { MatchOption result (self.new.rest ≡ self.old.rest) (λ part. part.number + self.new.rest ≡ self.old.rest) }
         ensures kept { (self.new.number ≡ self.old.number) × (self.new.counted ≡ self.old.counted) }
     {
         let is_first = self.rest == self.number;

@@ -2,10 +2,10 @@
 ghost use Rattle.std.specs.Prelude.{◌≡◌, ◌<◌};
 ghost use Rattle.arachne_pool.specs.Workers.{IsWorkerOf};
 
-use crate::request::{Kind, Request};
+use crate::request::Request;
 use crate::timer::Timer;
+use arachne_contexts::Contexts;
 use arachne_pool::{Handle, Pool, Refusal, Refused, Spawned, Worker};
-use arachne_table::Contexts;
 use std::alloc::Global;
 use std::sync::{Arc, Wait};
 use std::time::Clock;
@@ -37,6 +37,15 @@ pub struct Served {
 }
 
 impl Served {
+    /// Takes the answers to these, which have ended. None where memory is refused.
+    fn take(&mut self, sent: Vec<Sent>) -> Option<()> {
+        for Sent { number, handle } in sent {
+            let answer = handle.poll().ok()?;
+            self.answers.push(Answered { number, answer }).ok()?;
+        }
+        Some(())
+    }
+
     /// The sum of all answers, modulo 2^64.
     pub fn sum(&self) -> u64 {
         let mut sum: u64 = 0;
@@ -67,13 +76,8 @@ pub fn serve<C: Contexts<Spawned<Request>>, R: Wait + Clock>(
     };
     let mut sent = Vec::new(alloc);
     for index in 0..REQUESTS {
-        let kind = match index % 3 {
-            0 => Kind::Short,
-            1 => Kind::Slow,
-            _ => Kind::Both,
-        };
-        let number = index as u64 + 1;
-        let request = Request::new(number, kind, 3 * index, clock, timer)?;
+        let request = Request::nth(index, clock, timer)?;
+        let number = request.number;
         let handle = match pool.try_spawn(rt, worker, request) {
             Ok(handle) => handle,
             Err(
@@ -82,7 +86,7 @@ pub fn serve<C: Contexts<Spawned<Request>>, R: Wait + Clock>(
                     why: Refusal::NoPlace(_),
                 },
             ) => {
-                served.refused += 1;
+                served.refused = served.refused.saturating_add(1);
                 pool.work(rt, worker, 0).ok()?;
                 pool.try_spawn(rt, worker, job).ok()?
             }
@@ -91,9 +95,6 @@ pub fn serve<C: Contexts<Spawned<Request>>, R: Wait + Clock>(
         sent.push(Sent { number, handle }).ok()?;
     }
     pool.work(rt, worker, 0).ok()?;
-    for Sent { number, handle } in sent {
-        let answer = handle.poll().ok()?;
-        served.answers.push(Answered { number, answer }).ok()?;
-    }
+    served.take(sent)?;
     Some(served)
 }

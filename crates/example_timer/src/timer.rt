@@ -2,9 +2,9 @@
 ghost use Rattle.arachne_pool.specs.Workers.{IsIdleAt};
 
 use crate::request::Request;
+use arachne_contexts::Contexts;
 use arachne_core::ThreadId;
 use arachne_pool::{Pool, Spawned, Waker};
-use arachne_table::Contexts;
 use std::alloc::{AllocError, Global};
 use std::collections::BinaryHeap;
 use std::sync::Wait;

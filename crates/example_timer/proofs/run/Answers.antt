@@ -1,0 +1,18 @@
+use denote.Param.Send.{sendable}
+use Rattle.std.proofs.Crossing as std
+use Rattle.arachne_words.proofs.seat.WordSeat.TheSendSync as seat
+use Rattle.arachne_words.proofs.table.WordContexts.TheSendSync as table
+use Rattle.arachne_pool.proofs.Crossing.{spawned_send, worker_send}
+use Rattle.example_timer.proofs.crew.Crew.TheSendSync as crew
+use Rattle.example_timer.proofs.request.Request.TheSendSync as request
+use Rattle.example_timer.proofs.serve.Served.TheSendSync as served
+use Rattle.example_timer.proofs.run.Goals as goal
+
+-- what a kernel thread has may cross, and it may look at what all have in common
+pub work_together-requires-send-S : goal.work_together-requires-send-S
+work_together-requires-send-S g c κs within =
+    search (sendable, std.crosses, worker_send, seat.the_send, spawned_send, request.the_send, served.the_send) depth 40
+
+pub work_together-requires-sync-W : goal.work_together-requires-sync-W
+work_together-requires-sync-W g c κs within =
+    search (sendable, std.crosses, crew.the_sync, table.the_sync, spawned_send, request.the_send) depth 40
