@@ -71,7 +71,7 @@ const ORDERS: &[Order] = &[
     (1_000_000_000, GRANT, 1),
 ];
 
-/// How many seconds two kernel threads may take. Where each of 1,000 signals is lost, so that each sleep ends by its time
+/// How many seconds two kernel threads may take. Where each of 1,000 signals is lost, and each sleep ends by its time
 /// alone, they take 20.
 const MOST_SECONDS: u64 = 15;
 

@@ -74,7 +74,7 @@ const ROWS: &[Row] = &[
         ..NOTHING
     },
     Row {
-        shows: "a child that ends in its parent's place with its wake to come wakes the parent, which looks and sleeps again",
+        shows: "a parent that is woken by the wake of a child that ran in its place looks and sleeps again",
         cores: 1,
         slots: 1,
         acts: &[

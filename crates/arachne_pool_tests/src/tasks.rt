@@ -52,8 +52,8 @@ pub(crate) const PARENT: Sort = Sort {
     ..LEAF
 };
 
-/// A job in a pool: whether it has made a step, how many children it has forked and not joined, how many steps it has gone
-/// on, and how many jobs it has counted.
+/// A job in a pool: whether it has made a step, how many children it has forked and not joined, how many steps it has
+/// gone on, and how many jobs it has counted.
 #[derive(Drop)]
 pub(crate) struct Task {
     board: Arc<Board>,
