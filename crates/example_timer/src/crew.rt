@@ -61,7 +61,10 @@ impl<'s, C: Contexts<Spawned<Request>>> Team<Share<C::Seat>> for Crew<'s, C> {
         let Share { worker, .. } = share;
         if number > 0 {
             let (worker, waker) = pool.split_waker(rt, worker);
-            let mut waker = waker?;
+            let Some(mut waker) = waker else {
+                pool.stop();
+                return None;
+            };
             if keep::<C, R>(rt, alloc, pool, timer, &mut waker).is_err() {
                 pool.stop();
             }

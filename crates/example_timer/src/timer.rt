@@ -30,14 +30,14 @@ pub struct Timer {
     is_over: AtomicU64,
 }
 
-/// The nanoseconds of the clock, 0 where it can't be read.
+/// The nanoseconds of the clock; where it can't be read, as many as there are, so that nobody waits for it.
 pub fn now<R: Clock>(clock: &R) -> u64 {
     match clock.monotonic() {
         Ok(time) => time
             .as_secs()
             .saturating_mul(1_000_000_000)
             .saturating_add(u64::from(time.subsec_nanos())),
-        Err(_) => 0,
+        Err(_) => u64::MAX,
     }
 }
 
