@@ -19,9 +19,11 @@ mod sleepers;
 const NEXTS: u32 = 128;
 
 /// After so many polls, or about so many nanoseconds, a worker looks at the epoll, its timers and others, whatever is
-/// next.
+/// next. Where fewer than `LONG_POLLS` fit into `SOON` nanoseconds, it looks as soon as that.
 const LOOK_OUT: u32 = 64;
-const LOOK_TIME: u64 = 100_000;
+const LOOK_TIME: u64 = 500_000;
+const SOON: u64 = 100_000;
+const LONG_POLLS: u32 = 3;
 /// After so many polls the worker that judges how many cores there should be looks at its clock.
 const JUDGED: u32 = 8;
 /// After so many of these looks at which another worker had not got on, its timers are looked at too.
@@ -29,7 +31,7 @@ const LONG: u32 = 8;
 /// After so many looks at blocks that are shown and have nothing, they are hidden.
 const STALE: u32 = 16;
 /// Ready jobs taken at once, at most, while somebody has nothing to do, and tasks that one look at the epoll wakes for
-/// the worker that looks.
+/// the worker that looks; where all are busy and so many run soon, a hand full of those.
 const FEW: usize = 8;
 /// Jobs that woke themselves, or were next after many in a row, and stay with the worker that has them.
 pub(crate) const HAND: usize = 16;
@@ -57,10 +59,10 @@ pub(crate) struct Turn {
     /// How many looks at its blocks were at ones that are shown and have nothing.
     stale: u32,
     chain: u32,
-    /// Polls since it last looked out or had nothing to do, and when that was; and after how many it looks out.
+    /// Polls since it last looked out or had nothing to do, and when that was; and how many run `SOON`.
     polls: u32,
     looked: u64,
-    most: u32,
+    soon: u32,
     /// Looks are counted, and what is ready at them, for the policy.
     counts: bool,
     /// By worker: its polls at the last look, and at how many looks in a row it had not got on.
@@ -87,7 +89,7 @@ impl Turn {
             chain: 0,
             polls: 0,
             looked: now(),
-            most: LOOK_OUT,
+            soon: LOOK_OUT,
             counts,
             seen: vec![0; shared.workers.len()],
             stood: vec![0; shared.workers.len()],
@@ -97,25 +99,32 @@ impl Turn {
         }
     }
 
-    /// How many polls take the time between two looks, by those since the last.
+    /// How many polls run soon, by those since the last look.
     fn pace(&mut self, now: u64) {
         if self.polls != 0 {
-            let fitting = self.polls as u64 * LOOK_TIME / now.saturating_sub(self.looked).max(1);
-            self.most = fitting.clamp(1, LOOK_OUT as u64) as u32;
+            let fitting = self.polls as u64 * SOON / now.saturating_sub(self.looked).max(1);
+            self.soon = fitting.clamp(1, LOOK_OUT as u64) as u32;
         }
         (self.polls, self.looked) = (0, now);
     }
 
-    /// Where polls are long enough to be timed: whether it is time to look.
+    /// Whether it is time to look. The clock is asked where polls are so long that it may be before so many polls.
     #[inline]
     fn is_over(&self) -> bool {
-        now().saturating_sub(self.looked) >= LOOK_TIME
+        let time = if self.soon < LONG_POLLS { SOON } else { LOOK_TIME };
+        let is_timed = self.polls >= 1 && (self.soon as u64) < LOOK_OUT as u64 * SOON / LOOK_TIME;
+        self.polls >= LOOK_OUT || is_timed && now().saturating_sub(self.looked) >= time
     }
 
-    /// Jobs that this worker takes at once while another has nothing to do: as many as run until its next look.
+    /// Jobs that this worker takes at once while another has nothing to do: as many as run soon.
     #[inline]
     fn few(&self) -> usize {
-        FEW.min(self.most as usize)
+        FEW.min(self.soon as usize)
+    }
+
+    /// Jobs in its hand, but the one that is next.
+    fn held(&self) -> usize {
+        self.hand.len() + self.count - self.at
     }
 }
 
@@ -307,7 +316,7 @@ impl Shared {
     /// The next job to run, in this worker's hand.
     #[inline]
     fn pick(&'static self, context: &Context, turn: &mut Turn) -> Option<Job> {
-        if turn.polls >= LOOK_OUT || turn.most < LOOK_OUT && turn.polls >= 1 && turn.is_over() {
+        if turn.is_over() {
             turn.pace(now());
             self.look_out(context, turn);
         }
@@ -478,13 +487,13 @@ impl Shared {
 
     /// Looks at epoll and timers, and takes a job of one that doesn't get on or has nobody: whatever is next here.
     fn look_out(&self, context: &Context, turn: &mut Turn) {
-        let (few, held) = (turn.few(), turn.hand.len() + turn.count - turn.at);
+        let few = turn.few();
         // What is ready here goes first, and where polls are long what is in hand goes last.
-        let takes = (held == 0 || few == FEW) && !self.mine(context);
-        let room = if takes { few.saturating_sub(held) } else { 0 };
+        let takes = (turn.held() == 0 || few == FEW) && !self.mine(context);
+        let room = if takes { self.room(turn) } else { 0 };
         self.look_at_events(context, turn, room);
         if turn.counts {
-            let here = turn.count - turn.at + turn.hand.len() + context.next.get().is_some() as usize;
+            let here = turn.held() + context.next.get().is_some() as usize;
             let mine = std::iter::once(context.me).chain(self.lodgers(context.me));
             let ready: u32 = mine.map(|owner| self.ready_up_to(&context.hands, owner, CROWD)).sum();
             add(&self.workers[context.me].0.scans, 1);
@@ -530,6 +539,12 @@ impl Shared {
             add(&self.workers[context.me].0.takes, 1);
         }
         got
+    }
+
+    /// How many tasks that are told of may stay in this worker's hand.
+    fn room(&self, turn: &Turn) -> usize {
+        let most = if turn.few() == FEW && self.all_busy() { HAND } else { turn.few() };
+        most.saturating_sub(turn.held())
     }
 
     /// Looks at the epoll, and fires timers; how many there were.
@@ -633,9 +648,9 @@ impl Shared {
     /// With nothing of its own to do: events, unless another waits for them; and timers.
     fn look_when_idle(&self, context: &Context, turn: &mut Turn) -> usize {
         if self.waits.0.load(Relaxed) == NO_ONE {
-            return self.look_at_events(context, turn, turn.few());
+            return self.look_at_events(context, turn, self.room(turn));
         }
-        self.hear(context, turn, &Found::NOTHING, turn.few())
+        self.hear(context, turn, &Found::NOTHING, self.room(turn))
     }
 
     fn help_lodgers(&self, context: &Context, turn: &mut Turn) -> bool {
