@@ -1,6 +1,6 @@
 -- Why a run is refused, by the choosers that it is given.
-use Rattle.std.proofs.Common.{◌≡◌, ◌≤◌, ℕ, Bool, true, false, List, Option, None, Some, Result, Ok, Err, refl, sym, ap, ◌∙◌, inl, inr, length}
-use Rattle.std.specs.Prelude.{◌&&◌, nat_le, IfErr}
+use Rattle.std.proofs.Common.{◌≡◌, ◌≤◌, ℕ, Bool, true, false, List, Option, None, Some, Result, Ok, Err, refl, sym, ap, subst, ◌∙◌, inl, inr, length}
+use Rattle.std.specs.Prelude.{◌&&◌, nat_le, IfErr, IsOk}
 use Rattle.std.proofs.lemmas.Bool.{leb-true}
 use Rattle.std.proofs.lemmas.List.FromFn.{length-map-range_with_len}
 use Rattle.arachne_core.specs.declared.layout.TheConstants.{CORES}
@@ -10,7 +10,7 @@ use Rattle.arachne_policy.specs.declared.orders.CoreOrder.{CoreOrder}
 use Rattle.arachne_policy.specs.Orders.{AreInOrder}
 use Rattle.arachne_run.specs.Setups.{IsFirstOrderFault, IsSetupFault, is_of_setup, is_within, refusal_of}
 use Rattle.arachne_commands.specs.declared.command_line.RunSettings.{RunSettings}
-use Rattle.arachne_commands.specs.Running.{IsRefusal, chooser_of, choosers_of}
+use Rattle.arachne_commands.specs.Running.{IsRefusal, MayRun, chooser_of, choosers_of}
 
 pub choosers_length : (seed cores : ℕ) → length (choosers_of seed cores) ≡ cores
 choosers_length seed cores = length-map-range_with_len (chooser_of seed) 0 cores
@@ -52,3 +52,19 @@ refused_by_run settings served orders (Err fault) serves same refused misordered
         → IsSetupFault settings.cores settings.quantum settings.slots settings.cores settings.orders fault
     as_set (inl is) = inl (sym alike ∙ is)
     as_set (inr (none, of_orders)) = inr (sym alike ∙ none, rw (sym same) of_orders)
+
+pub allowed_by_run : (settings : RunSettings) (served : ℕ) (orders : List CoreOrder) (result : Result Report RunFault)
+    → (settings.cores ≤ CORES → served ≡ settings.cores)
+    → orders ≡ settings.orders
+    → ((fault : RunFault) → refusal_of settings.cores settings.quantum settings.slots served ≡ Some fault → result ≡ Err fault)
+    → (IsOk result → AreInOrder settings.cores orders)
+    → IsOk result → MayRun settings
+allowed_by_run settings served orders (Err fault) serves same refused ordered ok = absurd ok
+allowed_by_run settings served orders (Ok report) serves same refused ordered ok = record {
+  numbers = sym (same_refusal settings.cores settings.quantum settings.slots served serves) ∙ by_refusal (refusal_of settings.cores settings.quantum settings.slots served) refl;
+  in_order = subst (AreInOrder settings.cores) same (ordered ok);
+}
+  where
+    by_refusal : (refusal : Option RunFault) → refusal_of settings.cores settings.quantum settings.slots served ≡ refusal → refusal_of settings.cores settings.quantum settings.slots served ≡ None
+    by_refusal None is = is
+    by_refusal (Some fault) is = let other : Ok report ≡ Err fault = refused fault is in cc

@@ -22,7 +22,7 @@ use Rattle.clap.specs.Words.{kind_of}
 use Rattle.clap.specs.declared.error.kind.ErrorKind.TheVariants.{OutOfMemory}
 use Rattle.arachne_commands.specs.declared.command_line.RunSettings.{RunSettings}
 use Rattle.arachne_run.specs.declared.fault.RunFault.{RunFault}
-use Rattle.arachne_commands.specs.Running.{IsRefusal}
+use Rattle.arachne_commands.specs.Running.{IsRefusal, MayRun}
 use Rattle.arachne_commands.specs.Samples.{AreInRange, samples_text}
 use Rattle.arachne_commands.specs.Samples as samples
 use Rattle.arachne_commands.specs.Judging.{AreGood, IsFirstBadLine, advice_lines}
@@ -52,10 +52,10 @@ pub record AreSamplesOf (input : List ℕ) (settings : Settings) (judged : List 
 abbrev pub IsPrintedMeaning : Bool → List ℕ → List ℕ → Type 0
 IsPrintedMeaning names input output = (source : Source) × IsProgramOf input source × (output ≡ output_of names (meaning_of source))
 
--- What is to be written where this is asked and this is the input. A run writes what an evaluation writes, whatever its
--- settings.
+-- What is to be written where this is asked and this is the input. A run, which its settings have to allow, writes what
+-- an evaluation writes.
 abbrev pub IsAnswer : Request → List ℕ → List ℕ → Type 0
-IsAnswer (Run settings) input output = IsPrintedMeaning settings.names input output
+IsAnswer (Run settings) input output = MayRun settings × IsPrintedMeaning settings.names input output
 IsAnswer (Eval names) input output = IsPrintedMeaning names input output
 IsAnswer Check input output = (source : Source) × IsProgramOf input source × (output ≡ codes "ok" ++ 10 ∷ [])
 IsAnswer (Policy settings) input output = (judged : List Sample) × AreSamplesOf input settings judged × (output ≡ advice_lines settings judged)

@@ -1,9 +1,11 @@
--- Why a run is refused, and from what the choices of its cores begin.
-use Rattle.std.specs.Prelude.{◌≡◌, ◌⊎◌, true, ◌+◌, ◌%◌, ◌^◌, ℕ, List, map, None, Some}
+-- Which settings a run goes by, why it is refused, and from what the choices of its cores begin.
+use Rattle.std.specs.Prelude.{◌≡◌, ◌≤◌, ◌⊎◌, true, ◌+◌, ◌%◌, ◌^◌, ℕ, List, map, None, Some}
 use Rattle.std.specs.List.{range_with_len}
 use Rattle.rand_xoshiro.specs.SplitMix64.{splitmix_seed}
 use Rattle.rand_xoshiro.specs.Xoshiro256.{of_seed}
+use Rattle.arachne_core.specs.declared.layout.TheConstants.{CORES}
 use Rattle.arachne_policy.specs.Orders.{AreInOrder}
+use Rattle.arachne_run.specs.declared.setup.Setup.{Setup}
 use Rattle.arachne_run.specs.Setups.{IsFirstOrderFault, IsSetupFault, is_of_setup, refusal_of}
 use Rattle.arachne_run.specs.declared.fault.RunFault.{RunFault}
 use Rattle.arachne_run.specs.declared.fault.RunFault.TheVariants.{Memory}
@@ -18,6 +20,11 @@ pub record IsRefusal (settings : RunSettings) (fault : RunFault) : Type 0 where
       → IsFirstOrderFault settings.cores settings.orders fault ⊎ (fault ≡ Memory)
   pub of_setup : is_of_setup fault ≡ true → IsSetupFault settings.cores settings.quantum settings.slots settings.cores settings.orders fault
 
+-- A run by these settings may begin: none of its numbers is refused, and its orders are in order.
+pub record MayRun (settings : RunSettings) : Type 0 where
+  pub numbers : refusal_of settings.cores settings.quantum settings.slots settings.cores ≡ None
+  pub in_order : AreInOrder settings.cores settings.orders
+
 -- the generator of a core's choices, which begins from the number `seed + core`
 abbrev pub chooser_of : ℕ → ℕ → List ℕ
 chooser_of seed core = of_seed (splitmix_seed 32 ((seed + core) % 2 ^ 64))
@@ -25,3 +32,12 @@ chooser_of seed core = of_seed (splitmix_seed 32 ((seed + core) % 2 ^ 64))
 -- those of the first cores
 abbrev pub choosers_of : ℕ → ℕ → List (List ℕ)
 choosers_of seed cores = map (chooser_of seed) (range_with_len 0 cores)
+
+-- A run goes as the settings say, and each of its cores has its own chooser. Too many cores have none: they are refused
+-- before anything is chosen.
+pub record IsSetUpBy (settings : RunSettings) (setup : Setup) (choosers : List (List ℕ)) : Type 0 where
+  pub cores : setup.cores ≡ settings.cores
+  pub slots : setup.slots ≡ settings.slots
+  pub quantum : setup.quantum ≡ settings.quantum
+  pub orders : setup.orders.items ≡ settings.orders
+  pub choosers : settings.cores ≤ CORES → choosers ≡ choosers_of settings.seed settings.cores

@@ -1,11 +1,11 @@
 //! Running a program on the cores that the command line asks for.
-ghost use Rattle.std.specs.Prelude.{◌≡◌, ◌≤◌, IfOk, IfErr};
+ghost use Rattle.std.specs.Prelude.{◌≡◌, ◌≤◌, IfOk, IfErr, IsOk};
 ghost use Rattle.arachne_core.specs.declared.layout.TheConstants.{CORES};
 ghost use Rattle.arachne_lang.specs.Program.{source_of};
 ghost use Rattle.arachne_lang.specs.Meaning.{meaning_of};
 ghost use Rattle.arachne_lang.specs.Checked.{IsChecked};
 ghost use Rattle.arachne_run.specs.Reports.{meaning_in};
-ghost use Rattle.arachne_commands.specs.Running.{IsRefusal, choosers_of};
+ghost use Rattle.arachne_commands.specs.Running.{IsRefusal, IsSetUpBy, MayRun, choosers_of};
 
 use crate::command_line::RunSettings;
 use arachne_core::CORES;
@@ -29,6 +29,20 @@ pub fn run_program<'p, R: Threads + Wait + Clock + Sync>(
     requires { IsChecked (source_of program.now) }
     ensures meaning { IfOk result (λ report. meaning_in report ≡ meaning_of (source_of program.now)) }
     ensures refused { IfErr result (IsRefusal settings) }
+    ensures allowed { IsOk result → MayRun settings }
+{
+    let (setup, choosers) = set_up(alloc, settings)?;
+    run::<R, Job<'p>, WordContexts<Job<'p>>, Xoshiro256PlusPlus, OpenGate>(
+        rt, alloc, program, setup, choosers, &OpenGate,
+    )
+}
+
+/// How a run goes by the settings, and the choosers of its cores.
+fn set_up(
+    alloc: Global,
+    settings: RunSettings,
+) -> Result<(Setup, Vec<Xoshiro256PlusPlus>), AllocError>
+    ensures { IfOk result (λ made. IsSetUpBy settings made.0 made.1.items) }
 {
     let RunSettings {
         cores,
@@ -45,9 +59,7 @@ pub fn run_program<'p, R: Threads + Wait + Clock + Sync>(
         quantum,
         orders: orders.into_vec(),
     };
-    run::<R, Job<'p>, WordContexts<Job<'p>>, Xoshiro256PlusPlus, OpenGate>(
-        rt, alloc, program, setup, choosers, &OpenGate,
-    )
+    Ok((setup, choosers))
 }
 
 /// How many cores get a chooser: each, and of too many none, since the run refuses them before it looks at its

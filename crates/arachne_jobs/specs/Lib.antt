@@ -2,3 +2,4 @@ pub mod Threads
 pub mod Cells
 pub mod Ends
 pub mod Slices
+pub mod Classes

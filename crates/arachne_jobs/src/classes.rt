@@ -1,8 +1,14 @@
 //! Which classes of threads a program forks.
+ghost use Rattle.std.specs.Prelude.{◌≡◌};
+ghost use Rattle.arachne_lang.specs.Program.{tree_of};
+ghost use Rattle.arachne_jobs.specs.Classes.{forks_exclusive};
+
 use arachne_lang::{Class, Expr};
 
 /// Whether an expression forks a thread that is to have a core for itself.
-pub fn has_exclusive(expr: &Expr) -> bool {
+pub fn has_exclusive(expr: &Expr) -> bool
+    ensures { result ≡ forks_exclusive (tree_of expr.now) }
+{
     match expr {
         Expr::Num(_) | Expr::Var(_) | Expr::Len(_) => false,
         Expr::Item(_, index) => has_exclusive(index),

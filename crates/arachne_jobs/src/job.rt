@@ -369,8 +369,8 @@ fn look_at<'p>(link: Link<'p>, spares: &mut Spares<'p>) -> Result<Found<'p>, Lin
             Err(receiver) => Err(Link::Awaits(receiver)),
         },
         Link::Waits(cell, None) => match cell.find() {
-            Found::Nothing => Err(Link::Waits(cell, None)),
-            found => Ok(found),
+            Ok(found) => Ok(found),
+            Err(_) => Err(Link::Waits(cell, None)),
         },
         link => Err(link),
     }

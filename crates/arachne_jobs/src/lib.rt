@@ -18,7 +18,7 @@ pub use classes::has_exclusive;
 pub use fault::JobFault;
 pub use job::Job;
 pub use openings::Openings;
-pub use room::Room;
+pub use room::{PlaceLeft, Room, TicketPut, TicketTaken};
 pub use slice::{JobOf, RunJob, RunSpares, RunThread, RunTicket, Slice};
 pub use spares::Spares;
 pub use tags::{BLOCK, Tags};

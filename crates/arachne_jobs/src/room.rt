@@ -1,6 +1,60 @@
 //! Words that all workers of a run share, and look at before each fork: free places, children that wait, tags.
+ghost use Rattle.std.specs.Prelude.{◌↔◌, ◌<◌, IsTrue};
+
 use crossbeam_utils::CachePadded;
 use std::sync::atomic::{AtomicU64, Ordering};
+
+/// A place was given back, and is to be counted as free. It can't be dropped: [`Room::place_was_left`] takes it.
+pub struct PlaceLeft {
+    uncounted: (),
+}
+
+impl PlaceLeft {
+    #[inline(always)]
+    pub fn new() -> PlaceLeft {
+        PlaceLeft { uncounted: () }
+    }
+}
+
+/// A child's ticket was put into the queue, and is to be counted. It can't be dropped: [`Room::child_waits`] takes it.
+pub struct TicketPut {
+    uncounted: (),
+}
+
+impl TicketPut {
+    #[inline(always)]
+    pub fn new() -> TicketPut {
+        TicketPut { uncounted: () }
+    }
+}
+
+/// A child's ticket was taken, and is to be counted. It can't be dropped: [`Room::ticket_was_taken`] takes it.
+pub struct TicketTaken {
+    uncounted: (),
+}
+
+impl TicketTaken {
+    #[inline(always)]
+    pub fn new() -> TicketTaken {
+        TicketTaken { uncounted: () }
+    }
+}
+
+/// How many children may wait at most.
+#[derive(Clone, Copy)]
+struct Limit {
+    most: u64,
+}
+
+impl Limit {
+    /// Whether one more may wait beside so many.
+    #[inline(always)]
+    fn allows(self, waiting: u64) -> bool
+        ensures { IsTrue result ↔ waiting < self.most }
+    {
+        waiting < self.most
+    }
+}
 
 /// How many places of a machine are free and how many children wait for one, or a little more or less, and the first
 /// tag that is not drawn. They say whether a fork is worth a look: what is claimed, and which child goes on, is decided
@@ -9,7 +63,7 @@ use std::sync::atomic::{AtomicU64, Ordering};
 pub struct Room {
     free: CachePadded<AtomicU64>,
     waiting: CachePadded<AtomicU64>,
-    most_waiting: u64,
+    limit: Limit,
     next_tag: CachePadded<AtomicU64>,
 }
 
@@ -19,7 +73,7 @@ impl Room {
         Room {
             free: CachePadded::new(AtomicU64::new(places)),
             waiting: CachePadded::new(AtomicU64::new(0)),
-            most_waiting,
+            limit: Limit { most: most_waiting },
             next_tag: CachePadded::new(AtomicU64::new(1)),
         }
     }
@@ -36,7 +90,9 @@ impl Room {
     }
 
     /// A place was given back, or its thread has ended.
-    pub fn place_was_left(&self) {
+    #[inline(always)]
+    pub fn place_was_left(&self, left: PlaceLeft) {
+        let PlaceLeft { uncounted: _ } = left;
         self.free.fetch_add(1, Ordering::SeqCst);
     }
 
@@ -49,16 +105,20 @@ impl Room {
     /// Whether one more child may wait.
     #[inline(always)]
     pub fn may_wait(&self) -> bool {
-        seen(&self.waiting) < self.most_waiting
+        self.limit.allows(seen(&self.waiting))
     }
 
     /// A child begins to wait.
-    pub fn child_waits(&self) {
+    #[inline(always)]
+    pub fn child_waits(&self, put: TicketPut) {
+        let TicketPut { uncounted: _ } = put;
         self.waiting.fetch_add(1, Ordering::SeqCst);
     }
 
     /// A child's ticket was taken.
-    pub fn ticket_was_taken(&self) {
+    #[inline(always)]
+    pub fn ticket_was_taken(&self, taken: TicketTaken) {
+        let TicketTaken { uncounted: _ } = taken;
         self.waiting.fetch_sub(1, Ordering::SeqCst);
     }
 

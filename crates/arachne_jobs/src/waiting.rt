@@ -1,6 +1,8 @@
 //! A child that waits in its join cell, for a place or for its parent.
-ghost use Rattle.std.specs.Prelude.{◌≡◌, ◌+◌, ◌≤◌, IfOk, IfErr, IfSome, vec_capacity, vec_len};
+ghost use Rattle.std.specs.Prelude.{◌≡◌, ◌≢◌, ◌+◌, ◌≤◌, IfOk, IfErr, IfSome, vec_capacity, vec_len};
 ghost use Rattle.std.specs.Arc.{arc_value};
+ghost use Rattle.arachne_join.specs.Views.{shown};
+ghost use Rattle.arachne_join.specs.declared.view.Role.TheVariants.{Saw};
 ghost use Rattle.arachne_jobs.specs.Cells.{HasNotBegun, IsFor, IsFoundFor, IsWanted};
 ghost use Rattle.arachne_jobs.specs.Threads.{tag_of};
 
@@ -10,7 +12,7 @@ use crate::slice::RunTicket;
 use crate::wanted::Wanted;
 use arachne_contexts::Tagged;
 use arachne_core::ThreadId;
-use arachne_join::{CellState, JoinCell, SendingEnd};
+use arachne_join::{CellState, JoinCell, Missed, SendingEnd};
 use arachne_machine::{DetachedOutcome, Thread};
 use std::alloc::{AllocError, Global};
 use std::marker::Model;
@@ -85,26 +87,28 @@ impl<'p> WaitCell<'p> {
         Ok((WaitCell { cell }, Ticket { cell: ticket, tag }))
     }
 
-    /// What the parent that awaits the child finds.
-    pub(crate) fn find(&self) -> Found<'p>
-        ensures { IsFoundFor self.now.key result }
+    /// What the parent that awaits the child finds. Where there is nothing, the cell was seen in a state in which no child
+    /// waited.
+    pub(crate) fn find(&self) -> Result<Found<'p>, Missed<Wanted>>
+        ensures found { IfOk result (IsFoundFor self.now.key) }
+        ensures missed { IfErr result (λ missed. (missed.state ≢ CellState.Waiting) × (missed.receipt ≡ shown self.now.table (Saw missed.state))) }
     {
         let missed = match self.cell.fetch() {
             Ok((left, _)) => match left {
-                Left::Outcome(outcome) => return Found::Outcome(outcome),
+                Left::Outcome(outcome) => return Ok(Found::Outcome(outcome)),
                 Left::Child(_) => unreachable!(),
             },
             Err(missed) => missed,
         };
         if missed.state != CellState::Waiting {
-            return Found::Nothing;
+            return Err(missed);
         }
         match self.cell.take_back() {
             Ok((left, _)) => match left {
-                Left::Child(waiting) => Found::Child(waiting.thread),
+                Left::Child(waiting) => Ok(Found::Child(waiting.thread)),
                 Left::Outcome(_) => unreachable!(),
             },
-            Err(_) => Found::Nothing,
+            Err(missed) => Err(missed),
         }
     }
 }

@@ -3,3 +3,4 @@ pub mod Setups
 pub mod Tokens
 pub mod Distinct
 pub mod Histories
+pub mod Serving

@@ -1,5 +1,5 @@
 -- Whose tokens they are, and what is out with them.
-use Rattle.std.specs.Prelude.{◌≡◌, ◌≤◌, ◌<◌, ℕ, List, [], ◌∷◌, Option, None, Some, IfSome, length, map}
+use Rattle.std.specs.Prelude.{◌≡◌, ◌≤◌, ◌<◌, ℕ, Bool, List, [], ◌∷◌, Option, None, Some, IfSome, length, map}
 use Rattle.arachne_contexts.specs.Out.{Out, Claim, Thread}
 use Rattle.arachne_contexts.specs.declared.held.Held.{Held}
 use Rattle.arachne_ledger.specs.Views.{IsShareOf}
@@ -12,17 +12,18 @@ use Rattle.arachne_run.specs.declared.resources.Holdings.{Holdings}
 use Rattle.arachne_run.specs.declared.resources.Resources.{Resources}
 use Rattle.arachne_run.specs.declared.tokens.Tokens.{Tokens}
 
--- what a worker's seat is a seat at: the table, the queue of tickets, the ledgers and locks, and how many cores and
--- orders there are
+-- what a worker's seat is a seat at: the table, the queue of tickets, the ledgers and locks, how many cores and orders
+-- there are, and whether workers may move threads to their own cores
 pub record Ground (Table : Type 0) : Type 0 where
   pub table : Table
   pub tickets : QueueView
   pub resources : Resources
   pub cores : ℕ
   pub orders : ℕ
+  pub may_pull : Bool
 
 abbrev pub ground_of : {Table Ticket : Type 0} → Machine Table Ticket → Ground Table
-ground_of machine = record { table = machine.table; tickets = machine.tickets; resources = machine.resources; cores = machine.cores; orders = machine.orders }
+ground_of machine = record { table = machine.table; tickets = machine.tickets; resources = machine.resources; cores = machine.cores; orders = machine.orders; may_pull = machine.may_pull }
 
 -- the arbiter, if there is one, has as many orders as the machine, for its cores
 abbrev pub IsArbiterOf : {Table Ticket : Type 0} → Machine Table Ticket → Option Progress → Type 0

@@ -1,8 +1,10 @@
 //! What a worker does at the locks and the ledgers. A lock is tried again while another kernel thread is at it.
 ghost use Rattle.std.specs.Prelude.{◌≡◌, ◌<◌, IfOk, length};
+ghost use Rattle.arachne_run.specs.Serving.{IsServed};
 ghost use Rattle.arachne_run.specs.Tokens.{AreHoldingsOf};
 
 use crate::fault::WorkerFault;
+use crate::granted::Granted;
 use crate::resources::{Holdings, Resources};
 use arachne_arbiter::Pace;
 use arachne_core::ThreadId;
@@ -24,6 +26,18 @@ pub(crate) enum Want {
     Frees(u64),
     /// That this ledger gets this amount.
     Tallies(u64, u64),
+}
+
+/// What came of what a thread asked for.
+pub(crate) enum Served {
+    /// It waits for this lock.
+    Waits(u64),
+    /// It holds the lock that it asked for.
+    Holds(Granted),
+    /// The lock that it had is free, or the thread of this id holds it now.
+    Freed(Option<ThreadId>),
+    /// The amount was added.
+    Added,
 }
 
 /// The locks and the ledgers, and what a worker has of them. Contracts see the locks and the ledgers.
@@ -78,10 +92,15 @@ impl<'a> Access<'a> {
         ensures { (self.new ≡ self.old) × (T.tag_of thread.new ≡ T.tag_of thread.old) }
     {
         let tag = thread.running_tag();
-        let stop = self.do_for(rt, pace, want, Who { tag, id })?;
-        if let Stop::Waits(_) = stop {
-            return Ok(stop);
-        }
+        let stop = match self.do_for(rt, pace, want, Who { tag, id })? {
+            Served::Waits(lock) => return Ok(Stop::Waits(lock)),
+            Served::Holds(_) => {
+                self.has_lock = true;
+                Stop::Goes
+            }
+            Served::Freed(Some(next)) => Stop::Wakes(next),
+            Served::Freed(None) | Served::Added => Stop::Goes,
+        };
         match thread.answer() {
             Ok(()) => Ok(stop),
             Err(fault) => Err(WorkerFault::from(fault)),
@@ -95,48 +114,45 @@ impl<'a> Access<'a> {
         pace: &mut Pace,
         want: Want,
         who: Who,
-    ) -> Result<Stop, WorkerFault>
-        ensures { self.new ≡ self.old }
+    ) -> Result<Served, WorkerFault>
+        ensures same { self.new ≡ self.old }
+        ensures served { IfOk result (IsServed want) }
     {
         match want {
-            Want::Asks(lock) => {
-                if !self.ask(rt, pace, lock, who)? {
-                    return Ok(Stop::Waits(lock));
-                }
-                self.has_lock = true;
-            }
-            Want::Awaits(lock) => {
-                if !self.check(rt, pace, lock, who)? {
-                    return Ok(Stop::Waits(lock));
-                }
-                self.has_lock = true;
-            }
+            Want::Asks(lock) => match self.ask(rt, pace, lock, who)? {
+                Some(granted) => Ok(Served::Holds(granted)),
+                None => Ok(Served::Waits(lock)),
+            },
+            Want::Awaits(lock) => match self.check(rt, pace, lock, who)? {
+                Some(granted) => Ok(Served::Holds(granted)),
+                None => Ok(Served::Waits(lock)),
+            },
             Want::Frees(lock) => {
                 self.has_lock = false;
-                if let Some(next) = self.free(rt, pace, lock, who)? {
-                    return Ok(Stop::Wakes(next));
-                }
+                Ok(Served::Freed(self.free(rt, pace, lock, who)?))
             }
-            Want::Tallies(ledger, amount) => self.add(ledger, amount)?,
+            Want::Tallies(ledger, amount) => {
+                self.add(ledger, amount)?;
+                Ok(Served::Added)
+            }
         }
-        Ok(Stop::Goes)
     }
 
-    /// Asks for a lock. Whether the thread holds it at once; else it waits.
+    /// Asks for a lock. None where the thread has to wait for it.
     pub(crate) fn ask<H: Wait + Clock>(
         &mut self,
         rt: &H,
         pace: &mut Pace,
         lock: u64,
         who: Who,
-    ) -> Result<bool, WorkerFault>
+    ) -> Result<Option<Granted>, WorkerFault>
         ensures { self.new ≡ self.old }
     {
         let mut tries: u32 = 0;
         for _ in rt.forever() {
             match self.try_ask(lock, who)? {
-                Tried::Answered(Ok(Asked::Granted(_))) => return Ok(true),
-                Tried::Answered(Ok(Asked::Queued { at: _ })) => return Ok(false),
+                Tried::Answered(Ok(Asked::Granted(pass))) => return Ok(Some(Granted::by(pass))),
+                Tried::Answered(Ok(Asked::Queued { at: _ })) => return Ok(None),
                 Tried::Answered(Err(AskFault::Memory)) => return Err(WorkerFault::Memory),
                 Tried::Answered(Err(AskFault::AlreadyIn)) => return Err(WorkerFault::Threads),
                 Tried::Contended => {}
@@ -147,20 +163,21 @@ impl<'a> Access<'a> {
         unreachable!()
     }
 
-    /// Whether the thread that has asked for a lock holds it now.
+    /// That the thread which has asked for a lock holds it now, if it does.
     pub(crate) fn check<H: Wait + Clock>(
         &mut self,
         rt: &H,
         pace: &mut Pace,
         lock: u64,
         who: Who,
-    ) -> Result<bool, WorkerFault>
+    ) -> Result<Option<Granted>, WorkerFault>
         ensures { self.new ≡ self.old }
     {
         let mut tries: u32 = 0;
         for _ in rt.forever() {
             match self.try_check(lock, who)? {
-                Tried::Answered(pass) => return Ok(pass.is_some()),
+                Tried::Answered(Some(pass)) => return Ok(Some(Granted::by(pass))),
+                Tried::Answered(None) => return Ok(None),
                 Tried::Contended => {}
             }
             stand_by(rt, pace, tries);

@@ -1,7 +1,7 @@
 //! How threads get their places: the child of a fork is posted at one, waits for one, or runs in its parent's.
 //!
 //! It may touch the table through the seat that it is given, and the queue of those that wait.
-ghost use Rattle.std.specs.Prelude.{◌≡◌, ◌<◌, ◌≤◌, [], ◌∷◌, IfOk, MatchOption, OnOk, map};
+ghost use Rattle.std.specs.Prelude.{◌≡◌, ◌↔◌, ◌<◌, ◌≤◌, [], ◌∷◌, false, IfOk, IsTrue, MatchOption, OnOk, map};
 ghost use Rattle.arachne_contexts.specs.Out.{Claim as a_claim, HasOut};
 ghost use Rattle.arachne_spill.specs.Views.{IsPassOf};
 ghost use Rattle.arachne_run.specs.Tokens.{IsSetUp, IsSpent, thread_in};
@@ -11,11 +11,11 @@ use crate::claims::Claims;
 use crate::fault::WorkerFault;
 use crate::machine::Machine;
 use arachne_arbiter::Pace;
-use arachne_contexts::{Contexts, Held, Identified, Placed};
+use arachne_contexts::{Contexts, Held, Identified, Placed, Tagged};
 use arachne_core::ThreadId;
-use arachne_jobs::{Openings, RunJob, Slice};
+use arachne_jobs::{Openings, PlaceLeft, RunJob, Slice, TicketPut, TicketTaken};
 use arachne_lang::Class;
-use arachne_spill::SpillPass;
+use arachne_spill::{SpillPass, SpillQueue};
 use arachne_workers::{Post, Stop};
 use rand_core::Rng;
 use std::alloc::Global;
@@ -125,15 +125,72 @@ fn answer_fork<H: Wait, T: RunJob, C: Contexts<T>, R: Rng>(
             Err(_) => Err(WorkerFault::Token),
         };
     }
-    let waits = class == Class::Normal && !machine.tickets.is_full(rt, pass);
+    let waits = may_wait(class, machine.tickets.is_full(rt, pass));
     if let Some(ticket) = held.value.put_aside(alloc, me, child, tag, waits)? {
         // Where the queue was filled meanwhile, the child waits without a ticket, for its parent.
-        if machine.tickets.push(rt, pass, ticket).is_ok() {
-            room.child_waits();
+        if let Ok(put) = put_ticket(rt, &machine.tickets, pass, ticket) {
+            room.child_waits(put);
             return Ok(Stop::Spilled);
         }
     }
     Ok(Stop::Goes)
+}
+
+/// Whether a child for which no place was found waits for one, by its class and whether the queue is full: one that is to
+/// have a core for itself never does.
+fn may_wait(class: Class, is_full: bool) -> bool
+    ensures { IsTrue result ↔ (class ≡ Class.Normal) × (is_full ≡ false) }
+{
+    class == Class::Normal && !is_full
+}
+
+/// Puts a ticket into the queue, which is to be counted then. It comes back where the queue is full.
+#[inline(always)]
+fn put_ticket<H: Wait, K: Tagged + Drop>(
+    rt: &H,
+    tickets: &SpillQueue<K>,
+    pass: &mut SpillPass<K>,
+    ticket: K,
+) -> Result<TicketPut, K>
+    requires { IsPassOf tickets.now pass.old }
+    ensures { IsPassOf tickets.now pass.new }
+{
+    match tickets.push(rt, pass, ticket) {
+        Ok(()) => Ok(TicketPut::new()),
+        Err(ticket) => Err(ticket),
+    }
+}
+
+/// The next ticket of the queue, which is to be counted as taken.
+#[inline(always)]
+pub(crate) fn next_ticket<H: Wait, K: Tagged + Drop>(
+    rt: &H,
+    tickets: &SpillQueue<K>,
+    pass: &mut SpillPass<K>,
+) -> Option<(K, TicketTaken)>
+    requires { IsPassOf tickets.now pass.old }
+    ensures { IsPassOf tickets.now pass.new }
+{
+    let ticket = tickets.pop(rt, pass)?;
+    Some((ticket, TicketTaken::new()))
+}
+
+/// Gives back a place at which nothing was posted. It is to be counted then.
+pub(crate) fn give_place_back<H: Wait, T: RunJob, C: Contexts<T>>(
+    rt: &H,
+    machine: &Machine<C, T::Ticket>,
+    spare: &mut C::Seat,
+    claim: C::Claim,
+) -> Result<PlaceLeft, WorkerFault>
+    requires seat { C.sits machine.now.table spare.old }
+    requires out { HasOut (C.has machine.now.table) (a_claim claim) spare.old }
+    ensures seat { C.sits machine.now.table spare.new }
+    ensures out { OnOk result (IsSpent (C.has machine.now.table) (a_claim claim) spare.old spare.new) }
+{
+    match machine.table.give_back(rt, spare, claim) {
+        Ok(()) => Ok(PlaceLeft::new()),
+        Err(_) => Err(WorkerFault::Token),
+    }
 }
 
 /// A place of the core: the newest that is kept, else one that is free.
@@ -180,12 +237,10 @@ pub(crate) fn post_waiting<H: Wait, T: RunJob, C: Contexts<T>>(
             Ok(id) => Ok(Some(id)),
             Err(_) => Err(WorkerFault::Token),
         },
-        None => match machine.table.give_back(rt, spare, claim) {
-            Ok(()) => {
-                machine.shared.room().place_was_left();
-                Ok(None)
-            }
-            Err(_) => Err(WorkerFault::Token),
-        },
+        None => {
+            let left = give_place_back::<H, T, C>(rt, machine, spare, claim)?;
+            machine.shared.room().place_was_left(left);
+            Ok(None)
+        }
     }
 }

@@ -3,10 +3,12 @@
 
 mod access;
 mod audit;
+mod choosers;
 mod claims;
 mod fault;
 mod forking;
 mod gate;
+mod granted;
 mod machine;
 mod report;
 mod resources;

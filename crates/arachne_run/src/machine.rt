@@ -1,5 +1,7 @@
 //! What the workers of a run share.
-ghost use Rattle.std.specs.Prelude.{◌≡◌, ◌≤◌, ◌⊎◌, All, Err, IfErr, IfOk, IfSome, IsOk, length};
+ghost use Rattle.std.specs.Prelude.{◌≡◌, ◌≤◌, ◌⊎◌, [], All, Err, IfErr, IfOk, IfSome, IsOk, OnOk, length, not};
+ghost use Rattle.arachne_lang.specs.Program.{tree_of};
+ghost use Rattle.arachne_jobs.specs.Classes.{forks_exclusive};
 ghost use Rattle.arachne_policy.specs.Orders.{AreInOrder};
 ghost use Rattle.arachne_sleep.specs.History.{IsSound};
 ghost use Rattle.arachne_sleep.specs.OneHolder.{HasOneHolderAtATime};
@@ -78,7 +80,8 @@ impl<C: Seats + Drop, K: Tagged + Drop> Machine<C, K> {
         requires some_steps { 1 ≤ quantum }
         requires orders { AreInOrder cores orders.items }
         ensures { IfOk result (λ made. AreIdle C.sits C.idle made.0 made.1 × IsSetUp C.core_count C.slot_count made.0
-            × (made.0.orders ≡ length orders.items) × (length made.0.resources.locks ≡ program.now.locks)) }
+            × (made.0.orders ≡ length orders.items) × (length made.0.resources.locks ≡ program.now.locks)
+            × (made.0.may_pull ≡ not (forks_exclusive (tree_of program.now.root)))) }
     {
         let count = orders.len();
         let exclusive = has_exclusive(&program.root);
@@ -156,8 +159,8 @@ impl<C: Seats + Drop, K: Tagged + Drop> Machine<C, K> {
     }
 }
 
-/// Closes the table and the queue of tickets. Where not all of the seat or of the passes is back, or something is out,
-/// a token is missing; so a thread that is left is told too.
+/// Closes the table and the queue of tickets, if each thread that was posted has ended. Where not all of the seat or of
+/// the passes is back, or something is out, a token is missing; so a thread that is left is told too.
 fn close_table<H: Wait, T: Tagged + Drop, C: Contexts<T> + Drop, K: Tagged + Drop>(
     rt: &H,
     alloc: Global,
@@ -169,7 +172,8 @@ fn close_table<H: Wait, T: Tagged + Drop, C: Contexts<T> + Drop, K: Tagged + Dro
     requires seat { C.sits table seat }
     requires idle { C.idle table seat }
     requires pass { IsPassOf tickets pass }
-    ensures { IfErr result (λ fault. (fault ≡ Memory) ⊎ (fault ≡ Token)) }
+    ensures fault { IfErr result (λ fault. (fault ≡ Memory) ⊎ (fault ≡ Token)) }
+    ensures none_left { OnOk result (C.settles table seat []) }
 {
     close_queue::<H, K>(rt, &tickets, pass)?;
     if !table.is_whole(&seat) || table.out(&seat) != 0 {

@@ -41,6 +41,7 @@ impl Report {
         requires { outcome.name ≡ [] }
         ensures meaning { IfOk result (λ report. meaning_in report ≡ meaning_of (source_of outcome.program)) }
         ensures tags { IfOk result (λ report. AreDistinct (tags_of report)) }
+        ensures totals { IfOk result (λ report. report.totals ≡ remains.words.items) }
         ensures histories { IfOk result (λ report. report.histories ≡ remains.histories) }
         ensures grants { IfOk result (λ report. GrantsAreHolds report.threads (histories_in report)) }
         ensures applied { IfOk result (λ report. report.applied ≡ applied) }

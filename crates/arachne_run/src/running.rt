@@ -7,6 +7,7 @@ ghost use Rattle.arachne_run.specs.Reports.{IsReportOf};
 ghost use Rattle.arachne_run.specs.Setups.{IsFirstOrderFault, IsSetupFault, is_of_setup, refusal_of};
 ghost use Rattle.arachne_run.specs.declared.fault.RunFault.{RunFault};
 
+use crate::choosers::Choosers;
 use crate::fault::RunFault;
 use crate::gate::Gate;
 use crate::machine::Machine;
@@ -57,8 +58,7 @@ where
     ensures order_refused { refusal_of setup.cores setup.quantum setup.slots (vec_len choosers) ≡ None → (AreInOrder setup.cores setup.orders.items → ⊥) → IfErr result (IsFirstOrderFault setup.cores setup.orders.items) }
 {
     setup.check(choosers.len())?;
-    let mut choosers = choosers;
-    choosers.reverse();
+    let choosers = Choosers::of(choosers);
     let (root, receiver) = T::begin(alloc, program, &mut T::Spares::none(alloc))?;
     let (machine, tokens) = Machine::<C, T::Ticket>::new(
         alloc,

@@ -3,20 +3,20 @@
 //! With `forking`, for its forks, it alone calls the table while threads run. Its type keeps the bookkeeping: the
 //! thread in hand is out with one seat, the places that are kept with the other, and nothing else is out between two
 //! calls.
-ghost use Rattle.std.specs.Prelude.{◌≡◌, ◌<◌};
+ghost use Rattle.std.specs.Prelude.{◌≡◌, ◌<◌, true, IsTrue};
 ghost use Rattle.arachne_run.specs.Tokens.{AreIdle, IsSetUp, ground_of};
 
 use crate::access::Access;
 use crate::claims::Claims;
 use crate::fault::WorkerFault;
-use crate::forking::{Forks, free_place, go_on, post_waiting};
+use crate::forking::{Forks, free_place, give_place_back, go_on, next_ticket, post_waiting};
 use crate::gate::Gate;
 use crate::machine::Machine;
 use crate::tokens::Tokens;
 use arachne_arbiter::{Arbiter, Pace};
 use arachne_contexts::{Claimed, Contexts, Held, Moved, Placed, Rested, Taken, Woken};
 use arachne_core::{MarkWord, OccWord, Place, Rest, ThreadId};
-use arachne_jobs::{Openings, RunJob, RunSpares, RunThread, RunTicket};
+use arachne_jobs::{Openings, PlaceLeft, RunJob, RunSpares, RunThread, RunTicket};
 use arachne_spill::SpillPass;
 use arachne_workers::{
     Desk, Drained, Event, Grip, Halt, Post, Stop, Ticket, keeps_place, may_take_ticket,
@@ -239,7 +239,7 @@ impl<'a, H: Wait + Clock, T: RunJob, C: Contexts<T>, R: Rng + Drop, G: Gate> Des
     fn keep_place(&mut self, before: OccWord) -> Result<(), Halt> {
         let room = self.machine.shared.room();
         if !self.machine.may_keep || self.is_broken {
-            room.place_was_left();
+            room.place_was_left(PlaceLeft::new());
             return Ok(());
         }
         let mut is_kept = false;
@@ -260,7 +260,7 @@ impl<'a, H: Wait + Clock, T: RunJob, C: Contexts<T>, R: Rng + Drop, G: Gate> Des
             self.is_broken = false;
         }
         if !is_kept {
-            room.place_was_left();
+            room.place_was_left(PlaceLeft::new());
         }
         Ok(())
     }
@@ -276,13 +276,17 @@ impl<'a, H: Wait + Clock, T: RunJob, C: Contexts<T>, R: Rng + Drop, G: Gate> Des
         let Some(claim) = self.kept.take() else {
             return Ok(false);
         };
-        let table = &self.machine.table;
-        if table.give_back(self.rt, &mut self.spare, claim).is_err() {
-            self.is_broken = true;
-            return Err(Halt::from(WorkerFault::Token));
+        let (rt, machine) = (self.rt, self.machine);
+        match give_place_back::<H, T, C>(rt, machine, &mut self.spare, claim) {
+            Ok(left) => {
+                machine.shared.room().place_was_left(left);
+                Ok(true)
+            }
+            Err(fault) => {
+                self.is_broken = true;
+                Err(Halt::from(fault))
+            }
         }
-        self.machine.shared.room().place_was_left();
-        Ok(true)
     }
 
     #[inline(always)]
@@ -309,7 +313,10 @@ impl<'a, H: Wait + Clock, T: RunJob, C: Contexts<T>, R: Rng + Drop, G: Gate> Des
         table.wake(self.rt, &mut self.seat, id)
     }
 
-    fn pull(&mut self, place: Place) -> bool {
+    fn pull(&mut self, place: Place) -> bool
+        ensures same { self.new ≡ self.old }
+        ensures allowed { IsTrue result → self.old.may_pull ≡ true }
+    {
         if !self.machine.may_pull
             || place.core == self.core
             || place.core >= self.machine.cores
@@ -337,10 +344,11 @@ impl<'a, H: Wait + Clock, T: RunJob, C: Contexts<T>, R: Rng + Drop, G: Gate> Des
         if self.is_broken {
             return Err(Halt::from(WorkerFault::Token));
         }
-        let Some(ticket) = self.machine.tickets.pop(self.rt, &mut self.pass) else {
+        let Some((ticket, taken)) = next_ticket(self.rt, &self.machine.tickets, &mut self.pass)
+        else {
             return Ok(Ticket::None);
         };
-        self.machine.shared.room().ticket_was_taken();
+        self.machine.shared.room().ticket_was_taken(taken);
         if !ticket.still_waits() {
             return Ok(Ticket::Gone);
         }

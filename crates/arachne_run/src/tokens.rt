@@ -1,5 +1,5 @@
 //! What a worker steps with, and gives back in the end.
-ghost use Rattle.std.specs.Prelude.{◌≡◌, ◌≤◌, IfOk, IfErr};
+ghost use Rattle.std.specs.Prelude.{◌≡◌, ◌≤◌, None, IfOk, IfErr};
 ghost use Rattle.arachne_run.specs.Tokens.{AreIdle};
 
 use crate::machine::Machine;
@@ -32,6 +32,7 @@ impl<S, K: Tagged + Drop> Tokens<S, K> {
         ensures own { IfOk result (λ parts. AreIdle C.sits C.idle machine.now parts.0) }
         ensures others { IfOk result (λ parts. AreIdle C.sits C.idle machine.now parts.1) }
         ensures err { IfErr result (AreIdle C.sits C.idle machine.now) }
+        ensures arbiter { IfOk result (λ parts. (parts.0.arbiter ≡ self.arbiter) × (parts.1.arbiter ≡ None)) }
     {
         let (holdings, other_holdings) = match machine.resources.split(alloc, self.holdings) {
             Ok(parts) => parts,
@@ -63,7 +64,8 @@ impl<S, K: Tagged + Drop> Tokens<S, K> {
     ) -> Tokens<S, K>
         requires own { AreIdle C.sits C.idle machine.now self }
         requires others { AreIdle C.sits C.idle machine.now other }
-        ensures { AreIdle C.sits C.idle machine.now result }
+        ensures idle { AreIdle C.sits C.idle machine.now result }
+        ensures arbiter { result.arbiter ≡ self.arbiter }
     {
         Tokens {
             seat: machine.table.join_seats(rt, self.seat, other.seat),

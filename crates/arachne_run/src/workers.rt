@@ -2,6 +2,7 @@
 ghost use Rattle.std.specs.Prelude.{◌≡◌, ◌<◌, IfSome};
 ghost use Rattle.arachne_run.specs.Tokens.{AreIdle, IsSetUp, ground_of};
 
+use crate::choosers::Choosers;
 use crate::fault::WorkerFault;
 use crate::gate::Gate;
 use crate::machine::Machine;
@@ -33,8 +34,8 @@ struct Share<S, T: RunJob, R> {
     /// The thread that begins here.
     root: Option<T>,
     chooser: Option<R>,
-    /// Those of the workers that are parted off, the next one last.
-    choosers: Vec<R>,
+    /// Those of the workers that are parted off.
+    choosers: Choosers<R>,
 }
 
 impl<'a, T: RunJob, C: Contexts<T>, R: Rng + Drop, G: Gate> Team<Share<C::Seat, T, R>>
@@ -66,8 +67,8 @@ impl<'a, T: RunJob, C: Contexts<T>, R: Rng + Drop, G: Gate> Team<Share<C::Seat, 
             Some(tokens) => Some(Share {
                 tokens,
                 root: None,
-                chooser: choosers.pop(),
-                choosers: Vec::new(self.alloc),
+                chooser: choosers.next(),
+                choosers: Choosers::none(self.alloc),
             }),
             None => None,
         };
@@ -115,7 +116,7 @@ impl<'a, T: RunJob, C: Contexts<T>, R: Rng + Drop, G: Gate> Team<Share<C::Seat, 
             tokens: tokens.join::<H, C>(rt, self.machine, other.tokens),
             root: None,
             chooser: None,
-            choosers: Vec::new(self.alloc),
+            choosers: Choosers::none(self.alloc),
         })
     }
 
@@ -128,7 +129,7 @@ impl<'a, T: RunJob, C: Contexts<T>, R: Rng + Drop, G: Gate> Team<Share<C::Seat, 
     }
 }
 
-/// Has all cores work until they are stopped, each with its chooser. The last chooser is that of core 0.
+/// Has all cores work until they are stopped, each with its chooser.
 pub(crate) fn work_all<
     H: Threads + Wait + Clock + Sync,
     T: RunJob + Send,
@@ -141,7 +142,7 @@ pub(crate) fn work_all<
     machine: &Machine<C, T::Ticket>,
     gate: &G,
     root: T,
-    choosers: Vec<R>,
+    choosers: Choosers<R>,
     tokens: Tokens<C::Seat, T::Ticket>,
 ) -> Option<Tokens<C::Seat, T::Ticket>>
 where
@@ -159,7 +160,7 @@ where
     let share = Share {
         tokens,
         root: Some(root),
-        chooser: choosers.pop(),
+        chooser: choosers.next(),
         choosers,
     };
     let workers = Workers {

@@ -7,6 +7,7 @@ mod ways;
 use self::family::{Round, Way, parts_of};
 use self::told::told;
 use arachne_lang::{Program, parse};
+use arachne_machine::run_alone;
 use std::alloc::Global;
 
 /// The program of an expression, with so many ledgers and locks.
@@ -211,4 +212,21 @@ fn is_chain_told(alloc: Global) -> bool {
 #[test]
 fn a_chain_in_place(rt: HostRuntime) {
     assert!(rt; is_chain_told(rt.alloc()));
+}
+
+/// Three children, one after the other, each of which joins 130 children one after the other, of 1,010 threads each. So
+/// the lines of a thread come to lie in up to 390 lists, and lists come behind none, some and many.
+const LISTS: &str =
+    "(fold (num 0) (num 3) (num 0) (fork n (fold (num 0) (num 130) (num 0) (fork n (sweep add 1 (num 0) (num 1010) (num 1)) (num 0) (add (var 3) (var 4)))) (num 0) (add (var 1) (var 2))))";
+
+/// How many threads the program of an expression has. No clause says that memory is enough where none is refused.
+fn threads_of(alloc: Global, expression: &str) -> Option<usize> {
+    let program = program(alloc, 0, expression)?;
+    let meaning = run_alone(alloc, &program, 1000).ok()?;
+    Some(meaning.threads.as_slice().len())
+}
+
+#[test]
+fn lines_behind_any_number_of_lists(rt: HostRuntime) {
+    assert!(rt; threads_of(rt.alloc(), LISTS) == Some(393_904));
 }
