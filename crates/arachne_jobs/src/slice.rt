@@ -1,5 +1,5 @@
 //! What a worker does with a job: it runs a part of a slice, and answers what that asks for.
-ghost use Rattle.std.specs.Prelude.{◌≡◌, ◌≤◌, [], IfOk, IfSome, OnOk};
+ghost use Rattle.std.specs.Prelude.{◌≡◌, ◌≤◌, [], false, IfOk, IfSome, OnOk};
 ghost use Rattle.arachne_lang.specs.Program.{source_of};
 ghost use Rattle.arachne_lang.specs.Checked.{IsChecked};
 ghost use Rattle.std.specs.Prelude.{ℕ, List, Option, None, Some};
@@ -145,7 +145,8 @@ pub trait RunJob: RunThread {
         ensures tag { Self.tag_of self.new ≡ Self.tag_of self.old }
         ensures parent { Self.parent_of self.new ≡ Self.parent_of self.old }
         ensures answered { OnOk result (Self.pause_of self.new ≡ None) }
-        ensures ticket { IfOk result (λ made. IfSome made (λ ticket. Self.Ticket.tag_of ticket ≡ tag)) };
+        ensures ticket { IfOk result (λ made. IfSome made (λ ticket. Self.Ticket.tag_of ticket ≡ tag)) }
+        ensures asked { waits ≡ false → IfOk result (λ made. made ≡ None) };
 
     /// The job of a ticket's child, if that waits still. Where memory is refused there is none, and the child waits on
     /// for its parent.
