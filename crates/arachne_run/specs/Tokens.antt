@@ -13,17 +13,18 @@ use Rattle.arachne_run.specs.declared.resources.Resources.{Resources}
 use Rattle.arachne_run.specs.declared.tokens.Tokens.{Tokens}
 
 -- what a worker's seat is a seat at: the table, the queue of tickets, the ledgers and locks, how many cores and orders
--- there are, and whether workers may move threads to their own cores
+-- there are, the most steps of a slice, and whether workers may move threads to their own cores
 pub record Ground (Table : Type 0) : Type 0 where
   pub table : Table
   pub tickets : QueueView
   pub resources : Resources
   pub cores : ℕ
   pub orders : ℕ
+  pub quantum : ℕ
   pub may_pull : Bool
 
 abbrev pub ground_of : {Table Ticket : Type 0} → Machine Table Ticket → Ground Table
-ground_of machine = record { table = machine.table; tickets = machine.tickets; resources = machine.resources; cores = machine.cores; orders = machine.orders; may_pull = machine.may_pull }
+ground_of machine = record { table = machine.table; tickets = machine.tickets; resources = machine.resources; cores = machine.cores; orders = machine.orders; quantum = machine.quantum; may_pull = machine.may_pull }
 
 -- the arbiter, if there is one, has as many orders as the machine, for its cores
 abbrev pub IsArbiterOf : {Table Ticket : Type 0} → Machine Table Ticket → Option Progress → Type 0

@@ -1,6 +1,9 @@
 //! What a worker does at the locks and the ledgers. A lock is tried again while another kernel thread is at it.
-ghost use Rattle.std.specs.Prelude.{◌≡◌, ◌<◌, IfOk, length};
-ghost use Rattle.arachne_run.specs.Serving.{IsServed};
+ghost use Rattle.std.specs.Prelude.{◌≡◌, ◌<◌, Ok, Some, IfOk, IfSome, length};
+ghost use Rattle.arachne_sleep.specs.declared.answer.Asked.TheVariants.{Granted};
+ghost use Rattle.arachne_sleep.specs.declared.answer.Pass.{Pass};
+ghost use Rattle.arachne_sleep.specs.declared.answer.Tried.TheVariants.{Answered};
+ghost use Rattle.arachne_run.specs.Serving.{IsPassFor, IsServed};
 ghost use Rattle.arachne_run.specs.Tokens.{AreHoldingsOf};
 
 use crate::fault::WorkerFault;
@@ -116,7 +119,7 @@ impl<'a> Access<'a> {
         who: Who,
     ) -> Result<Served, WorkerFault>
         ensures same { self.new ≡ self.old }
-        ensures served { IfOk result (IsServed want) }
+        ensures served { IfOk result (IsServed want who) }
     {
         match want {
             Want::Asks(lock) => match self.ask(rt, pace, lock, who)? {
@@ -146,7 +149,8 @@ impl<'a> Access<'a> {
         lock: u64,
         who: Who,
     ) -> Result<Option<Granted>, WorkerFault>
-        ensures { self.new ≡ self.old }
+        ensures same { self.new ≡ self.old }
+        ensures granted { IfOk result (λ found. IfSome found (λ granted. IsPassFor lock who granted.pass.value)) }
     {
         let mut tries: u32 = 0;
         for _ in rt.forever() {
@@ -171,7 +175,8 @@ impl<'a> Access<'a> {
         lock: u64,
         who: Who,
     ) -> Result<Option<Granted>, WorkerFault>
-        ensures { self.new ≡ self.old }
+        ensures same { self.new ≡ self.old }
+        ensures granted { IfOk result (λ found. IfSome found (λ granted. IsPassFor lock who granted.pass.value)) }
     {
         let mut tries: u32 = 0;
         for _ in rt.forever() {
@@ -220,7 +225,8 @@ impl<'a> Access<'a> {
         lock: u64,
         who: Who,
     ) -> Result<Tried<Result<Asked, AskFault>>, WorkerFault>
-        ensures { self.new ≡ self.old }
+        ensures same { self.new ≡ self.old }
+        ensures pass { (pass : Pass) → result ≡ Ok (Answered (Ok (Granted pass))) → IsPassFor lock who pass }
     {
         let locks = &self.resources.locks;
         let lock = number_of(locks, lock)?;
@@ -229,7 +235,8 @@ impl<'a> Access<'a> {
 
     /// Tries once to look whether a thread that has asked for a lock holds it now.
     fn try_check(&mut self, lock: u64, who: Who) -> Result<Tried<Option<Pass>>, WorkerFault>
-        ensures { self.new ≡ self.old }
+        ensures same { self.new ≡ self.old }
+        ensures pass { (pass : Pass) → result ≡ Ok (Answered (Some pass)) → IsPassFor lock who pass }
     {
         let locks = &self.resources.locks;
         let lock = number_of(locks, lock)?;
@@ -264,7 +271,8 @@ impl<'a> Access<'a> {
 
 /// The lock of this number, if it is there.
 fn number_of(locks: &SleepLocks, lock: u64) -> Result<u8, WorkerFault>
-    ensures { IfOk result (λ number. number < length locks.now) }
+    ensures there { IfOk result (λ number. number < length locks.now) }
+    ensures same { IfOk result (λ number. number ≡ lock) }
 {
     if lock >= locks.count() as u64 {
         return Err(WorkerFault::Foreign);

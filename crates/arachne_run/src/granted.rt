@@ -1,16 +1,23 @@
 //! What shows that a thread holds a lock.
-use arachne_sleep::Pass;
+ghost use Rattle.std.specs.Prelude.{◌≡◌};
 
-/// The thread in hand holds the lock that it asked for. Only a pass gives one, and nobody goes on after an ask without.
+use arachne_sleep::Pass;
+use std::snapshot::Snapshot;
+
+/// The thread in hand holds the lock that it asked for, by this pass. Only a pass gives one, and nobody goes on after an
+/// ask without. It has no bytes.
 #[derive(Drop)]
 pub(crate) struct Granted {
-    shown: (),
+    pub(crate) pass: Snapshot<Pass>,
 }
 
 impl Granted {
     #[inline(always)]
-    pub(crate) fn by(pass: Pass) -> Granted {
-        let _ = pass;
-        Granted { shown: () }
+    pub(crate) fn by(pass: Pass) -> Granted
+        ensures { result.pass.value ≡ pass }
+    {
+        Granted {
+            pass: Snapshot::of(&pass),
+        }
     }
 }

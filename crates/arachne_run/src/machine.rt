@@ -81,7 +81,8 @@ impl<C: Seats + Drop, K: Tagged + Drop> Machine<C, K> {
         requires orders { AreInOrder cores orders.items }
         ensures { IfOk result (λ made. AreIdle C.sits C.idle made.0 made.1 × IsSetUp C.core_count C.slot_count made.0
             × (made.0.orders ≡ length orders.items) × (length made.0.resources.locks ≡ program.now.locks)
-            × (made.0.may_pull ≡ not (forks_exclusive (tree_of program.now.root)))) }
+            × (made.0.may_pull ≡ not (forks_exclusive (tree_of program.now.root)))
+            × (made.0.cores ≡ cores) × (made.0.slots ≡ slots) × (made.0.quantum ≡ quantum)) }
     {
         let count = orders.len();
         let exclusive = has_exclusive(&program.root);

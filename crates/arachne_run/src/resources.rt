@@ -1,5 +1,5 @@
 //! The ledgers and the locks of a run, and what a worker has of them.
-ghost use Rattle.std.specs.Prelude.{◌≡◌, All, Err, IfErr, IfOk, length};
+ghost use Rattle.std.specs.Prelude.{◌≡◌, ◌%◌, ◌^◌, All, Err, IfErr, IfOk, length, map};
 ghost use Rattle.arachne_ledger.specs.Views.{IsShareOf, IsWhole as IsWholeShare};
 ghost use Rattle.arachne_sleep.specs.History.{IsSound};
 ghost use Rattle.arachne_sleep.specs.OneHolder.{HasOneHolderAtATime};
@@ -88,12 +88,13 @@ impl Resources {
         }
     }
 
-    /// What is left, where all of the holdings are back.
+    /// What is left, where all of the holdings are back: the words are the sums of the share.
     pub(crate) fn close(self, alloc: Global, holdings: Holdings) -> Result<Remains, WorkerFault>
         requires { AreHoldingsOf self holdings }
         ensures count { IfOk result (λ remains. length remains.histories.items ≡ length self.locks) }
         ensures sound { IfOk result (λ remains. All (λ history. IsSound history.items) remains.histories.items) }
         ensures one_holder { IfOk result (λ remains. All (λ history. HasOneHolderAtATime history.items) remains.histories.items) }
+        ensures words { IfOk result (λ remains. remains.words.items ≡ map (λ sum. sum % 2 ^ 64) holdings.share.sums) }
     {
         let histories = closed_locks(alloc, self.locks, holdings.lock_seats)?;
         let words = closed_words(alloc, self.ledgers, holdings.share)?;
@@ -123,11 +124,12 @@ fn closed_locks(
     }
 }
 
-/// The words of the ledgers. Where the share is not the whole a token is missing.
+/// The words of the ledgers, which are the sums of the share. Where that is not the whole a token is missing.
 fn closed_words(alloc: Global, ledgers: Ledgers, share: Share) -> Result<Vec<u64>, WorkerFault>
     requires { IsShareOf ledgers share }
     ensures missing { (IsWholeShare share → ⊥) → result ≡ Err Token }
     ensures whole { IsWholeShare share → IfErr result (λ fault. fault ≡ Memory) }
+    ensures sums { IfOk result (λ words. words.items ≡ map (λ sum. sum % 2 ^ 64) share.sums) }
 {
     if !share.is_whole() {
         return Err(WorkerFault::Token);

@@ -154,7 +154,9 @@ impl<'a, H: Wait + Clock, T: RunJob, C: Contexts<T>, R: Rng + Drop, G: Gate> Des
         }
     }
 
-    fn quantum(&self) -> u32 {
+    fn quantum(&self) -> u32
+        ensures { result ≡ self.now.quantum }
+    {
         self.machine.quantum
     }
 
