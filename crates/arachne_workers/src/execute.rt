@@ -8,7 +8,7 @@ use crate::sleep::{Shared, Sliced};
 use crate::tending::Tended;
 use crate::wake::{posted, tell};
 use arachne_arbiter::Pace;
-use arachne_core::Rest;
+use arachne_core::{OccWord, Rest, ThreadId};
 use std::sync::Wait;
 use std::time::Clock;
 
@@ -25,6 +25,12 @@ pub struct Worker<'a, H, D> {
     /// Whether it may yield its processor where it waits.
     pub pace: Pace,
     pub desk: D,
+}
+
+/// The place of a thread that has ended was kept or told of as free. Nobody wakes who awaits the thread without it.
+#[derive(Drop)]
+struct Left {
+    done: (),
 }
 
 impl<'a, H: Wait + Clock, D: Desk> Worker<'a, H, D> {
@@ -119,10 +125,7 @@ impl<'a, H: Wait + Clock, D: Desk> Worker<'a, H, D> {
                 Stop::Waits(number) => return Ok(Sliced::new(made, SliceEnd::Awaits(number))),
                 Stop::Wakes(next) => {
                     self.wake(next, Cause::IsServed);
-                    if self.agenda.has_next() {
-                        // The next one that is served is to go on here.
-                        left = left.min(policy::STEPS_PAST_FREE);
-                    }
+                    left = policy::left_past_free(left, self.agenda.has_next());
                 }
             }
         }
@@ -137,10 +140,26 @@ impl<'a, H: Wait + Clock, D: Desk> Worker<'a, H, D> {
     {
         let before = self.desk.look();
         let parent = self.desk.end()?;
-        self.desk.keep_place(before)?;
+        let left = self.leave_place(before)?;
         if let Some(parent) = parent {
-            self.wake(parent, Cause::ChildEnded);
+            self.wake_parent(parent, left);
         }
         thin_out(&mut self.desk, self.slots)
+    }
+
+    /// The place of a thread that has ended is kept or told of as free.
+    fn leave_place(&mut self, before: OccWord) -> Result<Left, Halt>
+        ensures { self.new.desk ≡ self.old.desk }
+    {
+        self.desk.keep_place(before)?;
+        Ok(Left { done: () })
+    }
+
+    /// Wakes who awaits the thread that has ended, whose place was left before.
+    fn wake_parent(&mut self, parent: ThreadId, left: Left)
+        ensures { self.new.desk ≡ self.old.desk }
+    {
+        let _ = left;
+        self.wake(parent, Cause::ChildEnded);
     }
 }

@@ -4,7 +4,7 @@
 //! contract of each says its exact answer, so no test of its own is needed.
 ghost use Rattle.std.specs.Prelude.{◌≡◌, ◌≤◌, ◌<◌, ◌+◌, ◌-◌, ◌*◌, ◌↔◌, ◌⊎◌, false, true, if◌then◌else◌, min, IsTrue};
 ghost use Rattle.arachne_core.specs.Occupancy.{count_of};
-ghost use Rattle.arachne_workers.specs.declared.policy.TheConstants.{TOLD_AT_ONCE, LAST_SPIN, LAST_SPIN_ALONE, LAST_YIELD, SHORT_SLEEP, LONG_SLEEP};
+ghost use Rattle.arachne_workers.specs.declared.policy.TheConstants.{STEPS_PAST_FREE, TOLD_AT_ONCE, LAST_SPIN, LAST_SPIN_ALONE, LAST_YIELD, SHORT_SLEEP, LONG_SLEEP};
 
 use arachne_core::OccWord;
 
@@ -79,6 +79,26 @@ pub(crate) fn may_go_on(now: OccWord, holds: bool, others: bool, takes_ticket: b
     ensures { IsTrue result ↔ (now.closed ≡ false) × ((holds ≡ true) ⊎ ((others ≡ false) × (takes_ticket ≡ false))) }
 {
     !now.is_closed() && (holds || !others && !takes_ticket)
+}
+
+/// Whether a thread that was woken on another core goes on here, if it can be moved: one that others may wait for, and one
+/// whose core's worker sleeps.
+pub(crate) fn goes_on_here(is_served: bool, is_asleep: bool) -> bool
+    ensures { IsTrue result ↔ (is_served ≡ true) ⊎ (is_asleep ≡ true) }
+{
+    is_served || is_asleep
+}
+
+/// How many of the steps that are left of a slice a thread still makes once it has freed a lock, and the next holder is to
+/// go on here or not.
+pub(crate) fn left_past_free(left: u32, goes_next: bool) -> u32
+    ensures { result ≡ (if goes_next then min left STEPS_PAST_FREE else left) }
+{
+    if goes_next {
+        left.min(STEPS_PAST_FREE)
+    } else {
+        left
+    }
 }
 
 /// The most steps of a slice that a thread has at once after another: a quantum, and where it holds what others may come

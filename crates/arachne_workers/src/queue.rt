@@ -2,7 +2,9 @@
 //! other cores.
 //!
 //! Plain data: it touches no word that another worker sees.
-ghost use Rattle.std.specs.Prelude.{◌≡◌, ◌≤◌, MatchOption};
+ghost use Rattle.std.specs.Prelude.{◌≡◌, ◌≤◌, ◌<◌, ◌↔◌, None, Some, if◌then◌else◌, IsSome, IsTrue, MatchOption};
+ghost use Rattle.arachne_core.specs.declared.layout.TheConstants.{SLOTS};
+ghost use Rattle.arachne_workers.specs.declared.policy.TheConstants.{SCANS_BETWEEN_LOOKS};
 ghost use Rattle.arachne_workers.specs.Lowest.{IsLowest};
 
 use crate::hints::bit_of;
@@ -66,7 +68,9 @@ impl Agenda {
     }
 
     /// Whether the next scan is to be one of all that is occupied.
-    pub(crate) fn is_look_due(&mut self) -> bool {
+    pub(crate) fn is_look_due(&mut self) -> bool
+        ensures { IsTrue result ↔ SCANS_BETWEEN_LOOKS ≤ self.old.scans }
+    {
         let is_due = self.scans >= policy::SCANS_BETWEEN_LOOKS;
         if is_due {
             self.scans = 0;
@@ -98,7 +102,10 @@ impl Agenda {
     }
 
     /// The thread at an index goes on before all others, unless another does. Whether it will.
-    pub(crate) fn goes_next(&mut self, index: u8) -> bool {
+    pub(crate) fn goes_next(&mut self, index: u8) -> bool
+        ensures will { IsTrue result ↔ (self.old.next ≡ None) × (index < SLOTS) }
+        ensures next { self.new.next ≡ (if result then Some index else self.old.next) }
+    {
         if self.next.is_some() || index >= SLOTS {
             return false;
         }
@@ -107,12 +114,16 @@ impl Agenda {
     }
 
     /// Whether a thread goes on before all others.
-    pub(crate) fn has_next(&self) -> bool {
+    pub(crate) fn has_next(&self) -> bool
+        ensures { IsTrue result ↔ IsSome self.now.next }
+    {
         self.next.is_some()
     }
 
     /// The index at which a thread goes on before all others, and does no longer.
-    pub(crate) fn take_next(&mut self) -> Option<u8> {
+    pub(crate) fn take_next(&mut self) -> Option<u8>
+        ensures { (result ≡ self.old.next) × (self.new.next ≡ None) }
+    {
         self.next.take()
     }
 
@@ -155,7 +166,9 @@ impl Agenda {
     }
 
     /// The worker has made so many steps. Whether it is to tell now of all that is kept back.
-    pub(crate) fn spend(&mut self, steps: u32) -> bool {
+    pub(crate) fn spend(&mut self, steps: u32) -> bool
+        ensures { IsTrue result ↔ self.old.patience ≤ steps }
+    {
         if self.patience <= steps {
             self.patience = policy::PATIENCE;
             return true;

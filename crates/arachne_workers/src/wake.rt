@@ -25,8 +25,12 @@ impl<'a, H: Wait + Clock, D: Desk> Worker<'a, H, D> {
             return;
         };
         let mut place = mark.place();
+        let is_served = cause == Cause::IsServed;
         if place.core != self.core
-            && (cause == Cause::IsServed || self.shared.hints().is_asleep(place.core))
+            && policy::goes_on_here(
+                is_served,
+                !is_served && self.shared.hints().is_asleep(place.core),
+            )
             && self.desk.pull(place)
             && let Some(here) = self.desk.mark_of(id.context)
         {
