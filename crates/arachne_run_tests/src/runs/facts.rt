@@ -36,6 +36,8 @@ pub(super) enum Fact {
     Cores,
     /// Whether so many slices were entered.
     Slices(u64),
+    /// Whether no more slices than this were entered.
+    SlicesUpTo(u64),
     /// Whether so many children waited with a ticket.
     Tickets(u64),
     /// Whether no more sleeps than this ended by their time before something was found.
@@ -69,6 +71,7 @@ pub(super) fn number(report: &Report, watch: &Watch, fact: Fact) -> u64 {
         Fact::AppliesUpTo(most) => u64::from(report.applied as u64 <= most),
         Fact::Cores => watch.entered.load(Ordering::SeqCst),
         Fact::Slices(least) => u64::from(watch.slices.load(Ordering::SeqCst) >= least),
+        Fact::SlicesUpTo(most) => u64::from(watch.slices.load(Ordering::SeqCst) <= most),
         Fact::Tickets(least) => u64::from(watch.slices.load(Ordering::SeqCst) >= least),
         Fact::OversleepsUpTo(most) => { u64::from(watch.oversleeps.load(Ordering::SeqCst) <= most) }
         Fact::IsOver => u64::from(watch.is_over()),

@@ -124,6 +124,40 @@ fn a_slice_counts_once_it_has_ended(rt: HostRuntime) -> Result<(), Fail> {
     rows_hold(&rt, rt.alloc(), COUNTS)
 }
 
+/// One thread, which makes some 29,000 steps.
+const WHOLE: Row = Row {
+    shows: "a slice of a thread that goes on has its whole quantum",
+    source: Source {
+        ledgers: 0,
+        locks: 0,
+        forks: 0,
+        expr: "(fold (num 0) (num 29000) (num 0) (var 1))",
+    },
+    forms: FORMS,
+    slots: SLOTS,
+    machines: &[(1, 10_000, 1)],
+    draws: ZEROS,
+    orders: &[],
+    watching: Watching::Cores,
+    facts: &[(Fact::Value, 0), (Fact::Slices(3), 1), (Fact::SlicesUpTo(3), 1)],
+    telling: Telling::Nothing,
+    told: "",
+};
+
+const WHOLES: &[Row] = &[
+    WHOLE,
+    Row {
+        machines: &[(1, 100, 1)],
+        facts: &[(Fact::Value, 0), (Fact::Slices(290), 1), (Fact::SlicesUpTo(292), 1)],
+        ..WHOLE
+    },
+];
+
+#[test]
+fn a_slice_has_its_whole_quantum(rt: HostRuntime) -> Result<(), Fail> {
+    rows_hold(&rt, rt.alloc(), WHOLES)
+}
+
 /// Core 3 is closed, so that its kernel thread parks. Two threads are on core 1, and one that is to be alone on core 2.
 /// That one's end stops the run, as the table hands it back, during core 1's first slice.
 const STOPPED: Row = Row {
