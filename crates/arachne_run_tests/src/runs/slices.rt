@@ -139,7 +139,11 @@ const WHOLE: Row = Row {
     draws: ZEROS,
     orders: &[],
     watching: Watching::Cores,
-    facts: &[(Fact::Value, 0), (Fact::Slices(3), 1), (Fact::SlicesUpTo(3), 1)],
+    facts: &[
+        (Fact::Value, 0),
+        (Fact::Slices(3), 1),
+        (Fact::SlicesUpTo(3), 1),
+    ],
     telling: Telling::Nothing,
     told: "",
 };
@@ -148,7 +152,11 @@ const WHOLES: &[Row] = &[
     WHOLE,
     Row {
         machines: &[(1, 100, 1)],
-        facts: &[(Fact::Value, 0), (Fact::Slices(290), 1), (Fact::SlicesUpTo(292), 1)],
+        facts: &[
+            (Fact::Value, 0),
+            (Fact::Slices(290), 1),
+            (Fact::SlicesUpTo(292), 1),
+        ],
         ..WHOLE
     },
 ];
