@@ -1,5 +1,5 @@
 //! Words that all workers of a run share, and look at before each fork: free places, children that wait, tags.
-ghost use Rattle.std.specs.Prelude.{◌↔◌, ◌<◌, IsTrue};
+ghost use Rattle.std.specs.Prelude.{◌≡◌, ◌↔◌, ◌<◌, IsTrue};
 
 use crossbeam_utils::CachePadded;
 use std::sync::atomic::{AtomicU64, Ordering};
@@ -69,7 +69,9 @@ pub struct Room {
 
 impl Room {
     /// So many places are free, and no child waits, of at most so many. The tag 0 is drawn, for the root.
-    pub fn new(places: u64, most_waiting: u64) -> Room {
+    pub fn new(places: u64, most_waiting: u64) -> Room
+        ensures { result.limit.most ≡ most_waiting }
+    {
         Room {
             free: CachePadded::new(AtomicU64::new(places)),
             waiting: CachePadded::new(AtomicU64::new(0)),

@@ -160,7 +160,7 @@ pub trait RunJob: RunThread {
 
 /// The jobs of a program's threads.
 pub trait JobOf<'p>: RunJob {
-    /// The root's job, and the end that its outcome comes to.
+    /// The root's job, which has the tag 0, and the end that its outcome comes to.
     fn begin(
         alloc: Global,
         program: &'p Program,
@@ -169,5 +169,6 @@ pub trait JobOf<'p>: RunJob {
         requires { IsChecked (source_of program.now) }
         ensures program { IfOk result (λ made. made.1.opening.key.program.value ≡ program.now) }
         ensures name { IfOk result (λ made. made.1.opening.key.name.value ≡ []) }
-        ensures parent { IfOk result (λ made. Self.parent_of made.0 ≡ None) };
+        ensures parent { IfOk result (λ made. Self.parent_of made.0 ≡ None) }
+        ensures tag { IfOk result (λ made. Self.tag_of made.0 ≡ 0) };
 }

@@ -1,5 +1,10 @@
--- What may come of what a thread asks for.
-use Rattle.std.specs.Prelude.{◌≡◌, ℕ}
+-- What a thread asks for, what may come of it, and where it stops.
+use Rattle.std.specs.Prelude.{◌≡◌, ℕ, Option, None, Some}
+use Rattle.arachne_core.specs.declared.thread_id.ThreadId.{ThreadId}
+use Rattle.arachne_machine.specs.declared.pause.Pending.{Pending}
+use Rattle.arachne_machine.specs.declared.pause.Pending.TheVariants as pause
+use Rattle.arachne_workers.specs.declared.desk.Stop.{Stop}
+use Rattle.arachne_workers.specs.declared.desk.Stop.TheVariants as stop
 use Rattle.arachne_sleep.specs.declared.answer.Pass.{Pass}
 use Rattle.arachne_sleep.specs.declared.who.Who.{Who}
 use Rattle.arachne_run.specs.declared.access.Want.{Want}
@@ -29,3 +34,26 @@ IsServed (Tallies ledger amount) who (Waits awaited) = ⊥
 IsServed (Tallies ledger amount) who (Holds granted) = ⊥
 IsServed (Tallies ledger amount) who (Freed next) = ⊥
 IsServed (Tallies ledger amount) who Added = Unit {0}
+
+-- this is what a thread with this pause asks for
+abbrev pub IsWantOf : Want → Option Pending → Type 0
+IsWantOf (Asks lock) pending = pending ≡ Some (pause.Asks lock)
+IsWantOf (Awaits lock) pending = pending ≡ Some (pause.Asks lock)
+IsWantOf (Frees lock) pending = pending ≡ Some (pause.Frees lock)
+IsWantOf (Tallies ledger amount) pending = pending ≡ Some (pause.Tallies ledger amount)
+
+-- A thread with this pause stops so: it waits for the lock that it asks for, awaits a child or has ended, and else it
+-- goes on.
+abbrev pub StopsAt : Stop → Option Pending → Type 0
+StopsAt (stop.Waits lock) pending = pending ≡ Some (pause.Asks lock)
+StopsAt stop.Blocks pending = pending ≡ Some pause.Joins
+StopsAt stop.Ends pending = pending ≡ Some pause.Ended
+StopsAt stop.Goes pending = pending ≡ None
+StopsAt stop.Spilled pending = pending ≡ None
+StopsAt (stop.Posted post) pending = pending ≡ None
+StopsAt (stop.Wakes next) pending = pending ≡ None
+
+-- the id of a thread, if there is one
+abbrev pub id_of : Option Who → Option ThreadId
+id_of None = None
+id_of (Some who) = Some who.id

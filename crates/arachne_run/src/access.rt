@@ -1,9 +1,11 @@
 //! What a worker does at the locks and the ledgers. A lock is tried again while another kernel thread is at it.
-ghost use Rattle.std.specs.Prelude.{◌≡◌, ◌<◌, Ok, Some, IfOk, IfSome, length};
+ghost use Rattle.std.specs.Prelude.{◌≡◌, ◌<◌, Ok, Some, IfOk, IfSome, OnOk, length};
+ghost use Rattle.arachne_ledger.specs.Sums.{raised};
+ghost use Rattle.arachne_ledger.specs.Views.{IsShareOf};
 ghost use Rattle.arachne_sleep.specs.declared.answer.Asked.TheVariants.{Granted};
 ghost use Rattle.arachne_sleep.specs.declared.answer.Pass.{Pass};
 ghost use Rattle.arachne_sleep.specs.declared.answer.Tried.TheVariants.{Answered};
-ghost use Rattle.arachne_run.specs.Serving.{IsPassFor, IsServed};
+ghost use Rattle.arachne_run.specs.Serving.{IsPassFor, IsServed, IsWantOf, StopsAt, id_of};
 ghost use Rattle.arachne_run.specs.Tokens.{AreHoldingsOf};
 
 use crate::fault::WorkerFault;
@@ -12,6 +14,7 @@ use crate::resources::{Holdings, Resources};
 use arachne_arbiter::Pace;
 use arachne_core::ThreadId;
 use arachne_jobs::RunThread;
+use arachne_ledger::{Ledgers, Share};
 use arachne_sleep::{AskFault, Asked, Freed, NotHolder, Pass, SleepLocks, Tried, Who};
 use arachne_workers::{Stop, stand_by};
 use std::marker::Model;
@@ -92,7 +95,9 @@ impl<'a> Access<'a> {
         id: ThreadId,
         thread: &mut T,
     ) -> Result<Stop, WorkerFault>
-        ensures { (self.new ≡ self.old) × (T.tag_of thread.new ≡ T.tag_of thread.old) }
+        requires { IsWantOf want (T.pause_of thread.old) }
+        ensures same { (self.new ≡ self.old) × (T.tag_of thread.new ≡ T.tag_of thread.old) }
+        ensures stops { IfOk result (λ stop. StopsAt stop (T.pause_of thread.new)) }
     {
         let tag = thread.running_tag();
         let stop = match self.do_for(rt, pace, want, Who { tag, id })? {
@@ -204,12 +209,7 @@ impl<'a> Access<'a> {
         let mut tries: u32 = 0;
         for _ in rt.forever() {
             match self.try_free(lock, who)? {
-                Tried::Answered(Ok(Freed { next, .. })) => {
-                    return Ok(match next {
-                        Some(next) => Some(next.id),
-                        None => None,
-                    });
-                }
+                Tried::Answered(Ok(freed)) => return Ok(next_holder(freed)),
                 Tried::Answered(Err(_)) => return Err(WorkerFault::Threads),
                 Tried::Contended => {}
             }
@@ -261,12 +261,36 @@ impl<'a> Access<'a> {
         ensures { self.new ≡ self.old }
     {
         let ledgers = &self.resources.ledgers;
-        if ledger >= ledgers.count() as u64 {
-            return Err(WorkerFault::Foreign);
-        }
-        ledgers.add(&mut self.holdings.share, ledger as usize, amount);
-        Ok(())
+        add_to(ledgers, &mut self.holdings.share, ledger, amount)
     }
+}
+
+/// The id of the thread that holds a lock once it is freed, if any waited.
+fn next_holder(freed: Freed) -> Option<ThreadId>
+    ensures { result ≡ id_of freed.next }
+{
+    match freed.next {
+        Some(next) => Some(next.id),
+        None => None,
+    }
+}
+
+/// Adds to the share's sum for a ledger, if that is there.
+fn add_to(
+    ledgers: &Ledgers,
+    share: &mut Share,
+    ledger: u64,
+    amount: u64,
+) -> Result<(), WorkerFault>
+    requires { IsShareOf ledgers.now share.old }
+    ensures own { IsShareOf ledgers.now share.new }
+    ensures raised { OnOk result (share.new.sums ≡ raised share.old.sums ledger amount) }
+{
+    if ledger >= ledgers.count() as u64 {
+        return Err(WorkerFault::Foreign);
+    }
+    ledgers.add(share, ledger as usize, amount);
+    Ok(())
 }
 
 /// The lock of this number, if it is there.

@@ -4,6 +4,7 @@
 ghost use Rattle.std.specs.Prelude.{◌≡◌, ◌↔◌, ◌<◌, ◌≤◌, [], ◌∷◌, false, IfOk, IsTrue, MatchOption, OnOk, map};
 ghost use Rattle.arachne_contexts.specs.Out.{Claim as a_claim, HasOut};
 ghost use Rattle.arachne_spill.specs.Views.{IsPassOf};
+ghost use Rattle.arachne_run.specs.Serving.{StopsAt};
 ghost use Rattle.arachne_run.specs.Tokens.{IsSetUp, IsSpent, thread_in};
 
 use crate::access::{Access, Want};
@@ -51,8 +52,9 @@ pub(crate) fn go_on<H: Wait + Clock, T: RunJob, C: Contexts<T>, R: Rng>(
     requires pass { IsPassOf machine.now.tickets pass.old }
     requires set_up { IsSetUp C.core_count C.slot_count machine.now }
     requires some { 1 ≤ left.old }
-    ensures { C.sits machine.now.table seat.new × IsPassOf machine.now.tickets pass.new × (access.new ≡ access.old)
+    ensures kept { C.sits machine.now.table seat.new × IsPassOf machine.now.tickets pass.new × (access.new ≡ access.old)
         × OnOk result (C.has machine.now.table seat.new (thread_in T.tag_of held.new ∷ []) × (left.new ≤ left.old)) }
+    ensures stops { IfOk result (λ stop. StopsAt stop (T.pause_of held.new.value)) }
 {
     let room = machine.shared.room();
     let slice = held
@@ -104,8 +106,9 @@ fn answer_fork<H: Wait, T: RunJob, C: Contexts<T>, R: Rng>(
     requires pass { IsPassOf machine.now.tickets pass.old }
     requires set_up { IsSetUp C.core_count C.slot_count machine.now }
     requires forks { T.forks held.old.value child }
-    ensures { C.sits machine.now.table seat.new × IsPassOf machine.now.tickets pass.new
+    ensures kept { C.sits machine.now.table seat.new × IsPassOf machine.now.tickets pass.new
         × OnOk result (C.has machine.now.table seat.new (thread_in T.tag_of held.new ∷ [])) }
+    ensures stops { IfOk result (λ stop. StopsAt stop (T.pause_of held.new.value)) }
 {
     let (me, room) = (held.id(), machine.shared.room());
     let tag = forks.openings.tags.take(room);

@@ -1,5 +1,5 @@
 //! What the workers of a run share.
-ghost use Rattle.std.specs.Prelude.{◌≡◌, ◌≤◌, ◌⊎◌, [], All, Err, IfErr, IfOk, IfSome, IsOk, OnOk, length, not};
+ghost use Rattle.std.specs.Prelude.{◌≡◌, ◌≤◌, ◌⊎◌, ◌%◌, ◌^◌, true, [], All, Err, IfErr, IfOk, IfSome, IsOk, OnOk, length, map, not};
 ghost use Rattle.arachne_lang.specs.Program.{tree_of};
 ghost use Rattle.arachne_jobs.specs.Classes.{forks_exclusive};
 ghost use Rattle.arachne_policy.specs.Orders.{AreInOrder};
@@ -82,6 +82,7 @@ impl<C: Seats + Drop, K: Tagged + Drop> Machine<C, K> {
         ensures { IfOk result (λ made. AreIdle C.sits C.idle made.0 made.1 × IsSetUp C.core_count C.slot_count made.0
             × (made.0.orders ≡ length orders.items) × (length made.0.resources.locks ≡ program.now.locks)
             × (made.0.may_pull ≡ not (forks_exclusive (tree_of program.now.root)))
+            × (made.0.may_keep ≡ true → (made.0.may_pull ≡ true) × (orders.items ≡ []))
             × (made.0.cores ≡ cores) × (made.0.slots ≡ slots) × (made.0.quantum ≡ quantum)) }
     {
         let count = orders.len();
@@ -123,8 +124,10 @@ impl<C: Seats + Drop, K: Tagged + Drop> Machine<C, K> {
         T: Tagged + Drop,
         C: Contexts<T>,
         requires { IfSome tokens (AreIdle C.sits C.idle self) }
-        ensures { IfOk result (λ closed. (closed.1 ≤ self.orders) × (length closed.0.histories.items ≡ length self.resources.locks)
+        ensures sound { IfOk result (λ closed. (closed.1 ≤ self.orders) × (length closed.0.histories.items ≡ length self.resources.locks)
             × All (λ history. IsSound history.items) closed.0.histories.items × All (λ history. HasOneHolderAtATime history.items) closed.0.histories.items) }
+        ensures applied { IfOk result (λ closed. IfSome tokens (λ tokens. IfSome tokens.arbiter (λ progress. closed.1 ≡ progress.applied))) }
+        ensures words { IfOk result (λ closed. IfSome tokens (λ tokens. closed.0.words.items ≡ map (λ sum. sum % 2 ^ 64) tokens.holdings.share.sums)) }
     {
         let Machine {
             shared,

@@ -1,5 +1,5 @@
 //! A slice of a thread, and its end.
-ghost use Rattle.std.specs.Prelude.{◌≡◌, ◌≤◌, IfOk};
+ghost use Rattle.std.specs.Prelude.{◌≡◌, ◌≤◌, ◌+◌, min, IfOk};
 
 use crate::desk::{Cause, Desk, Event, Halt, SliceEnd, Stop, thin_out};
 use crate::policy;
@@ -84,12 +84,21 @@ impl<'a, H: Wait + Clock, D: Desk> Worker<'a, H, D> {
     fn slice(&mut self, most: u32, tended: Tended) -> Result<SliceEnd, Halt>
         ensures { self.new.desk ≡ self.old.desk }
     {
-        let _ = tended;
-        self.desk.begins(self.slices);
-        self.slices = self.slices.saturating_add(1);
+        self.begin(tended);
         let sliced = self.spend_quantum(most)?;
         self.desk.told(Event::Sliced(sliced.steps(), sliced.end()));
         Ok(self.shared.count_slice(self.core, sliced))
+    }
+
+    /// The next slice of the worker begins, before which orders were looked at.
+    #[inline(always)]
+    fn begin(&mut self, tended: Tended)
+        ensures desk { self.new.desk ≡ self.old.desk }
+        ensures number { self.new.slices ≡ min (self.old.slices + 1) u64.MAX }
+    {
+        let _ = tended;
+        self.desk.begins(self.slices);
+        self.slices = self.slices.saturating_add(1);
     }
 
     /// The steps of a slice of at most so many, how many they are, and how it ends. Where all are used up, all that the

@@ -1,7 +1,8 @@
 //! Where threads may be ready, and whose workers sleep: a word for each core.
 //!
 //! It may touch atomics alone, so any host may call it: whom to wake each call says, and waking is the caller's.
-ghost use Rattle.std.specs.Prelude.{◌≡◌, IfOk};
+ghost use Rattle.std.specs.Prelude.{◌≡◌, ◌<◌, ◌≤◌, ◌^◌, IfOk};
+ghost use Rattle.arachne_core.specs.declared.layout.TheConstants.{SLOTS};
 
 use arachne_core::SLOTS;
 use crossbeam_utils::CachePadded;
@@ -15,7 +16,10 @@ pub(crate) const SLEEPS: u64 = 1;
 const INDEX_SHIFT: u32 = 1;
 
 /// The bit of an index in a set of indexes, and no bit where there is no such index.
-pub(crate) fn bit_of(index: u8) -> u64 {
+pub(crate) fn bit_of(index: u8) -> u64
+    ensures there { index < SLOTS → result ≡ 2 ^ index }
+    ensures none { SLOTS ≤ index → result ≡ 0 }
+{
     if index < SLOTS {
         1 << u32::from(index)
     } else {

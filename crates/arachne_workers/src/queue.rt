@@ -2,10 +2,12 @@
 //! other cores.
 //!
 //! Plain data: it touches no word that another worker sees.
-ghost use Rattle.std.specs.Prelude.{◌≡◌, ◌≤◌, ◌<◌, ◌↔◌, None, Some, if◌then◌else◌, IsSome, IsTrue, MatchOption};
+ghost use Rattle.std.specs.Prelude.{◌≡◌, ◌≢◌, ◌≤◌, ◌<◌, ◌↔◌, ◌⊎◌, [], ◌∷◌, ◌++◌, ◌^◌, None, Some, if◌then◌else◌, IsSome, IsTrue, MatchOption};
+ghost use Rattle.std.specs.Int.RustNames.{bit_or};
 ghost use Rattle.arachne_core.specs.declared.layout.TheConstants.{SLOTS};
 ghost use Rattle.arachne_workers.specs.declared.policy.TheConstants.{SCANS_BETWEEN_LOOKS};
 ghost use Rattle.arachne_workers.specs.Lowest.{IsLowest};
+ghost use Rattle.arachne_workers.specs.Posts.{IsKeptBack};
 
 use crate::hints::bit_of;
 use crate::policy;
@@ -56,12 +58,17 @@ impl Agenda {
     }
 
     /// The thread at an index may be ready.
-    pub fn note(&mut self, index: u8) {
+    pub fn note(&mut self, index: u8)
+        ensures there { index < SLOTS → self.new.ready ≡ bit_or self.old.ready (2 ^ index) }
+        ensures scan { self.new.scan ≡ self.old.scan }
+    {
         self.ready |= bit_of(index);
     }
 
     /// A scan begins at these indexes and those that were noted.
-    pub(crate) fn begin_scan(&mut self, indexes: u64) {
+    pub(crate) fn begin_scan(&mut self, indexes: u64)
+        ensures { (self.new.scan ≡ bit_or self.old.ready indexes) × (self.new.ready ≡ 0) }
+    {
         self.scan = self.ready | indexes;
         self.ready = 0;
         self.scans = self.scans.saturating_add(1);
@@ -91,13 +98,17 @@ impl Agenda {
     }
 
     /// The scan ends before all was looked at.
-    pub(crate) fn end_scan(&mut self) {
+    pub(crate) fn end_scan(&mut self)
+        ensures { (self.new.ready ≡ bit_or self.old.ready self.old.scan) × (self.new.scan ≡ 0) }
+    {
         self.ready |= self.scan;
         self.scan = 0;
     }
 
     /// Whether a thread beside the one in hand may be ready.
-    pub(crate) fn is_any(&self) -> bool {
+    pub(crate) fn is_any(&self) -> bool
+        ensures { IsTrue result ↔ (bit_or self.now.scan self.now.ready ≢ 0) ⊎ IsSome self.now.next }
+    {
         self.scan | self.ready != 0 || self.next.is_some()
     }
 
@@ -128,7 +139,9 @@ impl Agenda {
     }
 
     /// A thread was posted on another core. What is to be told of at once: it, or the oldest that was kept back.
-    pub(crate) fn keep_back(&mut self, post: Post) -> Option<Post> {
+    pub(crate) fn keep_back(&mut self, post: Post) -> Option<Post>
+        ensures { IsKeptBack self.old.posts.items post result self.new.posts.items }
+    {
         let before = self.posted;
         self.posted = before.saturating_add(1);
         if !policy::keeps_back(before) {
@@ -147,7 +160,9 @@ impl Agenda {
     }
 
     /// The newest that is kept back, and is no longer.
-    pub(crate) fn take_newest(&mut self) -> Option<Post> {
+    pub(crate) fn take_newest(&mut self) -> Option<Post>
+        ensures { MatchOption result (self.old.posts.items ≡ []) (λ newest. self.old.posts.items ≡ self.new.posts.items ++ newest ∷ []) }
+    {
         self.posts.pop()
     }
 

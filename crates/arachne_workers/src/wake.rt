@@ -1,5 +1,5 @@
 //! Threads that a worker posts or wakes, and how the workers of their cores learn of them.
-ghost use Rattle.std.specs.Prelude.{◌≡◌};
+ghost use Rattle.std.specs.Prelude.{◌≡◌, ◌↔◌, IfSome, IsSome};
 
 use crate::desk::{Cause, Desk, Event};
 use crate::execute::Worker;
@@ -78,7 +78,10 @@ impl<'a, H: Wait + Clock, D: Desk> Worker<'a, H, D> {
 }
 
 /// Where a thread is by its context's mark, if it is ready and has not been taken since.
-fn ready_place(mark: MarkWord, id: ThreadId) -> Option<Place> {
+fn ready_place(mark: MarkWord, id: ThreadId) -> Option<Place>
+    ensures ready { IsSome result ↔ (mark.mark ≡ Mark.Ready) × (mark.generation ≡ id.generation) }
+    ensures place { IfSome result (λ place. place ≡ mark.place) }
+{
     if mark.mark() != Mark::Ready || mark.generation() != id.generation {
         return None;
     }
