@@ -3,6 +3,9 @@
 //! An entry is written just after what it tells of was done, or just before. So another core may show what came of it
 //! first: that a thread was moved, that a core was closed or granted, or that a thread was woken. Core 0 is to tell what
 //! it did before its next slice, and each other core at once: until then such a thing is owed.
+ghost use Rattle.std.specs.Prelude.{◌≡◌, ◌≢◌, ◌<◌, IsSome};
+ghost use Rattle.arachne_judge.specs.Rules.{first_broken};
+
 use crate::cores::Core;
 use crate::log::{Entry, Log, What};
 use crate::rules::{Broken, Counts, Rule, Run, Verdict};
@@ -114,7 +117,9 @@ impl<'r> Case<'r> {
         }
     }
 
-    fn set_core(&mut self, core: u8, known: Core) {
+    fn set_core(&mut self, core: u8, known: Core)
+        ensures { self.new.broken ≡ self.old.broken }
+    {
         if let Some(place) = self.cores.get_mut(usize::from(core)) {
             *place = known;
         }
@@ -126,17 +131,24 @@ impl<'r> Case<'r> {
         if thread.id == id { Some(thread) } else { None }
     }
 
-    fn set_thread(&mut self, thread: Thread) {
+    fn set_thread(&mut self, thread: Thread)
+        ensures { self.new.broken ≡ self.old.broken }
+    {
         if let Some(place) = self.threads.get_mut(thread.id.context as usize) {
             *place = Some(thread);
         }
     }
 
-    fn counts(&mut self, rule: Rule) {
+    fn counts(&mut self, rule: Rule)
+        ensures { self.new ≡ record self.old { counts = self.new.counts } }
+    {
         self.counts.add(rule, 1);
     }
 
-    fn breaks(&mut self, rule: Rule) {
+    /// The rule is broken at this entry, which counts if it is the first.
+    fn breaks(&mut self, rule: Rule)
+        ensures { self.new ≡ record self.old { broken = first_broken self.old.broken (record { rule = rule; at = self.old.at }) } }
+    {
         if self.broken.is_none() {
             self.broken = Some(Broken { rule, at: self.at });
         }
@@ -347,7 +359,10 @@ impl<'r> Case<'r> {
         }
     }
 
-    fn sliced(&mut self, core: u8, steps: u32, end: SliceEnd) {
+    /// A slice has ended so, after so many steps. One of more steps than the quantum is never passed over.
+    fn sliced(&mut self, core: u8, steps: u32, end: SliceEnd)
+        ensures { self.old.run.quantum < steps → IsSome self.new.broken }
+    {
         self.counts(Rule::Quantum);
         self.steps = self.steps.saturating_add(u64::from(steps));
         if steps > self.run.quantum {
@@ -427,7 +442,10 @@ impl<'r> Case<'r> {
         self.set_core(core, known);
     }
 
-    fn applied(&mut self, core: u8, orders: usize) {
+    /// So many orders in all are applied, by a core, which has to be core 0.
+    fn applied(&mut self, core: u8, orders: usize)
+        ensures { core ≢ 0 → IsSome self.new.broken }
+    {
         self.counts(Rule::CoreZero);
         if core != 0 {
             self.breaks(Rule::CoreZero);
@@ -456,9 +474,12 @@ impl<'r> Case<'r> {
         self.applied = orders;
     }
 
-    fn moved_away(&mut self, core: u8, receivers: u64) {
+    /// Threads were moved away to these cores, by a core, which has to be core 0.
+    fn moved_away(&mut self, core: u8, receivers: u64)
+        ensures { core ≢ 0 → IsSome self.new.broken }
+    {
         self.counts(Rule::CoreZero);
-        if core != 0 {
+        if core > 0 {
             self.breaks(Rule::CoreZero);
         }
         for receiver in 0..self.run.cores {

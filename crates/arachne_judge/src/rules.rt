@@ -1,4 +1,8 @@
 //! The rules of a run that its log shows, and what is known of the run beforehand.
+ghost use Rattle.std.specs.Prelude.{◌≡◌, ◌<◌, ◌+◌, length, min, slice_index_or, slice_set};
+ghost use Rattle.arachne_judge.specs.Rules.{number_of, rules};
+ghost use Rattle.arachne_judge.specs.declared.rules.Rule.TheVariants.{OwnCore};
+
 use arachne_policy::CoreOrder;
 
 /// A rule of a run.
@@ -37,7 +41,10 @@ const RULES: usize = 13;
 
 impl Rule {
     /// Its number, from 0.
-    pub fn number(self) -> usize {
+    pub fn number(self) -> usize
+        ensures number { result ≡ number_of self }
+        ensures listed { (result < length rules) × (slice_index_or rules result OwnCore ≡ self) }
+    {
         match self {
             Rule::OwnCore => 0,
             Rule::InHand => 1,
@@ -69,10 +76,11 @@ impl Counts {
     }
 
     /// A rule was judged so often more.
-    pub fn add(&mut self, rule: Rule, times: u64) {
-        if let Some(count) = self.counts.get_mut(rule.number()) {
-            *count = count.saturating_add(times);
-        }
+    pub fn add(&mut self, rule: Rule, times: u64)
+        ensures { self.new.counts ≡ slice_set self.old.counts (number_of rule) (min (slice_index_or self.old.counts (number_of rule) 0 + times) u64.MAX) }
+    {
+        let at = rule.number();
+        self.counts[at] = self.counts[at].saturating_add(times);
     }
 
     /// Each rule was judged as often more as by the others.
@@ -82,8 +90,11 @@ impl Counts {
         }
     }
 
-    pub fn of(&self, rule: Rule) -> u64 {
-        self.counts.get(rule.number()).copied().unwrap_or(0)
+    /// How often a rule was judged.
+    pub fn of(&self, rule: Rule) -> u64
+        ensures { result ≡ slice_index_or self.now.counts (number_of rule) 0 }
+    {
+        self.counts[rule.number()]
     }
 }
 

@@ -1,4 +1,6 @@
 //! What a log has shown of a thread so far.
+ghost use Rattle.std.specs.Prelude.{◌≡◌, ◌↔◌, IsTrue};
+
 use arachne_core::ThreadId;
 use arachne_workers::SliceEnd;
 
@@ -38,7 +40,9 @@ impl Thread {
     }
 
     /// Whether it has ended.
-    pub(crate) fn has_ended(&self) -> bool {
+    pub(crate) fn has_ended(&self) -> bool
+        ensures { IsTrue result ↔ self.now.end ≡ SliceEnd.Ended }
+    {
         self.end == SliceEnd::Ended
     }
 }

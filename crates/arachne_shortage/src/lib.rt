@@ -2,6 +2,9 @@
 //! refused.
 #![tactic(auto)]
 
+ghost use Rattle.std.specs.Prelude.{◌≡◌, ◌≤◌, ◌<◌, ◌-◌, ◌/◌};
+ghost use Rattle.arachne_shortage.specs.declared.TheConstants.{APART, KEPT};
+
 use std::alloc::{AllocError, Global};
 
 /// The size of the first block that is tried, in bytes. Where one is refused the next has half of it.
@@ -45,11 +48,19 @@ fn take_all(alloc: Global, blocks: &mut Vec<Vec<u8>>, largest: usize) -> Result<
         }
         match Vec::with_capacity(alloc, size) {
             Ok(block) => blocks.push(block)?,
-            Err(AllocError) if size > KEPT => size /= 2,
-            Err(AllocError) => size -= APART,
+            Err(AllocError) => size = next_size(size),
         }
     }
     Ok(())
+}
+
+/// The size that is tried next where a block of this one was refused.
+fn next_size(size: usize) -> usize
+    requires { APART ≤ size }
+    ensures half { KEPT < size → result ≡ size / 2 }
+    ensures less { size ≤ KEPT → result ≡ size - APART }
+{
+    if size > KEPT { size / 2 } else { size - APART }
 }
 
 impl Hoard {

@@ -1,0 +1,29 @@
+-- The rules by their numbers, and which break of them counts.
+use Rattle.std.specs.Prelude.{ℕ, List, [], ◌∷◌, Option, None, Some}
+use Rattle.arachne_judge.specs.declared.rules.Broken.{Broken}
+use Rattle.arachne_judge.specs.declared.rules.Rule.{Rule}
+use Rattle.arachne_judge.specs.declared.rules.Rule.TheVariants.{OwnCore, InHand, Numbers, Quantum, Due, CoreZero, Parks, Unparks, Alone, Upwards, Places, Waits, Stays}
+
+-- all of them
+abbrev pub rules : List Rule
+rules = OwnCore ∷ InHand ∷ Numbers ∷ Quantum ∷ Due ∷ CoreZero ∷ Parks ∷ Unparks ∷ Alone ∷ Upwards ∷ Places ∷ Waits ∷ Stays ∷ []
+
+abbrev pub number_of : Rule → ℕ
+number_of OwnCore = 0
+number_of InHand = 1
+number_of Numbers = 2
+number_of Quantum = 3
+number_of Due = 4
+number_of CoreZero = 5
+number_of Parks = 6
+number_of Unparks = 7
+number_of Alone = 8
+number_of Upwards = 9
+number_of Places = 10
+number_of Waits = 11
+number_of Stays = 12
+
+-- the first break stands
+abbrev pub first_broken : Option Broken → Broken → Option Broken
+first_broken None broken = Some broken
+first_broken (Some first) broken = Some first
