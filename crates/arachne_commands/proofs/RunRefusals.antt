@@ -10,7 +10,8 @@ use Rattle.arachne_policy.specs.declared.orders.CoreOrder.{CoreOrder}
 use Rattle.arachne_policy.specs.Orders.{AreInOrder}
 use Rattle.arachne_run.specs.Setups.{IsFirstOrderFault, IsSetupFault, is_of_setup, is_within, refusal_of}
 use Rattle.arachne_commands.specs.declared.command_line.RunSettings.{RunSettings}
-use Rattle.arachne_commands.specs.Running.{IsRefusal, MayRun, chooser_of, choosers_of}
+use Rattle.arachne_run.specs.declared.setup.Setup.{Setup}
+use Rattle.arachne_commands.specs.Running.{IsRefusal, IsSetUpBy, MayRun, chooser_of, choosers_of}
 
 pub choosers_length : (seed cores : ℕ) → length (choosers_of seed cores) ≡ cores
 choosers_length seed cores = length-map-range_with_len (chooser_of seed) 0 cores
@@ -68,3 +69,34 @@ allowed_by_run settings served orders (Ok report) serves same refused ordered ok
     by_refusal : (refusal : Option RunFault) → refusal_of settings.cores settings.quantum settings.slots served ≡ refusal → refusal_of settings.cores settings.quantum settings.slots served ≡ None
     by_refusal None is = is
     by_refusal (Some fault) is = let other : Ok report ≡ Err fault = refused fault is in cc
+
+-- each of so many cores has a chooser
+served_as_set_up : (settings : RunSettings) (setup : Setup) (made : List (List ℕ)) (served : ℕ) → served ≡ length made → IsSetUpBy settings setup made
+    → settings.cores ≤ CORES → served ≡ settings.cores
+served_as_set_up settings setup made served counts is within = counts ∙ ap length (is.choosers within) ∙ choosers_length settings.seed settings.cores
+
+pub refused_as_set_up : (settings : RunSettings) (setup : Setup) (made : List (List ℕ)) (served : ℕ) (result : Result Report RunFault)
+    → served ≡ length made
+    → IsSetUpBy settings setup made
+    → ((fault : RunFault) → refusal_of setup.cores setup.quantum setup.slots served ≡ Some fault → result ≡ Err fault)
+    → (refusal_of setup.cores setup.quantum setup.slots served ≡ None → (AreInOrder setup.cores setup.orders.items → ⊥) → IfErr result (IsFirstOrderFault setup.cores setup.orders.items))
+    → IfErr result (λ fault. is_of_setup fault ≡ true → IsSetupFault setup.cores setup.quantum setup.slots served setup.orders.items fault)
+    → IfErr result (IsRefusal settings)
+refused_as_set_up settings setup made served result counts is refused misordered only =
+    refused_by_run settings served setup.orders.items result
+        (served_as_set_up settings setup made served counts is) is.orders
+        (rw (sym is.cores, sym is.quantum, sym is.slots) refused)
+        (rw (sym is.cores, sym is.quantum, sym is.slots) misordered)
+        (rw (sym is.cores, sym is.quantum, sym is.slots) only)
+
+pub allowed_as_set_up : (settings : RunSettings) (setup : Setup) (made : List (List ℕ)) (served : ℕ) (result : Result Report RunFault)
+    → served ≡ length made
+    → IsSetUpBy settings setup made
+    → ((fault : RunFault) → refusal_of setup.cores setup.quantum setup.slots served ≡ Some fault → result ≡ Err fault)
+    → (IsOk result → AreInOrder setup.cores setup.orders.items)
+    → IsOk result → MayRun settings
+allowed_as_set_up settings setup made served result counts is refused ordered =
+    allowed_by_run settings served setup.orders.items result
+        (served_as_set_up settings setup made served counts is) is.orders
+        (rw (sym is.cores, sym is.quantum, sym is.slots) refused)
+        (rw (sym is.cores) ordered)

@@ -35,9 +35,9 @@ choosers_of seed cores = map (chooser_of seed) (range_with_len 0 cores)
 
 -- A run goes as the settings say, and each of its cores has its own chooser. Too many cores have none: they are refused
 -- before anything is chosen.
-pub record IsSetUpBy (settings : RunSettings) (setup : Setup) (choosers : List (List ℕ)) : Type 0 where
+pub record IsSetUpBy (settings : RunSettings) (setup : Setup) (made : List (List ℕ)) : Type 0 where
   pub cores : setup.cores ≡ settings.cores
   pub slots : setup.slots ≡ settings.slots
   pub quantum : setup.quantum ≡ settings.quantum
   pub orders : setup.orders.items ≡ settings.orders
-  pub choosers : settings.cores ≤ CORES → choosers ≡ choosers_of settings.seed settings.cores
+  pub choosers : settings.cores ≤ CORES → made ≡ choosers_of settings.seed settings.cores

@@ -31,7 +31,8 @@ pub fn run_program<'p, R: Threads + Wait + Clock + Sync>(
     ensures refused { IfErr result (IsRefusal settings) }
     ensures allowed { IsOk result → MayRun settings }
 {
-    let (setup, choosers) = set_up(alloc, settings)?;
+    let made = set_up(alloc, settings)?;
+    let (setup, choosers) = made;
     run::<R, Job<'p>, WordContexts<Job<'p>>, Xoshiro256PlusPlus, OpenGate>(
         rt, alloc, program, setup, choosers, &OpenGate,
     )

@@ -1,3 +1,2 @@
 pub mod Granting
 pub mod Marking
-pub mod Passing

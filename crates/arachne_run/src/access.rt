@@ -2,7 +2,7 @@
 ghost use Rattle.std.specs.Prelude.{◌≡◌, ◌<◌, Ok, Some, IfOk, IfSome, OnOk, length};
 ghost use Rattle.arachne_ledger.specs.Sums.{raised};
 ghost use Rattle.arachne_ledger.specs.Views.{IsShareOf};
-ghost use Rattle.arachne_sleep.specs.declared.answer.Asked.TheVariants.{Granted};
+ghost use Rattle.arachne_sleep.specs.declared.answer.Asked.TheVariants as asked;
 ghost use Rattle.arachne_sleep.specs.declared.answer.Pass.{Pass};
 ghost use Rattle.arachne_sleep.specs.declared.answer.Tried.TheVariants.{Answered};
 ghost use Rattle.arachne_run.specs.Serving.{IsPassFor, IsServed, IsWantOf, StopsAt, id_of};
@@ -226,7 +226,7 @@ impl<'a> Access<'a> {
         who: Who,
     ) -> Result<Tried<Result<Asked, AskFault>>, WorkerFault>
         ensures same { self.new ≡ self.old }
-        ensures pass { (pass : Pass) → result ≡ Ok (Answered (Ok (Granted pass))) → IsPassFor lock who pass }
+        ensures pass { (pass : Pass) → result ≡ Ok (Answered (Ok (asked.Granted pass))) → IsPassFor lock who pass }
     {
         let locks = &self.resources.locks;
         let lock = number_of(locks, lock)?;

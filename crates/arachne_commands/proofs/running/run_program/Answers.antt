@@ -1,4 +1,4 @@
-use Rattle.std.proofs.Common.{refl, ap, ◌∙◌, length}
+use Rattle.std.proofs.Common.{refl}
 use denote.Param.Send.{sendable}
 use Rattle.std.proofs.Crossing as std
 use Rattle.rand_xoshiro.proofs.xoshiro256.Xoshiro256PlusPlus.TheSendSync as chooser
@@ -9,7 +9,7 @@ use Rattle.arachne_words.proofs.seat.WordHold.TheSendSync as hold
 use Rattle.arachne_machine.proofs.Crossing.{thread_send}
 use Rattle.arachne_jobs.proofs.Crossing.{job_send, spares_send, ticket_send}
 use Rattle.arachne_run.proofs.gate.OpenGate.TheSendSync as gate
-use Rattle.arachne_commands.proofs.RunRefusals.{choosers_length, refused_by_run}
+use Rattle.arachne_commands.proofs.RunRefusals.{allowed_as_set_up, refused_as_set_up}
 use Rattle.arachne_commands.proofs.running.run_program.Goals as goal
 
 -- what a run sends to its kernel threads and shares with them may cross; the program is checked
@@ -51,6 +51,10 @@ run-requires g c κs = (
 
 -- what is refused is refused as the settings say
 pub returns-clause-refused : goal.returns-clause-refused
-returns-clause-refused g c = refused_by_run c.args.settings c.in_ok-choosers.choosers.len c.into_vec.result.items c.run.result
-    (λ within. c.in_ok-choosers.choosers.ok.0 ∙ ap length c.in_ok-choosers.ensures ∙ choosers_length c.args.settings.seed c.served.result ∙ c.served.ensures within)
-    c.into_vec.ensures c.run.ensures.refused c.run.ensures.order_refused c.run.ensures.of_setup
+returns-clause-refused g c = refused_as_set_up c.args.settings c.in_ok-made.made.0 c.in_ok-made.made.1.items c.in_ok-made.made.1.len c.run.result
+    c.in_ok-made.made.1.ok.0 c.in_ok-made.ensures c.run.ensures.refused c.run.ensures.order_refused c.run.ensures.of_setup
+
+-- a report comes only of settings that are right
+pub returns-clause-allowed : goal.returns-clause-allowed
+returns-clause-allowed g c = allowed_as_set_up c.args.settings c.in_ok-made.made.0 c.in_ok-made.made.1.items c.in_ok-made.made.1.len c.run.result
+    c.in_ok-made.made.1.ok.0 c.in_ok-made.ensures c.run.ensures.refused c.run.ensures.in_order
