@@ -1,5 +1,5 @@
 -- What the steps of a job keep, of its results and of the children that it awaits.
-use Rattle.std.specs.Prelude.{ℕ, List, [], ◌∷◌, Option, None, Some}
+use Rattle.std.specs.Prelude.{◌≡◌, ℕ, ◌+◌, List, [], ◌∷◌, Option, None, Some}
 use Rattle.std.specs.List.{sum_by}
 use Rattle.arachne_core.specs.declared.thread_id.ThreadId.{ThreadId}
 use Rattle.arachne_pool.specs.declared.job.Step.{Step}
@@ -16,6 +16,13 @@ pub record Being (Job : Type 0) : Type 0 where
 -- a job that has made no step, alone
 abbrev pub one : {Job : Type 0} → ℕ → Job → Option ThreadId → Being Job
 one tag job parent = record { tag = tag; asked = job; parent = parent; many = 1 }
+
+-- of the jobs in a place one fewer is there, which was posted as a job of its own whose parent runs under this id; or as
+-- many as before, where none was
+abbrev pub PartsOne : {Job : Type 0} → ThreadId → Being Job → Being Job → Option (Being Job) → Type 0
+PartsOne me old new None = new ≡ old
+PartsOne me old new (Some child) =
+    (new ≡ record old { many = new.many }) × (new.many + 1 ≡ old.many) × (child ≡ one child.tag child.asked (Some me))
 
 -- how many jobs these are, each with those that run or wait in its place
 abbrev pub count_near : {Job : Type 0} → List (Being Job) → ℕ

@@ -13,9 +13,13 @@ full_in seen = seen.full
 abbrev pub closed_in : NoPlaces → ℕ
 closed_in seen = seen.closed
 
--- so many cores were asked, this one and those that follow it, and each was seen without a place
-abbrev pub AreSeen : ℕ → ℕ → NoPlaces → Type 0
-AreSeen first cores seen = (seen.first ≡ first) × (full_in seen + closed_in seen ≡ cores)
+-- each core has so many places
+abbrev pub slots_in : NoPlaces → ℕ
+slots_in seen = seen.slots
+
+-- so many cores of so many places each were asked, this one and those that follow it, and each was seen without a place
+abbrev pub AreSeen : ℕ → ℕ → ℕ → NoPlaces → Type 0
+AreSeen first cores slots seen = (seen.first ≡ first) × (slots_in seen ≡ slots) × (full_in seen + closed_in seen ≡ cores)
 
 -- this core is the next one to be asked
 abbrev pub IsNext : ℕ → NoPlaces → Type 0
@@ -23,20 +27,20 @@ IsNext core seen = core ≡ seen.first + (full_in seen + closed_in seen)
 
 -- the next core was seen without a place too
 abbrev pub WithOneMore : NoPlaces → NoPlaces → Type 0
-WithOneMore old new = (new.first ≡ old.first) × (full_in new + closed_in new ≡ full_in old + closed_in old + 1)
+WithOneMore old new = (new.first ≡ old.first) × (slots_in new ≡ slots_in old) × (full_in new + closed_in new ≡ full_in old + closed_in old + 1)
 
--- a job is refused so by a worker that has a seat: each of so many cores, from this one on, was seen without a place,
--- or memory was refused
-abbrev pub RefusesFor : ℕ → ℕ → Refusal → Type 0
-RefusesFor first cores (NoPlace seen) = AreSeen first cores seen
-RefusesFor first cores Memory = Unit {0}
-RefusesFor first cores NoSeat = ⊥
+-- a job is refused so by a worker that has a seat: each of so many cores of so many places, from this one on, was seen
+-- without a free one, or memory was refused
+abbrev pub RefusesFor : ℕ → ℕ → ℕ → Refusal → Type 0
+RefusesFor first cores slots (NoPlace seen) = AreSeen first cores slots seen
+RefusesFor first cores slots Memory = Unit {0}
+RefusesFor first cores slots NoSeat = ⊥
 
 -- the same by any worker: this one may have none
-abbrev pub IsRefusedBy : {Seat : Type 0} → ℕ → ℕ → Option Seat → Refusal → Type 0
-IsRefusedBy first cores seat (NoPlace seen) = AreSeen first cores seen
-IsRefusedBy first cores seat Memory = Unit {0}
-IsRefusedBy first cores seat NoSeat = seat ≡ None
+abbrev pub IsRefusedBy : {Seat : Type 0} → ℕ → ℕ → ℕ → Option Seat → Refusal → Type 0
+IsRefusedBy first cores slots seat (NoPlace seen) = AreSeen first cores slots seen
+IsRefusedBy first cores slots seat Memory = Unit {0}
+IsRefusedBy first cores slots seat NoSeat = seat ≡ None
 
 -- a job is refused so where these were seen before: the next core was seen without a place too, or memory was refused
 abbrev pub RefusesAfter : NoPlaces → Refusal → Type 0
@@ -51,9 +55,9 @@ pub record SpawnsOne {Seat : Type 0} (old new : WorkerView Seat) : Type 0 where
   pub near : new.near ≡ old.near
 
 -- a worker has spawned nothing, and the job comes back with why
-pub record HandsBack {Seat Job : Type 0} (first cores : ℕ) (job : Job) (old new : WorkerView Seat) (back : Job) (why : Refusal) : Type 0 where
+pub record HandsBack {Seat Job : Type 0} (first cores slots : ℕ) (job : Job) (old new : WorkerView Seat) (back : Job) (why : Refusal) : Type 0 where
   pub same : back ≡ job
-  pub refused : IsRefusedBy first cores old.seat why
+  pub refused : IsRefusedBy first cores slots old.seat why
   pub tally : new.tally ≡ old.tally
   pub near : new.near ≡ old.near
 
@@ -62,3 +66,9 @@ pub record HandsBack {Seat Job : Type 0} (first cores : ℕ) (job : Job) (old ne
 abbrev pub KeepsOneAtMost : {Seat : Type 0} → ℕ → WorkerView Seat → WorkerView Seat → Type 0
 KeepsOneAtMost cores old new =
     (old.near ≤ new.near) × (new.near ≤ old.near + 1) × (HasNoCore cores old → new.near ≡ old.near)
+
+-- where a worker is refused a place for a job, it has worked for none of so many cores: else it keeps the job
+abbrev pub IsRefusedUnkept : {Seat : Type 0} → ℕ → WorkerView Seat → Refusal → Type 0
+IsRefusedUnkept cores old (NoPlace seen) = HasNoCore cores old
+IsRefusedUnkept cores old Memory = Unit {0}
+IsRefusedUnkept cores old NoSeat = Unit {0}

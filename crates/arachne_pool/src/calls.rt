@@ -1,13 +1,15 @@
 //! What a worker does at its pool: it spawns jobs, works, and gets results.
-ghost use Rattle.std.specs.Prelude.{◌≡◌, ◌+◌, ◌<◌, [], IfErr, IfOk, IsSome, OnErr, OnOk};
+ghost use Rattle.std.specs.Prelude.{◌≡◌, ◌+◌, ◌<◌, [], IfErr, IfOk, IsSome, OnOk};
 
 use crate::came::Came;
 use crate::handle::Handle;
 use crate::job::PoolJob;
-use crate::place::{Disowned, place};
+use crate::place::place;
 use crate::pool::Pool;
+use crate::posting::Disowned;
 use crate::seat::{Call, Seat, idle_seat};
 use crate::spawned::Spawned;
+use crate::spawning::{Refusal, Refused};
 use crate::statistics::Statistics;
 use crate::worker::{PoolFault, Worker};
 use arachne_contexts::{Contexts, Seats};
@@ -22,50 +24,48 @@ const MOST_UNTOLD: u64 = 1024;
 impl<C: Seats> Pool<C> {
     ghost use Rattle.arachne_pool.specs.Calls.{AnswersFor};
     ghost use Rattle.arachne_pool.specs.Grounds.{ground_at};
-    ghost use Rattle.arachne_pool.specs.Spawning.{KeepsOneAtMost};
+    ghost use Rattle.arachne_pool.specs.Spawning.{HandsBack, IsRefusedUnkept, KeepsOneAtMost};
     ghost use Rattle.arachne_pool.specs.Workers.{IsWorkerOf};
 
-    /// Spawns a job, which gets a place of the table where a core has one, and else waits for one with the worker; but
-    /// a worker that has worked for no core keeps none (`try_spawn`): it may never come to a round, and the job comes
-    /// back. Its handle gives its result. It comes back too where memory is refused, or the worker has no seat.
+    /// Spawns a job, which gets a place of the table where a core has one, and else waits for one with the worker. Its
+    /// handle gives its result. It comes back, with why, where memory is refused or the worker has no seat; and where no
+    /// core has a place and the worker has worked for none: that keeps no job (`try_spawn`), since it may never come to a
+    /// round.
     pub fn spawn<H: Wait, J: PoolJob>(
         &self,
         rt: &H,
         worker: &mut Worker<C::Seat, J>,
         job: J,
-    ) -> Result<Handle<J>, J>
+    ) -> Result<Handle<J>, Refused<J>>
     where
         C: Contexts<Spawned<J>>,
         requires worker { IsWorkerOf C.sits C.idle self.now.table self.now.cores worker.old }
         requires fresh { J.awaits job [] }
         ensures worker { IsWorkerOf C.sits C.idle self.now.table self.now.cores worker.new }
         ensures handle { IfOk result (λ handle. handle ≡ job) }
-        ensures handed_back { IfErr result (λ back. back ≡ job) }
+        ensures handed_back { IfErr result (λ back. HandsBack 0 self.now.cores self.now.slots job worker.old worker.new back.job back.why) }
+        ensures unkept { IfErr result (λ back. IsRefusedUnkept self.now.cores worker.old back.why) }
         ensures spawned { OnOk result (worker.old.tally.spawned < u64.MAX → worker.new.tally.spawned ≡ worker.old.tally.spawned + 1) }
         ensures ended { worker.new.tally.ended ≡ worker.old.tally.ended }
         ensures near { KeepsOneAtMost self.now.cores worker.old worker.new }
-        ensures refused { OnErr result ((worker.new.tally ≡ worker.old.tally) × (worker.new.near ≡ worker.old.near)) }
     {
         if worker.bench.core >= self.cores {
-            return match self.try_spawn(rt, worker, job) {
-                Ok(handle) => Ok(handle),
-                Err(refused) => Err(refused.job),
-            };
+            return self.try_spawn(rt, worker, job);
         }
         let bench = &mut worker.bench;
         let Some(seat) = &mut worker.seat else {
-            return Err(job);
+            return Err(Refused::of(job, Refusal::NoSeat));
         };
         let (receiver, job) = match bench.begin(job) {
             Ok(begun) => begun,
-            Err(job) => return Err(job),
+            Err(job) => return Err(Refused::of(job, Refusal::Memory)),
         };
         self.live.add(bench.core, bench.news());
         let handle = Handle::of(receiver);
         match place::<H, J, C>(rt, self, seat, bench, job) {
-            Ok(Some(post)) => {
+            Ok(Some(posted)) => {
                 // Its core's kernel thread is told at once: the spawner may not come to a round of its own.
-                self.shared.hint(post.place);
+                self.shared.hint(posted.at().place);
                 Ok(handle)
             }
             Ok(None) => Ok(handle),
@@ -314,6 +314,10 @@ impl<C: Seats> Pool<C> {
         let (mut idle, mut looks) = (0u32, true);
         for _ in rt.forever() {
             if self.is_stopped() || looks && self.is_over() {
+                if idle > 0 && self.shared.hints().is_asleep(kernel.core) {
+                    // It has slept its time out, and nobody has told it of the end.
+                    self.live.add_overslept(kernel.core);
+                }
                 return Ok(idle == 0);
             }
             let found = self.round(kernel, idle)?;

@@ -4,10 +4,12 @@
 //! children, waits for their results, and ends with a result, which its handle gives to whoever spawned it.
 #![tactic(auto)]
 
+mod answer;
 mod bench;
 mod calls;
 mod came;
 mod closing;
+mod ending;
 mod handle;
 mod job;
 mod links;
@@ -15,6 +17,7 @@ mod live;
 mod outcome;
 mod place;
 mod pool;
+mod posting;
 mod seat;
 mod seen;
 mod spawned;
@@ -26,6 +29,7 @@ mod tally;
 mod waking;
 mod worker;
 
+pub use answer::WakeAnswer;
 pub use closing::{Left, NotClosed};
 pub use handle::Handle;
 pub use job::{PoolJob, Step};

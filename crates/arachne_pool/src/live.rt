@@ -14,6 +14,7 @@ struct Told {
     steps: AtomicU64,
     wakes: AtomicU64,
     rests: AtomicU64,
+    overslept: AtomicU64,
 }
 
 impl Told {
@@ -26,6 +27,7 @@ impl Told {
             steps: AtomicU64::new(0),
             wakes: AtomicU64::new(0),
             rests: AtomicU64::new(0),
+            overslept: AtomicU64::new(0),
         }
     }
 }
@@ -78,6 +80,13 @@ impl Live {
         }
     }
 
+    /// A worker of this core has slept its time out, and then found something of which nobody had told it.
+    pub(crate) fn add_overslept(&self, core: u8) {
+        if let Some(told) = self.told.get(usize::from(core)) {
+            told.overslept.fetch_add(1, Ordering::SeqCst);
+        }
+    }
+
     /// What the workers of a core have done.
     pub(crate) fn done(&self, core: u8) -> Statistics {
         match self.told.get(usize::from(core)) {
@@ -86,6 +95,7 @@ impl Live {
                 steps: told.steps.load(Ordering::SeqCst),
                 wakes: told.wakes.load(Ordering::SeqCst),
                 rests: told.rests.load(Ordering::SeqCst),
+                overslept: told.overslept.load(Ordering::SeqCst),
             },
             None => Statistics::new(),
         }

@@ -1,6 +1,9 @@
 //! What a job leaves in its cell, and what the cell is for.
+ghost use Rattle.std.specs.Prelude.{◌≡◌, IfSome};
+
 use crate::job::PoolJob;
 use arachne_join::{Fits, Receiver, Sender, SpareCells};
+use std::marker::Model;
 use std::snapshot::Snapshot;
 
 /// What a job has ended with.
@@ -27,3 +30,34 @@ pub(crate) type ResultReceiver<J> = Receiver<Outcome<J>, Wanted<J>>;
 
 /// Cells that a worker keeps for the next jobs.
 pub(crate) type Cells<J> = SpareCells<Outcome<J>, Wanted<J>>;
+
+/// That a result was left at its end, or dropped where nobody wants it. Only `leave_at` makes one.
+///
+/// Contracts see the result.
+#[derive(Drop)]
+pub(crate) struct ResultLeft<J: PoolJob> {
+    /// It has no bytes.
+    output: Snapshot<J::Output>,
+}
+
+impl<J: PoolJob> Model for ResultLeft<J> {
+    ghost Value = { J.Output };
+
+    ghost view = { λ l. l.output.value };
+}
+
+/// A result is left at an end, if there is one.
+#[inline(always)]
+pub(crate) fn leave_at<J: PoolJob>(
+    sender: Option<ResultSender<J>>,
+    output: J::Output,
+) -> ResultLeft<J>
+    requires { IfSome sender (λ sender. J.is_result sender.key.job.value output) }
+    ensures { result ≡ output }
+{
+    let left = Snapshot::of(&output);
+    if let Some(sender) = sender {
+        sender.leave(Outcome { output });
+    }
+    ResultLeft { output: left }
+}

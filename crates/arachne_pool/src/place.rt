@@ -3,22 +3,18 @@
 //! It may touch the table through the seat that it is given.
 ghost use Rattle.std.specs.Prelude.{◌≡◌, ◌<◌, [], ◌∷◌, ◌++◌, IfOk, MatchOption, OnErr, OnOk};
 ghost use Rattle.std.specs.VecDeque.{deque_capacity, deque_len};
-ghost use Rattle.arachne_contexts.specs.Out.{Claim, HasOut, KeepsOut};
-ghost use Rattle.arachne_pool.specs.Grounds.{AddsOut, IsKnown, IsSpent, thread_in};
-ghost use Rattle.arachne_pool.specs.Jobs.{Being};
+ghost use Rattle.arachne_contexts.specs.Out.{Claim, KeepsOut};
+ghost use Rattle.arachne_pool.specs.Grounds.{AddsOut, IsKnown, thread_in};
+ghost use Rattle.arachne_pool.specs.Jobs.{PartsOne};
 
 use crate::bench::Bench;
 use crate::job::PoolJob;
 use crate::pool::Pool;
+use crate::posting::{Disowned, Posted, post};
 use crate::spawned::Spawned;
-use arachne_contexts::{Contexts, Held, Placed};
-use arachne_workers::Post;
+use arachne_contexts::{Contexts, Held};
 use rand_xoshiro::Xoshiro256PlusPlus;
 use std::sync::Wait;
-
-/// The table didn't know a place or a job that a worker had of it.
-#[derive(Clone, Copy, Debug, PartialEq, Eq)]
-pub(crate) struct Disowned;
 
 /// A place for a job: on the core with fewer jobs of two that are drawn, else on another one that has a place; for an
 /// exclusive one an empty core, if there is one. None too where memory is refused.
@@ -63,26 +59,6 @@ fn claim_normal<H: Wait, J: PoolJob, C: Contexts<Spawned<J>>>(
     place.ok()?
 }
 
-/// A job is posted at a place.
-pub(crate) fn post<H: Wait, J: PoolJob, C: Contexts<Spawned<J>>>(
-    rt: &H,
-    pool: &Pool<C>,
-    seat: &mut C::Seat,
-    claim: C::Claim,
-    job: Spawned<J>,
-) -> Result<Post, Disowned>
-    requires seat { C.sits pool.now.table seat.old }
-    requires out { HasOut (C.has pool.now.table) (Claim claim) seat.old }
-    ensures seat { C.sits pool.now.table seat.new }
-    ensures out { OnOk result (IsSpent (C.has pool.now.table) (Claim claim) seat.old seat.new) }
-{
-    let place = claim.place();
-    match pool.table.post(rt, seat, claim, job) {
-        Ok(id) => Ok(Post { id, place }),
-        Err(_) => Err(Disowned),
-    }
-}
-
 /// A job gets a place, or waits for one with those that have none, among which there is room for it.
 pub(crate) fn place<H: Wait, J: PoolJob, C: Contexts<Spawned<J>>>(
     rt: &H,
@@ -90,14 +66,14 @@ pub(crate) fn place<H: Wait, J: PoolJob, C: Contexts<Spawned<J>>>(
     seat: &mut C::Seat,
     bench: &mut Bench<J>,
     job: Spawned<J>,
-) -> Result<Option<Post>, Disowned>
+) -> Result<Option<Posted<J>>, Disowned>
     requires seat { C.sits pool.now.table seat.old }
     requires known { IsKnown (C.has pool.now.table) seat.old }
     requires room { deque_len bench.old.near < deque_capacity bench.old.near }
     ensures seat { C.sits pool.now.table seat.new }
     ensures out { OnOk result (KeepsOut (C.has pool.now.table) seat.old seat.new) }
     ensures same { (bench.new.tally ≡ bench.old.tally) × (bench.new.arbiter ≡ bench.old.arbiter) }
-    ensures near { IfOk result (λ posted. MatchOption posted (bench.new.near.items ≡ bench.old.near.items ++ job ∷ []) (λ _. bench.new.near.items ≡ bench.old.near.items)) }
+    ensures near { IfOk result (λ posted. MatchOption posted (bench.new.near.items ≡ bench.old.near.items ++ job ∷ []) (λ at. (at ≡ job) × (bench.new.near.items ≡ bench.old.near.items))) }
     ensures disowned { OnErr result (bench.new.near.items ≡ bench.old.near.items) }
 {
     let claim = claim::<H, J, C>(rt, pool, seat, &mut bench.chooser, job.is_exclusive());
@@ -115,13 +91,13 @@ pub(crate) fn place_oldest<H: Wait, J: PoolJob, C: Contexts<Spawned<J>>>(
     pool: &Pool<C>,
     seat: &mut C::Seat,
     bench: &mut Bench<J>,
-) -> Result<Option<Post>, Disowned>
+) -> Result<Option<Posted<J>>, Disowned>
     requires seat { C.sits pool.now.table seat.old }
     requires known { IsKnown (C.has pool.now.table) seat.old }
     ensures seat { C.sits pool.now.table seat.new }
     ensures out { OnOk result (KeepsOut (C.has pool.now.table) seat.old seat.new) }
     ensures same { (bench.new.tally ≡ bench.old.tally) × (bench.new.arbiter ≡ bench.old.arbiter) }
-    ensures near { IfOk result (λ posted. MatchOption posted (bench.new.near.items ≡ bench.old.near.items) (λ _. (job : Being J) × (bench.old.near.items ≡ job ∷ bench.new.near.items))) }
+    ensures near { IfOk result (λ posted. MatchOption posted (bench.new.near.items ≡ bench.old.near.items) (λ at. bench.old.near.items ≡ at ∷ bench.new.near.items)) }
 {
     let Some(job) = bench.near.front() else {
         return Ok(None);
@@ -147,11 +123,13 @@ pub(crate) fn post_oldest<H: Wait, J: PoolJob, C: Contexts<Spawned<J>>>(
     seat: &mut C::Seat,
     bench: &mut Bench<J>,
     held: &mut Held<Spawned<J>, C::Hold>,
-) -> Result<Option<Post>, Disowned>
+) -> Result<Option<Posted<J>>, Disowned>
     requires seat { C.sits pool.now.table seat.old }
     requires out { C.has pool.now.table seat.old (thread_in (λ s. s.tag) held.old ∷ []) }
     ensures seat { C.sits pool.now.table seat.new }
     ensures out { OnOk result (C.has pool.now.table seat.new (thread_in (λ s. s.tag) held.new ∷ [])) }
+    ensures parted { IfOk result (PartsOne (C.Hold.id_of held.old.hold) held.old.value held.new.value) }
+    ensures hold { held.new.hold ≡ held.old.hold }
     ensures same { (bench.new.tally ≡ bench.old.tally) × (bench.new.arbiter ≡ bench.old.arbiter) }
 {
     if !held.value.has_aside() {

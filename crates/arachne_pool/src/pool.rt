@@ -87,6 +87,12 @@ impl<C: Seats> Pool<C> {
         self.live.done(core)
     }
 
+    /// Whether the worker of a core sleeps, or has slept its time out and not looked since. Whoever has work for it wakes
+    /// it; one that is parked doesn't sleep.
+    pub fn is_asleep(&self, core: u8) -> bool {
+        self.shared.hints().is_asleep(core)
+    }
+
     /// Has all workers stop after their slices, those that sleep or are parked too.
     pub fn stop(&self) {
         self.shared.stop();

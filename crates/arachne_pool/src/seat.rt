@@ -4,16 +4,18 @@ ghost use Rattle.arachne_pool.specs.Grounds.{in_hand};
 ghost use Rattle.arachne_pool.specs.Workers.{IsIdleAt};
 
 use crate::bench::Bench;
+use crate::ending::end;
 use crate::job::PoolJob;
-use crate::place::{Disowned, place_oldest, post_oldest};
+use crate::place::{place_oldest, post_oldest};
 use crate::pool::Pool;
+use crate::posting::{Disowned, Posted};
 use crate::spawned::Spawned;
 use crate::stop::Stop as JobStop;
 use crate::worker::PoolFault;
 use arachne_arbiter::Pace;
 use arachne_contexts::{Contexts, Held, Moved, Rested, Taken, Woken};
 use arachne_core::{MarkWord, OccWord, Place, Rest, ThreadId};
-use arachne_workers::{Desk, Drained, Event, Grip, Halt, Post, Stop, Ticket};
+use arachne_workers::{Desk, Drained, Event, Grip, Halt, Stop, Ticket};
 use std::marker::Model;
 use std::mem::replace;
 use std::sync::Wait;
@@ -155,21 +157,23 @@ impl<'a, H: Wait, J: PoolJob, C: Contexts<Spawned<J>>> Desk for Seat<'a, H, J, C
         if self.is_broken {
             return Err(Halt::from(PoolFault::Token));
         }
-        let Some(held) = self.held.take() else {
+        let Some(held) = &self.held else {
             return Err(Halt::from(PoolFault::Token));
         };
+        let Some(_) = held.value.taken_from(0) else {
+            return Err(Halt::from(PoolFault::Token));
+        };
+        let Some(held) = self.held.take() else {
+            unreachable!()
+        };
         self.bench.has_ended = true;
-        let table = &self.pool.table;
-        match table.finish(self.rt, &mut self.seat, held) {
-            Ok(job) => {
-                self.pool.room_was_seen();
-                let parent = job.leave();
+        match end::<H, J, C>(self.rt, self.pool, &mut self.seat, held) {
+            Ok(ended) => {
                 self.tell();
-                Ok(parent)
+                Ok(ended.parent())
             }
-            Err(held) => {
+            Err(_) => {
                 self.is_broken = true;
-                held.value.leave();
                 self.tell();
                 Err(Halt::from(PoolFault::Token))
             }
@@ -242,13 +246,14 @@ impl<'a, H: Wait, J: PoolJob, C: Contexts<Spawned<J>>> Desk for Seat<'a, H, J, C
         self.is_broken = true;
         let posted = place_oldest::<H, J, C>(self.rt, self.pool, &mut self.seat, &mut self.bench)?;
         self.is_broken = false;
-        let Some(post) = posted else {
+        let Some(posted) = posted else {
             return Ok(if self.fetch() {
                 Ticket::Gone
             } else {
                 Ticket::None
             });
         };
+        let post = posted.at();
         if post.place.core == self.core {
             return Ok(Ticket::Posted(post));
         }
@@ -293,7 +298,12 @@ impl<'a, H: Wait, J: PoolJob, C: Contexts<Spawned<J>>> Desk for Seat<'a, H, J, C
 
     fn begins(&self, _nth: u64) {}
 
-    fn told(&self, _event: Event) {}
+    #[inline(always)]
+    fn told(&self, event: Event) {
+        if matches!(event, Event::Overslept) {
+            self.pool.live.add_overslept(self.core);
+        }
+    }
 }
 
 impl<'a, H: Wait, J: PoolJob, C: Contexts<Spawned<J>>> Seat<'a, H, J, C> {
@@ -342,10 +352,11 @@ impl<'a, H: Wait, J: PoolJob, C: Contexts<Spawned<J>>> Seat<'a, H, J, C> {
     /// What it is to this worker that a child was posted there: on its own core that is what it does next. One on
     /// another core is for others to take, so they are told at once.
     #[inline(always)]
-    fn stop_after(&self, posted: Option<Post>) -> Stop {
-        let Some(post) = posted else {
+    fn stop_after(&self, posted: Option<Posted<J>>) -> Stop {
+        let Some(posted) = posted else {
             return Stop::Goes;
         };
+        let post = posted.at();
         if post.place.core == self.core {
             return Stop::Posted(post);
         }

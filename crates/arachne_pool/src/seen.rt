@@ -3,17 +3,20 @@ ghost use Rattle.std.specs.Prelude.{◌≡◌, ◌+◌, ◌<◌};
 ghost use Rattle.arachne_contexts.specs.Words.{ShowsClosed, ShowsFull};
 
 /// The cores that one call has asked for a place, one after the other, and that had none: how many were full or one
-/// job's alone, and how many were closed. A core is counted by its word alone, which shows that it has no place.
+/// job's alone, and how many were closed. A core is counted by its word alone, which shows that none of its places is
+/// free; how many places a core has is said once, before the first one is asked.
 #[derive(Clone, Copy, Debug, PartialEq, Eq)]
 pub struct NoPlaces {
     /// The core that was asked first.
     first: u8,
+    /// How many places each core has.
+    slots: u8,
     full: u8,
     closed: u8,
 }
 
 impl NoPlaces {
-    ghost use Rattle.arachne_pool.specs.Spawning.{AreSeen, IsNext, closed_in, full_in};
+    ghost use Rattle.arachne_pool.specs.Spawning.{AreSeen, IsNext, closed_in, full_in, slots_in};
 
     /// How many of them were full, or one job's alone.
     pub fn full(&self) -> u8
@@ -29,26 +32,27 @@ impl NoPlaces {
         self.closed
     }
 
-    /// None was asked yet. This core is the next one.
-    pub(crate) fn before(core: u8) -> NoPlaces
-        ensures seen { AreSeen core 0 result }
+    /// None was asked yet, of a table whose cores have so many places. This core is the next one.
+    pub(crate) fn before(core: u8, slots: u8) -> NoPlaces
+        ensures seen { AreSeen core 0 slots result }
         ensures next { IsNext core result }
     {
         NoPlaces {
             first: core,
+            slots,
             full: 0,
             closed: 0,
         }
     }
 
     /// The next core too, whose word shows that it is full, or one job's alone.
-    pub(crate) fn with_full(self, core: u8, slots: u8, word: u64) -> NoPlaces
+    pub(crate) fn with_full(self, core: u8, word: u64) -> NoPlaces
         requires next { IsNext core self }
         requires below { core < u8.MAX }
-        requires shows { ShowsFull slots word }
+        requires shows { ShowsFull (slots_in self) word }
         ensures { result ≡ record self { full = full_in self + 1 } }
     {
-        let _ = (core, slots, word);
+        let _ = (core, word);
         NoPlaces {
             full: self.full + 1,
             ..self

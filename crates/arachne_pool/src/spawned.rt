@@ -3,7 +3,7 @@ ghost use Rattle.std.specs.Prelude.{◌≡◌, ◌+◌, ◌<◌, ◌≤◌, [], 
 ghost use Rattle.arachne_pool.specs.Frames.{CountsEach};
 
 use crate::job::PoolJob;
-use crate::outcome::{Cells, Outcome, ResultSender};
+use crate::outcome::{Cells, ResultLeft, ResultSender, leave_at};
 use crate::stack::{Jobs, Stack};
 use crate::stop::Stop;
 use crate::tally::Tally;
@@ -11,6 +11,7 @@ use arachne_contexts::Tagged;
 use arachne_core::ThreadId;
 use std::alloc::Global;
 use std::marker::Model;
+use std::snapshot::Snapshot;
 
 /// A job that was spawned, and has not ended. It is moved and never copied, and whoever has it alone steps it. A child
 /// that it has forked while no place was free waits here, and runs in its place once it is awaited.
@@ -146,19 +147,24 @@ impl<J: PoolJob> Spawned<J> {
         Some(Spawned::begin(alloc, job, Some(sender), Some(me)))
     }
 
-    /// Ends the job: its result goes to its handle or to its parent, and is one of the job as it was spawned. The
-    /// parent, if that is to be woken.
-    pub(crate) fn leave(self) -> Option<ThreadId>
-        ensures { result ≡ self.parent }
+    /// Ends the job, of which none is left: its result goes to its handle or to its parent, and is one of the job as it
+    /// was spawned.
+    pub(crate) fn leave(self) -> Ended<J>
+        requires { self.many ≡ 0 }
+        ensures { result ≡ self }
     {
+        let job = Snapshot::of(&self);
         let Spawned {
             stack,
             sender,
             parent,
             ..
         } = self;
-        leave_at(sender, stack.into_output());
-        parent
+        let Some(output) = stack.into_output() else {
+            unreachable!()
+        };
+        let left = leave_at(sender, output);
+        Ended { left, job, parent }
     }
 
     /// The job and those that run or wait in its place, as they are now, but for those that have ended. It leaves no
@@ -168,18 +174,41 @@ impl<J: PoolJob> Spawned<J> {
     {
         let Spawned { stack, sender, .. } = self;
         let (jobs, output) = stack.into_jobs();
-        leave_at(sender, output);
+        if let Some(output) = output {
+            leave_at(sender, output);
+        }
         jobs
     }
 }
 
-/// A result, if there is one, is left at an end, if there is one.
-fn leave_at<J: PoolJob>(sender: Option<ResultSender<J>>, output: Option<J::Output>)
-    requires { IfSome output (λ output. IfSome sender (λ sender. J.is_result sender.key.job.value output)) }
-{
-    if let Some(sender) = sender
-        && let Some(output) = output
+/// A job that has ended and whose result was left. Only `Spawned::leave` makes one.
+///
+/// Contracts see the job as it ended.
+#[derive(Drop)]
+pub(crate) struct Ended<J: PoolJob> {
+    /// It has no bytes.
+    left: ResultLeft<J>,
+    /// Nor has this.
+    job: Snapshot<Spawned<J>>,
+    parent: Option<ThreadId>,
+}
+
+impl<J: PoolJob> Model for Ended<J> {
+    ghost use Rattle.std.specs.Prelude.{◌≡◌};
+    ghost use Rattle.arachne_pool.specs.Jobs.{Being};
+
+    ghost Value = { Being J };
+
+    ghost view = { λ e. e.job.value };
+
+    ghost invariant = { λ e. J.is_result e.job.value.asked e.left × (e.parent ≡ e.job.value.parent) };
+}
+
+impl<J: PoolJob> Ended<J> {
+    /// The parent, if that is to be woken.
+    pub(crate) fn parent(&self) -> Option<ThreadId>
+        ensures { result ≡ self.now.parent }
     {
-        sender.leave(Outcome { output });
+        self.parent
     }
 }

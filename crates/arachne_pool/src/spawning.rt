@@ -2,13 +2,14 @@
 ghost use Rattle.std.specs.Prelude.{◌≡◌, ◌<◌, [], ◌∷◌, IfErr, IfOk, OnErr, OnOk};
 ghost use Rattle.arachne_contexts.specs.Out.{Claim, KeepsOut};
 ghost use Rattle.arachne_pool.specs.Grounds.{AddsOut};
-ghost use Rattle.arachne_pool.specs.Spawning.{HandsBack, IsNext, RefusesAfter, RefusesFor, SpawnsOne};
+ghost use Rattle.arachne_pool.specs.Spawning.{HandsBack, IsNext, RefusesAfter, RefusesFor, SpawnsOne, slots_in};
 ghost use Rattle.arachne_pool.specs.declared.spawning.Refusal.TheVariants.{Memory};
 
 use crate::handle::Handle;
 use crate::job::PoolJob;
-use crate::place::{claim, post};
+use crate::place::claim;
 use crate::pool::Pool;
+use crate::posting::post;
 use crate::seen::NoPlaces;
 use crate::spawned::Spawned;
 use crate::worker::Worker;
@@ -38,6 +39,15 @@ pub struct Refused<J: PoolJob> {
     pub why: Refusal,
 }
 
+impl<J: PoolJob> Refused<J> {
+    /// This job comes back, and why.
+    pub(crate) fn of(job: J, why: Refusal) -> Refused<J>
+        ensures { (result.job ≡ job) × (result.why ≡ why) }
+    {
+        Refused { job, why }
+    }
+}
+
 impl<C: Seats> Pool<C> {
     ghost use Rattle.arachne_pool.specs.Workers.{IsWorkerOf};
 
@@ -56,20 +66,17 @@ impl<C: Seats> Pool<C> {
         requires fresh { J.awaits job [] }
         ensures worker { IsWorkerOf C.sits C.idle self.now.table self.now.cores worker.new }
         ensures begun { IfOk result (λ handle. (handle ≡ job) × SpawnsOne worker.old worker.new) }
-        ensures handed_back { IfErr result (λ back. HandsBack 0 self.now.cores job worker.old worker.new back.job back.why) }
+        ensures handed_back { IfErr result (λ back. HandsBack 0 self.now.cores self.now.slots job worker.old worker.new back.job back.why) }
     {
         let Some(mut seat) = worker.seat.take() else {
-            return Err(Refused {
-                job,
-                why: Refusal::NoSeat,
-            });
+            return Err(Refused::of(job, Refusal::NoSeat));
         };
         let chooser = &mut worker.bench.chooser;
         match claim_any::<H, J, C>(rt, self, &mut seat, chooser, job.is_exclusive()) {
             Ok(claim) => self.begin_at(rt, worker, seat, claim, job),
             Err(why) => {
                 worker.seat = Some(seat);
-                Err(Refused { job, why })
+                Err(Refused::of(job, why))
             }
         }
     }
@@ -89,15 +96,13 @@ impl<C: Seats> Pool<C> {
         requires fresh { J.awaits job [] }
         ensures worker { IsWorkerOf C.sits C.idle self.now.table self.now.cores worker.new }
         ensures begun { IfOk result (λ begun. (begun.0 ≡ job) × (begun.1.core ≡ core) × SpawnsOne worker.old worker.new) }
-        ensures handed_back { IfErr result (λ back. HandsBack core 1 job worker.old worker.new back.job back.why) }
+        ensures handed_back { IfErr result (λ back. HandsBack core 1 self.now.slots job worker.old worker.new back.job back.why) }
     {
         let Some(mut seat) = worker.seat.take() else {
-            return Err(Refused {
-                job,
-                why: Refusal::NoSeat,
-            });
+            return Err(Refused::of(job, Refusal::NoSeat));
         };
-        match claim_on::<H, J, C>(rt, self, &mut seat, core, NoPlaces::before(core)) {
+        let none = NoPlaces::before(core, self.slots);
+        match claim_on::<H, J, C>(rt, self, &mut seat, core, none) {
             Ok(claim) => {
                 let place = claim.place();
                 match self.begin_at(rt, worker, seat, claim, job) {
@@ -107,7 +112,7 @@ impl<C: Seats> Pool<C> {
             }
             Err(why) => {
                 worker.seat = Some(seat);
-                Err(Refused { job, why })
+                Err(Refused::of(job, why))
             }
         }
     }
@@ -125,13 +130,10 @@ impl<C: Seats> Pool<C> {
         requires fresh { J.awaits job [] }
         ensures worker { IsWorkerOf C.sits C.idle self.now.table self.now.cores worker.new }
         ensures begun { OnOk result (SpawnsOne worker.old worker.new) }
-        ensures handed_back { IfErr result (λ back. HandsBack 0 self.now.cores job worker.old worker.new back.job back.why) }
+        ensures handed_back { IfErr result (λ back. HandsBack 0 self.now.cores self.now.slots job worker.old worker.new back.job back.why) }
     {
         let Some(mut seat) = worker.seat.take() else {
-            return Err(Refused {
-                job,
-                why: Refusal::NoSeat,
-            });
+            return Err(Refused::of(job, Refusal::NoSeat));
         };
         let chooser = &mut worker.bench.chooser;
         match claim_any::<H, J, C>(rt, self, &mut seat, chooser, job.is_exclusive()) {
@@ -143,7 +145,7 @@ impl<C: Seats> Pool<C> {
             }
             Err(why) => {
                 worker.seat = Some(seat);
-                Err(Refused { job, why })
+                Err(Refused::of(job, why))
             }
         }
     }
@@ -164,7 +166,7 @@ impl<C: Seats> Pool<C> {
         requires fresh { J.awaits job [] }
         ensures worker { IsWorkerOf C.sits C.idle self.now.table self.now.cores worker.new }
         ensures begun { IfOk result (λ handle. (handle ≡ job) × SpawnsOne worker.old worker.new) }
-        ensures handed_back { IfErr result (λ back. (back.why ≡ Memory) × HandsBack 0 self.now.cores job worker.old worker.new back.job back.why) }
+        ensures handed_back { IfErr result (λ back. (back.why ≡ Memory) × HandsBack 0 self.now.cores self.now.slots job worker.old worker.new back.job back.why) }
     {
         match worker.bench.begin(job) {
             Ok((receiver, job)) => {
@@ -172,10 +174,7 @@ impl<C: Seats> Pool<C> {
                 Ok(Handle::of(receiver))
             }
             Err(job) => {
-                let refused = Refused {
-                    job,
-                    why: Refusal::Memory,
-                };
+                let refused = Refused::of(job, Refusal::Memory);
                 let mut seat = seat;
                 match self.table.give_back(rt, &mut seat, claim) {
                     Ok(()) => {
@@ -211,8 +210,8 @@ impl<C: Seats> Pool<C> {
         self.live.add(worker.bench.core, worker.bench.news());
         let mut seat = seat;
         match post::<H, J, C>(rt, self, &mut seat, claim, job) {
-            Ok(post) => {
-                self.shared.hint(post.place);
+            Ok(posted) => {
+                self.shared.hint(posted.at().place);
                 worker.seat = Some(seat);
             }
             Err(_) => worker.seat = None,
@@ -232,12 +231,12 @@ fn claim_any<H: Wait, J: PoolJob, C: Contexts<Spawned<J>>>(
     ensures seat { C.sits pool.now.table seat.new }
     ensures out { IfOk result (λ claim. AddsOut (C.has pool.now.table) (Claim claim) seat.old seat.new) }
     ensures kept { OnErr result (KeepsOut (C.has pool.now.table) seat.old seat.new) }
-    ensures seen { IfErr result (RefusesFor 0 pool.now.cores) }
+    ensures seen { IfErr result (RefusesFor 0 pool.now.cores pool.now.slots) }
 {
     if let Some(claim) = claim::<H, J, C>(rt, pool, seat, chooser, is_exclusive) {
         return Ok(claim);
     }
-    let mut seen = NoPlaces::before(0);
+    let mut seen = NoPlaces::before(0, pool.slots);
     for core in 0..pool.cores {
         match claim_on::<H, J, C>(rt, pool, seat, core, seen) {
             Err(Refusal::NoPlace(more)) => seen = more,
@@ -259,6 +258,7 @@ fn claim_on<H: Wait, J: PoolJob, C: Contexts<Spawned<J>>>(
     requires seat { C.sits pool.now.table seat.old }
     requires core { core < pool.now.cores }
     requires next { IsNext core seen }
+    requires slots { slots_in seen ≡ pool.now.slots }
     ensures seat { C.sits pool.now.table seat.new }
     ensures out { IfOk result (λ claim. AddsOut (C.has pool.now.table) (Claim claim) seat.old seat.new) }
     ensures place { IfOk result (λ claim. (C.Claim.place_of claim).core ≡ core) }
@@ -269,7 +269,7 @@ fn claim_on<H: Wait, J: PoolJob, C: Contexts<Spawned<J>>>(
         match pool.table.claim(rt, seat, core) {
             Ok(Claimed::Place(claim)) => return Ok(claim),
             Ok(Claimed::Full(word)) => {
-                return Err(Refusal::NoPlace(seen.with_full(core, pool.slots, word)));
+                return Err(Refusal::NoPlace(seen.with_full(core, word)));
             }
             Ok(Claimed::Closed(word)) => {
                 return Err(Refusal::NoPlace(seen.with_closed(core, word)));

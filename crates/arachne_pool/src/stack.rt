@@ -340,9 +340,10 @@ impl<J: PoolJob> Stack<J> {
         self.links.part_oldest(alloc, cells)
     }
 
-    /// What the first job has ended with, if it has.
+    /// What the first job has ended with, if it has, as where none is left.
     pub(crate) fn into_output(self) -> Option<J::Output>
-        ensures { IfSome result (J.is_result self.asked) }
+        ensures result { IfSome result (J.is_result self.asked) }
+        ensures over { self.many ≡ 0 → IsSome result }
     {
         let Stack { below, ended, .. } = self;
         if below.is_empty() { ended } else { None }

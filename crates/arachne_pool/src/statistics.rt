@@ -13,6 +13,9 @@ pub struct Statistics {
     pub wakes: u64,
     /// Rounds that found nothing to do, after each of which the worker has waited.
     pub rests: u64,
+    /// How often the worker has slept its time out and then found something of which nobody had told it, or that all was
+    /// over. It is counted at once. A few such sleeps are of jobs without a place; many show that signals are missed.
+    pub overslept: u64,
 }
 
 impl Statistics {
@@ -23,6 +26,7 @@ impl Statistics {
             steps: 0,
             wakes: 0,
             rests: 0,
+            overslept: 0,
         }
     }
 }

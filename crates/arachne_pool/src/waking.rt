@@ -1,9 +1,10 @@
 //! Jobs that sleep are woken, by any kernel thread that has a seat.
 ghost use Rattle.std.specs.Prelude.{◌≡◌, IfSome};
 ghost use Rattle.arachne_contexts.specs.Out.{KeepsOut};
-ghost use Rattle.arachne_pool.specs.Waking.{HasWoken};
+ghost use Rattle.arachne_pool.specs.Waking.{Answers};
 ghost use Rattle.arachne_pool.specs.Workers.{IsIdleAt};
 
+use crate::answer::{WakeAnswer, ask};
 use crate::job::PoolJob;
 use crate::pool::Pool;
 use crate::spawned::Spawned;
@@ -66,31 +67,31 @@ impl<C: Seats> Pool<C> {
         worker
     }
 
-    /// Wakes the job of this id. `Woken`: it was blocked, and its core's kernel thread is told that it is ready; or it is
-    /// in hand, and doesn't rest then. `Already`: it was woken before, or goes on without. `Gone`: the job of the id has
-    /// ended; no other has the id ever again, but for jobs that ran in the same place at the same time.
+    /// Wakes the job of this id. What the table has answered: `Woken`: it was blocked, and its core's kernel thread is told
+    /// that it is ready; or it is in hand, and doesn't rest then. `Already`: it was woken before, or goes on without.
+    /// `Gone`: the job of the id has ended; no other has the id ever again, but for jobs that ran in the same place at the
+    /// same time.
     pub fn wake<H: Wait, J: PoolJob>(
         &self,
         rt: &H,
         waker: &mut Waker<C::Seat>,
         id: ThreadId,
-    ) -> Woken
+    ) -> WakeAnswer
     where
         C: Contexts<Spawned<J>>,
         requires { IsIdleAt C.sits C.idle self.now.table waker.old }
         ensures waker { IsIdleAt C.sits C.idle self.now.table waker.new }
-        ensures answer { HasWoken id result }
+        ensures answer { Answers id result }
     {
         let seat = &mut waker.seat;
         for _ in rt.forever() {
-            match self.table.wake(rt, seat, id) {
-                Woken::Lost(_) => {}
-                Woken::Woken => {
-                    self.tell_of_woken::<H, J>(rt, seat, id);
-                    return Woken::Woken;
-                }
-                woken => return woken,
+            let Some(answer) = ask::<H, J, C>(rt, &self.table, seat, id) else {
+                continue;
+            };
+            if answer.woken() == Woken::Woken {
+                self.tell_of_woken::<H, J>(rt, seat, id);
             }
+            return answer;
         }
         unreachable!()
     }

@@ -1,0 +1,59 @@
+//! What the table has answered to a wake.
+ghost use Rattle.std.specs.Prelude.{◌≡◌, IfSome};
+ghost use Rattle.arachne_contexts.specs.Out.{KeepsOut};
+ghost use Rattle.arachne_pool.specs.Waking.{Answers};
+
+use crate::job::PoolJob;
+use crate::spawned::Spawned;
+use arachne_contexts::{Contexts, Woken};
+use arachne_core::ThreadId;
+use std::marker::Model;
+use std::snapshot::Snapshot;
+use std::sync::Wait;
+
+/// What the table has answered to a wake: only a call of it makes one.
+///
+/// Contracts see the id that it was called with, and the answer.
+#[derive(Drop)]
+pub struct WakeAnswer {
+    /// It has no bytes.
+    id: Snapshot<ThreadId>,
+    woken: Woken,
+}
+
+impl Model for WakeAnswer {
+    ghost use Rattle.arachne_pool.specs.Waking.{Asked};
+
+    ghost Value = { Asked };
+
+    ghost view = { λ a. record { id = a.id.value; woken = a.woken } };
+}
+
+impl WakeAnswer {
+    /// The answer.
+    pub fn woken(&self) -> Woken
+        ensures { result ≡ self.now.woken }
+    {
+        self.woken
+    }
+}
+
+/// One try to wake the thread of an id: what the table has answered, unless it was lost and is to be made again.
+pub(crate) fn ask<H: Wait, J: PoolJob, C: Contexts<Spawned<J>>>(
+    rt: &H,
+    table: &C,
+    seat: &mut C::Seat,
+    id: ThreadId,
+) -> Option<WakeAnswer>
+    requires { C.sits table.now seat.old }
+    ensures seat { C.sits table.now seat.new }
+    ensures out { KeepsOut (C.has table.now) seat.old seat.new }
+    ensures answer { IfSome result (Answers id) }
+{
+    let woken = table.wake(rt, seat, id);
+    woken.settled()?;
+    Some(WakeAnswer {
+        id: Snapshot::of(&id),
+        woken,
+    })
+}

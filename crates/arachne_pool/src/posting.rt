@@ -1,0 +1,71 @@
+//! Jobs are posted at places that a seat has claimed.
+//!
+//! It may touch the table through the seat that it is given.
+ghost use Rattle.std.specs.Prelude.{◌≡◌, IfOk, OnOk};
+ghost use Rattle.arachne_contexts.specs.Out.{Claim, HasOut};
+ghost use Rattle.arachne_pool.specs.Grounds.{IsSpent};
+
+use crate::job::PoolJob;
+use crate::pool::Pool;
+use crate::spawned::Spawned;
+use arachne_contexts::{Contexts, Placed};
+use arachne_workers::Post;
+use std::marker::Model;
+use std::snapshot::Snapshot;
+use std::sync::Wait;
+
+/// The table didn't know a place or a job that a worker had of it.
+#[derive(Clone, Copy, Debug, PartialEq, Eq)]
+pub(crate) struct Disowned;
+
+/// A job that was posted, and where. Only `post` makes one, of the job that the table has taken from it.
+///
+/// Contracts see the job.
+#[derive(Drop)]
+pub(crate) struct Posted<J: PoolJob> {
+    at: Post,
+    /// It has no bytes.
+    job: Snapshot<Spawned<J>>,
+}
+
+impl<J: PoolJob> Model for Posted<J> {
+    ghost use Rattle.arachne_pool.specs.Jobs.{Being};
+
+    ghost Value = { Being J };
+
+    ghost view = { λ p. p.job.value };
+}
+
+impl<J: PoolJob> Posted<J> {
+    /// Its id, and its place.
+    #[inline(always)]
+    pub(crate) fn at(&self) -> Post {
+        self.at
+    }
+}
+
+/// A job is posted at a place.
+#[inline(always)]
+pub(crate) fn post<H: Wait, J: PoolJob, C: Contexts<Spawned<J>>>(
+    rt: &H,
+    pool: &Pool<C>,
+    seat: &mut C::Seat,
+    claim: C::Claim,
+    job: Spawned<J>,
+) -> Result<Posted<J>, Disowned>
+    requires seat { C.sits pool.now.table seat.old }
+    requires out { HasOut (C.has pool.now.table) (Claim claim) seat.old }
+    ensures seat { C.sits pool.now.table seat.new }
+    ensures out { OnOk result (IsSpent (C.has pool.now.table) (Claim claim) seat.old seat.new) }
+    ensures posted { IfOk result (λ posted. posted ≡ job) }
+{
+    let place = claim.place();
+    let posted = Snapshot::of(&job);
+    match pool.table.post(rt, seat, claim, job) {
+        Ok(id) => Ok(Posted {
+            at: Post { id, place },
+            job: posted,
+        }),
+        Err(_) => Err(Disowned),
+    }
+}
