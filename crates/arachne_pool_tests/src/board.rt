@@ -10,10 +10,13 @@ const MOMENT: u32 = 2_000;
 /// What the jobs of a row have told, and how many answers have come.
 #[derive(Drop)]
 pub(crate) struct Board {
+    pub(crate) alloc: Global,
     /// How many have made a step.
     pub(crate) begun: AtomicU64,
     /// How often one was about to sleep.
     pub(crate) sleeps: AtomicU64,
+    /// How often a kernel thread has come back from its work.
+    pub(crate) returns: AtomicU64,
     /// How often the kernel thread that waits for this was told to go on.
     turns: AtomicU64,
     context: AtomicU64,
@@ -25,8 +28,10 @@ impl Board {
     /// No job has begun, and no answer has come. None where memory is refused.
     pub(crate) fn new(alloc: Global) -> Option<Arc<Board>> {
         let board = Board {
+            alloc,
             begun: AtomicU64::new(0),
             sleeps: AtomicU64::new(0),
+            returns: AtomicU64::new(0),
             turns: AtomicU64::new(0),
             context: AtomicU64::new(0),
             generation: AtomicU64::new(0),
@@ -56,6 +61,11 @@ impl Board {
             context: u32::try_from(self.context.load(Ordering::SeqCst)).unwrap_or(u32::MAX),
             generation: self.generation.load(Ordering::SeqCst),
         }
+    }
+
+    /// A kernel thread has come back from its work.
+    pub(crate) fn comes_back(&self) {
+        self.returns.fetch_add(1, Ordering::SeqCst);
     }
 
     /// A kernel thread that waits for it is to go on.

@@ -7,7 +7,7 @@ use crate::board::Board;
 use crate::crew::Share;
 use crate::orders::{Order, orders_of};
 use crate::spells::Spell;
-use crate::tasks::{Sort, Task};
+use crate::tasks::{LEAF, Sort, Task};
 use arachne_contexts::{Contexts, Woken};
 use arachne_core::{CORES, OccWord, SLOTS, ThreadId};
 use arachne_pool::{Left, Pool, PoolFault, Refusal, Refused, Spawned, Worker};
@@ -27,9 +27,11 @@ const TRIES: u32 = 100_000;
 pub(crate) enum Act {
     /// A job is spawned.
     Spawns(Sort),
+    /// So many are.
+    SpawnsMany(u32, Sort),
     /// A job is spawned and joined on core 0, and gives this, or nothing, as in a pool that is stopped.
     Joins(Sort, Option<u64>),
-    /// A job is spawned that no worker keeps, and this comes of it.
+    /// A job is spawned so, and this comes of it.
     Tries(On, Sort, Comes),
     /// The job of this context and generation is woken, and this comes of it.
     Wakes(u32, u64, Wakes),
@@ -49,6 +51,10 @@ pub(crate) enum Act {
     Counts(u64),
     /// So many slices, steps, wakes and rests were told of a core.
     Did(u8, u64, u64, u64, u64),
+    /// Kernel threads have slept their time out, though something was there for them, so many times at most.
+    Overslept(u64),
+    /// Jobs are spawned in each way until each place has one, and each of them is, but for want of a place.
+    Fills,
     /// The worker works on a core until no job is left, or it is to stop.
     Works(u8),
     /// A job and those that it forks end while memory is used up.
@@ -63,9 +69,11 @@ pub(crate) enum Act {
     Stops,
 }
 
-/// Where a job is spawned that no worker keeps.
+/// How and where a job is spawned.
 #[derive(Clone, Copy)]
 pub(crate) enum On {
+    /// On any core, by a spawn after which a worker may keep it.
+    AnyKept,
     /// On any core.
     Any,
     /// The same, with no handle.
@@ -108,6 +116,7 @@ pub(crate) enum Is {
 /// A row: a pool, what its worker does, what two kernel threads do then, for core 0 and core 1, how many of them end a job
 /// at least, what one does after that, how many jobs are left with a place and without, and how many these are with those
 /// that run or wait in their places.
+#[derive(Clone, Copy)]
 pub(crate) struct Row {
     pub(crate) shows: &'static str,
     pub(crate) cores: u8,
@@ -212,7 +221,7 @@ fn all_hold<C: Contexts<Spawned<Task>>, R: Wait + Clock>(
                     context,
                     generation,
                 };
-                wakes_of(pool.wake::<R, Task>(rt, &mut waker, id)) == wakes
+                wakes_of(pool.wake::<R, Task>(rt, &mut waker, id).woken()) == wakes
             }
             Act::Hoards => {
                 hoard = Hoard::take(alloc).ok();
@@ -257,6 +266,7 @@ fn holds<C: Contexts<Spawned<Task>>, R: Wait + Clock>(
             Some(task) => pool.spawn(rt, worker, task).is_ok(),
             None => false,
         },
+        Act::SpawnsMany(jobs, sort) => spawns_many::<C, R>(rt, pool, board, worker, jobs, sort),
         Act::Turns(core, finds) if core < pool.cores => pool.turn(rt, worker, core) == Ok(finds),
         Act::Works(core) if core < pool.cores => pool.work(rt, worker, core).is_ok(),
         Act::Joins(sort, wanted) if pool.cores > 0 => {
@@ -273,6 +283,7 @@ fn holds<C: Contexts<Spawned<Task>>, R: Wait + Clock>(
             None => false,
         },
         Act::Counts(count) => worker.tally().spawned == count,
+        Act::Fills => fills::<C, R>(rt, pool, board, worker),
         act => is_so::<C, R>(rt, pool, board, act),
     }
 }
@@ -301,6 +312,7 @@ fn is_so<C: Contexts<Spawned<Task>>, R: Wait>(
             (done.slices, done.steps) == (slices, steps)
                 && (done.wakes, done.rests) == (wakes, rests)
         }
+        Act::Overslept(most) => overslept(pool) <= most,
         Act::Answers => {
             board.answer();
             true
@@ -318,7 +330,16 @@ fn is_so<C: Contexts<Spawned<Task>>, R: Wait>(
     }
 }
 
-/// What comes of a spawn of a job that no worker keeps, on a core that there is.
+/// How often kernel threads have slept their time out, though something was there for them.
+fn overslept<C: Contexts<Spawned<Task>>>(pool: &Pool<C>) -> u64 {
+    let mut sum: u64 = 0;
+    for core in 0..pool.cores {
+        sum = sum.saturating_add(pool.statistics(core).overslept);
+    }
+    sum
+}
+
+/// What comes of a spawn, on a core that there is.
 fn tried<C: Contexts<Spawned<Task>>, R: Wait>(
     rt: &R,
     pool: &Pool<C>,
@@ -332,12 +353,85 @@ fn tried<C: Contexts<Spawned<Task>>, R: Wait>(
 {
     let task = Task::new(sort, board)?;
     let refused = match on {
+        On::AnyKept => pool.spawn(rt, worker, task).err(),
         On::Any => pool.try_spawn(rt, worker, task).err(),
         On::AnyDetached => pool.spawn_detached(rt, worker, task).err(),
         On::Core(core) if core < pool.cores => pool.try_spawn_on(rt, worker, core, task).err(),
         On::Core(_) => return None,
     };
     Some(comes_of(refused))
+}
+
+/// Spawns so many jobs. Whether each was spawned.
+fn spawns_many<C: Contexts<Spawned<Task>>, R: Wait>(
+    rt: &R,
+    pool: &Pool<C>,
+    board: &Arc<Board>,
+    worker: &mut Worker<C::Seat, Task>,
+    jobs: u32,
+    sort: Sort,
+) -> bool
+    requires worker { IsWorkerOf C.sits C.idle pool.now.table pool.now.cores worker.old }
+    ensures worker { IsWorkerOf C.sits C.idle pool.now.table pool.now.cores worker.new }
+{
+    for _ in 0..jobs {
+        if tried::<C, R>(rt, pool, board, worker, On::AnyKept, sort) != Some(Comes::Begins) {
+            return false;
+        }
+    }
+    true
+}
+
+/// Spawns jobs that no worker keeps until half of the places are taken, and then on each core until it is full. Whether
+/// each was spawned as long as there was a place.
+fn fills<C: Contexts<Spawned<Task>>, R: Wait>(
+    rt: &R,
+    pool: &Pool<C>,
+    board: &Arc<Board>,
+    worker: &mut Worker<C::Seat, Task>,
+) -> bool
+    requires worker { IsWorkerOf C.sits C.idle pool.now.table pool.now.cores worker.old }
+    ensures worker { IsWorkerOf C.sits C.idle pool.now.table pool.now.cores worker.new }
+{
+    let places = u64::from(pool.cores) * u64::from(pool.slots);
+    for nth in 0..places / 2 + places % 2 {
+        let on = match nth % 3 {
+            0 => On::AnyKept,
+            1 => On::Any,
+            _ => On::AnyDetached,
+        };
+        if tried::<C, R>(rt, pool, board, worker, on, LEAF) != Some(Comes::Begins) {
+            return false;
+        }
+    }
+    for core in 0..pool.cores {
+        if fills_core::<C, R>(rt, pool, board, worker, core) != Some(Comes::NoPlace(1, 0)) {
+            return false;
+        }
+    }
+    worker.tally().spawned == places
+        && tried::<C, R>(rt, pool, board, worker, On::Any, LEAF)
+            == Some(Comes::NoPlace(pool.cores, 0))
+}
+
+/// Spawns jobs on a core until one is not spawned. What comes of that.
+fn fills_core<C: Contexts<Spawned<Task>>, R: Wait>(
+    rt: &R,
+    pool: &Pool<C>,
+    board: &Arc<Board>,
+    worker: &mut Worker<C::Seat, Task>,
+    core: u8,
+) -> Option<Comes>
+    requires worker { IsWorkerOf C.sits C.idle pool.now.table pool.now.cores worker.old }
+    ensures worker { IsWorkerOf C.sits C.idle pool.now.table pool.now.cores worker.new }
+{
+    for _ in 0..=pool.slots {
+        let comes = tried::<C, R>(rt, pool, board, worker, On::Core(core), LEAF)?;
+        if comes != Comes::Begins {
+            return Some(comes);
+        }
+    }
+    None
 }
 
 /// Why a job came back, if it did.

