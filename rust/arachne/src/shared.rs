@@ -85,6 +85,8 @@ pub(crate) struct Worker {
     pub(crate) shards: Box<[usize]>,
     /// How many of its shards, from the first on, ever had a task: the others needn't be looked at. It only grows.
     pub(crate) used: AtomicUsize,
+    /// The block of its shards in which the next task may find room.
+    pub(crate) roomy: Line<AtomicUsize>,
     pub(crate) parking: Mutex<Vec<Parking>>,
     pub(crate) polls: AtomicU64,
     pub(crate) spawned: AtomicU64,
@@ -118,6 +120,7 @@ impl Worker {
             bell: Bell::default(),
             timers: Timers::default(),
             given_back: (Mutex::new(false), Condvar::new()),
+            roomy: Line(AtomicUsize::new(shards[0] * SHARD)),
             shards,
             used: AtomicUsize::new(1),
             parking: Mutex::new(parking),
@@ -319,7 +322,6 @@ pub(crate) struct Context {
     pub(crate) keeps: Cell<bool>,
     pub(crate) room: Cell<usize>,
     pub(crate) told: RefCell<Vec<Job>>,
-    pub(crate) block: Cell<usize>,
     random: Cell<u64>,
 }
 
@@ -342,7 +344,6 @@ impl Context {
             keeps: Cell::new(true),
             room: Cell::new(0),
             told: RefCell::default(),
-            block: Cell::new(shared.workers[me].0.shards[0] * SHARD),
             random,
         }
     }
@@ -404,15 +405,15 @@ pub(crate) fn entered<R>(shared: &'static Shared, f: impl FnOnce() -> R) -> R {
     f()
 }
 
-/// A kernel thread that is no worker: its seat at each table that it came to, and the block where it last found room.
+/// A kernel thread that is no worker: its seat at each table that it came to.
 struct Visitor {
-    seats: Vec<Option<(Hands, Cell<usize>)>>,
+    seats: Vec<Option<Hands>>,
 }
 
 impl Drop for Visitor {
     fn drop(&mut self) {
-        for (table, seat) in self.seats.drain(..).enumerate() {
-            if let (Some(shared), Some((hands, _))) = (shared_of(table), seat) {
+        for (table, hands) in self.seats.drain(..).enumerate() {
+            if let (Some(shared), Some(hands)) = (shared_of(table), hands) {
                 shared.root.lock().unwrap_or_else(|e| e.into_inner()).join(hands);
             }
         }
@@ -421,11 +422,6 @@ impl Drop for Visitor {
 
 /// Calls with a seat of this thread, which is no worker of that runtime.
 pub(crate) fn with_hands<R>(shared: &'static Shared, call: impl FnOnce(&Hands) -> R) -> R {
-    visit(shared, |hands, _| call(hands))
-}
-
-/// As `with_hands`, with the block at which this thread last found room.
-pub(crate) fn visit<R>(shared: &'static Shared, call: impl FnOnce(&Hands, &Cell<usize>) -> R) -> R {
     let mut call = Some(call);
     let visited = SEATS.try_with(|visitor| {
         let mut visitor = visitor.try_borrow_mut().ok()?;
@@ -434,10 +430,10 @@ pub(crate) fn visit<R>(shared: &'static Shared, call: impl FnOnce(&Hands, &Cell<
         }
         if visitor.seats[shared.table].is_none() {
             let hands = shared.root.lock().unwrap_or_else(|e| e.into_inner()).hands(1)?;
-            visitor.seats[shared.table] = Some((hands, Cell::new(0)));
+            visitor.seats[shared.table] = Some(hands);
         }
-        let (hands, block) = visitor.seats[shared.table].as_ref()?;
-        call.take().map(|call| call(hands, block))
+        let hands = visitor.seats[shared.table].as_ref()?;
+        call.take().map(|call| call(hands))
     });
     match (visited, call) {
         (Ok(Some(result)), _) => result,
@@ -445,7 +441,7 @@ pub(crate) fn visit<R>(shared: &'static Shared, call: impl FnOnce(&Hands, &Cell<
             // The thread ends: seats for this one call.
             let mut root = shared.root.lock().unwrap_or_else(|e| e.into_inner());
             let hands = root.hands(1).expect("no memory for a seat");
-            let result = call(&hands, &Cell::new(0));
+            let result = call(&hands);
             root.join(hands);
             result
         }
