@@ -19,9 +19,11 @@ mod sleepers;
 const NEXTS: u32 = 128;
 
 /// After so many polls, or about so many nanoseconds, a worker looks at the epoll, its timers and others, whatever is
-/// next.
+/// next. Where fewer than `LONG_POLLS` fit into `SOON` nanoseconds, it looks as soon as that.
 const LOOK_OUT: u32 = 64;
-const LOOK_TIME: u64 = 100_000;
+const LOOK_TIME: u64 = 500_000;
+const SOON: u64 = 100_000;
+const LONG_POLLS: u32 = 3;
 /// After so many polls the worker that judges how many cores there should be looks at its clock.
 const JUDGED: u32 = 8;
 /// After so many of these looks at which another worker had not got on, its timers are looked at too.
@@ -53,10 +55,10 @@ pub(crate) struct Turn {
     /// How many looks at its blocks were at ones that are shown and have nothing.
     stale: u32,
     chain: u32,
-    /// Polls since it last looked out or had nothing to do, and when that was; and after how many it looks out.
+    /// Polls since it last looked out or had nothing to do, and when that was; and how many run `SOON`.
     polls: u32,
     looked: u64,
-    most: u32,
+    soon: u32,
     /// Looks are counted, and what is ready at them, for the policy.
     counts: bool,
     /// By worker: its polls at the last look, and at how many looks in a row it had not got on.
@@ -81,7 +83,7 @@ impl Turn {
             chain: 0,
             polls: 0,
             looked: now(),
-            most: LOOK_OUT,
+            soon: LOOK_OUT,
             counts,
             seen: vec![0; shared.workers.len()],
             stood: vec![0; shared.workers.len()],
@@ -91,25 +93,27 @@ impl Turn {
         }
     }
 
-    /// How many polls take the time between two looks, by those since the last.
+    /// How many polls run soon, by those since the last look.
     fn pace(&mut self, now: u64) {
         if self.polls != 0 {
-            let fitting = self.polls as u64 * LOOK_TIME / now.saturating_sub(self.looked).max(1);
-            self.most = fitting.clamp(1, LOOK_OUT as u64) as u32;
+            let fitting = self.polls as u64 * SOON / now.saturating_sub(self.looked).max(1);
+            self.soon = fitting.clamp(1, LOOK_OUT as u64) as u32;
         }
         (self.polls, self.looked) = (0, now);
     }
 
-    /// Where polls are long enough to be timed: whether it is time to look.
+    /// Whether it is time to look. The clock is asked where polls are so long that it may be before so many polls.
     #[inline]
     fn is_over(&self) -> bool {
-        now().saturating_sub(self.looked) >= LOOK_TIME
+        let time = if self.soon < LONG_POLLS { SOON } else { LOOK_TIME };
+        let is_timed = self.polls >= 1 && (self.soon as u64) < LOOK_OUT as u64 * SOON / LOOK_TIME;
+        self.polls >= LOOK_OUT || is_timed && now().saturating_sub(self.looked) >= time
     }
 
-    /// Jobs that this worker keeps in hand while another has nothing to do: as many as run until its next look.
+    /// Jobs that this worker keeps in hand while another has nothing to do: as many as run soon.
     #[inline]
     fn few(&self) -> usize {
-        FEW.min(self.most as usize)
+        FEW.min(self.soon as usize)
     }
 }
 
@@ -301,7 +305,7 @@ impl Shared {
     /// The next job to run, in this worker's hand.
     #[inline]
     fn pick(&'static self, context: &Context, turn: &mut Turn) -> Option<Job> {
-        if turn.polls >= LOOK_OUT || turn.most < LOOK_OUT && turn.polls >= 1 && turn.is_over() {
+        if turn.is_over() {
             turn.pace(now());
             self.look_out(context, turn);
         }
