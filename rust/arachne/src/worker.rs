@@ -473,9 +473,8 @@ impl Shared {
 
     /// Looks at epoll and timers, and takes a job of one that doesn't get on or has nobody: whatever is next here.
     fn look_out(&self, context: &Context, turn: &mut Turn) {
-        let few = turn.few();
         // What is ready here goes first, and where polls are long what is in hand goes last.
-        let takes = (turn.hand.is_empty() || few == FEW) && turn.wanted == 0 && !self.mine(context);
+        let takes = (turn.hand.is_empty() || self.are_short(turn)) && turn.wanted == 0 && !self.mine(context);
         let room = if takes { self.room(turn) } else { 0 };
         self.look_at_events(context, turn, room);
         if turn.counts {
@@ -486,7 +485,8 @@ impl Shared {
             add(&self.workers[context.me].0.runnable, here as u64 + ready as u64);
         }
         // One that runs a long poll doesn't get on either: but what is ready here isn't put off twice in a row.
-        let (active, long_polls) = (self.active.0.load(Relaxed), few < FEW && !turn.helped);
+        let (active, long_polls) = (self.active.0.load(Relaxed), turn.few() < FEW && !turn.helped);
+        let may_help = turn.few() == FEW || turn.hand_left == 0;
         turn.helped = false;
         for other in 0..self.workers.len() {
             let worker = &self.workers[other].0;
@@ -503,7 +503,7 @@ impl Shared {
                 self.fire_quietly(context, other);
             }
             // Who makes something ready for one that sleeps wakes somebody, so that is looked at now and then.
-            if (long || !sleeps) && turn.hand_left == 0 && self.ready(&context.hands, other) != 0 {
+            if (long || !sleeps) && may_help && self.ready(&context.hands, other) != 0 {
                 turn.helped |= self.help(context, turn, other, 2) && !stands;
             }
         }
@@ -527,9 +527,13 @@ impl Shared {
 
     /// How many tasks that are told of may stay in this worker's hand.
     fn room(&self, turn: &Turn) -> usize {
-        let short = turn.few() == FEW || self.active.0.load(Relaxed) == 1;
-        let most = if short && self.all_busy() { self.share() } else { turn.few() };
+        let most = if self.are_short(turn) && self.all_busy() { self.share() } else { turn.few() };
         most.saturating_sub(turn.hand.len())
+    }
+
+    /// Polls are so short, or workers so few, that it is nobody's loss what waits in this worker's hand.
+    fn are_short(&self, turn: &Turn) -> bool {
+        turn.few() == FEW || self.active.0.load(Relaxed) == 1
     }
 
     /// Looks at the epoll, and fires timers; how many there were.
