@@ -37,6 +37,8 @@ pub(crate) struct Shared {
     /// Posts of workers that sleep: who waits in the epoll, and who looks at it now and then while that one runs tasks.
     pub(crate) waits: Line<AtomicUsize>,
     pub(crate) deputy: Line<AtomicUsize>,
+    /// When a worker that ran tasks last looked at the epoll.
+    pub(crate) looked: Line<AtomicU64>,
     /// Milliseconds between two looks of the deputy.
     pub(crate) rests: AtomicI32,
     /// By shard: blocks that may have a free place.
@@ -232,6 +234,7 @@ impl Shared {
             reactor: Reactor::new()?,
             waits: Line(AtomicUsize::new(NO_ONE)),
             deputy: Line(AtomicUsize::new(NO_ONE)),
+            looked: Line::default(),
             rests: AtomicI32::new(1),
             roomy: (0..shards).map(|_| Line::default()).collect(),
             names: (0..places).map(|_| AtomicU64::new(NOBODY)).collect(),

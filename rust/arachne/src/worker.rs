@@ -19,10 +19,11 @@ mod sleepers;
 const NEXTS: u32 = 128;
 
 /// After so many polls, or about so many nanoseconds, a worker looks at the epoll, its timers and others, whatever is
-/// next. Where fewer than `LONG_POLLS` fit into `SOON` nanoseconds, it looks as soon as that.
+/// next. By time it looks at the epoll only where no other has for so long.
 const LOOK_OUT: u32 = 64;
-const LOOK_TIME: u64 = 500_000;
-const SOON: u64 = 100_000;
+const LOOK_TIME: u64 = 100_000;
+/// The same for one that is alone, and nobody else could run what it is told of, where several polls fit into it.
+const LONELY_TIME: u64 = 500_000;
 const LONG_POLLS: u32 = 3;
 /// After so many polls the worker that judges how many cores there should be looks at its clock.
 const JUDGED: u32 = 8;
@@ -32,9 +33,9 @@ const LONG: u32 = 8;
 const STALE: u32 = 16;
 /// Jobs in hand that are left to run, at most, while somebody has nothing to do, and jobs taken of another worker at once.
 pub(crate) const FEW: usize = 8;
-/// Jobs in hand, at most, of all workers while none has nothing to do, and of one: those that woke themselves, were next
-/// after many in a row, or were told of by the epoll.
-const HANDS: usize = 64;
+/// Jobs that woke themselves, or were next after many in a row, and stay with the worker that has them, at most. One
+/// that is alone keeps more, and as many of those that it is told of.
+const KEPT: usize = 16;
 pub(crate) const HAND: usize = 48;
 /// From so many events of one look on, that are left for others, another worker is woken to help.
 const MANY: usize = 4;
@@ -55,10 +56,10 @@ pub(crate) struct Turn {
     /// How many looks at its blocks were at ones that are shown and have nothing.
     stale: u32,
     chain: u32,
-    /// Polls since it last looked out or had nothing to do, and when that was; and how many run `SOON`.
+    /// Polls since it last looked out or had nothing to do, and when that was; and how many take `LOOK_TIME`.
     polls: u32,
     looked: u64,
-    soon: u32,
+    most: u32,
     /// Looks are counted, and what is ready at them, for the policy.
     counts: bool,
     /// By worker: its polls at the last look, and at how many looks in a row it had not got on.
@@ -83,7 +84,7 @@ impl Turn {
             chain: 0,
             polls: 0,
             looked: now(),
-            soon: LOOK_OUT,
+            most: LOOK_OUT,
             counts,
             seen: vec![0; shared.workers.len()],
             stood: vec![0; shared.workers.len()],
@@ -93,27 +94,26 @@ impl Turn {
         }
     }
 
-    /// How many polls run soon, by those since the last look.
+    /// How many polls take the time between two looks, by those since the last.
     fn pace(&mut self, now: u64) {
         if self.polls != 0 {
-            let fitting = self.polls as u64 * SOON / now.saturating_sub(self.looked).max(1);
-            self.soon = fitting.clamp(1, LOOK_OUT as u64) as u32;
+            let fitting = self.polls as u64 * LOOK_TIME / now.saturating_sub(self.looked).max(1);
+            self.most = fitting.clamp(1, LOOK_OUT as u64) as u32;
         }
         (self.polls, self.looked) = (0, now);
     }
 
-    /// Whether it is time to look. The clock is asked where polls are so long that it may be before so many polls.
+    /// Where polls are long enough to be timed: whether it is time to look.
     #[inline]
-    fn is_over(&self) -> bool {
-        let time = if self.soon < LONG_POLLS { SOON } else { LOOK_TIME };
-        let is_timed = self.polls >= 1 && (self.soon as u64) < LOOK_OUT as u64 * SOON / LOOK_TIME;
-        self.polls >= LOOK_OUT || is_timed && now().saturating_sub(self.looked) >= time
+    fn is_over(&self, alone: bool) -> bool {
+        let time = if alone && self.most >= LONG_POLLS { LONELY_TIME } else { LOOK_TIME };
+        now().saturating_sub(self.looked) >= time
     }
 
-    /// Jobs that this worker keeps in hand while another has nothing to do: as many as run soon.
+    /// Jobs that this worker keeps in hand while another has nothing to do: as many as run until its next look.
     #[inline]
     fn few(&self) -> usize {
-        FEW.min(self.soon as usize)
+        FEW.min(self.most as usize)
     }
 }
 
@@ -305,9 +305,11 @@ impl Shared {
     /// The next job to run, in this worker's hand.
     #[inline]
     fn pick(&'static self, context: &Context, turn: &mut Turn) -> Option<Job> {
-        if turn.is_over() {
+        let is_over = |turn: &Turn| turn.most < LOOK_OUT && turn.polls >= 1 && turn.is_over(self.is_alone());
+        if turn.polls >= LOOK_OUT || is_over(turn) {
+            let by_time = turn.polls < LOOK_OUT;
             turn.pace(now());
-            self.look_out(context, turn);
+            self.look_out(context, turn, by_time);
         }
         self.pick_next(context, turn).or_else(|| self.pick_ready(context, turn))
     }
@@ -330,16 +332,12 @@ impl Shared {
     /// Behind all that is ready here: it stays in hand, unless somebody has nothing to do and one is in hand already.
     #[inline]
     fn set_behind(&self, context: &Context, turn: &mut Turn, job: Job) {
-        if turn.hand.len() < if self.all_busy() { self.share() } else { 1 } {
+        let most = if self.is_alone() { HAND } else { KEPT };
+        if turn.hand.len() < if self.all_busy() { most } else { 1 } {
             turn.hand.push_back(job);
         } else {
             self.make_ready(context, &job);
         }
-    }
-
-    /// How many jobs a worker may have in hand while none has nothing to do.
-    fn share(&self) -> usize {
-        (HANDS / self.active.0.load(Relaxed)).clamp(FEW, HAND)
     }
 
     #[inline]
@@ -472,11 +470,17 @@ impl Shared {
     }
 
     /// Looks at epoll and timers, and takes a job of one that doesn't get on or has nobody: whatever is next here.
-    fn look_out(&self, context: &Context, turn: &mut Turn) {
+    fn look_out(&self, context: &Context, turn: &mut Turn, by_time: bool) {
         // What is ready here goes first, and where polls are long what is in hand goes last.
-        let takes = (turn.hand.is_empty() || self.are_short(turn)) && turn.wanted == 0 && !self.mine(context);
+        let lasts = turn.few() < FEW && !self.is_alone();
+        let takes = (turn.hand.is_empty() || !lasts) && turn.wanted == 0 && !self.mine(context);
         let room = if takes { self.room(turn) } else { 0 };
-        self.look_at_events(context, turn, room);
+        if by_time && turn.looked.saturating_sub(self.looked.0.load(Relaxed)) < LOOK_TIME {
+            self.hear(context, turn, &Found::NOTHING, room);
+        } else {
+            self.looked.0.store(turn.looked, Relaxed);
+            self.look_at_events(context, turn, room);
+        }
         if turn.counts {
             let here = turn.hand.len() + context.next.get().is_some() as usize;
             let mine = std::iter::once(context.me).chain(self.lodgers(context.me));
@@ -527,13 +531,13 @@ impl Shared {
 
     /// How many tasks that are told of may stay in this worker's hand.
     fn room(&self, turn: &Turn) -> usize {
-        let most = if self.are_short(turn) && self.all_busy() { self.share() } else { turn.few() };
+        let most = if self.is_alone() { HAND } else { turn.few() };
         most.saturating_sub(turn.hand.len())
     }
 
-    /// Polls are so short, or workers so few, that it is nobody's loss what waits in this worker's hand.
-    fn are_short(&self, turn: &Turn) -> bool {
-        turn.few() == FEW || self.active.0.load(Relaxed) == 1
+    #[inline]
+    fn is_alone(&self) -> bool {
+        self.active.0.load(Relaxed) == 1
     }
 
     /// Looks at the epoll, and fires timers; how many there were.
