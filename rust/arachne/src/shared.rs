@@ -8,6 +8,7 @@ use crate::reactor::{Bell, Reactor};
 use crate::task::{About, Label, Raw};
 use crate::timer::{now, Timers};
 use crate::waker::NOBODY;
+use crate::worker::LOOK_TIME;
 use std::cell::{Cell, RefCell};
 use std::collections::VecDeque;
 use std::fs::File;
@@ -320,6 +321,9 @@ pub(crate) struct Context {
     /// The name of the task that runs here, and whether it woke itself.
     pub(crate) current: Cell<u64>,
     pub(crate) woken: Cell<bool>,
+    /// Reads of sockets in this poll, and when this worker last looked out or had nothing to do.
+    pub(crate) reads: Cell<u32>,
+    pub(crate) looked: Cell<u64>,
     /// What a wake makes ready runs next here. Where not, a wake that makes ready wakes no other worker, and the first
     /// `room` tasks that are woken stay in this worker's hand, as `told`.
     pub(crate) keeps: Cell<bool>,
@@ -344,6 +348,8 @@ impl Context {
             next: Cell::new(None),
             current: Cell::new(NOBODY),
             woken: Cell::new(false),
+            reads: Cell::new(0),
+            looked: Cell::new(now()),
             keeps: Cell::new(true),
             room: Cell::new(0),
             told: RefCell::default(),
@@ -370,6 +376,14 @@ impl Context {
         CONTEXT.with(|context| context.set(self));
         let _leave = Leave;
         f()
+    }
+
+    /// Whether the poll that runs here may read more: its first read may, and others until it is time to look out. So
+    /// a socket that always has more doesn't keep its worker.
+    #[inline]
+    pub(crate) fn may_read(&self) -> bool {
+        let reads = self.reads.replace(self.reads.get() + 1);
+        reads == 0 || now().saturating_sub(self.looked.get()) < LOOK_TIME
     }
 
     pub(crate) fn random(&self) -> u64 {

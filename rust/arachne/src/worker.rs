@@ -21,7 +21,7 @@ const NEXTS: u32 = 128;
 /// After so many polls, or about so many nanoseconds, a worker looks at the epoll, its timers and others, whatever is
 /// next. By time it looks at the epoll only where no other has for so long.
 const LOOK_OUT: u32 = 64;
-const LOOK_TIME: u64 = 100_000;
+pub(crate) const LOOK_TIME: u64 = 100_000;
 /// The same for one that is alone, and nobody else could run what it is told of, where several polls fit into it.
 const LONELY_TIME: u64 = 500_000;
 const LONG_POLLS: u32 = 3;
@@ -56,9 +56,8 @@ pub(crate) struct Turn {
     /// How many looks at its blocks were at ones that are shown and have nothing.
     stale: u32,
     chain: u32,
-    /// Polls since it last looked out or had nothing to do, and when that was; and how many take `LOOK_TIME`.
+    /// Polls since it last looked out or had nothing to do, and how many take `LOOK_TIME`.
     polls: u32,
-    looked: u64,
     most: u32,
     /// Looks are counted, and what is ready at them, for the policy.
     counts: bool,
@@ -83,7 +82,6 @@ impl Turn {
             stale: 0,
             chain: 0,
             polls: 0,
-            looked: now(),
             most: LOOK_OUT,
             counts,
             seen: vec![0; shared.workers.len()],
@@ -95,19 +93,20 @@ impl Turn {
     }
 
     /// How many polls take the time between two looks, by those since the last.
-    fn pace(&mut self, now: u64) {
+    fn pace(&mut self, context: &Context, now: u64) {
         if self.polls != 0 {
-            let fitting = self.polls as u64 * LOOK_TIME / now.saturating_sub(self.looked).max(1);
+            let fitting = self.polls as u64 * LOOK_TIME / now.saturating_sub(context.looked.get()).max(1);
             self.most = fitting.clamp(1, LOOK_OUT as u64) as u32;
         }
-        (self.polls, self.looked) = (0, now);
+        self.polls = 0;
+        context.looked.set(now);
     }
 
     /// Where polls are long enough to be timed: whether it is time to look.
     #[inline]
-    fn is_over(&self, alone: bool) -> bool {
+    fn is_over(&self, context: &Context, alone: bool) -> bool {
         let time = if alone && self.most >= LONG_POLLS { LONELY_TIME } else { LOOK_TIME };
-        now().saturating_sub(self.looked) >= time
+        now().saturating_sub(context.looked.get()) >= time
     }
 
     /// Jobs that this worker keeps in hand while another has nothing to do: as many as run until its next look.
@@ -246,6 +245,7 @@ impl Shared {
         self.observer.begins(&job, &about);
         context.current.set(name);
         context.woken.set(false);
+        context.reads.set(0);
         // SAFETY: as above.
         let ended = unsafe { task::run(job.job, self.table, name, &mut cx) };
         turn.polls += 1;
@@ -305,10 +305,10 @@ impl Shared {
     /// The next job to run, in this worker's hand.
     #[inline]
     fn pick(&'static self, context: &Context, turn: &mut Turn) -> Option<Job> {
-        let is_over = |turn: &Turn| turn.most < LOOK_OUT && turn.polls >= 1 && turn.is_over(self.is_alone());
+        let is_over = |turn: &Turn| turn.most < LOOK_OUT && turn.polls >= 1 && turn.is_over(context, self.is_alone());
         if turn.polls >= LOOK_OUT || is_over(turn) {
             let by_time = turn.polls < LOOK_OUT;
-            turn.pace(now());
+            turn.pace(context, now());
             self.look_out(context, turn, by_time);
         }
         self.pick_next(context, turn).or_else(|| self.pick_ready(context, turn))
@@ -475,10 +475,11 @@ impl Shared {
         let lasts = turn.few() < FEW && !self.is_alone();
         let takes = (turn.hand.is_empty() || !lasts) && turn.wanted == 0 && !self.mine(context);
         let room = if takes { self.room(turn) } else { 0 };
-        if by_time && turn.looked.saturating_sub(self.looked.0.load(Relaxed)) < LOOK_TIME {
+        let now = context.looked.get();
+        if by_time && now.saturating_sub(self.looked.0.load(Relaxed)) < LOOK_TIME {
             self.hear(context, turn, &Found::NOTHING, room);
         } else {
-            self.looked.0.store(turn.looked, Relaxed);
+            self.looked.0.store(now, Relaxed);
             self.look_at_events(context, turn, room);
         }
         if turn.counts {
@@ -627,9 +628,9 @@ impl Shared {
             if ran == 0 && self.look_when_idle(context, &mut turn) == 0 && !self.help_lodgers(context, &mut turn) {
                 let begin = now();
                 worker.idle_since.store(begin, Relaxed);
-                turn.pace(begin);
+                turn.pace(context, begin);
                 self.look_around(context, &mut turn, &judge);
-                turn.looked = worker.ends_idling();
+                context.looked.set(worker.ends_idling());
             }
             if let Some(judge) = &mut judge {
                 judge.judge(self);

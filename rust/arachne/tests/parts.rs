@@ -571,3 +571,44 @@ fn what_is_in_hand_is_for_whoever_has_nothing_to_do() {
     assert!(threads.iter().any(|thread| *thread != threads[0]), "one worker ran all");
     block_on(other).unwrap();
 }
+
+/// A socket that always has more to be read doesn't keep its worker, neither a new one nor one that has waited before.
+#[test]
+fn a_socket_that_always_has_more_holds_nobody_up() {
+    for waits in [false, true] {
+        let runtime = Runtime::new(1);
+        let listener = net::TcpListener::bind("127.0.0.1:0").unwrap();
+        let mut client = std::net::TcpStream::connect(listener.local_addr().unwrap()).unwrap();
+        if !waits {
+            client.write_all(&[1; 65536]).unwrap();
+        }
+        let reader = runtime.spawn(async move {
+            let (stream, mut byte) = (listener.accept().await.unwrap().0, [0]);
+            while stream.read(&mut byte).await.unwrap() == 1 {}
+        });
+        thread::sleep(5 * MS);
+        let (done, ends) = (Arc::new(AtomicBool::new(false)), Arc::new(AtomicBool::new(false)));
+        let seen = done.clone();
+        let other = runtime.spawn(async move {
+            for _ in 0..100 {
+                yield_now().await;
+            }
+            seen.store(true, SeqCst);
+        });
+        let (begin, seen) = (Instant::now(), ends.clone());
+        let writer = thread::spawn(move || {
+            while !seen.load(SeqCst) && begin.elapsed() < LONG {
+                client.write_all(&[1; 65536]).unwrap();
+            }
+        });
+        while !done.load(SeqCst) && begin.elapsed() < LONG / 2 {
+            thread::sleep(MS);
+        }
+        let held = !done.load(SeqCst);
+        ends.store(true, SeqCst);
+        writer.join().unwrap();
+        block_on(other).unwrap();
+        block_on(reader).unwrap();
+        assert!(!held, "a task waited for one that reads on and on");
+    }
+}
