@@ -31,14 +31,17 @@ const JUDGED: u32 = 8;
 const LONG: u32 = 8;
 /// After so many looks at blocks that are shown and have nothing, they are hidden.
 const STALE: u32 = 16;
-/// Jobs in hand that are left to run, at most, while somebody has nothing to do, and jobs taken of another worker at once.
+/// Jobs in hand at most: of those that one look at the epoll tells of, of another worker's, and of any while somebody has
+/// nothing to do.
 pub(crate) const FEW: usize = 8;
-/// Jobs that woke themselves, or were next after many in a row, and stay with the worker that has them, at most. One
-/// that is alone keeps more, and as many of those that it is told of.
+/// Jobs in hand at most of those that woke themselves, or were next after many in a row; and of any, where a worker is
+/// alone.
 const KEPT: usize = 16;
 pub(crate) const HAND: usize = 48;
 /// From so many events of one look on, that are left for others, another worker is woken to help.
 const MANY: usize = 4;
+/// Of what a look tells a worker keeps an equal share, and at least so many.
+const SHARE: usize = 4;
 
 /// The policy asks for no more cores for more ready jobs at a worker than that.
 const CROWD: u32 = 128;
@@ -551,6 +554,8 @@ impl Shared {
     /// so that nobody else is woken for them.
     fn hear(&self, context: &Context, turn: &mut Turn, found: &Found, room: usize) -> usize {
         context.keeps.set(false);
+        let share = (found.len() / self.active.0.load(Relaxed)).max(SHARE);
+        let room = room.min(share);
         context.room.set(room);
         let mut heard = self.reactor.tell(found);
         for owner in std::iter::once(context.me).chain(self.lodgers(context.me)) {

@@ -72,11 +72,38 @@ fn points(mut numbers: Vec<u64>) -> [u64; 4] {
     [0.5, 0.99, 0.999, 1.0].map(|part| numbers[((numbers.len() as f64 * part) as usize).min(last)])
 }
 
+/// The slowest rounds of a thousand, by the stretches of time in which one of them waited: how many of those there are,
+/// how long, and how many connections waited in one, by the middle and the most.
+fn stalls(rounds: &[Round]) {
+    let times = points(rounds.iter().map(|r| r.answered - r.sent).collect());
+    let mut slow: Vec<_> = rounds.iter().filter(|r| r.answered - r.sent >= times[2]).collect();
+    slow.sort_by_key(|r| r.sent);
+    let mut groups: Vec<(u64, u64, Vec<usize>)> = Vec::new();
+    for round in slow {
+        match groups.last_mut().filter(|group| round.sent < group.1) {
+            Some(group) => {
+                group.1 = group.1.max(round.answered);
+                group.2.push(round.client);
+            }
+            None => groups.push((round.sent, round.answered, vec![round.client])),
+        }
+    }
+    let connections = |group: &mut (u64, u64, Vec<usize>)| {
+        group.2.sort_unstable();
+        group.2.dedup();
+        group.2.len() as u64
+    };
+    let long = points(groups.iter().map(|group| (group.1 - group.0) / 1000).collect());
+    let wide = points(groups.iter_mut().map(connections).collect());
+    println!("slowest: {} stretches of {} us, {} connections in each (at most {})", groups.len(), long[0], wide[0], wide[3]);
+}
+
 fn report(rounds: &[Round], clients: usize, flight: usize, time: Duration) {
     let took = |rounds: &mut dyn Iterator<Item = &Round>| points(rounds.map(|r| (r.answered - r.sent) / 1000).collect());
     let rate = rounds.len() as f64 * flight as f64 / time.as_secs_f64();
     println!("{rate:.0} a second; rounds at 50, 99, 99.9, 100 % (us): {:?}", took(&mut rounds.iter()));
     println!("overtaken by, at 50, 99, 99.9, 100 %: {:?}", points(overtaken(rounds)));
+    stalls(rounds);
     for client in 0..clients {
         let of: Vec<_> = rounds.iter().filter(|r| r.client == client).copied().collect();
         println!("client {client:3}: {:6} rounds, us {:?}", of.len(), took(&mut of.iter()));
