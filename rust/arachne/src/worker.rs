@@ -386,7 +386,8 @@ impl Shared {
                 turn.stale = 0;
                 self.tidy(context.me);
             }
-            if let Some((next, block, ready)) = self.find_block(&context.hands, context.me, turn.next, &mut turn.stale) {
+            let found = self.find_block(&context.hands, context.me, turn.next, &mut turn.stale);
+            if let Some((next, block, ready)) = found {
                 (turn.next, turn.block, turn.wanted) = (next, block, ready);
                 continue;
             }

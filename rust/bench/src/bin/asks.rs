@@ -95,11 +95,18 @@ fn stalls(rounds: &[Round]) {
     };
     let long = points(groups.iter().map(|group| (group.1 - group.0) / 1000).collect());
     let wide = points(groups.iter_mut().map(connections).collect());
-    println!("slowest: {} stretches of {} us, {} connections in each (at most {})", groups.len(), long[0], wide[0], wide[3]);
+    println!(
+        "slowest: {} stretches of {} us, {} connections in each (at most {})",
+        groups.len(),
+        long[0],
+        wide[0],
+        wide[3]
+    );
 }
 
 fn report(rounds: &[Round], clients: usize, flight: usize, time: Duration) {
-    let took = |rounds: &mut dyn Iterator<Item = &Round>| points(rounds.map(|r| (r.answered - r.sent) / 1000).collect());
+    let took =
+        |rounds: &mut dyn Iterator<Item = &Round>| points(rounds.map(|r| (r.answered - r.sent) / 1000).collect());
     let rate = rounds.len() as f64 * flight as f64 / time.as_secs_f64();
     println!("{rate:.0} a second; rounds at 50, 99, 99.9, 100 % (us): {:?}", took(&mut rounds.iter()));
     println!("overtaken by, at 50, 99, 99.9, 100 %: {:?}", points(overtaken(rounds)));
