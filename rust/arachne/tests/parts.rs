@@ -560,7 +560,7 @@ fn what_is_in_hand_is_for_whoever_has_nothing_to_do() {
             thread::sleep(5 * MS);
             thread::current().id()
         };
-        let tasks: Vec<_> = (0..24).map(|_| spawn(task(ends.clone()))).collect();
+        let tasks: Vec<_> = (0..14).map(|_| spawn(task(ends.clone()))).collect();
         let mut threads = Vec::new();
         for task in tasks {
             threads.push(task.await.unwrap());
