@@ -123,10 +123,6 @@ impl Found {
     pub(crate) fn is_empty(&self) -> bool {
         self.count == 0
     }
-
-    pub(crate) fn len(&self) -> usize {
-        self.count
-    }
 }
 
 pub(crate) struct Reactor {

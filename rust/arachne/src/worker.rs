@@ -40,8 +40,6 @@ const KEPT: usize = 16;
 pub(crate) const HAND: usize = 48;
 /// From so many events of one look on, that are left for others, another worker is woken to help.
 const MANY: usize = 4;
-/// Of what a look tells a worker keeps an equal share, and at least so many.
-const SHARE: usize = 4;
 
 /// The policy asks for no more cores for more ready jobs at a worker than that.
 const CROWD: u32 = 128;
@@ -555,8 +553,6 @@ impl Shared {
     /// so that nobody else is woken for them.
     fn hear(&self, context: &Context, turn: &mut Turn, found: &Found, room: usize) -> usize {
         context.keeps.set(false);
-        let share = (found.len() / self.active.0.load(Relaxed)).max(SHARE);
-        let room = room.min(share);
         context.room.set(room);
         let mut heard = self.reactor.tell(found);
         for owner in std::iter::once(context.me).chain(self.lodgers(context.me)) {
