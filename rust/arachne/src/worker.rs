@@ -491,15 +491,11 @@ impl Shared {
             add(&self.workers[context.me].0.scans, 1);
             add(&self.workers[context.me].0.runnable, here as u64 + ready as u64);
         }
-        self.look_at_others(context, turn);
-    }
-
-    fn look_at_others(&self, context: &Context, turn: &mut Turn) {
         // One that runs a long poll doesn't get on either: but what is ready here isn't put off twice in a row.
         let (active, long_polls) = (self.active.0.load(Relaxed), turn.few() < FEW && !turn.helped);
+        let may_help = turn.few() == FEW || turn.hand_left == 0;
         turn.helped = false;
-        let (count, first) = (self.workers.len(), context.random() as usize);
-        for other in (0..count).map(|i| (first % count + i) % count) {
+        for other in 0..self.workers.len() {
             let worker = &self.workers[other].0;
             let polls = worker.polls.load(Relaxed);
             let stands = other >= active || polls == turn.seen[other];
@@ -514,10 +510,8 @@ impl Shared {
                 self.fire_quietly(context, other);
             }
             // Who makes something ready for one that sleeps wakes somebody, so that is looked at now and then.
-            let may_help = turn.hand_left < if turn.few() < FEW { 1 } else { FEW };
             if (long || !sleeps) && may_help && self.ready(&context.hands, other) != 0 {
-                let most = if stands { 2.max(turn.few() / 2) } else { 2 };
-                turn.helped |= self.help(context, turn, other, most) && !stands;
+                turn.helped |= self.help(context, turn, other, 2) && !stands;
             }
         }
     }
