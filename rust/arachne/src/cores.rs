@@ -112,7 +112,16 @@ impl Judge {
     pub(crate) fn new(policy: Policy, shared: &Shared) -> Option<Judge> {
         let most = shared.workers.len();
         let estimator = Estimator::new(policy.load, policy.hysteresis, most as u64)?;
-        Some(Judge { estimator, policy, last: totals(shared, most, now()), at: now(), looked: 0, most, soon: 0, begins: false })
+        Some(Judge {
+            estimator,
+            policy,
+            last: totals(shared, most, now()),
+            at: now(),
+            looked: 0,
+            most,
+            soon: 0,
+            begins: false,
+        })
     }
 
     /// Milliseconds between two judgements, at most 20.
@@ -121,8 +130,8 @@ impl Judge {
     }
 
     /// More is ready than makes the core ask for more, and cores were idle for a part of that time: so the load began
-    /// within it. The use of such a sample would be kept as that at which a core more was wanted, and one core kept until
-    /// the use is less.
+    /// within it. The use of such a sample would be kept as that at which a core more was wanted, and that core kept
+    /// until the use is less.
     fn is_begin(&self, sample: Sample) -> bool {
         let wants = sample.runnable * 1000 > self.policy.load * sample.scans;
         wants && sample.busy * 10 < sample.elapsed * sample.cores * 9
