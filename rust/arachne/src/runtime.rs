@@ -20,8 +20,8 @@ use std::sync::Arc;
 use std::thread;
 use std::time::Duration;
 
-/// Jobs that a worker may have in hand: the one that runs, the next one and one that it displaces, and those in its hand
-/// with what it took of another.
+/// Jobs that a worker may have in hand: the one that runs, the next one and one that it displaces, and those in its
+/// hand with what it took of another.
 const HANDS: usize = 3 + crate::worker::HAND + crate::worker::FEW;
 
 /// How a runtime is to be.

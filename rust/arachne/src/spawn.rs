@@ -21,9 +21,9 @@ impl<F> fmt::Debug for Refused<F> {
 }
 
 impl Shared {
-    /// Puts a task into a free place of a worker's blocks. Tasks that are spawned one after the other stand in the blocks
-    /// of a shard in turn: the marks of neighbours in a block share a cache line, on which workers that wake them would
-    /// meet, and the library goes round a block by seat, so that a sweep of many blocks is more even than of many places.
+    /// Puts a task into a free place of a worker's blocks. Tasks that are spawned one after the other stand in the
+    /// blocks of a shard in turn: the marks of neighbours in a block share a cache line, on which workers that wake them
+    /// would meet.
     pub(crate) fn spawn_at(&self, hands: &Hands, worker: usize, raw: Raw, keep: bool) -> Spawned {
         let (shards, next) = (&*self.workers[worker].0.shards, &self.workers[worker].0.roomy.0);
         let hint = next.load(Relaxed);

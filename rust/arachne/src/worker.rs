@@ -31,8 +31,8 @@ const JUDGED: u32 = 8;
 const LONG: u32 = 8;
 /// After so many looks at blocks that are shown and have nothing, they are hidden.
 const STALE: u32 = 16;
-/// Jobs in hand at most: of those that one look at the epoll tells of, of another worker's, and of any while somebody has
-/// nothing to do.
+/// Jobs in hand at most: of those that one look at the epoll tells of, of another worker's, and of any while somebody
+/// has nothing to do.
 pub(crate) const FEW: usize = 8;
 /// Jobs in hand at most of those that woke themselves, or were next after many in a row; and of any, where a worker is
 /// alone.
@@ -396,8 +396,8 @@ impl Shared {
         }
     }
 
-    /// The first of a worker's blocks, from this number on, that has ready jobs: the number behind it, which block it is,
-    /// and which of its places have one. Counts those that are shown and have none.
+    /// The first of a worker's blocks, from this number on, that has ready jobs: the number behind it, which block it
+    /// is, and which of its places have one. Counts those that are shown and have none.
     #[inline]
     fn find_block(&self, hands: &Hands, owner: usize, from: usize, stale: &mut u32) -> Option<(usize, usize, u64)> {
         let first = from / SHARD;
@@ -491,6 +491,11 @@ impl Shared {
             add(&self.workers[context.me].0.scans, 1);
             add(&self.workers[context.me].0.runnable, here as u64 + ready as u64);
         }
+        self.look_at_others(context, turn);
+    }
+
+    /// Takes jobs of workers that don't get on, and fires their timers.
+    fn look_at_others(&self, context: &Context, turn: &mut Turn) {
         // One that runs a long poll doesn't get on either: but what is ready here isn't put off twice in a row.
         let (active, long_polls) = (self.active.0.load(Relaxed), turn.few() < FEW && !turn.helped);
         let may_help = turn.few() == FEW || turn.hand_left == 0;

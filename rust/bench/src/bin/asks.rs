@@ -1,7 +1,7 @@
 //! A client of a server of Redis's protocol that says who waits: asks PORT CLIENTS IN-FLIGHT MILLISECONDS
-//! Two kernel threads share the connections; each sends so many SETs at once, and again once all are answered. It prints
-//! how long such a round takes at 50, 99 and 99.9 per cent, by how many rounds that were sent later it was overtaken, and
-//! for each connection how many rounds it had and their times.
+//! Two kernel threads share the connections; each sends so many SETs at once, and again once all are answered. It
+//! prints how long such a round takes at 50, 99 and 99.9 per cent, by how many rounds that were sent later it was
+//! overtaken, in which stretches of time the slowest waited, and each connection's rounds and their times.
 use std::thread;
 use std::time::{Duration, Instant};
 use tokio::io::{AsyncReadExt, AsyncWriteExt};
