@@ -49,7 +49,8 @@ impl<'p, J: PoolJob, C: Contexts<Spawned<J>>> Team<Worker<C::Seat, J>> for Crew<
         worker: Worker<C::Seat, J>,
         other: Worker<C::Seat, J>,
     ) -> Option<Worker<C::Seat, J>> {
-        self.pool.join_workers(rt, worker, other).ok()
+        let both = self.pool.join_workers(rt, worker, other).ok()?;
+        Some(both)
     }
 
     fn fail<R: Wait>(&self, _rt: &R, _fault: TeamFault) {
