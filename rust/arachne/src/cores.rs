@@ -95,6 +95,8 @@ pub(crate) struct Judge {
     most: usize,
     /// So many judgements are made soon, since a core was asked for.
     soon: u32,
+    /// A load was seen to begin, and is judged by the next sample.
+    begins: bool,
 }
 
 /// What a worker has counted, and for how long it had no work or no processor.
@@ -110,12 +112,29 @@ impl Judge {
     pub(crate) fn new(policy: Policy, shared: &Shared) -> Option<Judge> {
         let most = shared.workers.len();
         let estimator = Estimator::new(policy.load, policy.hysteresis, most as u64)?;
-        Some(Judge { estimator, policy, last: totals(shared, most, now()), at: now(), looked: 0, most, soon: 0 })
+        Some(Judge {
+            estimator,
+            policy,
+            last: totals(shared, most, now()),
+            at: now(),
+            looked: 0,
+            most,
+            soon: 0,
+            begins: false,
+        })
     }
 
     /// Milliseconds between two judgements, at most 20.
     pub(crate) fn millis(&self) -> i32 {
         (self.policy.every.as_millis() as i32).clamp(1, 20)
+    }
+
+    /// More is ready than makes the core ask for more, and cores were idle for a part of that time: so the load began
+    /// within it. The use of such a sample would be kept as that at which a core more was wanted, and that core kept
+    /// until the use is less.
+    fn is_begin(&self, sample: Sample) -> bool {
+        let wants = sample.runnable * 1000 > self.policy.load * sample.scans;
+        wants && sample.busy * 10 < sample.elapsed * sample.cores * 9
     }
 
     pub(crate) fn judge(&mut self, shared: &'static Shared) {
@@ -133,6 +152,11 @@ impl Judge {
         let active = shared.active.0.load(Relaxed);
         shared.counts.core_time.fetch_add(elapsed * active as u64, Relaxed);
         let sample = sample(&self.last, &totals(shared, active, now), elapsed);
+        self.begins = !self.begins && self.is_begin(sample);
+        if self.begins {
+            (self.last, self.at, self.soon) = (totals(shared, active, now), now, self.soon.max(1));
+            return;
+        }
         let (adds, removes) = (&shared.counts.adds, &shared.counts.removes);
         let advice = self.estimator.judge(sample);
         self.soon = match advice {

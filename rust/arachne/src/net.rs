@@ -2,7 +2,7 @@
 
 use crate::block_on::poll_fn;
 use crate::reactor::{Io, Key, READ, READ_CLOSED, WRITE, WRITE_CLOSED};
-use crate::shared::{here, Shared};
+use crate::shared::{here, Context as Worker, Shared};
 use crate::sys;
 use std::future::Future;
 use std::io::{self, ErrorKind::WouldBlock, IoSlice, Read, Write};
@@ -101,8 +101,10 @@ impl<S: AsRawFd> Source<S> {
         mut attempt: impl FnMut(&S) -> io::Result<T>,
         moved: impl Fn(&T) -> usize,
     ) -> Poll<io::Result<T>> {
+        let may_read = || !reads || Worker::with(|worker| worker.map_or(true, Worker::may_read));
         let io = match self.at.get() {
             Some(at) => &at.io,
+            None if !may_read() => &self.registered()?.io,
             None => match attempt(&self.socket) {
                 Err(error) if error.kind() == WouldBlock => &self.registered()?.io,
                 Err(error) if error.kind() == io::ErrorKind::Interrupted => {
@@ -122,6 +124,10 @@ impl<S: AsRawFd> Source<S> {
                 if state & (ready | closed) == 0 {
                     return Poll::Pending;
                 }
+            }
+            if !may_read() {
+                cx.waker().wake_by_ref();
+                return Poll::Pending;
             }
             match attempt(&self.socket) {
                 Ok(done) => {

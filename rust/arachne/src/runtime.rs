@@ -20,9 +20,9 @@ use std::sync::Arc;
 use std::thread;
 use std::time::Duration;
 
-/// Jobs that a worker may have in hand: the one that runs, the next one, those that it took in advance, and those that
-/// yielded.
-const HANDS: usize = 2 + crate::worker::BATCHES + crate::worker::HAND;
+/// Jobs that a worker may have in hand: the one that runs, the next one and one that it displaces, and those in its
+/// hand with what it took of another.
+const HANDS: usize = 3 + crate::worker::HAND + crate::worker::FEW;
 
 /// How a runtime is to be.
 pub struct Builder {

@@ -8,6 +8,7 @@ use crate::reactor::{Bell, Reactor};
 use crate::task::{About, Label, Raw};
 use crate::timer::{now, Timers};
 use crate::waker::NOBODY;
+use crate::worker::LOOK_TIME;
 use std::cell::{Cell, RefCell};
 use std::collections::VecDeque;
 use std::fs::File;
@@ -37,6 +38,8 @@ pub(crate) struct Shared {
     /// Posts of workers that sleep: who waits in the epoll, and who looks at it now and then while that one runs tasks.
     pub(crate) waits: Line<AtomicUsize>,
     pub(crate) deputy: Line<AtomicUsize>,
+    /// When a worker that ran tasks last looked at the epoll.
+    pub(crate) looked: Line<AtomicU64>,
     /// Milliseconds between two looks of the deputy.
     pub(crate) rests: AtomicI32,
     /// By shard: blocks that may have a free place.
@@ -85,6 +88,8 @@ pub(crate) struct Worker {
     pub(crate) shards: Box<[usize]>,
     /// How many of its shards, from the first on, ever had a task: the others needn't be looked at. It only grows.
     pub(crate) used: AtomicUsize,
+    /// The block of its shards in which the next task may find room.
+    pub(crate) roomy: Line<AtomicUsize>,
     pub(crate) parking: Mutex<Vec<Parking>>,
     pub(crate) polls: AtomicU64,
     pub(crate) spawned: AtomicU64,
@@ -118,6 +123,7 @@ impl Worker {
             bell: Bell::default(),
             timers: Timers::default(),
             given_back: (Mutex::new(false), Condvar::new()),
+            roomy: Line(AtomicUsize::new(shards[0] * SHARD)),
             shards,
             used: AtomicUsize::new(1),
             parking: Mutex::new(parking),
@@ -229,6 +235,7 @@ impl Shared {
             reactor: Reactor::new()?,
             waits: Line(AtomicUsize::new(NO_ONE)),
             deputy: Line(AtomicUsize::new(NO_ONE)),
+            looked: Line::default(),
             rests: AtomicI32::new(1),
             roomy: (0..shards).map(|_| Line::default()).collect(),
             names: (0..places).map(|_| AtomicU64::new(NOBODY)).collect(),
@@ -314,12 +321,14 @@ pub(crate) struct Context {
     /// The name of the task that runs here, and whether it woke itself.
     pub(crate) current: Cell<u64>,
     pub(crate) woken: Cell<bool>,
+    /// Reads of sockets in this poll, and when this worker last looked out or had nothing to do.
+    pub(crate) reads: Cell<u32>,
+    pub(crate) looked: Cell<u64>,
     /// What a wake makes ready runs next here. Where not, a wake that makes ready wakes no other worker, and the first
     /// `room` tasks that are woken stay in this worker's hand, as `told`.
     pub(crate) keeps: Cell<bool>,
     pub(crate) room: Cell<usize>,
     pub(crate) told: RefCell<Vec<Job>>,
-    pub(crate) block: Cell<usize>,
     random: Cell<u64>,
 }
 
@@ -339,10 +348,11 @@ impl Context {
             next: Cell::new(None),
             current: Cell::new(NOBODY),
             woken: Cell::new(false),
+            reads: Cell::new(0),
+            looked: Cell::new(now()),
             keeps: Cell::new(true),
             room: Cell::new(0),
             told: RefCell::default(),
-            block: Cell::new(shared.workers[me].0.shards[0] * SHARD),
             random,
         }
     }
@@ -366,6 +376,14 @@ impl Context {
         CONTEXT.with(|context| context.set(self));
         let _leave = Leave;
         f()
+    }
+
+    /// Whether the poll that runs here may read more: its first read may, and others until it is time to look out. So
+    /// a socket that always has more doesn't keep its worker.
+    #[inline]
+    pub(crate) fn may_read(&self) -> bool {
+        let reads = self.reads.replace(self.reads.get() + 1);
+        reads == 0 || now().saturating_sub(self.looked.get()) < LOOK_TIME
     }
 
     pub(crate) fn random(&self) -> u64 {
@@ -404,15 +422,15 @@ pub(crate) fn entered<R>(shared: &'static Shared, f: impl FnOnce() -> R) -> R {
     f()
 }
 
-/// A kernel thread that is no worker: its seat at each table that it came to, and the block where it last found room.
+/// A kernel thread that is no worker: its seat at each table that it came to.
 struct Visitor {
-    seats: Vec<Option<(Hands, Cell<usize>)>>,
+    seats: Vec<Option<Hands>>,
 }
 
 impl Drop for Visitor {
     fn drop(&mut self) {
-        for (table, seat) in self.seats.drain(..).enumerate() {
-            if let (Some(shared), Some((hands, _))) = (shared_of(table), seat) {
+        for (table, hands) in self.seats.drain(..).enumerate() {
+            if let (Some(shared), Some(hands)) = (shared_of(table), hands) {
                 shared.root.lock().unwrap_or_else(|e| e.into_inner()).join(hands);
             }
         }
@@ -421,11 +439,6 @@ impl Drop for Visitor {
 
 /// Calls with a seat of this thread, which is no worker of that runtime.
 pub(crate) fn with_hands<R>(shared: &'static Shared, call: impl FnOnce(&Hands) -> R) -> R {
-    visit(shared, |hands, _| call(hands))
-}
-
-/// As `with_hands`, with the block at which this thread last found room.
-pub(crate) fn visit<R>(shared: &'static Shared, call: impl FnOnce(&Hands, &Cell<usize>) -> R) -> R {
     let mut call = Some(call);
     let visited = SEATS.try_with(|visitor| {
         let mut visitor = visitor.try_borrow_mut().ok()?;
@@ -434,10 +447,10 @@ pub(crate) fn visit<R>(shared: &'static Shared, call: impl FnOnce(&Hands, &Cell<
         }
         if visitor.seats[shared.table].is_none() {
             let hands = shared.root.lock().unwrap_or_else(|e| e.into_inner()).hands(1)?;
-            visitor.seats[shared.table] = Some((hands, Cell::new(0)));
+            visitor.seats[shared.table] = Some(hands);
         }
-        let (hands, block) = visitor.seats[shared.table].as_ref()?;
-        call.take().map(|call| call(hands, block))
+        let hands = visitor.seats[shared.table].as_ref()?;
+        call.take().map(|call| call(hands))
     });
     match (visited, call) {
         (Ok(Some(result)), _) => result,
@@ -445,7 +458,7 @@ pub(crate) fn visit<R>(shared: &'static Shared, call: impl FnOnce(&Hands, &Cell<
             // The thread ends: seats for this one call.
             let mut root = shared.root.lock().unwrap_or_else(|e| e.into_inner());
             let hands = root.hands(1).expect("no memory for a seat");
-            let result = call(&hands, &Cell::new(0));
+            let result = call(&hands);
             root.join(hands);
             result
         }

@@ -1,9 +1,8 @@
 //! Where a new task is put, and the functions that make one.
 
 use crate::core::{Hands, Spawned, SHARD};
-use crate::shared::{add, here, visit, Context, Shared};
+use crate::shared::{add, here, with_hands, Context, Shared};
 use crate::task::{self, About, JoinHandle, Label, Raw};
-use std::cell::Cell;
 use std::fmt;
 use std::future::Future;
 use std::panic::Location;
@@ -22,18 +21,17 @@ impl<F> fmt::Debug for Refused<F> {
 }
 
 impl Shared {
-    /// Puts a task into a free place of a worker's blocks, at first where `block` says. Tasks that are spawned one after
-    /// the other stand in the blocks of a shard in turn: the marks of neighbours in a block share a cache line, on which
-    /// workers that wake them would meet.
-    pub(crate) fn spawn_at(&self, hands: &Hands, worker: usize, block: &Cell<usize>, raw: Raw, keep: bool) -> Spawned {
-        let shards = &*self.workers[worker].0.shards;
-        let hint = block.get();
-        let roomy = self.roomy[hint / SHARD].0.load(Relaxed) >> (hint % SHARD) & 1 == 1;
-        if roomy && self.home(hint * crate::core::BLOCK) == worker {
+    /// Puts a task into a free place of a worker's blocks. Tasks that are spawned one after the other stand in the
+    /// blocks of a shard in turn: the marks of neighbours in a block share a cache line, on which workers that wake them
+    /// would meet.
+    pub(crate) fn spawn_at(&self, hands: &Hands, worker: usize, raw: Raw, keep: bool) -> Spawned {
+        let (shards, next) = (&*self.workers[worker].0.shards, &self.workers[worker].0.roomy.0);
+        let hint = next.load(Relaxed);
+        if self.roomy[hint / SHARD].0.load(Relaxed) >> (hint % SHARD) & 1 == 1 {
             match hands.spawn(hint, raw, keep) {
                 Spawned::Full => {}
                 spawned => {
-                    block.set(hint / SHARD * SHARD + (hint + 1) % SHARD);
+                    next.store(hint / SHARD * SHARD + (hint + 1) % SHARD, Relaxed);
                     return spawned;
                 }
             }
@@ -56,7 +54,7 @@ impl Shared {
                     }
                 }
                 if spawned != Spawned::Full {
-                    block.set(at);
+                    next.store(at, Relaxed);
                     return spawned;
                 }
                 bits &= bits - 1;
@@ -81,11 +79,11 @@ impl Shared {
                 add(&self.workers[worker.me].0.spawned, 1);
                 self.spawn_here(worker, raw, balanced)
             }
-            _ => visit(self, |hands, block| {
+            _ => with_hands(self, |hands| {
                 self.spawned.0.fetch_add(1, Relaxed);
                 let active = self.active.0.load(Relaxed);
                 let home = self.next_home.fetch_add(1, Relaxed) / IN_A_ROW % active;
-                self.spawn_among(hands, home, block, raw)
+                self.spawn_among(hands, home, raw)
             }),
         })
     }
@@ -98,11 +96,10 @@ impl Shared {
         if balanced {
             let home = self.next_home.fetch_add(IN_A_ROW, Relaxed) / IN_A_ROW % self.active.0.load(Relaxed);
             if home != worker.me {
-                let block = Cell::new(self.workers[home].0.shards[0] * SHARD);
-                return self.spawn_among(&worker.hands, home, &block, raw);
+                return self.spawn_among(&worker.hands, home, raw);
             }
         }
-        match self.spawn_at(&worker.hands, worker.me, &worker.block, raw, true) {
+        match self.spawn_at(&worker.hands, worker.me, raw, true) {
             Spawned::Kept(job) => {
                 if let Some(before) = worker.next.replace(Some(job)) {
                     self.make_ready(worker, &before);
@@ -113,17 +110,17 @@ impl Shared {
                 self.published(name, unpark, false);
                 true
             }
-            Spawned::Full => self.spawn_among(&worker.hands, worker.me + 1, &worker.block, raw),
+            Spawned::Full => self.spawn_among(&worker.hands, worker.me + 1, raw),
         }
     }
 
     /// At the first worker from `home` on that has room.
-    fn spawn_among(&self, hands: &Hands, home: usize, block: &Cell<usize>, raw: Raw) -> bool {
+    fn spawn_among(&self, hands: &Hands, home: usize, raw: Raw) -> bool {
         if self.queued.0.load(Relaxed) != 0 {
             return false;
         }
         let count = self.workers.len();
-        (0..count).any(|i| match self.spawn_at(hands, (home + i) % count, block, raw, false) {
+        (0..count).any(|i| match self.spawn_at(hands, (home + i) % count, raw, false) {
             Spawned::Ready { name, unpark } => {
                 self.published(name, unpark, false);
                 true

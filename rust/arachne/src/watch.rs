@@ -107,14 +107,13 @@ fn rescue(shared: &'static Shared, hands: &Hands, stuck: u64) {
 /// Runs what is ready at a worker's places; how many ran.
 fn run_some(shared: &'static Shared, hands: &Hands, worker: usize) -> usize {
     let mut ran = 0;
-    let mut job = [Job { name: 0, job: 0, seat: 0 }];
     for &shard in shared.workers[worker].0.used_shards() {
         let mut bits = hands.shown(shard);
         while bits != 0 {
             let block = shard * SHARD + bits.trailing_zeros() as usize;
             bits &= bits - 1;
-            while ran < 64 && hands.take(block, 0, &mut job) != 0 {
-                run_one(shared, hands, &job[0]);
+            while let Some(job) = (ran < 64).then(|| hands.take_any(block)).flatten() {
+                run_one(shared, hands, &job);
                 ran += 1;
             }
         }

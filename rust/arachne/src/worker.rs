@@ -3,7 +3,7 @@
 //! Who has a task and whether a worker may sleep is the core's to say. What is decided here is where a worker looks
 //! next, and whom it is worth to wake.
 
-use crate::core::{place_of, Hands, Job, Rested, Spawned, BATCH, BLOCK, SHARD};
+use crate::core::{place_of, Hands, Job, Rested, Spawned, BLOCK, SHARD};
 use crate::cores::Judge;
 use crate::reactor::Found;
 use crate::shared::{add, Context, Shared, NO_ONE};
@@ -19,47 +19,46 @@ mod sleepers;
 const NEXTS: u32 = 128;
 
 /// After so many polls, or about so many nanoseconds, a worker looks at the epoll, its timers and others, whatever is
-/// next.
+/// next. By time it looks at the epoll only where no other has for so long.
 const LOOK_OUT: u32 = 64;
-const LOOK_TIME: u64 = 100_000;
+pub(crate) const LOOK_TIME: u64 = 100_000;
+/// The same for one that is alone, and nobody else could run what it is told of, where several polls fit into it.
+const LONELY_TIME: u64 = 500_000;
+const LONG_POLLS: u32 = 3;
 /// After so many polls the worker that judges how many cores there should be looks at its clock.
 const JUDGED: u32 = 8;
 /// After so many of these looks at which another worker had not got on, its timers are looked at too.
 const LONG: u32 = 8;
 /// After so many looks at blocks that are shown and have nothing, they are hidden.
 const STALE: u32 = 16;
-/// Ready jobs taken at once, at most, while somebody has nothing to do, and tasks that one look at the epoll wakes for
-/// the worker that looks.
-const FEW: usize = 8;
-/// Jobs that woke themselves, or were next after many in a row, and stay with the worker that has them.
-pub(crate) const HAND: usize = 16;
-/// Jobs taken in advance, and two more that are between hands.
-pub(crate) const BATCHES: usize = BATCH + 2;
+/// Jobs in hand at most: of those that one look at the epoll tells of, of another worker's, and of any while somebody
+/// has nothing to do.
+pub(crate) const FEW: usize = 8;
+/// Jobs in hand at most of those that woke themselves, or were next after many in a row; and of any, where a worker is
+/// alone.
+const KEPT: usize = 16;
+pub(crate) const HAND: usize = 48;
 /// From so many events of one look on, that are left for others, another worker is woken to help.
 const MANY: usize = 4;
 
 /// The policy asks for no more cores for more ready jobs at a worker than that.
 const CROWD: u32 = 128;
 
-const NO_JOB: Job = Job { name: 0, job: 0, seat: 0 };
-
 /// Where a worker is in its rounds.
 pub(crate) struct Turn {
-    batch: [Job; BATCH],
-    at: usize,
-    count: usize,
-    /// Jobs in hand that are behind what is ready here, and how many of them run before the words are looked at again.
+    /// Jobs in hand, and how many of them run before the words are looked at again.
     hand: VecDeque<Job>,
     hand_left: usize,
-    /// The next block and index to look at.
+    /// The block that is swept, which of its places were ready as its turn came and were not passed since, and which of
+    /// this worker's blocks is next.
     block: usize,
-    index: u32,
+    wanted: u64,
+    next: usize,
     /// How many looks at its blocks were at ones that are shown and have nothing.
     stale: u32,
     chain: u32,
-    /// Polls since it last looked out or had nothing to do, and when that was; and after how many it looks out.
+    /// Polls since it last looked out or had nothing to do, and how many take `LOOK_TIME`.
     polls: u32,
-    looked: u64,
     most: u32,
     /// Looks are counted, and what is ready at them, for the policy.
     counts: bool,
@@ -76,17 +75,14 @@ pub(crate) struct Turn {
 impl Turn {
     pub(crate) fn new(shared: &Shared, counts: bool) -> Turn {
         Turn {
-            batch: [NO_JOB; BATCH],
-            at: 0,
-            count: 0,
-            hand: VecDeque::with_capacity(HAND),
+            hand: VecDeque::with_capacity(HAND + FEW),
             hand_left: 0,
             block: 0,
-            index: 0,
+            wanted: 0,
+            next: 0,
             stale: 0,
             chain: 0,
             polls: 0,
-            looked: now(),
             most: LOOK_OUT,
             counts,
             seen: vec![0; shared.workers.len()],
@@ -98,21 +94,23 @@ impl Turn {
     }
 
     /// How many polls take the time between two looks, by those since the last.
-    fn pace(&mut self, now: u64) {
+    fn pace(&mut self, context: &Context, now: u64) {
         if self.polls != 0 {
-            let fitting = self.polls as u64 * LOOK_TIME / now.saturating_sub(self.looked).max(1);
+            let fitting = self.polls as u64 * LOOK_TIME / now.saturating_sub(context.looked.get()).max(1);
             self.most = fitting.clamp(1, LOOK_OUT as u64) as u32;
         }
-        (self.polls, self.looked) = (0, now);
+        self.polls = 0;
+        context.looked.set(now);
     }
 
     /// Where polls are long enough to be timed: whether it is time to look.
     #[inline]
-    fn is_over(&self) -> bool {
-        now().saturating_sub(self.looked) >= LOOK_TIME
+    fn is_over(&self, context: &Context, alone: bool) -> bool {
+        let time = if alone && self.most >= LONG_POLLS { LONELY_TIME } else { LOOK_TIME };
+        now().saturating_sub(context.looked.get()) >= time
     }
 
-    /// Jobs that this worker takes at once while another has nothing to do: as many as run until its next look.
+    /// Jobs that this worker keeps in hand while another has nothing to do: as many as run until its next look.
     #[inline]
     fn few(&self) -> usize {
         FEW.min(self.most as usize)
@@ -227,7 +225,7 @@ impl Shared {
             while bits != 0 && count < most {
                 let block = shard * SHARD + bits.trailing_zeros() as usize;
                 bits &= bits - 1;
-                count += hands.count(block);
+                count += hands.ready(block).count_ones();
             }
         }
         count
@@ -248,6 +246,7 @@ impl Shared {
         self.observer.begins(&job, &about);
         context.current.set(name);
         context.woken.set(false);
+        context.reads.set(0);
         // SAFETY: as above.
         let ended = unsafe { task::run(job.job, self.table, name, &mut cx) };
         turn.polls += 1;
@@ -307,9 +306,11 @@ impl Shared {
     /// The next job to run, in this worker's hand.
     #[inline]
     fn pick(&'static self, context: &Context, turn: &mut Turn) -> Option<Job> {
-        if turn.polls >= LOOK_OUT || turn.most < LOOK_OUT && turn.polls >= 1 && turn.is_over() {
-            turn.pace(now());
-            self.look_out(context, turn);
+        let is_over = |turn: &Turn| turn.most < LOOK_OUT && turn.polls >= 1 && turn.is_over(context, self.is_alone());
+        if turn.polls >= LOOK_OUT || is_over(turn) {
+            let by_time = turn.polls < LOOK_OUT;
+            turn.pace(context, now());
+            self.look_out(context, turn, by_time);
         }
         self.pick_next(context, turn).or_else(|| self.pick_ready(context, turn))
     }
@@ -332,7 +333,8 @@ impl Shared {
     /// Behind all that is ready here: it stays in hand, unless somebody has nothing to do and one is in hand already.
     #[inline]
     fn set_behind(&self, context: &Context, turn: &mut Turn, job: Job) {
-        if turn.hand.len() < if self.all_busy() { HAND } else { 1 } {
+        let most = if self.is_alone() { HAND } else { KEPT };
+        if turn.hand.len() < if self.all_busy() { most } else { 1 } {
             turn.hand.push_back(job);
         } else {
             self.make_ready(context, &job);
@@ -341,27 +343,21 @@ impl Shared {
 
     #[inline]
     fn pick_ready(&'static self, context: &Context, turn: &mut Turn) -> Option<Job> {
+        if turn.hand.len() > turn.few() && !self.all_busy() {
+            self.lay_down_to(context, turn, turn.few());
+            self.rouse_any();
+        }
         loop {
-            if turn.at < turn.count {
-                if turn.count - turn.at > turn.few() && !self.all_busy() {
-                    self.lay_down_batch(context, turn);
-                    continue;
-                }
-                turn.at += 1;
-                return Some(turn.batch[turn.at - 1]);
-            }
-            if turn.hand_left == 0 && self.refill(context, turn) {
-                continue;
-            }
-            if turn.hand_left == 0 && !turn.hand.is_empty() {
-                turn.hand_left = turn.hand.len();
-            }
-            if turn.hand_left != 0 {
-                turn.hand_left -= 1;
-                if let Some(job) = turn.hand.pop_front() {
-                    context.hands.begin(&job);
+            if turn.hand_left == 0 {
+                if let Some(job) = self.sweep(context, turn) {
                     return Some(job);
                 }
+                turn.hand_left = turn.hand.len();
+            }
+            if let Some(job) = turn.hand.pop_front() {
+                turn.hand_left -= 1;
+                context.hands.begin(&job);
+                return Some(job);
             }
             if self.has_queued() {
                 match self.begin_queued(context) {
@@ -374,55 +370,54 @@ impl Shared {
         }
     }
 
-    /// Takes ready jobs of this worker's blocks, in turn. At the end of a round over them what is in hand goes first.
+    /// The next ready job of this worker's blocks, in turn. At the end of a round over them what is in hand goes first.
     #[inline]
-    fn refill(&self, context: &Context, turn: &mut Turn) -> bool {
-        if turn.stale >= STALE {
-            turn.stale = 0;
-            self.tidy(context.me);
+    fn sweep(&self, context: &Context, turn: &mut Turn) -> Option<Job> {
+        loop {
+            if turn.wanted != 0 {
+                if let Some(job) = context.hands.take_next(turn.block, &mut turn.wanted) {
+                    return Some(job);
+                }
+                turn.wanted = 0;
+            }
+            if turn.stale >= STALE {
+                turn.stale = 0;
+                self.tidy(context.me);
+            }
+            let found = self.find_block(&context.hands, context.me, turn.next, &mut turn.stale);
+            if let Some((next, block, ready)) = found {
+                (turn.next, turn.block, turn.wanted) = (next, block, ready);
+                continue;
+            }
+            let began = std::mem::take(&mut turn.next) != 0;
+            if !began || !turn.hand.is_empty() || self.has_queued() {
+                return None;
+            }
         }
-        for _ in 0..2 {
-            if self.take_from(&context.hands, context.me, turn, turn.few()) {
-                return true;
-            }
-            let began = turn.block != 0 || turn.index != 0;
-            (turn.block, turn.index) = (0, 0);
-            if !turn.hand.is_empty() || self.has_queued() {
-                return false;
-            }
-            if !began {
-                return false;
-            }
-        }
-        false
     }
 
-    /// Takes jobs of a worker's blocks from the turn's block and index on.
+    /// The first of a worker's blocks, from this number on, that has ready jobs: the number behind it, which block it
+    /// is, and which of its places have one. Counts those that are shown and have none.
     #[inline]
-    fn take_from(&self, hands: &Hands, owner: usize, turn: &mut Turn, most: usize) -> bool {
-        let first = turn.block / SHARD;
+    fn find_block(&self, hands: &Hands, owner: usize, from: usize, stale: &mut u32) -> Option<(usize, usize, u64)> {
+        let first = from / SHARD;
         for (i, &shard) in self.workers[owner].0.used_shards().iter().enumerate().skip(first) {
             let mut bits = hands.shown(shard);
             if i == first {
-                bits &= u64::MAX << (turn.block % SHARD);
+                bits &= u64::MAX << (from % SHARD);
             }
             while bits != 0 {
                 let bit = bits.trailing_zeros() as usize;
                 bits &= bits - 1;
-                let (block, at) = (shard * SHARD + bit, i * SHARD + bit);
-                let from = if at == turn.block { turn.index } else { 0 };
-                let got = if from < 64 { hands.take(block, from, &mut turn.batch[..most]) } else { 0 };
-                if got != 0 {
-                    let index = hands.behind(&turn.batch[got - 1]);
-                    (turn.at, turn.count, turn.block, turn.index) = (0, got, at, index);
-                    return true;
+                let block = shard * SHARD + bit;
+                let ready = hands.ready(block);
+                if ready != 0 {
+                    return Some((i * SHARD + bit + 1, block, ready));
                 }
-                if hands.count(block) == 0 && hands.hide(block) {
-                    turn.stale += 1;
-                }
+                *stale += hands.hide(block) as u32;
             }
         }
-        false
+        None
     }
 
     /// Puts a task that found no place into one of this worker, or of another, and keeps it in hand if that may be.
@@ -457,7 +452,7 @@ impl Shared {
         let count = self.workers.len();
         (0..count).find_map(|i| {
             let worker = (context.me + i) % count;
-            match self.spawn_at(&context.hands, worker, &context.block, raw, true) {
+            match self.spawn_at(&context.hands, worker, raw, true) {
                 Spawned::Kept(job) => Some(Some(job)),
                 Spawned::Ready { name, unpark } => {
                     self.published(name, unpark, true);
@@ -477,21 +472,33 @@ impl Shared {
     }
 
     /// Looks at epoll and timers, and takes a job of one that doesn't get on or has nobody: whatever is next here.
-    fn look_out(&self, context: &Context, turn: &mut Turn) {
-        let (few, held) = (turn.few(), turn.hand.len() + turn.count - turn.at);
+    fn look_out(&self, context: &Context, turn: &mut Turn, by_time: bool) {
         // What is ready here goes first, and where polls are long what is in hand goes last.
-        let takes = (held == 0 || few == FEW) && !self.mine(context);
-        let room = if takes { few.saturating_sub(held) } else { 0 };
-        self.look_at_events(context, turn, room);
+        let lasts = turn.few() < FEW && !self.is_alone();
+        let takes = (turn.hand.is_empty() || !lasts) && turn.wanted == 0 && !self.mine(context);
+        let room = if takes { self.room(turn) } else { 0 };
+        let now = context.looked.get();
+        if by_time && now.saturating_sub(self.looked.0.load(Relaxed)) < LOOK_TIME {
+            self.hear(context, turn, &Found::NOTHING, room);
+        } else {
+            self.looked.0.store(now, Relaxed);
+            self.look_at_events(context, turn, room);
+        }
         if turn.counts {
-            let here = turn.count - turn.at + turn.hand.len() + context.next.get().is_some() as usize;
+            let here = turn.hand.len() + context.next.get().is_some() as usize;
             let mine = std::iter::once(context.me).chain(self.lodgers(context.me));
             let ready: u32 = mine.map(|owner| self.ready_up_to(&context.hands, owner, CROWD)).sum();
             add(&self.workers[context.me].0.scans, 1);
             add(&self.workers[context.me].0.runnable, here as u64 + ready as u64);
         }
+        self.look_at_others(context, turn);
+    }
+
+    /// Takes jobs of workers that don't get on, and fires their timers.
+    fn look_at_others(&self, context: &Context, turn: &mut Turn) {
         // One that runs a long poll doesn't get on either: but what is ready here isn't put off twice in a row.
-        let (active, long_polls) = (self.active.0.load(Relaxed), few < FEW && !turn.helped);
+        let (active, long_polls) = (self.active.0.load(Relaxed), turn.few() < FEW && !turn.helped);
+        let may_help = turn.few() == FEW || turn.hand_left == 0;
         turn.helped = false;
         for other in 0..self.workers.len() {
             let worker = &self.workers[other].0;
@@ -508,28 +515,37 @@ impl Shared {
                 self.fire_quietly(context, other);
             }
             // Who makes something ready for one that sleeps wakes somebody, so that is looked at now and then.
-            if (long || !sleeps) && turn.at == turn.count && self.ready(&context.hands, other) != 0 {
+            if (long || !sleeps) && may_help && self.ready(&context.hands, other) != 0 {
                 turn.helped |= self.help(context, turn, other, 2) && !stands;
             }
         }
     }
 
-    /// Takes up to `most` jobs of another worker's blocks into the empty batch.
+    /// Takes up to `most` jobs of one of another worker's blocks, which run next here.
     fn help(&self, context: &Context, turn: &mut Turn, other: usize, most: usize) -> bool {
-        let (kept, stale, most) = ((turn.block, turn.index), turn.stale, most.min(BATCH));
+        let (hands, stale) = (&context.hands, &mut 0);
         let start = context.random() as usize % (self.workers[other].0.used_shards().len() * SHARD);
-        (turn.block, turn.index) = (start, 0);
-        let mut got = self.take_from(&context.hands, other, turn, most);
-        if !got && start != 0 {
-            (turn.block, turn.index) = (0, 0);
-            got = self.take_from(&context.hands, other, turn, most);
-        }
-        (turn.block, turn.index) = kept;
-        turn.stale = stale;
-        if got {
+        let found = self.find_block(hands, other, start, stale).or_else(|| self.find_block(hands, other, 0, stale));
+        let (block, ready) = found.map_or((0, 0), |(_, block, ready)| (block, ready));
+        let most = most.min(FEW).min(ready.count_ones() as usize);
+        let got = (0..most).map_while(|_| hands.take_any(block)).enumerate();
+        let got = got.map(|(at, job)| turn.hand.insert(at, job)).count();
+        turn.hand_left += got;
+        if got != 0 {
             add(&self.workers[context.me].0.takes, 1);
         }
-        got
+        got != 0
+    }
+
+    /// How many tasks that are told of may stay in this worker's hand.
+    fn room(&self, turn: &Turn) -> usize {
+        let most = if self.is_alone() { HAND } else { turn.few() };
+        most.saturating_sub(turn.hand.len())
+    }
+
+    #[inline]
+    fn is_alone(&self) -> bool {
+        self.active.0.load(Relaxed) == 1
     }
 
     /// Looks at the epoll, and fires timers; how many there were.
@@ -619,9 +635,9 @@ impl Shared {
             if ran == 0 && self.look_when_idle(context, &mut turn) == 0 && !self.help_lodgers(context, &mut turn) {
                 let begin = now();
                 worker.idle_since.store(begin, Relaxed);
-                turn.pace(begin);
+                turn.pace(context, begin);
                 self.look_around(context, &mut turn, &judge);
-                turn.looked = worker.ends_idling();
+                context.looked.set(worker.ends_idling());
             }
             if let Some(judge) = &mut judge {
                 judge.judge(self);
@@ -633,34 +649,30 @@ impl Shared {
     /// With nothing of its own to do: events, unless another waits for them; and timers.
     fn look_when_idle(&self, context: &Context, turn: &mut Turn) -> usize {
         if self.waits.0.load(Relaxed) == NO_ONE {
-            return self.look_at_events(context, turn, turn.few());
+            return self.look_at_events(context, turn, self.room(turn));
         }
-        self.hear(context, turn, &Found::NOTHING, turn.few())
+        self.hear(context, turn, &Found::NOTHING, self.room(turn))
     }
 
     fn help_lodgers(&self, context: &Context, turn: &mut Turn) -> bool {
         self.lodgers(context.me)
-            .any(|other| self.ready(&context.hands, other) != 0 && self.help(context, turn, other, BATCH))
+            .any(|other| self.ready(&context.hands, other) != 0 && self.help(context, turn, other, FEW))
     }
 
-    /// Somebody has nothing to do: what was taken in advance is ready again, for all.
-    fn lay_down_batch(&self, context: &Context, turn: &mut Turn) {
-        for job in &turn.batch[turn.at..turn.count] {
-            let unpark = context.hands.rest_ready(job);
-            self.published(job.name, unpark, true);
+    /// Makes ready what is in this worker's hand, but for so many that run first.
+    fn lay_down_to(&self, context: &Context, turn: &mut Turn, left: usize) {
+        while turn.hand.len() > left {
+            if let Some(job) = turn.hand.pop_back() {
+                let unpark = context.hands.rest_ready(&job);
+                self.published(job.name, unpark, true);
+            }
         }
-        (turn.at, turn.count) = (0, 0);
-        self.rouse_any();
+        turn.hand_left = turn.hand_left.min(left);
     }
 
     /// Makes all ready that is in this worker's hand.
     pub(crate) fn lay_down(&self, context: &Context, turn: &mut Turn) {
-        let batch = turn.at..turn.count;
-        let jobs = context.next.take().into_iter().chain(turn.batch[batch].iter().copied());
-        for job in jobs.chain(turn.hand.drain(..)) {
-            let unpark = context.hands.rest_ready(&job);
-            self.published(job.name, unpark, true);
-        }
-        (turn.at, turn.count, turn.hand_left) = (0, 0, 0);
+        turn.hand.extend(context.next.take());
+        self.lay_down_to(context, turn, 0);
     }
 }

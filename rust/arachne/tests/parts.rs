@@ -510,3 +510,114 @@ fn echo_beside_yields(cores: usize) {
     stop.store(true, SeqCst);
     busy.into_iter().for_each(|task| block_on(task).unwrap());
 }
+
+/// Many more tasks than blocks are ready again and again: none runs twice as often as another.
+#[test]
+fn tasks_that_yield_for_ever_run_equally_often() {
+    for (cores, count) in [(1, 20), (1, 1000), (1, 5000)] {
+        let runtime = Runtime::new(cores);
+        let polls: Arc<Vec<AtomicUsize>> = Arc::new((0..count).map(|_| AtomicUsize::new(0)).collect());
+        let (begin, end) = (Arc::new(AtomicBool::new(false)), Arc::new(AtomicBool::new(false)));
+        let tasks: Vec<_> = (0..count)
+            .map(|i| {
+                let (polls, begin, end) = (polls.clone(), begin.clone(), end.clone());
+                runtime.spawn(async move {
+                    while !end.load(SeqCst) {
+                        yield_now().await;
+                        if begin.load(SeqCst) && polls[i].fetch_add(1, SeqCst) == 200 {
+                            end.store(true, SeqCst);
+                        }
+                    }
+                })
+            })
+            .collect();
+        begin.store(true, SeqCst);
+        tasks.into_iter().for_each(|task| block_on(task).unwrap());
+        let least = polls.iter().map(|count| count.load(SeqCst)).min();
+        assert!(least >= Some(100), "of {count} tasks one was polled 200 times and one {least:?}");
+    }
+}
+
+/// While no worker has nothing to do, one keeps many tasks in its hand. Once another has, most of them are for all.
+#[test]
+fn what_is_in_hand_is_for_whoever_has_nothing_to_do() {
+    let runtime = Runtime::new(2);
+    let (busy, ends) = (Arc::new(AtomicBool::new(false)), Arc::new(AtomicBool::new(false)));
+    let (begun, waits) = (busy.clone(), ends.clone());
+    let other = runtime.spawn(async move {
+        begun.store(true, SeqCst);
+        while !waits.load(SeqCst) {
+            std::hint::spin_loop();
+        }
+    });
+    while !busy.load(SeqCst) {
+        thread::yield_now();
+    }
+    let all = runtime.spawn(async move {
+        let seen = Arc::new(std::sync::Mutex::new(Vec::new()));
+        let task = |ends: Arc<AtomicBool>, seen: Arc<std::sync::Mutex<Vec<thread::ThreadId>>>| async move {
+            yield_now().await;
+            ends.store(true, SeqCst);
+            seen.lock().unwrap().push(thread::current().id());
+            // Some polls end, so that their worker sees that the other has nothing to do.
+            thread::sleep(30 * MS);
+            let (begin, others) = (Instant::now(), || {
+                let seen = seen.lock().unwrap();
+                seen.len() < 5 || seen.iter().any(|thread| *thread != seen[0])
+            });
+            while !others() && begin.elapsed() < LONG {
+                thread::sleep(MS);
+            }
+            others()
+        };
+        let tasks: Vec<_> = (0..14).map(|_| spawn(task(ends.clone(), seen.clone()))).collect();
+        let mut all = true;
+        for task in tasks {
+            all &= task.await.unwrap();
+        }
+        all
+    });
+    assert!(block_on(all).unwrap(), "one worker ran all");
+    block_on(other).unwrap();
+}
+
+/// A socket that always has more to be read doesn't keep its worker, neither a new one nor one that has waited before.
+#[test]
+fn a_socket_that_always_has_more_holds_nobody_up() {
+    for waits in [false, true] {
+        let runtime = Runtime::new(1);
+        let listener = net::TcpListener::bind("127.0.0.1:0").unwrap();
+        let mut client = std::net::TcpStream::connect(listener.local_addr().unwrap()).unwrap();
+        if !waits {
+            client.write_all(&[1; 65536]).unwrap();
+        }
+        let reader = runtime.spawn(async move {
+            let (stream, mut byte) = (listener.accept().await.unwrap().0, [0]);
+            while stream.read(&mut byte).await.unwrap() == 1 {}
+        });
+        thread::sleep(5 * MS);
+        let (done, ends) = (Arc::new(AtomicBool::new(false)), Arc::new(AtomicBool::new(false)));
+        let seen = done.clone();
+        let other = runtime.spawn(async move {
+            for _ in 0..100 {
+                yield_now().await;
+            }
+            seen.store(true, SeqCst);
+        });
+        let (begin, seen) = (Instant::now(), ends.clone());
+        let writer = thread::spawn(move || {
+            while !seen.load(SeqCst) && begin.elapsed() < LONG {
+                client.write_all(&[1; 65536]).unwrap();
+            }
+        });
+        while !done.load(SeqCst) && begin.elapsed() < LONG / 2 {
+            thread::sleep(MS);
+        }
+        let held = !done.load(SeqCst);
+        ends.store(true, SeqCst);
+        writer.join().unwrap();
+        block_on(other).unwrap();
+        block_on(reader).unwrap();
+        assert!(!held, "a task waited for one that reads on and on");
+    }
+}

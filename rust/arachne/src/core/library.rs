@@ -15,9 +15,6 @@ use std::ptr;
 use std::sync::atomic::{AtomicBool, AtomicU64, Ordering::*};
 use std::sync::Mutex;
 
-/// Ready jobs that are taken at once, of one block; then it is the next block's turn.
-pub(crate) const BATCH: usize = 8;
-
 /// Declarations as in the header. `tests/header.rs` compares them with it.
 #[path = "declarations.rs"]
 #[allow(non_camel_case_types, dead_code)]
@@ -62,6 +59,10 @@ pub(crate) struct Hands {
     seats: Vec<Handle>,
     /// Seats with nothing in hand, as bits.
     free: Cell<u64>,
+    /// By seat, the index in a block from which on its next take looks. The library goes round a block by seat.
+    from: Vec<Cell<u32>>,
+    /// The seat by which blocks are swept.
+    sweeps: Cell<u8>,
 }
 
 /// The right to sleep in the name of the shards of one number.
@@ -79,7 +80,8 @@ impl Root {
     /// Seats for a thread that has at most so many jobs in hand.
     pub(crate) fn hands(&mut self, most: usize) -> Option<Hands> {
         let seats = (0..most).map(|_| self.0.split()).collect::<Option<Vec<_>>>()?;
-        Some(Hands { seats, free: Cell::new(u64::MAX >> (64 - most)) })
+        let from = vec![Cell::new(0); most];
+        Some(Hands { seats, free: Cell::new(u64::MAX >> (64 - most)), from, sweeps: Cell::new(0) })
     }
 
     /// Gets a thread's seats back, with nothing in hand.
@@ -124,6 +126,17 @@ impl Parking {
     pub(crate) fn wake_up(&self) {
         // SAFETY: a handle.
         unsafe { arachne_exec_wake_up(self.0.at()) };
+    }
+}
+
+/// The indices of a block from one to another, round it, as bits.
+#[inline]
+fn round(from: u32, to: u32) -> u64 {
+    let (ahead, until) = (u64::MAX << from, u64::MAX >> (BLOCK as u32 - 1 - to));
+    if from <= to {
+        ahead & until
+    } else {
+        ahead | until
     }
 }
 
@@ -173,14 +186,34 @@ impl Hands {
     #[inline]
     pub(crate) fn begin(&self, _job: &Job) {}
 
-    /// One ready job of a block: the library goes round it. Where no other thread takes, None means that there is none.
+    /// One ready job of a block. Where no other thread takes, None means that there is none.
     #[inline]
     pub(crate) fn take_any(&self, block: usize) -> Option<Job> {
-        let seat = self.first_free()?;
+        self.take(self.last_free()?, block)
+    }
+
+    /// The next job of a sweep over those `wanted` of a block, as bits; one that has become ready since may come before
+    /// them. Each is wanted until it was passed, so that a job which is ready again and again keeps no other waiting.
+    ///
+    /// It takes by one seat for as long as that is free: seats by turns would each go round the block by itself, and
+    /// follow one another over the same jobs.
+    #[inline]
+    pub(crate) fn take_next(&self, block: usize, wanted: &mut u64) -> Option<Job> {
+        let seat = self.sweeping()?;
+        let from = self.from[seat as usize].get();
+        let taken = self.take(seat, block);
+        *wanted &= taken.map_or(0, |job| !round(from, (job.place() % BLOCK) as u32));
+        taken
+    }
+
+    #[inline]
+    fn take(&self, seat: u8, block: usize) -> Option<Job> {
         // SAFETY: a handle.
         let told = unsafe { arachne_exec_take(self.seat(seat), block) };
         if told.code == ARACHNE_RUN {
-            return Some(Job { name: told.name, job: told.job, seat });
+            let job = Job { name: told.name, job: told.job, seat };
+            self.from[seat as usize].set(((job.place() + 1) % BLOCK) as u32);
+            return Some(job);
         }
         self.is_free(seat);
         if told.code != ARACHNE_AGAIN && told.code != ARACHNE_LOST {
@@ -189,31 +222,11 @@ impl Hands {
         None
     }
 
-    /// Takes ready jobs of a block: at most `out.len()`.
+    /// Which places of a block have a ready job, as bits.
     #[inline]
-    pub(crate) fn take(&self, block: usize, _from: u32, out: &mut [Job]) -> usize {
-        let most = out.len().min(self.count(block) as usize);
-        for (count, job) in out[..most].iter_mut().enumerate() {
-            match self.take_any(block) {
-                Some(taken) => *job = taken,
-                None => return count,
-            }
-        }
-        most
-    }
-
-    /// The index of a block from which on it is looked at next, where this job was the last that was taken of it: none,
-    /// as the library goes round by itself.
-    #[inline]
-    pub(crate) fn behind(&self, _job: &Job) -> u32 {
-        BLOCK as u32
-    }
-
-    /// How many jobs are ready in a block.
-    #[inline]
-    pub(crate) fn count(&self, block: usize) -> u32 {
+    pub(crate) fn ready(&self, block: usize) -> u64 {
         // SAFETY: a handle.
-        unsafe { arachne_exec_ready(self.any(), block) }.count_ones()
+        unsafe { arachne_exec_ready(self.any(), block) }
     }
 
     /// The blocks of a shard that may have ready jobs, as bits.
@@ -234,16 +247,21 @@ impl Hands {
         self.free.set(self.free.get() | 1 << seat);
     }
 
-    /// A seat to take by, from the first on: each goes round a block by itself, and only where the same few take again
-    /// and again are jobs side by side taken as often as others.
+    /// The seat that swept last, or where it has a job in hand, the first that has none.
     #[inline]
-    fn first_free(&self) -> Option<u8> {
+    fn sweeping(&self) -> Option<u8> {
         let free = self.free.get();
-        self.free.set(free & free.wrapping_sub(1));
-        (free != 0).then(|| free.trailing_zeros() as u8)
+        if free >> self.sweeps.get() & 1 == 0 {
+            if free == 0 {
+                return None;
+            }
+            self.sweeps.set(free.trailing_zeros() as u8);
+        }
+        self.free.set(free & !(1 << self.sweeps.get()));
+        Some(self.sweeps.get())
     }
 
-    /// A seat for what isn't taken, from the last on.
+    /// A seat for what isn't swept, from the last on.
     #[inline]
     fn last_free(&self) -> Option<u8> {
         let free = self.free.get();

@@ -11,12 +11,12 @@
 #[cfg(feature = "model")]
 mod model;
 #[cfg(feature = "model")]
-pub(crate) use model::{Estimator, Hands, LockCore, Parking, Root, BATCH};
+pub(crate) use model::{Estimator, Hands, LockCore, Parking, Root};
 
 #[cfg(not(feature = "model"))]
 mod library;
 #[cfg(not(feature = "model"))]
-pub(crate) use library::{Estimator, Hands, LockCore, Parking, Root, BATCH};
+pub(crate) use library::{Estimator, Hands, LockCore, Parking, Root};
 
 /// A value on cache lines of its own.
 #[repr(align(128))]

@@ -13,9 +13,6 @@ use std::collections::VecDeque;
 use std::sync::atomic::{AtomicU64, AtomicU8, Ordering::*};
 use std::sync::{Arc, Mutex};
 
-/// Ready jobs that are taken in one step.
-pub(crate) const BATCH: usize = 8;
-
 const WOKEN: u64 = 1;
 const BLOCKED: u64 = 2;
 
@@ -203,46 +200,39 @@ impl Hands {
         }
     }
 
-    /// Takes ready jobs of a block: at most `out.len()`, those from index `from` on.
+    /// One ready job of a block. Where no other thread takes, None means that there is none.
+    pub(crate) fn take_any(&self, block: usize) -> Option<Job> {
+        let mut any = self.ready(block);
+        self.take_next(block, &mut any)
+    }
+
+    /// The next job of a sweep over those `wanted` of a block, as bits.
     #[inline]
-    pub(crate) fn take(&self, block: usize, from: u32, out: &mut [Job]) -> usize {
+    pub(crate) fn take_next(&self, block: usize, wanted: &mut u64) -> Option<Job> {
         let ready = &self.table.blocks[block].ready.0;
-        let mut left = ready.load(SeqCst) & u64::MAX << from;
-        let mut bits = 0;
-        for _ in 0..out.len() {
-            bits |= left & left.wrapping_neg();
-            left &= left.wrapping_sub(1);
-        }
-        if bits == 0 {
-            return 0;
-        }
-        let mut got = ready.fetch_and(!bits, SeqCst) & bits;
-        let mut count = 0;
-        while got != 0 {
-            let place = block * BLOCK + got.trailing_zeros() as usize;
-            got &= got - 1;
+        *wanted &= ready.load(SeqCst);
+        while *wanted != 0 {
+            let bit = *wanted & wanted.wrapping_neg();
+            *wanted -= bit;
+            if ready.fetch_and(!bit, SeqCst) & bit == 0 {
+                continue;
+            }
+            let place = block * BLOCK + bit.trailing_zeros() as usize;
             let mark = self.table.mark(place);
             let seen = mark.load(SeqCst);
             if seen & WOKEN != 0 {
                 mark.store(seen & !WOKEN, SeqCst);
             }
             // SAFETY: the bit of the ready word was cleared by this thread.
-            out[count] = Job { name: name_of(place, seen >> 2), job: unsafe { *self.table.slot(place) }, seat: 0 };
-            count += 1;
+            return Some(Job { name: name_of(place, seen >> 2), job: unsafe { *self.table.slot(place) }, seat: 0 });
         }
-        count
+        None
     }
 
-    /// One ready job of a block. Where no other thread takes, None means that there is none.
-    pub(crate) fn take_any(&self, block: usize) -> Option<Job> {
-        let mut job = [Job { name: 0, job: 0, seat: 0 }];
-        (self.take(block, 0, &mut job) != 0).then(|| job[0])
-    }
-
-    /// How many jobs seem ready in a block.
+    /// Which places of a block have a ready job, as bits.
     #[inline]
-    pub(crate) fn count(&self, block: usize) -> u32 {
-        self.table.blocks[block].ready.0.load(Relaxed).count_ones()
+    pub(crate) fn ready(&self, block: usize) -> u64 {
+        self.table.blocks[block].ready.0.load(Relaxed)
     }
 
     /// The blocks of a shard that may have ready jobs, as bits.
@@ -255,12 +245,6 @@ impl Hands {
     pub(crate) fn hide(&self, block: usize) -> bool {
         self.table.hide(block);
         false
-    }
-
-    /// The index of a block from which on it is looked at next, where this job was the last that was taken of it.
-    #[inline]
-    pub(crate) fn behind(&self, job: &Job) -> u32 {
-        (job.place() % BLOCK) as u32 + 1
     }
 
     /// Makes a job in hand ready; whether the shard's thread has to be woken.

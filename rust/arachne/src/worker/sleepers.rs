@@ -40,7 +40,7 @@ impl Shared {
         if waits {
             self.waits.0.store(NO_ONE, SeqCst);
         }
-        let heard = sleeps && self.hear(context, turn, &found, turn.few()) != 0;
+        let heard = sleeps && self.hear(context, turn, &found, self.room(turn)) != 0;
         if waits && (!sleeps || roused || heard) {
             self.leaves_epoll();
         }
