@@ -553,22 +553,31 @@ fn what_is_in_hand_is_for_whoever_has_nothing_to_do() {
     while !busy.load(SeqCst) {
         thread::yield_now();
     }
-    let threads = runtime.spawn(async move {
-        let task = |ends: Arc<AtomicBool>| async move {
+    let all = runtime.spawn(async move {
+        let seen = Arc::new(std::sync::Mutex::new(Vec::new()));
+        let task = |ends: Arc<AtomicBool>, seen: Arc<std::sync::Mutex<Vec<thread::ThreadId>>>| async move {
             yield_now().await;
             ends.store(true, SeqCst);
-            thread::sleep(5 * MS);
-            thread::current().id()
+            seen.lock().unwrap().push(thread::current().id());
+            // Some polls end, so that their worker sees that the other has nothing to do.
+            thread::sleep(30 * MS);
+            let (begin, others) = (Instant::now(), || {
+                let seen = seen.lock().unwrap();
+                seen.len() < 5 || seen.iter().any(|thread| *thread != seen[0])
+            });
+            while !others() && begin.elapsed() < LONG {
+                thread::sleep(MS);
+            }
+            others()
         };
-        let tasks: Vec<_> = (0..14).map(|_| spawn(task(ends.clone()))).collect();
-        let mut threads = Vec::new();
+        let tasks: Vec<_> = (0..14).map(|_| spawn(task(ends.clone(), seen.clone()))).collect();
+        let mut all = true;
         for task in tasks {
-            threads.push(task.await.unwrap());
+            all &= task.await.unwrap();
         }
-        threads
+        all
     });
-    let threads = block_on(threads).unwrap();
-    assert!(threads.iter().any(|thread| *thread != threads[0]), "one worker ran all");
+    assert!(block_on(all).unwrap(), "one worker ran all");
     block_on(other).unwrap();
 }
 
