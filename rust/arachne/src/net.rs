@@ -1,9 +1,11 @@
 //! TCP over the runtime's reactor. A socket belongs to the runtime in which it first has to wait.
 
 use crate::block_on::poll_fn;
+use crate::drain::is_stopping;
 use crate::reactor::{Io, Key, READ, READ_CLOSED, WRITE, WRITE_CLOSED};
 use crate::shared::{here, Context as Worker, Shared};
 use crate::sys;
+use crate::waker::is_of_running;
 use std::future::Future;
 use std::io::{self, ErrorKind::WouldBlock, IoSlice, Read, Write};
 use std::net::{Shutdown, SocketAddr, ToSocketAddrs};
@@ -11,7 +13,7 @@ use std::os::unix::io::{AsRawFd, FromRawFd};
 use std::pin::Pin;
 use std::sync::atomic::Ordering::*;
 use std::sync::{Arc, Mutex};
-use std::task::{Context, Poll};
+use std::task::{Context, Poll, Waker};
 
 #[derive(Clone)]
 struct Registered {
@@ -71,6 +73,16 @@ mod once {
     }
 }
 
+/// Whether a read may be made here. In a poll of a task there is one, and more until its worker is to look out. Nothing is
+/// put off once the end has begun, nor for a waker that isn't the task's: its poll gives no worker back (`block_on`).
+#[inline]
+fn may_read(waker: &Waker) -> bool {
+    Worker::with(|worker| match worker {
+        Some(worker) if is_of_running(waker, worker) => worker.may_read() || is_stopping(),
+        _ => true,
+    })
+}
+
 impl<S: AsRawFd> Source<S> {
     fn new(socket: S) -> Source<S> {
         Source { socket, at: once::Once::new(), registering: Mutex::new(()) }
@@ -101,7 +113,7 @@ impl<S: AsRawFd> Source<S> {
         mut attempt: impl FnMut(&S) -> io::Result<T>,
         moved: impl Fn(&T) -> usize,
     ) -> Poll<io::Result<T>> {
-        let may_read = || !reads || Worker::with(|worker| worker.map_or(true, Worker::may_read));
+        let may_read = || !reads || may_read(cx.waker());
         let io = match self.at.get() {
             Some(at) => &at.io,
             None if !may_read() => &self.registered()?.io,
@@ -192,12 +204,18 @@ impl TcpListener {
     }
 
     fn poll_std(&self, cx: &mut Context<'_>) -> Poll<io::Result<(std::net::TcpStream, SocketAddr)>> {
-        let polled = self.0.poll(cx, true, usize::MAX, |listener| listener.accept(), |_| usize::MAX);
-        if polled.is_pending() && crate::drain::is_stopping() {
-            // Whoever had connected before was accepted.
-            return Poll::Ready(Err(io::Error::new(io::ErrorKind::Other, "the runtime is about to end")));
+        loop {
+            let was_stopping = is_stopping();
+            let polled = self.0.poll(cx, true, usize::MAX, |listener| listener.accept(), |_| usize::MAX);
+            if polled.is_ready() || !is_stopping() {
+                return polled;
+            }
+            if was_stopping {
+                // Whoever had connected before was accepted.
+                return Poll::Ready(Err(io::Error::new(io::ErrorKind::Other, "the runtime is about to end")));
+            }
+            // The end began meanwhile. The try may have been put off, so there is one more, which isn't.
         }
-        polled
     }
 }
 

@@ -35,13 +35,19 @@ pub(crate) fn waker_of(table: usize, name: u64) -> ManuallyDrop<Waker> {
     ManuallyDrop::new(unsafe { Waker::from_raw(RawWaker::new(name as usize as *const (), &VTABLES[table])) })
 }
 
+/// Whether this waker is that of the task which the worker polls.
+#[inline]
+pub(crate) fn is_of_running(waker: &Waker, worker: &Worker) -> bool {
+    let name = worker.current.get();
+    name != NOBODY && waker.will_wake(&waker_of(worker.shared.table, name))
+}
+
 /// The name of the running task, where this waker is the task's and of this runtime.
 #[inline]
 pub(crate) fn name_in(waker: &Waker, table: usize) -> Option<u64> {
     Worker::with(|worker| {
         let worker = worker.filter(|w| w.shared.table == table)?;
-        let name = worker.current.get();
-        (name != NOBODY && waker.will_wake(&waker_of(table, name))).then(|| name)
+        is_of_running(waker, worker).then(|| worker.current.get())
     })
 }
 

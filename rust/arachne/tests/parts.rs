@@ -621,3 +621,80 @@ fn a_socket_that_always_has_more_holds_nobody_up() {
         assert!(!held, "a task waited for one that reads on and on");
     }
 }
+
+#[test]
+fn all_who_had_connected_are_accepted_at_the_end() {
+    let runtime = Runtime::new(1);
+    let listener = net::TcpListener::bind("127.0.0.1:0").unwrap();
+    let at = listener.local_addr().unwrap();
+    let (accepted, is_ready) = (Arc::new(AtomicUsize::new(0)), Arc::new(AtomicBool::new(false)));
+    let (counted, told) = (accepted.clone(), is_ready.clone());
+    runtime.spawn(async move {
+        told.store(true, SeqCst);
+        while !arachne::is_stopping() {
+            yield_now().await;
+        }
+        while listener.accept().await.is_ok() {
+            counted.fetch_add(1, SeqCst);
+        }
+    });
+    while !is_ready.load(SeqCst) {
+        thread::yield_now();
+    }
+    let _clients: Vec<_> = (0..100).map(|_| std::net::TcpStream::connect(at).unwrap()).collect();
+    runtime.shutdown_within(LONG);
+    assert_eq!(accepted.load(SeqCst), 100);
+}
+
+#[test]
+fn what_is_read_within_block_on_in_a_task_is_not_put_off() {
+    let runtime = Runtime::new(2);
+    let listener = net::TcpListener::bind("127.0.0.1:0").unwrap();
+    let mut client = std::net::TcpStream::connect(listener.local_addr().unwrap()).unwrap();
+    let task = runtime.spawn(async move {
+        let (stream, _) = listener.accept().await.unwrap();
+        block_on(async {
+            let (mut bytes, mut got) = ([0; 10], 0);
+            while got < 50 {
+                got += stream.read(&mut bytes).await.unwrap();
+            }
+            got
+        })
+    });
+    for _ in 0..5 {
+        thread::sleep(5 * MS);
+        client.write_all(&[1; 10]).unwrap();
+    }
+    assert_eq!(block_on(task).unwrap(), 50);
+}
+
+#[test]
+fn sockets_are_heard_in_the_order_in_which_they_were_told_of() {
+    let runtime = Runtime::new(1);
+    let listener = std::net::TcpListener::bind("127.0.0.1:0").unwrap();
+    let order = Arc::new(std::sync::Mutex::new(Vec::new()));
+    let (mut clients, mut tasks) = (Vec::new(), Vec::new());
+    for i in 0..8 {
+        clients.push(std::net::TcpStream::connect(listener.local_addr().unwrap()).unwrap());
+        let stream = net::TcpStream::from_std(listener.accept().unwrap().0).unwrap();
+        let order = order.clone();
+        tasks.push(runtime.spawn(async move {
+            stream.read(&mut [0]).await.unwrap();
+            order.lock().unwrap().push(i);
+        }));
+    }
+    thread::sleep(20 * MS);
+    let is_blocked = Arc::new(AtomicBool::new(false));
+    let told = is_blocked.clone();
+    let blocks = runtime.spawn(async move {
+        told.store(true, SeqCst);
+        thread::sleep(20 * MS);
+    });
+    while !is_blocked.load(SeqCst) {
+        thread::yield_now();
+    }
+    clients.iter_mut().for_each(|client| client.write_all(&[1]).unwrap());
+    block_on(blocks).unwrap();
+    tasks.into_iter().for_each(|task| block_on(task).unwrap());
+    assert_eq!(*order.lock().unwrap(), (0..8).collect::<Vec<_>>());
+}
