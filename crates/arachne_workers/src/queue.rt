@@ -2,10 +2,10 @@
 //! other cores.
 //!
 //! Plain data: it touches no word that another worker sees.
-ghost use Rattle.std.specs.Prelude.{◌≡◌, ◌≢◌, ◌≤◌, ◌<◌, ◌↔◌, ◌⊎◌, [], ◌∷◌, ◌++◌, ◌^◌, None, Some, if◌then◌else◌, IsSome, IsTrue, MatchOption};
+ghost use Rattle.std.specs.Prelude.{◌≡◌, ◌≢◌, ◌≤◌, ◌<◌, ◌↔◌, ◌⊎◌, [], ◌∷◌, ◌++◌, ◌^◌, ◌+◌, ◌-◌, min, length, None, Some, if◌then◌else◌, IfSome, IsSome, IsTrue, MatchOption};
 ghost use Rattle.std.specs.Int.RustNames.{bit_or};
 ghost use Rattle.arachne_core.specs.declared.layout.TheConstants.{SLOTS};
-ghost use Rattle.arachne_workers.specs.declared.policy.TheConstants.{SCANS_BETWEEN_LOOKS};
+ghost use Rattle.arachne_workers.specs.declared.policy.TheConstants.{MOST_KEPT_BACK, PATIENCE, SCANS_BETWEEN_LOOKS};
 ghost use Rattle.arachne_workers.specs.Lowest.{IsLowest};
 ghost use Rattle.arachne_workers.specs.Posts.{IsKeptBack};
 
@@ -67,7 +67,8 @@ impl Agenda {
 
     /// A scan begins at these indexes and those that were noted.
     pub(crate) fn begin_scan(&mut self, indexes: u64)
-        ensures { (self.new.scan ≡ bit_or self.old.ready indexes) × (self.new.ready ≡ 0) }
+        ensures begun { (self.new.scan ≡ bit_or self.old.ready indexes) × (self.new.ready ≡ 0) }
+        ensures counted { self.new.scans ≡ min (self.old.scans + 1) u32.MAX }
     {
         self.scan = self.ready | indexes;
         self.ready = 0;
@@ -76,7 +77,8 @@ impl Agenda {
 
     /// Whether the next scan is to be one of all that is occupied.
     pub(crate) fn is_look_due(&mut self) -> bool
-        ensures { IsTrue result ↔ SCANS_BETWEEN_LOOKS ≤ self.old.scans }
+        ensures due { IsTrue result ↔ SCANS_BETWEEN_LOOKS ≤ self.old.scans }
+        ensures counted { self.new.scans ≡ (if result then 0 else self.old.scans) }
     {
         let is_due = self.scans >= policy::SCANS_BETWEEN_LOOKS;
         if is_due {
@@ -87,7 +89,8 @@ impl Agenda {
 
     /// The lowest index that is left of the scan, and is left no longer.
     pub(crate) fn next_index(&mut self) -> Option<u8>
-        ensures { MatchOption result (self.old.scan ≡ 0) (IsLowest self.old.scan) }
+        ensures lowest { MatchOption result (self.old.scan ≡ 0) (IsLowest self.old.scan) }
+        ensures fewer { IfSome result (λ _. self.new.scan < self.old.scan) }
     {
         if self.scan == 0 {
             return None;
@@ -140,7 +143,8 @@ impl Agenda {
 
     /// A thread was posted on another core. What is to be told of at once: it, or the oldest that was kept back.
     pub(crate) fn keep_back(&mut self, post: Post) -> Option<Post>
-        ensures { IsKeptBack self.old.posts.items post result self.new.posts.items }
+        ensures kept { IsKeptBack self.old.posts.items post result self.new.posts.items }
+        ensures few { length self.old.posts.items ≤ MOST_KEPT_BACK → length self.new.posts.items ≤ MOST_KEPT_BACK }
     {
         let before = self.posted;
         self.posted = before.saturating_add(1);
@@ -182,7 +186,8 @@ impl Agenda {
 
     /// The worker has made so many steps. Whether it is to tell now of all that is kept back.
     pub(crate) fn spend(&mut self, steps: u32) -> bool
-        ensures { IsTrue result ↔ self.old.patience ≤ steps }
+        ensures due { IsTrue result ↔ self.old.patience ≤ steps }
+        ensures left { self.new.patience ≡ (if result then PATIENCE else self.old.patience - steps) }
     {
         if self.patience <= steps {
             self.patience = policy::PATIENCE;

@@ -4,8 +4,8 @@ use Rattle.std.specs.Int.{w64}
 use Rattle.arachne_workers.proofs.queue.Agenda.next_index.Goals as goal
 
 -- as many zeros stand below the lowest bit as its index says
-pub returns : goal.returns
-returns c =
+pub returns-clause-lowest : goal.returns-clause-lowest
+returns-clause-lowest c =
     let n = c.args.self.now.scan in
     let some : 0 < n = omega (arith, c.if-self-eq0.false) in
     let small : n < 2 ^ 64 = search rules in
