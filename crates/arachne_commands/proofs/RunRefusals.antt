@@ -84,10 +84,10 @@ pub refused_as_set_up : (settings : RunSettings) (setup : Setup) (made : List (L
     → IfErr result (IsRefusal settings)
 refused_as_set_up settings setup made served result counts is refused misordered only =
     refused_by_run settings served setup.orders.items result
-        (served_as_set_up settings setup made served counts is) is.orders
-        (rw (sym is.cores, sym is.quantum, sym is.slots) refused)
-        (rw (sym is.cores, sym is.quantum, sym is.slots) misordered)
-        (rw (sym is.cores, sym is.quantum, sym is.slots) only)
+    (served_as_set_up settings setup made served counts is) is.orders
+    (rw (sym is.cores, sym is.quantum, sym is.slots) refused)
+    (rw (sym is.cores, sym is.quantum, sym is.slots) misordered)
+    (rw (sym is.cores, sym is.quantum, sym is.slots) only)
 
 pub allowed_as_set_up : (settings : RunSettings) (setup : Setup) (made : List (List ℕ)) (served : ℕ) (result : Result Report RunFault)
     → served ≡ length made
@@ -97,6 +97,6 @@ pub allowed_as_set_up : (settings : RunSettings) (setup : Setup) (made : List (L
     → IsOk result → MayRun settings
 allowed_as_set_up settings setup made served result counts is refused ordered =
     allowed_by_run settings served setup.orders.items result
-        (served_as_set_up settings setup made served counts is) is.orders
-        (rw (sym is.cores, sym is.quantum, sym is.slots) refused)
-        (rw (sym is.cores) ordered)
+    (served_as_set_up settings setup made served counts is) is.orders
+    (rw (sym is.cores, sym is.quantum, sym is.slots) refused)
+    (rw (sym is.cores) ordered)
