@@ -40,6 +40,12 @@ impl TicketTaken {
     }
 }
 
+/// Tags that were drawn, so many in a row from the first on.
+pub(crate) struct Drawn {
+    pub(crate) first: u64,
+    pub(crate) count: u64,
+}
+
 /// How many children may wait at most.
 #[derive(Clone, Copy)]
 struct Limit {
@@ -124,9 +130,13 @@ impl Room {
         self.waiting.fetch_sub(1, Ordering::SeqCst);
     }
 
-    /// The first of so many tags in a row that no other thread of the run has, as long as fewer than 2^64 are drawn.
-    pub fn next_tags(&self, count: u64) -> u64 {
-        self.next_tag.fetch_add(count, Ordering::SeqCst)
+    /// So many tags in a row that no other thread of the run has, as long as fewer than 2^64 are drawn.
+    #[inline(always)]
+    pub(crate) fn next_tags(&self, count: u64) -> Drawn
+        ensures { result.count ≡ count }
+    {
+        let first = self.next_tag.fetch_add(count, Ordering::SeqCst);
+        Drawn { first, count }
     }
 }
 

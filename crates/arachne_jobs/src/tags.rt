@@ -1,7 +1,7 @@
 //! The tags that a worker gives to the threads which begin at it.
 ghost use Rattle.std.specs.Prelude.{◌≡◌, ◌+◌, ◌<◌};
 
-use crate::room::Room;
+use crate::room::{Drawn, Room};
 
 /// How many tags a worker draws at once.
 pub const BLOCK: u64 = 64;
@@ -29,8 +29,9 @@ impl Tags {
         ensures drawn { self.old.left ≡ 0 → self.new.left + 1 ≡ BLOCK }
     {
         if self.left == 0 {
-            self.next = room.next_tags(BLOCK);
-            self.left = BLOCK;
+            let Drawn { first, count } = room.next_tags(BLOCK);
+            self.next = first;
+            self.left = count;
         }
         let tag = self.next;
         self.next = tag.wrapping_add(1);

@@ -4,3 +4,4 @@ pub mod Tokens
 pub mod Distinct
 pub mod Histories
 pub mod Serving
+pub mod Drawing

@@ -4,6 +4,7 @@
 ghost use Rattle.std.specs.Prelude.{◌≡◌, ◌↔◌, ◌<◌, ◌≤◌, [], ◌∷◌, false, IfOk, IsTrue, MatchOption, OnOk, map};
 ghost use Rattle.arachne_contexts.specs.Out.{Claim as a_claim, HasOut};
 ghost use Rattle.arachne_spill.specs.Views.{IsPassOf};
+ghost use Rattle.arachne_run.specs.Drawing.{after_words};
 ghost use Rattle.arachne_run.specs.Serving.{StopsAt};
 ghost use Rattle.arachne_run.specs.Tokens.{IsSetUp, IsSpent, thread_in};
 
@@ -81,8 +82,10 @@ pub(crate) fn go_on<H: Wait + Clock, T: RunJob, C: Contexts<T>, R: Rng>(
 }
 
 /// Draws so many words from the chooser.
-fn draw<R: Rng>(chooser: &mut R, words: u64) {
-    for _ in 0..words {
+fn draw<R: Rng>(chooser: &mut R, words: u64)
+    ensures { R.stream chooser.new ≡ after_words words (R.stream chooser.old) }
+{
+    for _drawn in 0..words {
         let _ = chooser.next_u64();
     }
 }

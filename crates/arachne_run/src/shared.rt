@@ -1,5 +1,5 @@
 //! The words of a run that all its workers see.
-ghost use Rattle.std.specs.Prelude.{◌≡◌, IfOk};
+ghost use Rattle.std.specs.Prelude.{◌≡◌, IfOk, MatchOption};
 
 use crate::fault::WorkerFault;
 use arachne_jobs::Room;
@@ -59,14 +59,22 @@ impl Shared {
     /// Stops all workers for a fault, which is recorded if it is the first.
     pub(crate) fn fail<H: Wait>(&self, rt: &H, fault: WorkerFault) {
         let mut first = self.first_fault.lock(rt);
-        if first.is_none() {
-            *first = Some(fault);
-        }
+        *first = Some(first_of(*first, fault));
         self.stop();
     }
 
     /// The fault for which all workers were stopped first.
     pub(crate) fn into_first_fault(self) -> Option<WorkerFault> {
         self.first_fault.into_inner()
+    }
+}
+
+/// The fault that counts where this one comes: the one that came before, if there was one.
+fn first_of(before: Option<WorkerFault>, fault: WorkerFault) -> WorkerFault
+    ensures { MatchOption before (result ≡ fault) (λ first. result ≡ first) }
+{
+    match before {
+        Some(first) => first,
+        None => fault,
     }
 }
