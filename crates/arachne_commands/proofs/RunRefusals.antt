@@ -60,7 +60,7 @@ pub allowed_by_run : (settings : RunSettings) (served : ℕ) (orders : List Core
     → ((fault : RunFault) → refusal_of settings.cores settings.quantum settings.slots served ≡ Some fault → result ≡ Err fault)
     → (IsOk result → AreInOrder settings.cores orders)
     → IsOk result → MayRun settings
-allowed_by_run settings served orders (Err fault) serves same refused ordered ok = absurd ok
+allowed_by_run settings served orders (Err fault) serves same refused ordered ok = let never : false ≡ true = ok in cc
 allowed_by_run settings served orders (Ok report) serves same refused ordered ok = record {
   numbers = sym (same_refusal settings.cores settings.quantum settings.slots served serves) ∙ by_refusal (refusal_of settings.cores settings.quantum settings.slots served) refl;
   in_order = subst (AreInOrder settings.cores) same (ordered ok);
