@@ -6,7 +6,7 @@ use denote.Param.Send.{IsSend, IsSync, sendable, recorded_send, enum_send}
 use Rattle.std.proofs.Crossing as std
 use Rattle.arachne_core.proofs.thread_id.ThreadId.TheSendSync as id
 use Rattle.arachne_join.proofs.Crossing.{sender_send, receiver_send, unused_send}
-use Rattle.arachne_machine.proofs.Crossing.{thread_field_send, detached_send, spares_field_send}
+use Rattle.arachne_machine.proofs.Crossing.{outcome_send, outcome_field_send, spares_field_send, thread_field_send}
 use Rattle.arachne_join.proofs.cell.JoinCell.TheSendSync as cell
 use Rattle.arachne_join.proofs.sending_end.SendingEnd.TheSendSync as sending_end
 use Rattle.arachne_jobs.specs.contracts.ends.Link as link
@@ -14,6 +14,8 @@ use Rattle.arachne_jobs.specs.contracts.job.Job as job
 use Rattle.arachne_jobs.specs.contracts.left.Left as left
 use Rattle.arachne_jobs.specs.contracts.left.Waiting as waiting
 use Rattle.arachne_jobs.specs.contracts.spares.Spares as spares
+use Rattle.arachne_jobs.specs.contracts.ties.SpareTies as spare_ties
+use Rattle.arachne_jobs.specs.contracts.ties.Ties as ties
 use Rattle.arachne_jobs.specs.contracts.waiting.Ticket as ticket
 use Rattle.arachne_jobs.specs.contracts.waiting.WaitCell as wait_cell
 use Rattle.arachne_jobs.specs.contracts.wanted.Wanted as wanted
@@ -29,7 +31,7 @@ waiting_send κ = search (sendable, std.crosses, thread_field_send, id.the_field
 
 left_send : (κ : NamedLft) → IsSend (left.the_row κ)
 left_send κ = recorded_send (Enum (enum.shape (left.the_type κ))) ((left.the_type κ).D) ((left.the_type κ).to) ((left.the_type κ).to_one)
-    (enum_send (enum.shape (left.the_type κ)) ((search (sendable, std.crosses, waiting_send) depth 20, tt), ((search (sendable, std.crosses, detached_send) depth 20, tt), tt)))
+    (enum_send (enum.shape (left.the_type κ)) ((search (sendable, std.crosses, waiting_send) depth 20, tt), ((search (sendable, std.crosses, outcome_field_send) depth 20, tt), tt)))
 
 wait_cell_send : (κ : NamedLft) → IsSend (wait_cell.the_row κ)
 wait_cell_send κ = search (sendable, std.crosses, cell.the_send, cell.the_sync, left_send, wanted_send, wanted_sync) depth 30
@@ -38,10 +40,16 @@ pub ticket_send : (κ : NamedLft) → IsSend (ticket.the_row κ)
 ticket_send κ = search (sendable, std.crosses, cell.the_send, cell.the_sync, left_send, wanted_send, wanted_sync) depth 30
 
 link_send : (κ : NamedLft) → IsSend (link.the_row κ)
-link_send κ = search (sendable, std.crosses, sender_send, receiver_send, detached_send, wait_cell_send, sending_end.the_send, left_send, wanted_send, wanted_sync) depth 40
+link_send κ = search (sendable, std.crosses, sender_send, receiver_send, outcome_field_send, wait_cell_send, sending_end.the_send, left_send, wanted_send, wanted_sync) depth 40
+
+ties_send : (κ : NamedLft) → IsSend (ties.the_row κ)
+ties_send κ = search (sendable, std.crosses, link_send, id.the_field_send) depth 30
 
 pub job_send : (κ : NamedLft) → IsSend (job.the_row κ)
-job_send κ = search (sendable, std.crosses, thread_field_send, link_send, id.the_field_send) depth 30
+job_send κ = search (sendable, std.crosses, thread_field_send, ties_send) depth 30
+
+spare_ties_send : (κ : NamedLft) → IsSend (spare_ties.the_field κ).row
+spare_ties_send κ = search (sendable, std.crosses, ties_send) depth 30
 
 pub spares_send : (κ : NamedLft) → IsSend (spares.the_row κ)
-spares_send κ = search (sendable, std.crosses, spares_field_send, unused_send, detached_send) depth 30
+spares_send κ = search (sendable, std.crosses, spares_field_send, spare_ties_send, unused_send, outcome_field_send) depth 30

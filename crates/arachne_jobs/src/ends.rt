@@ -8,9 +8,9 @@ use arachne_join::SendingEnd;
 #[derive(Drop)]
 pub enum Link<'p> {
     /// Here the thread leaves its outcome.
-    Leaves(OutcomeSender),
+    Leaves(OutcomeSender<'p>),
     /// Here the outcome of a child comes.
-    Awaits(OutcomeReceiver),
+    Awaits(OutcomeReceiver<'p>),
     /// The cell in which a child waits or has waited. The parent, which awaits its outcome, has no sending end; the
     /// child has one once it was taken out of the cell.
     Waits(WaitCell<'p>, Option<SendingEnd<Left<'p>, Wanted>>),

@@ -2,7 +2,7 @@
 use crate::wanted::Wanted;
 use arachne_core::ThreadId;
 use arachne_join::Fits;
-use arachne_machine::{DetachedOutcome, Thread};
+use arachne_machine::{Outcome, Thread};
 
 /// A child that waits, and the id under which its parent runs.
 #[derive(Drop)]
@@ -17,7 +17,7 @@ pub enum Left<'p> {
     /// The child, which has not begun.
     Child(Waiting<'p>),
     /// Its outcome.
-    Outcome(DetachedOutcome),
+    Outcome(Outcome<'p>),
 }
 
 impl<'p> Fits<Wanted> for Left<'p> {
@@ -32,7 +32,7 @@ impl<'p> Fits<Wanted> for Left<'p> {
 #[derive(Drop)]
 pub enum Found<'p> {
     /// The child has ended.
-    Outcome(DetachedOutcome),
+    Outcome(Outcome<'p>),
     /// The child waited still, and waits no longer.
     Child(Thread<'p>),
     /// The child is at a place of its own, or on the way to one.

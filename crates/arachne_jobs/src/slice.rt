@@ -164,7 +164,7 @@ pub trait JobOf<'p>: RunJob {
         alloc: Global,
         program: &'p Program,
         spares: &mut Self::Spares,
-    ) -> Result<(Self, OutcomeReceiver), AllocError>
+    ) -> Result<(Self, OutcomeReceiver<'p>), AllocError>
         requires { IsChecked (source_of program.now) }
         ensures program { IfOk result (λ made. made.1.opening.key.program.value ≡ program.now) }
         ensures name { IfOk result (λ made. made.1.opening.key.name.value ≡ []) }

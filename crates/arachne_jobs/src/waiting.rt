@@ -11,7 +11,7 @@ use crate::wanted::Wanted;
 use arachne_contexts::Tagged;
 use arachne_core::ThreadId;
 use arachne_join::{CellState, JoinCell, SendingEnd};
-use arachne_machine::{DetachedOutcome, Thread};
+use arachne_machine::{Outcome, Thread};
 use std::alloc::{AllocError, Global};
 use std::marker::Model;
 use std::snapshot::Snapshot;
@@ -111,7 +111,7 @@ impl<'p> WaitCell<'p> {
 
 impl<'p> WaitCell<'p> {
     /// Leaves the child's outcome, with the sending end of this cell.
-    pub(crate) fn leave(self, end: SendingEnd<Left<'p>, Wanted>, outcome: DetachedOutcome)
+    pub(crate) fn leave(self, end: SendingEnd<Left<'p>, Wanted>, outcome: Outcome<'p>)
         requires end { end ≡ self.table }
         requires outcome { IsWanted self.key outcome }
     {

@@ -1,7 +1,7 @@
 //! What a fork's child leaves for its parent.
 use arachne_join::{Fits, Receiver, Sender};
 use arachne_lang::{Name, Program};
-use arachne_machine::DetachedOutcome;
+use arachne_machine::Outcome;
 use std::snapshot::Snapshot;
 
 /// What a cell is for: the outcome of the thread of this name in this program. It has no bytes.
@@ -13,14 +13,14 @@ pub struct Wanted {
     pub name: Snapshot<Name>,
 }
 
-impl Fits<Wanted> for DetachedOutcome {
+impl<'p> Fits<Wanted> for Outcome<'p> {
     ghost use Rattle.arachne_jobs.specs.Cells.{IsWanted};
 
     ghost fits = { IsWanted };
 }
 
 /// The end that leaves the outcome of a thread.
-pub type OutcomeSender = Sender<DetachedOutcome, Wanted>;
+pub type OutcomeSender<'p> = Sender<Outcome<'p>, Wanted>;
 
 /// The end that the outcome of a thread comes to.
-pub type OutcomeReceiver = Receiver<DetachedOutcome, Wanted>;
+pub type OutcomeReceiver<'p> = Receiver<Outcome<'p>, Wanted>;

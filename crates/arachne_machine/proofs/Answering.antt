@@ -22,6 +22,7 @@ use Rattle.arachne_machine.specs.Steps.{Becomes, Goes, LeavesOthers, Changes, Tu
 use Rattle.arachne_machine.specs.Sound.{IsSoundState, AreSound}
 use Rattle.arachne_machine.specs.Kept.{IsKept, IsSoundChild, nested}
 use Rattle.arachne_machine.specs.Outcome.{IsOfItsName}
+use Rattle.arachne_machine.specs.Ended.{HasEnded, finished_in, value_in}
 use Rattle.arachne_lang.specs.Effects.{tabulated}
 use Rattle.arachne_machine.proofs.Tabulated.{tabulated-same}
 use Rattle.arachne_machine.specs.Runs.{after_fork}
@@ -249,7 +250,7 @@ kept_alone t placed h none =
     })
 
 -- What it brings in the end is what its name means.
-pub ended_means : (t : State) (v : ℕ) → IsSoundState t → t.parents.items ≡ [] → t.control ≡ Ended v →
+ended_means : (t : State) (v : ℕ) → IsSoundState t → t.parents.items ≡ [] → t.control ≡ Ended v →
     IsOfItsName (record { program = t.program.now; name = t.own.name; value = v; sums = t.sums.items; lines = own_line t.own ∷ t.lines })
 ended_means t v s none ended =
     let source = source_of t.program.now in
@@ -263,3 +264,22 @@ ended_means t v s none ended =
       sums = t.sums.items;
       lines = (let own = owned_at t.own ps t.lines t.level.place in record { name = own.name; tag = own.label.tag; holds = own.holds; ran = own.label.ran }) ∷ below_at ps t.lines t.level.place;
     })) (ap reverse none) (sound_end (top t) v t.sums.items sound.0 sound.2 ended sums)
+
+ended_by : (t : State) (k : Control) → t.control ≡ k → pending_of k ≡ Some pause.Ended → IsSoundState t → t.parents.items ≡ [] → IsOfItsName (finished_in t)
+ended_by t (Ended value) is p s none =
+    subst (λ x. IsOfItsName (record { program = t.program.now; name = t.own.name; value = value_in x; sums = t.sums.items; lines = own_line t.own ∷ t.lines })) (sym is)
+    (ended_means t value s none is)
+ended_by t (Begin expr) is p s none = cc
+ended_by t (Give value) is p s none = cc
+ended_by t (Cover stretch) is p s none = cc
+ended_by t (Forked expr) is p s none = cc
+ended_by t (Halved stretch) is p s none = cc
+ended_by t (Awaits number during next) is p s none = cc
+ended_by t (AwaitsHalf number right reduction) is p s none = cc
+ended_by t (Asks lock body) is p s none = cc
+ended_by t (Frees lock value) is p s none = cc
+ended_by t (Tallies ledger amount body) is p s none = cc
+
+-- A state that has ended is the outcome of its name.
+pub ended_is : (t : State) → IsSoundState t → t.parents.items ≡ [] → HasEnded t → IsOfItsName (finished_in t)
+ended_is t s none ended = ended_by t t.control refl ended s none

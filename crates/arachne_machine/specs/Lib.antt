@@ -11,6 +11,7 @@ pub mod Account
 pub mod Strands
 pub mod Ending
 pub mod Steps
+pub mod Ended
 pub mod Sound
 pub mod Runs
 pub mod Kept

@@ -2,15 +2,13 @@
 use crate::frame::{Control, Frame};
 use crate::level::{Level, Parent, move_parents};
 use crate::line::{Ran, ThreadLine};
-use crate::lines::Lines;
-use crate::outcome::Outcome;
-use crate::pause::NotJoined;
+use crate::pause::Unjoined;
 use crate::placing::Placing;
 use crate::state::{Progress, State};
 use crate::tables::{add_each, zeros};
 use arachne_lang::{Name, Sequence};
 use std::alloc::AllocError;
-use std::mem::{replace, swap};
+use std::mem::swap;
 
 /// How children begin in their parent's place, and how they are joined.
 impl<'p> State<'p> {
@@ -22,7 +20,7 @@ impl<'p> State<'p> {
     ghost use Rattle.arachne_machine.specs.declared.pause.Pending.TheVariants as pause;
     ghost use Rattle.arachne_machine.specs.Runs.{BeginsHere, Descends, FitsInto, HasParent, JoinsOutcome, KeepsRest, LooksSame, ResumesAs, ResumesParent, StandsBefore, TakesIn, TakesLevels};
     ghost use Rattle.arachne_machine.specs.Strands.{Fits};
-    ghost use Rattle.arachne_machine.specs.Advance.{IsForeign, handed_back};
+    ghost use Rattle.arachne_machine.specs.Ended.{IsOther, finished_in};
 
     /// Whether the innermost thread awaits the child of this name.
     pub fn awaits(&self, name: &Name) -> bool
@@ -99,10 +97,11 @@ impl<'p> State<'p> {
         let place = self.lines.len();
         let ran = child.own.label.ran;
         child.own.label.ran = Ran::InPlace;
-        let below = replace(&mut child.lines, Lines::new(self.alloc));
-        if let Err((own, below)) = self.lines.append(child.take_line(), below) {
-            child.lines = below;
-            child.put_back_line(own);
+        if self
+            .lines
+            .append(self.alloc, &mut child.own, &mut child.lines)
+            .is_err()
+        {
             child.own.label.ran = ran;
             return Err(AllocError);
         }
@@ -181,40 +180,33 @@ impl<'p> State<'p> {
         self.frames.push_reserved(Frame::Restore(length));
     }
 
-    /// Joins this outcome, where it is that of the child that is awaited. Where it answers an error nothing has changed
-    /// but room, and the outcome comes back.
-    pub fn join(&mut self, outcome: Outcome<'p>) -> Result<(), NotJoined<'p>>
+    /// Joins the outcome of a thread that has ended, where it is that of the child that is awaited. Where it answers an
+    /// error nothing has changed but room.
+    pub fn join(&mut self, child: &mut State<'p>) -> Result<(), Unjoined>
         requires joins { pending_of self.old.control ≡ Some pause.Joins }
         requires line { HasLine self.old }
-        requires sums { length outcome.sums ≡ length self.old.sums.items }
-        ensures ok { OnOk result (JoinsOutcome self.old outcome.entry self.new) }
-        ensures foreign { IsForeign result ↔ (awaited (suspended (top self.old)) ≢ Some outcome.entry.name) }
+        requires ended { pending_of child.old.control ≡ Some pause.Ended }
+        requires sums { length child.old.sums.items ≡ length self.old.sums.items }
+        ensures ok { OnOk result (JoinsOutcome self.old (finished_in child.old) self.new) }
+        ensures foreign { IsOther result ↔ (awaited (suspended (top self.old)) ≢ Some child.old.own.name) }
         ensures err { OnErr result (IsSame self.old self.new) }
-        ensures handed_back { IfErr result (λ e. handed_back e ≡ outcome.entry) }
+        ensures childs { OnErr result (child.new ≡ child.old) }
     {
-        if !self.awaits(&outcome.own.name) {
-            return Err(NotJoined::Foreign(outcome));
+        if !self.awaits(&child.own.name) {
+            return Err(Unjoined::Foreign);
         }
+        let value = child.value();
         if self.reserve_turn().is_err() {
-            return Err(NotJoined::Memory(outcome));
+            return Err(Unjoined::Memory);
         }
-        let Outcome {
-            program,
-            value,
-            sums,
-            own,
-            below,
-        } = outcome;
-        if let Err((own, below)) = self.lines.append(own, below) {
-            return Err(NotJoined::Memory(Outcome {
-                program,
-                value,
-                sums,
-                own,
-                below,
-            }));
+        if self
+            .lines
+            .append(self.alloc, &mut child.own, &mut child.lines)
+            .is_err()
+        {
+            return Err(Unjoined::Memory);
         }
-        add_each(&mut self.sums, &sums);
+        add_each(&mut self.sums, &child.sums);
         self.resume_joined(value);
         Ok(())
     }

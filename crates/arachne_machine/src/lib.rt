@@ -4,7 +4,6 @@
 mod alone;
 mod answer;
 mod begin;
-mod detached;
 mod fork;
 mod frame;
 mod give;
@@ -25,7 +24,6 @@ mod turns;
 mod worth;
 
 pub use alone::run_alone;
-pub use detached::DetachedOutcome;
 pub use line::{Ran, ThreadLine};
 pub use outcome::{Outcome, OutcomeParts};
 pub use pause::{NotJoined, NotPlaced, Pause, Pending};

@@ -2,27 +2,27 @@
 ghost use Rattle.std.specs.Prelude.{◌≡◌, ◌∷◌, IfOk, IfErr};
 ghost use Rattle.arachne_machine.specs.Outcome.{IsOfItsName};
 
-use crate::detached::DetachedOutcome;
 use crate::line::ThreadLine;
-use crate::lines::Lines;
+use crate::state::State;
 use arachne_lang::{Name, Program, Sequence};
+use std::alloc::AllocError;
+use std::fmt;
 use std::marker::Model;
-use std::snapshot::Snapshot;
+use std::mem::replace;
 
 /// What a thread brings in the end: its value, the ledger sums, and the lines of itself and of all threads
 /// below it. It is what the program means for the thread of its name.
-#[derive(Debug, Drop)]
+///
+/// It is the state of the ended thread itself, so that nothing of it is moved until its parent joins it. What that
+/// doesn't take, the room of its environment and frames among it, is left to threads that begin.
+#[derive(Drop)]
 pub struct Outcome<'p> {
-    pub(crate) program: &'p Program,
-    pub(crate) value: u64,
-    pub(crate) sums: Vec<u64>,
-    pub(crate) own: ThreadLine,
-    pub(crate) below: Lines,
+    pub(crate) state: Box<State<'p>>,
 }
 
 impl<'p> Model for Outcome<'p> {
-    ghost use Rattle.std.specs.Prelude.{◌∷◌};
     ghost use Rattle.arachne_machine.specs.Outcome.{Finished, IsOfItsName};
+    ghost use Rattle.arachne_machine.specs.Ended.{HasEnded, finished_in};
 
     ghost Value = { Finished };
 
@@ -31,9 +31,15 @@ impl<'p> Model for Outcome<'p> {
 
     ghost coded = { Prim.hlevel (codes, expr.the_row.coded) };
 
-    ghost view = { λ o. record { program = o.program.now; name = o.own.name; value = o.value; sums = o.sums.items; lines = o.own ∷ o.below } };
+    ghost view = { λ o. finished_in o.state.value };
 
-    ghost invariant = { λ o. IsOfItsName (record { program = o.program.now; name = o.own.name; value = o.value; sums = o.sums.items; lines = o.own ∷ o.below }) };
+    ghost invariant = { λ o. HasEnded o.state.value × IsOfItsName (finished_in o.state.value) };
+}
+
+impl<'p> fmt::Debug for Outcome<'p> {
+    fn fmt<W: fmt::Write>(&self, f: &mut fmt::Formatter<W>) -> fmt::Result {
+        write!(f, "Outcome")
+    }
 }
 
 /// An outcome taken apart.
@@ -51,14 +57,14 @@ impl<'p> Outcome<'p> {
     pub fn program(&self) -> &'p Program
         ensures { result.now ≡ self.now.program }
     {
-        self.program
+        self.state.program
     }
 
     /// The thread's name.
     pub fn name(&self) -> &Name
         ensures { result.now ≡ self.now.name }
     {
-        &self.own.name
+        &self.state.own.name
     }
 
     /// The value.
@@ -66,7 +72,7 @@ impl<'p> Outcome<'p> {
         ensures value { result ≡ self.now.value }
         ensures of_its_name { IsOfItsName self.now }
     {
-        self.value
+        self.state.value()
     }
 
     /// The value, the sums and the lines. It takes memory for the list of lines; where that is refused the outcome
@@ -78,30 +84,33 @@ impl<'p> Outcome<'p> {
         ensures handed_back { IfErr result (λ outcome. outcome ≡ self.entry) }
         ensures of_its_name { IsOfItsName self.entry }
     {
-        let program = self.program;
-        match self.detach().into_parts() {
+        let mut state = self.state;
+        match state.take_parts() {
             Ok(parts) => Ok(parts),
-            Err(outcome) => Err(outcome.attach(program)),
+            Err(_) => Err(Outcome { state }),
         }
     }
+}
 
-    /// The outcome without the reference to its program.
-    pub fn detach(self) -> DetachedOutcome
-        ensures { result ≡ self.entry }
+impl<'p> State<'p> {
+    ghost use Rattle.std.specs.Prelude.{◌≡◌, IfOk, OnErr};
+    ghost use Rattle.arachne_machine.specs.Ended.{HasEnded, finished_in};
+
+    /// What a thread that has ended brings. Where memory is refused nothing has changed.
+    fn take_parts(&mut self) -> Result<OutcomeParts, AllocError>
+        requires { HasEnded self.old }
+        ensures value { IfOk result (λ parts. parts.value ≡ (finished_in self.old).value) }
+        ensures sums { IfOk result (λ parts. parts.sums ≡ (finished_in self.old).sums) }
+        ensures lines { IfOk result (λ parts. parts.lines ≡ (finished_in self.old).lines) }
+        ensures err { OnErr result (self.new ≡ self.old) }
     {
-        let Outcome {
-            program,
+        let value = self.value();
+        let lines = self.lines.complete(self.alloc, &mut self.own)?;
+        let sums = replace(&mut self.sums, Vec::new(self.alloc));
+        Ok(OutcomeParts {
             value,
-            sums,
-            own,
-            below,
-        } = self;
-        DetachedOutcome {
-            program: Snapshot::of(program),
-            value,
-            sums,
-            own,
-            below,
-        }
+            sums: Sequence::from(sums),
+            lines: Sequence::from(lines),
+        })
     }
 }

@@ -49,6 +49,15 @@ pub enum NotJoined<'p> {
     Memory(Outcome<'p>),
 }
 
+/// Why the state of an ended thread was not joined.
+#[derive(Clone, Copy)]
+pub enum Unjoined {
+    /// It is not that of the child that is awaited.
+    Foreign,
+    /// Memory was refused.
+    Memory,
+}
+
 /// Why a child was not placed. It comes back.
 #[derive(Drop, Error)]
 pub enum NotPlaced<'p> {

@@ -3,11 +3,10 @@ use crate::frame::{Control, Frame};
 use crate::level::{Level, Parent};
 use crate::line::{Label, Ran, ThreadLine};
 use crate::lines::Lines;
-use crate::outcome::Outcome;
 use crate::pause::Pending;
 use crate::placing::Placing;
 use crate::spares::Spares;
-use crate::tables::zeros;
+use crate::tables::{zero_all, zeros};
 use arachne_lang::{Class, Expr, Name, Program, Sequence};
 use std::alloc::{AllocError, Global};
 use std::mem::replace;
@@ -22,6 +21,9 @@ pub struct Own {
 }
 
 impl Own {
+    ghost use Rattle.std.specs.Prelude.{◌≡◌};
+    ghost use Rattle.arachne_machine.specs.Strands.{own_line};
+
     /// That of no thread. It allocates nothing.
     fn vacant(alloc: Global) -> Own {
         Own {
@@ -31,6 +33,20 @@ impl Own {
                 ran: Ran::Slot,
             },
             holds: Vec::new(alloc),
+        }
+    }
+
+    /// It as a line, and nothing is left of it.
+    #[inline(always)]
+    pub fn take(&mut self, alloc: Global) -> ThreadLine
+        ensures { result ≡ own_line self.old }
+    {
+        let Own { name, label, holds } = replace(self, Own::vacant(alloc));
+        ThreadLine {
+            name,
+            tag: label.tag,
+            holds: Sequence::from(holds),
+            ran: label.ran,
         }
     }
 }
@@ -105,10 +121,9 @@ impl<'p> State<'p> {
             ran: Ran::Slot,
         };
         let holds = zeros(alloc, program.locks)?;
-        let sums = zeros(alloc, program.ledgers)?;
         let own = Own { name, label, holds };
         let mut state = spares.take(alloc, program)?;
-        state.renew(program, own, sums, control, environment)?;
+        state.renew(program, own, control, environment)?;
         Ok(state)
     }
 
@@ -136,21 +151,20 @@ impl<'p> State<'p> {
         &mut self,
         program: &'p Program,
         own: Own,
-        sums: Vec<u64>,
         control: Control<'p>,
         environment: &[u64],
     ) -> Result<(), AllocError>
-        ensures { OnOk result (IsRenewed program.entry own sums.items control.entry environment.now self.new) }
+        ensures { OnOk result (IsRenewed program.entry own (tabulated program.now.ledgers (λ ledger. 0)) control.entry environment.now self.new) }
     {
+        zero_all(&mut self.sums, program.ledgers)?;
         self.environment.clear();
         self.environment.try_reserve(environment.len() + 3)?;
         self.environment.extend_from_slice(environment)?;
         self.frames.clear();
         self.parents.clear();
-        self.lines = Lines::new(self.alloc);
+        self.lines.clear();
         self.program = program;
         self.own = own;
-        self.sums = sums;
         self.level = Level::outermost();
         self.control = control;
         Ok(())
@@ -329,63 +343,8 @@ impl<'p> State<'p> {
         self.lines.at(self.level.place).tag
     }
 
-    /// The outcome of a thread that has ended.
-    #[inline(always)]
-    pub fn finish(&mut self) -> Outcome<'p>
-        requires ended { pending_of self.old.control ≡ Some pause.Ended }
-        requires alone { self.old.parents.items ≡ [] }
-        requires sound { IsSoundState self.old }
-        ensures program { result.program ≡ self.old.program.now }
-        ensures name { result.name ≡ self.old.own.name }
-        ensures sums { result.sums ≡ self.old.sums.items }
-        ensures lines { result.lines ≡ own_line self.old.own ∷ self.old.lines }
-    {
-        let value = self.value();
-        Outcome {
-            program: self.program,
-            value,
-            sums: replace(&mut self.sums, Vec::new(self.alloc)),
-            own: self.take_line(),
-            below: replace(&mut self.lines, Lines::new(self.alloc)),
-        }
-    }
-
-    /// The own line of the outermost thread.
-    #[inline(always)]
-    pub fn take_line(&mut self) -> ThreadLine
-        ensures line { result ≡ own_line self.old.own }
-        ensures others { self.new ≡ record self.old { own = self.new.own } }
-    {
-        let vacant = Own::vacant(self.alloc);
-        let Own { name, label, holds } = replace(&mut self.own, vacant);
-        ThreadLine {
-            name,
-            tag: label.tag,
-            holds: Sequence::from(holds),
-            ran: label.ran,
-        }
-    }
-
-    /// Takes back the own line.
-    pub fn put_back_line(&mut self, line: ThreadLine)
-        ensures line { own_line self.new.own ≡ line }
-        ensures others { self.new ≡ record self.old { own = self.new.own } }
-    {
-        let ThreadLine {
-            name,
-            tag,
-            holds,
-            ran,
-        } = line;
-        self.own = Own {
-            name,
-            label: Label { tag, ran },
-            holds: holds.into_vec(),
-        };
-    }
-
     /// The value of a thread that has ended.
-    fn value(&self) -> u64
+    pub fn value(&self) -> u64
         requires { pending_of self.now.control ≡ Some pause.Ended }
         ensures { self.now.control ≡ control.Ended result }
     {

@@ -1,5 +1,5 @@
 //! Tables of numbers, one for each ledger or lock.
-ghost use Rattle.std.specs.Prelude.{◌≡◌, ℕ, ◌+◌, ◌==◌, if◌then◌else◌, length, IfOk};
+ghost use Rattle.std.specs.Prelude.{◌≡◌, ℕ, ◌+◌, ◌==◌, if◌then◌else◌, length, IfOk, OnOk};
 ghost use Rattle.arachne_lang.specs.Effects.{tabulated};
 
 use std::alloc::{AllocError, Global};
@@ -13,6 +13,15 @@ pub fn zeros(alloc: Global, n: u8) -> Result<Vec<u64>, AllocError>
         return Ok(Vec::new(alloc));
     }
     vec![in alloc; 0u64; usize::from(n)]
+}
+
+/// The list becomes so many zeros.
+#[inline(always)]
+pub fn zero_all(list: &mut Vec<u64>, n: u8) -> Result<(), AllocError>
+    ensures { OnOk result (list.new.items ≡ tabulated n (λ _. 0)) }
+{
+    list.clear();
+    list.resize(usize::from(n), 0)
 }
 
 /// Adds number by number, modulo 2^64.

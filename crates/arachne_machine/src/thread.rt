@@ -11,11 +11,14 @@ ghost use Rattle.arachne_machine.specs.Work.{work_of};
 ghost use Rattle.arachne_lang.specs.Checked.{IsChecked};
 ghost use Rattle.arachne_lang.specs.Program.{source_of};
 ghost use Rattle.arachne_machine.specs.declared.pause.Pending.TheVariants as pause;
+ghost use Rattle.arachne_machine.specs.Ended.{HasEnded, IsOther, finished_in};
+ghost use Rattle.arachne_machine.specs.Outcome.{IsOfItsName};
+ghost use Rattle.std.specs.Result.{is_ok};
 
 use crate::frame::Control;
 use crate::line::Ran;
 use crate::outcome::Outcome;
-use crate::pause::{NotJoined, NotPlaced, Pause, Pending};
+use crate::pause::{NotJoined, NotPlaced, Pause, Pending, Unjoined};
 use crate::placed::Unplaced;
 use crate::placing::{Everywhere, Placing};
 use crate::spares::Spares;
@@ -277,8 +280,31 @@ impl<'p> Thread<'p> {
         ensures err { OnErr result (self.new ≡ self.old) }
         ensures handed_back { IfErr result (λ e. handed_back e ≡ outcome.entry) }
     {
-        let _ = &outcome.value;
-        self.state.join(outcome)
+        let mut spares = Spares::none(self.state.alloc);
+        self.joined_into(outcome, &mut spares)
+    }
+
+    /// The same. What the child no longer needs is left to those that begin.
+    pub fn joined_into(
+        &mut self,
+        outcome: Outcome<'p>,
+        spares: &mut Spares<'p>,
+    ) -> Result<(), NotJoined<'p>>
+        requires pending { pending_in self.old ≡ Some pause.Joins }
+        requires program { source_of outcome.program ≡ source_of (whole self.old).program }
+        ensures whole { SameWhole self.old self.new }
+        ensures ok { OnOk result (Joined self.old.running outcome.entry self.new.running) }
+        ensures sums { OnOk result (self.new.sums ≡ added self.old.sums outcome.entry.sums) }
+        ensures others { self.new ≡ record self.old { running = self.new.running; sums = self.new.sums } }
+        ensures pending { OnOk result (pending_in self.new ≡ None) }
+        ensures work { work_in self.new ≡ work_in self.old }
+        ensures foreign { IsForeign result ↔ (awaited self.old.running ≢ Some outcome.entry.name) }
+        ensures err { OnErr result (self.new ≡ self.old) }
+        ensures handed_back { IfErr result (λ e. handed_back e ≡ outcome.entry) }
+    {
+        let mut state = outcome.state;
+        let joined = self.state.join(&mut state);
+        answered(joined, state, spares)
     }
 
     /// The outcome of a thread that has ended. It takes no memory.
@@ -289,22 +315,29 @@ impl<'p> Thread<'p> {
         ensures sums { result.sums ≡ self.entry.sums }
         ensures lines { result.lines ≡ own_line_of (whole self.entry) ∷ (whole self.entry).below }
     {
-        let mut spares = Spares::none(self.state.alloc);
-        self.finish_into(&mut spares)
+        Outcome { state: self.state }
     }
+}
 
-    /// The same. What the thread no longer needs is left to those that begin.
-    pub fn finish_into(self, spares: &mut Spares<'p>) -> Outcome<'p>
-        requires { pending_in self ≡ Some pause.Ended }
-        ensures program { result.program ≡ (whole self.entry).program }
-        ensures name { result.name ≡ (whole self.entry).name }
-        ensures sums { result.sums ≡ self.entry.sums }
-        ensures lines { result.lines ≡ own_line_of (whole self.entry) ∷ (whole self.entry).below }
-    {
-        let mut state = self.state;
-        let outcome = state.finish();
-        spares.keep(state);
-        outcome
+/// What comes of a join, by what the state has answered. What the child no longer needs is left to those that begin, or
+/// its outcome comes back.
+fn answered<'p>(
+    joined: Result<(), Unjoined>,
+    state: Box<State<'p>>,
+    spares: &mut Spares<'p>,
+) -> Result<(), NotJoined<'p>>
+    requires { OnErr joined (HasEnded state.value × IsOfItsName (finished_in state.value)) }
+    ensures same { is_ok result ≡ is_ok joined }
+    ensures foreign { IsForeign result ↔ IsOther joined }
+    ensures handed_back { IfErr result (λ e. handed_back e ≡ finished_in state.entry.value) }
+{
+    match joined {
+        Ok(()) => {
+            spares.keep(state);
+            Ok(())
+        }
+        Err(Unjoined::Foreign) => Err(NotJoined::Foreign(Outcome { state })),
+        Err(Unjoined::Memory) => Err(NotJoined::Memory(Outcome { state })),
     }
 }
 

@@ -10,7 +10,7 @@ use crate::audit::audit;
 use crate::fault::WorkerFault;
 use crate::resources::Remains;
 use arachne_lang::Sequence;
-use arachne_machine::{DetachedOutcome, ThreadLine};
+use arachne_machine::{Outcome, ThreadLine};
 use arachne_sleep::History;
 use std::alloc::Global;
 
@@ -32,14 +32,14 @@ pub struct Report {
 impl Report {
     /// What the root's outcome brings. Its sums have to be the words of the ledgers, no two threads may have one tag,
     /// and the grants of the locks have to be the threads' holds.
-    pub(crate) fn of(
+    pub(crate) fn of<'p>(
         alloc: Global,
-        outcome: DetachedOutcome,
+        outcome: Outcome<'p>,
         remains: Remains,
         applied: usize,
     ) -> Result<Report, WorkerFault>
         requires { outcome.name ≡ [] }
-        ensures meaning { IfOk result (λ report. meaning_in report ≡ meaning_of (source_of outcome.program)) }
+        ensures meaning { IfOk result (λ report. meaning_in report ≡ meaning_of (source_of outcome.entry.program)) }
         ensures tags { IfOk result (λ report. AreDistinct (tags_of report)) }
         ensures histories { IfOk result (λ report. report.histories ≡ remains.histories) }
         ensures grants { IfOk result (λ report. GrantsAreHolds report.threads (histories_in report)) }

@@ -159,7 +159,7 @@ impl<'p> JobOf<'p> for Hasty {
         alloc: Global,
         program: &'p Program,
         _spares: &mut Nothing,
-    ) -> Result<(Hasty, OutcomeReceiver), AllocError> {
+    ) -> Result<(Hasty, OutcomeReceiver<'p>), AllocError> {
         let (_, receiver) = Job::begin(alloc, program, &mut Spares::none(alloc))?;
         let hasty = Hasty {
             name: Name::root(alloc),

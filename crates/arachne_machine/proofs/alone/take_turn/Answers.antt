@@ -30,10 +30,10 @@ returns-in_ok-push-in-Ends-clause-rests c =
     let p = c.args.thread.running.program in
     let ts = c.args.threads.now.items in
     let outs = c.go_on.new.outcomes.items in
-    let outcome = c.finish_into.result in
+    let outcome = c.finish.result in
     let turned = rw c.in-Ends.is at (c.in_ok-go_on.ensures.rests (reverse ts) c.requires.rests) in
     let rests : Rests p (reverse ts) (key outcome ∷ map key (reverse outs)) =
-    subst (λ q. Rests p (reverse ts) ((q, outcome.name) ∷ map key (reverse outs))) (sym c.finish_into.ensures.program)
-    (subst (λ n. Rests p (reverse ts) (((whole c.go_on.new.thread).program, n) ∷ map key (reverse outs))) (sym c.finish_into.ensures.name) turned) in
+    subst (λ q. Rests p (reverse ts) ((q, outcome.name) ∷ map key (reverse outs))) (sym c.finish.ensures.program)
+    (subst (λ n. Rests p (reverse ts) (((whole c.go_on.new.thread).program, n) ∷ map key (reverse outs))) (sym c.finish.ensures.name) turned) in
     subst (λ l. Rests p (reverse l) (map key (reverse c.push.new.self.items))) (sym c.try_reserve.ensures.items)
     (subst (λ l. Rests p (reverse ts) (map key l)) (sym (pushed outs c.push.new.self.items outcome c.in_ok-push-in-Ends.ensures.items)) rests)

@@ -5,8 +5,8 @@ pub returns : goal.returns
 returns c = record {
   program_is = refl;
   own_is = refl;
-  lines = c.new.ensures;
-  sums_are = refl;
+  lines = c.clear-4.ensures;
+  sums_are = search rules;
   parents = search rules;
   level = c.outermost-self.ensures;
   environment_is = search rules;
