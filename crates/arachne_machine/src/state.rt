@@ -101,6 +101,7 @@ impl<'p> State<'p> {
     ghost use Rattle.arachne_machine.specs.declared.frame.Control.TheVariants as control;
 
     /// A thread that begins like this, with a copy of the environment.
+    #[inline(always)]
     pub fn new(
         alloc: Global,
         program: &'p Program,
@@ -147,6 +148,7 @@ impl<'p> State<'p> {
 
     /// Becomes a thread that has not begun, with the room that it had. The environment gets room for three more: a
     /// number of a sweep, and the two that may come with a value.
+    #[inline(always)]
     fn renew(
         &mut self,
         program: &'p Program,
