@@ -9,6 +9,7 @@ ghost use Rattle.arachne_commands.specs.Running.{IsRefusal, choosers_of};
 
 use crate::command_line::RunSettings;
 use arachne_core::CORES;
+use arachne_jobs::JobOf;
 use arachne_lang::Program;
 use arachne_run::{Job, OpenGate, Report, RunFault, Setup, run};
 use arachne_words::WordContexts;
@@ -30,6 +31,25 @@ pub fn run_program<'p, R: Threads + Wait + Clock + Sync>(
     ensures meaning { IfOk result (λ report. meaning_in report ≡ meaning_of (source_of program.now)) }
     ensures refused { IfErr result (IsRefusal settings) }
 {
+    run_jobs::<R, Job<'p>>(rt, alloc, program, settings)
+}
+
+/// The same by jobs of this type. It knows no more of them than their traits, since a call of `run` at all written-out
+/// types is too large for the prover.
+fn run_jobs<'p, R: Threads + Wait + Clock + Sync, T: JobOf<'p> + Send>(
+    rt: &R,
+    alloc: Global,
+    program: &'p Program,
+    settings: RunSettings,
+) -> Result<Report, RunFault>
+where
+    T::Child: Send,
+    T::Ticket: Send,
+    T::Spares: Send,
+    requires { IsChecked (source_of program.now) }
+    ensures meaning { IfOk result (λ report. meaning_in report ≡ meaning_of (source_of program.now)) }
+    ensures refused { IfErr result (IsRefusal settings) }
+{
     let RunSettings {
         cores,
         seed,
@@ -45,7 +65,7 @@ pub fn run_program<'p, R: Threads + Wait + Clock + Sync>(
         quantum,
         orders: orders.into_vec(),
     };
-    run::<R, Job<'p>, WordContexts<Job<'p>>, Xoshiro256PlusPlus, OpenGate>(
+    run::<R, T, WordContexts<T>, Xoshiro256PlusPlus, OpenGate>(
         rt, alloc, program, setup, choosers, &OpenGate,
     )
 }

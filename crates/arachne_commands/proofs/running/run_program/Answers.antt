@@ -1,56 +1,21 @@
-use Rattle.std.proofs.Common.{refl, ap, ◌∙◌, length}
+use Rattle.std.proofs.Common.{refl}
 use denote.Param.Send.{sendable}
-use Rattle.std.proofs.Crossing as std
-use Rattle.rand_xoshiro.proofs.xoshiro256.Xoshiro256PlusPlus.TheSendSync as chooser
-use Rattle.arachne_words.proofs.table.WordContexts.TheSendSync as table
-use Rattle.arachne_words.proofs.seat.WordSeat.TheSendSync as seat
-use Rattle.arachne_words.proofs.seat.WordClaim.TheSendSync as claim
-use Rattle.arachne_words.proofs.seat.WordHold.TheSendSync as hold
 use Rattle.arachne_machine.proofs.Crossing.{thread_send}
 use Rattle.arachne_jobs.proofs.Crossing.{job_send, spares_send, ticket_send}
-use Rattle.arachne_run.proofs.gate.OpenGate.TheSendSync as gate
-use Rattle.arachne_commands.proofs.RunRefusals.{choosers_length, refused_by_run}
 use Rattle.arachne_commands.proofs.running.run_program.Goals as goal
 
 -- what a run sends to its kernel threads and shares with them may cross; the program is checked
-pub run-requires : goal.run-requires
-run-requires g c κs = (
+pub run_jobs-requires : goal.run_jobs-requires
+run_jobs-requires g c κs = (
   search (sendable, job_send) depth 20,
   (
-    search (sendable, chooser.the_send) depth 20,
+    search (sendable, thread_send) depth 20,
     (
-      search (sendable, thread_send) depth 20,
+      search (sendable, ticket_send) depth 20,
       (
-        search (sendable, ticket_send) depth 20,
-        (
-          search (sendable, spares_send) depth 20,
-          (
-            search (sendable, claim.the_send) depth 20,
-            (
-              search (sendable, hold.the_send) depth 20,
-              (
-                search (sendable, seat.the_send, job_send) depth 20,
-                (
-                  search (sendable, c.type_bounds.sync-R) depth 20,
-                  (
-                    search (sendable, std.crosses, table.the_sync, job_send) depth 20,
-                    (
-                      search (sendable, gate.the_sync) depth 20,
-                      ((refl, tt), c.requires),
-                    ),
-                  ),
-                ),
-              ),
-            ),
-          ),
-        ),
+        search (sendable, spares_send) depth 20,
+        (search (sendable, c.type_bounds.sync-R) depth 20, ((refl, tt), c.requires)),
       ),
     ),
   ),
 )
-
--- what is refused is refused as the settings say
-pub returns-clause-refused : goal.returns-clause-refused
-returns-clause-refused g c = refused_by_run c.args.settings c.in_ok-choosers.choosers.len c.into_vec.result.items c.run.result
-    (λ within. c.in_ok-choosers.choosers.ok.0 ∙ ap length c.in_ok-choosers.ensures ∙ choosers_length c.args.settings.seed c.served.result ∙ c.served.ensures within)
-    c.into_vec.ensures c.run.ensures.refused c.run.ensures.order_refused c.run.ensures.of_setup
