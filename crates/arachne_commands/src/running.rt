@@ -1,10 +1,13 @@
 //! Running a program on the cores that the command line asks for.
-ghost use Rattle.std.specs.Prelude.{◌≡◌, ◌≤◌, IfOk, IfErr};
+ghost use Rattle.std.specs.Prelude.{◌≡◌, ◌≤◌, true, IfErr, IfOk, None, Some, Err, length, vec_len};
 ghost use Rattle.arachne_core.specs.declared.layout.TheConstants.{CORES};
 ghost use Rattle.arachne_lang.specs.Program.{source_of};
 ghost use Rattle.arachne_lang.specs.Meaning.{meaning_of};
 ghost use Rattle.arachne_lang.specs.Checked.{IsChecked};
-ghost use Rattle.arachne_run.specs.Reports.{meaning_in};
+ghost use Rattle.arachne_policy.specs.Orders.{AreInOrder};
+ghost use Rattle.arachne_run.specs.Reports.{IsReportOf, meaning_in};
+ghost use Rattle.arachne_run.specs.Setups.{IsFirstOrderFault, IsSetupFault, is_of_setup, refusal_of};
+ghost use Rattle.arachne_run.specs.declared.fault.RunFault.{RunFault};
 ghost use Rattle.arachne_commands.specs.Running.{IsRefusal, choosers_of};
 
 use crate::command_line::RunSettings;
@@ -31,25 +34,6 @@ pub fn run_program<'p, R: Threads + Wait + Clock + Sync>(
     ensures meaning { IfOk result (λ report. meaning_in report ≡ meaning_of (source_of program.now)) }
     ensures refused { IfErr result (IsRefusal settings) }
 {
-    run_jobs::<R, Job<'p>>(rt, alloc, program, settings)
-}
-
-/// The same by jobs of this type. It knows no more of them than their traits, since a call of `run` at all written-out
-/// types is too large for the prover.
-fn run_jobs<'p, R: Threads + Wait + Clock + Sync, T: JobOf<'p> + Send>(
-    rt: &R,
-    alloc: Global,
-    program: &'p Program,
-    settings: RunSettings,
-) -> Result<Report, RunFault>
-where
-    T::Child: Send,
-    T::Ticket: Send,
-    T::Spares: Send,
-    requires { IsChecked (source_of program.now) }
-    ensures meaning { IfOk result (λ report. meaning_in report ≡ meaning_of (source_of program.now)) }
-    ensures refused { IfErr result (IsRefusal settings) }
-{
     let RunSettings {
         cores,
         seed,
@@ -65,6 +49,28 @@ where
         quantum,
         orders: orders.into_vec(),
     };
+    run_jobs::<R, Job<'p>>(rt, alloc, program, setup, choosers)
+}
+
+/// The same by jobs of any type. It has the one call of `run` and knows no more of the jobs than their traits, since
+/// the prover would have to compare all parts of their type.
+fn run_jobs<'p, R: Threads + Wait + Clock + Sync, T: JobOf<'p> + Send>(
+    rt: &R,
+    alloc: Global,
+    program: &'p Program,
+    setup: Setup,
+    choosers: Vec<Xoshiro256PlusPlus>,
+) -> Result<Report, RunFault>
+where
+    T::Child: Send,
+    T::Ticket: Send,
+    T::Spares: Send,
+    requires { IsChecked (source_of program.now) }
+    ensures report { IfOk result (IsReportOf program.now (length setup.orders.items)) }
+    ensures refused { (fault : RunFault) → refusal_of setup.cores setup.quantum setup.slots (vec_len choosers) ≡ Some fault → result ≡ Err fault }
+    ensures of_setup { IfErr result (λ fault. is_of_setup fault ≡ true → IsSetupFault setup.cores setup.quantum setup.slots (vec_len choosers) setup.orders.items fault) }
+    ensures order_refused { refusal_of setup.cores setup.quantum setup.slots (vec_len choosers) ≡ None → (AreInOrder setup.cores setup.orders.items → ⊥) → IfErr result (IsFirstOrderFault setup.cores setup.orders.items) }
+{
     run::<R, T, WordContexts<T>, Xoshiro256PlusPlus, OpenGate>(
         rt, alloc, program, setup, choosers, &OpenGate,
     )

@@ -11,6 +11,7 @@ ghost use Rattle.arachne_run.specs.Reports.{histories_in, meaning_in};
 ghost use Rattle.arachne_sleep.specs.OneHolder.{HasOneHolderAtATime};
 
 use anyhow::{Result, bail};
+use arachne_jobs::JobOf;
 use arachne_lang::{Program, check, parse};
 use arachne_run::{Job, OpenGate, Report, RunFault, Setup, run};
 use arachne_words::WordContexts;
@@ -48,6 +49,25 @@ fn run_on<'p, R: Threads + Wait + Clock + Sync>(
     ensures meaning { IfOk result (λ report. meaning_in report ≡ meaning_of (source_of program.now)) }
     ensures one_holder { IfOk result (λ report. All HasOneHolderAtATime (histories_in report)) }
 {
+    run_jobs::<R, Job<'p>>(rt, alloc, program, cores)
+}
+
+/// The same by jobs of any type. The call of `run` stands in a function that doesn't know the job's type, since the
+/// prover would have to compare all parts of it.
+fn run_jobs<'p, R: Threads + Wait + Clock + Sync, T: JobOf<'p> + Send>(
+    rt: &R,
+    alloc: Global,
+    program: &'p Program,
+    cores: u64,
+) -> Result<Report, RunFault>
+where
+    T::Child: Send,
+    T::Ticket: Send,
+    T::Spares: Send,
+    requires { IsChecked (source_of program.now) }
+    ensures meaning { IfOk result (λ report. meaning_in report ≡ meaning_of (source_of program.now)) }
+    ensures one_holder { IfOk result (λ report. All HasOneHolderAtATime (histories_in report)) }
+{
     let choosers = choosers(alloc, cores)?;
     let setup = Setup {
         cores,
@@ -55,7 +75,7 @@ fn run_on<'p, R: Threads + Wait + Clock + Sync>(
         quantum: 50,
         orders: Vec::new(alloc),
     };
-    run::<R, Job<'p>, WordContexts<Job<'p>>, Xoshiro256PlusPlus, OpenGate>(
+    run::<R, T, WordContexts<T>, Xoshiro256PlusPlus, OpenGate>(
         rt, alloc, program, setup, choosers, &OpenGate,
     )
 }

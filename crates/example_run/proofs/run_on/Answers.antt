@@ -1,48 +1,20 @@
 use Rattle.std.proofs.Common.{refl}
 use denote.Param.Send.{sendable}
-use Rattle.std.proofs.Crossing as std
-use Rattle.rand_xoshiro.proofs.xoshiro256.Xoshiro256PlusPlus.TheSendSync as chooser
-use Rattle.arachne_words.proofs.table.WordContexts.TheSendSync as table
-use Rattle.arachne_words.proofs.seat.WordSeat.TheSendSync as seat
-use Rattle.arachne_words.proofs.seat.WordClaim.TheSendSync as claim
-use Rattle.arachne_words.proofs.seat.WordHold.TheSendSync as hold
 use Rattle.arachne_machine.proofs.Crossing.{thread_send}
 use Rattle.arachne_jobs.proofs.Crossing.{job_send, spares_send, ticket_send}
-use Rattle.arachne_run.proofs.gate.OpenGate.TheSendSync as gate
 use Rattle.example_run.proofs.run_on.Goals as goal
 
 -- what a run sends to its kernel threads and shares with them may cross; the program is checked
-pub run-requires : goal.run-requires
-run-requires g c κs = (
+pub run_jobs-requires : goal.run_jobs-requires
+run_jobs-requires g c κs = (
   search (sendable, job_send) depth 20,
   (
-    search (sendable, chooser.the_send) depth 20,
+    search (sendable, thread_send) depth 20,
     (
-      search (sendable, thread_send) depth 20,
+      search (sendable, ticket_send) depth 20,
       (
-        search (sendable, ticket_send) depth 20,
-        (
-          search (sendable, spares_send) depth 20,
-          (
-            search (sendable, claim.the_send) depth 20,
-            (
-              search (sendable, hold.the_send) depth 20,
-              (
-                search (sendable, seat.the_send, job_send) depth 20,
-                (
-                  search (sendable, c.type_bounds.sync-R) depth 20,
-                  (
-                    search (sendable, std.crosses, table.the_sync, job_send) depth 20,
-                    (
-                      search (sendable, gate.the_sync) depth 20,
-                      ((refl, tt), c.requires),
-                    ),
-                  ),
-                ),
-              ),
-            ),
-          ),
-        ),
+        search (sendable, spares_send) depth 20,
+        (search (sendable, c.type_bounds.sync-R) depth 20, ((refl, tt), c.requires)),
       ),
     ),
   ),
