@@ -67,14 +67,14 @@ run_jobs_spec = tie.close (λ R T child ticket spares laws-R laws-T laws-child l
                                         (
                                           search (sendable, hold.the_send) depth 20,
                                           (
-                                            search (sendable, seat.the_send, c.requires.1.1.1.1.1.0) depth 20,
+                                            ?seat,
                                             (
                                               search (sendable, c.requires.1.1.1.1.1.1.1.1.1.0) depth 20,
                                               (
                                                 search (sendable, std.crosses, table.the_sync, c.requires.1.1.1.1.1.0) depth 20,
                                                 (
                                                   search (sendable, gate.the_sync) depth 20,
-                                                  ((refl, tt), c.requires.1.1.1.1.1.1.1.1.1.1)
+                                                  ((refl, tt), search (c.requires.1.1.1.1.1.1.1.1.1.1))
                                                 )
                                               )
                                             )
