@@ -40,15 +40,23 @@ impl<'p> Model for WaitCell<'p> {
     ghost view = { λ c. arc_value c.cell };
 }
 
-/// What lies in the queue for a child that waits: its cell and its tag.
+/// What lies in the queue for a child that waits: its cell and its tag. Contracts see the tag.
 #[derive(Drop)]
 pub struct Ticket<'p> {
     cell: Arc<Cell<'p>>,
     tag: u64,
 }
 
+impl<'p> Model for Ticket<'p> {
+    ghost use Rattle.std.specs.Prelude.{ℕ};
+
+    ghost Value = { ℕ };
+
+    ghost view = { λ t. t.tag };
+}
+
 impl<'p> Tagged for Ticket<'p> {
-    ghost tag_of = { λ t. t.tag };
+    ghost tag_of = { λ t. t };
 
     fn tag(&self) -> u64 {
         self.tag
@@ -64,7 +72,7 @@ impl<'p> WaitCell<'p> {
     ) -> Result<(WaitCell<'p>, Ticket<'p>), Thread<'p>>
         requires { HasNotBegun child }
         ensures cell { IfOk result (λ made. IsFor child.entry made.0.key) }
-        ensures tag { IfOk result (λ made. made.1.tag ≡ tag_of child.entry) }
+        ensures tag { IfOk result (λ made. made.1 ≡ tag_of child.entry) }
         ensures handed_back { IfErr result (λ back. back ≡ child.entry) }
     {
         let wanted = Wanted {
