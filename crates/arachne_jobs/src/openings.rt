@@ -10,7 +10,12 @@ use arachne_machine::Placing;
 pub struct Openings {
     pub tags: Tags,
     pub draws: u64,
+    /// Whether the child that was forked last has much to do.
+    pub is_large: bool,
 }
+
+/// How many turns of a sweep a child has at least that is worth room in the queue.
+const LARGE: u64 = 1024;
 
 impl Openings {
     /// No tag is drawn yet, and no word is owed.
@@ -18,6 +23,7 @@ impl Openings {
         Openings {
             tags: Tags::new(),
             draws: 0,
+            is_large: false,
         }
     }
 }
@@ -41,6 +47,12 @@ impl<'a> Placing for Asked<'a> {
         }
         self.openings.draws = self.openings.draws.wrapping_add(1);
         false
+    }
+
+    #[inline(always)]
+    fn is_any_for(&mut self, class: Class, turns: u64) -> bool {
+        self.openings.is_large = turns >= LARGE;
+        self.openings.is_large || self.is_any(class)
     }
 
     #[inline(always)]

@@ -13,9 +13,9 @@ use crate::machine::Machine;
 use arachne_arbiter::Pace;
 use arachne_contexts::{Contexts, Held, Identified, Placed};
 use arachne_core::ThreadId;
-use arachne_jobs::{Openings, RunJob, Slice};
+use arachne_jobs::{Openings, RunJob, RunTicket, Slice};
 use arachne_lang::Class;
-use arachne_spill::SpillPass;
+use arachne_spill::{CAPACITY, SpillPass};
 use arachne_workers::{Post, Stop};
 use rand_core::Rng;
 use std::alloc::Global;
@@ -125,6 +125,9 @@ fn answer_fork<H: Wait, T: RunJob, C: Contexts<T>, R: Rng>(
             Err(_) => Err(WorkerFault::Token),
         };
     }
+    if forks.openings.is_large && class == Class::Normal {
+        drop_stale::<H, T, C>(rt, machine, pass);
+    }
     let waits = class == Class::Normal && !machine.tickets.is_full(rt, pass);
     if let Some(ticket) = held.value.put_aside(alloc, me, child, tag, waits)? {
         // Where the queue was filled meanwhile, the child waits without a ticket, for its parent.
@@ -134,6 +137,39 @@ fn answer_fork<H: Wait, T: RunJob, C: Contexts<T>, R: Rng>(
         }
     }
     Ok(Stop::Goes)
+}
+
+/// How many tickets whose children wait still go to the end of the queue while room is made in it.
+const MOST_LIVE: u32 = 8;
+
+/// Where the queue is full, drops tickets whose children are gone, the oldest first, until there is room for one.
+fn drop_stale<H: Wait, T: RunJob, C: Contexts<T>>(
+    rt: &H,
+    machine: &Machine<C, T::Ticket>,
+    pass: &mut SpillPass<T::Ticket>,
+)
+    requires { IsPassOf machine.now.tickets pass.old }
+    ensures { IsPassOf machine.now.tickets pass.new }
+{
+    let room = machine.shared.room();
+    let mut live = 0;
+    for _ in 0..CAPACITY {
+        if live >= MOST_LIVE || !machine.tickets.is_full(rt, pass) {
+            return;
+        }
+        let Some(ticket) = machine.tickets.pop(rt, pass) else {
+            return;
+        };
+        if !ticket.still_waits() {
+            room.ticket_was_taken();
+            continue;
+        }
+        live += 1;
+        if machine.tickets.push(rt, pass, ticket).is_err() {
+            // Its child waits on without a ticket, for its parent.
+            room.ticket_was_taken();
+        }
+    }
 }
 
 /// A place of the core: the newest that is kept, else one that is free.
