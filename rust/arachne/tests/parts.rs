@@ -6,7 +6,7 @@ use arachne::{
 use std::future::Future;
 use std::io::{Read, Write};
 use std::sync::atomic::{AtomicBool, AtomicUsize, Ordering::*};
-use std::sync::Arc;
+use std::sync::{Arc, Mutex};
 use std::task::{Context, Poll, Wake};
 use std::thread;
 use std::time::{Duration, Instant};
@@ -554,8 +554,8 @@ fn what_is_in_hand_is_for_whoever_has_nothing_to_do() {
         thread::yield_now();
     }
     let all = runtime.spawn(async move {
-        let seen = Arc::new(std::sync::Mutex::new(Vec::new()));
-        let task = |ends: Arc<AtomicBool>, seen: Arc<std::sync::Mutex<Vec<thread::ThreadId>>>| async move {
+        let seen = Arc::new(Mutex::new(Vec::new()));
+        let task = |ends: Arc<AtomicBool>, seen: Arc<Mutex<Vec<thread::ThreadId>>>| async move {
             yield_now().await;
             ends.store(true, SeqCst);
             seen.lock().unwrap().push(thread::current().id());
@@ -672,7 +672,7 @@ fn what_is_read_within_block_on_in_a_task_is_not_put_off() {
 fn sockets_are_heard_in_the_order_in_which_they_were_told_of() {
     let runtime = Runtime::new(1);
     let listener = std::net::TcpListener::bind("127.0.0.1:0").unwrap();
-    let order = Arc::new(std::sync::Mutex::new(Vec::new()));
+    let order = Arc::new(Mutex::new(Vec::new()));
     let (mut clients, mut tasks) = (Vec::new(), Vec::new());
     for i in 0..8 {
         clients.push(std::net::TcpStream::connect(listener.local_addr().unwrap()).unwrap());
