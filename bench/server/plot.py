@@ -18,7 +18,7 @@ WIDTH, LEFT, RIGHT, TOP, OFFERED, UPPER, LOWER, GAP = 880, 48, 18, 40, 70, 110, 
 LINE = re.compile(r"at (\d+) us: (\d+) cores, (\d+) runnable in (\d+) scans, (\d+) of (\d+) us busy, (\w+)")
 
 STYLE = """
-text{font:12px sans-serif;fill:#24292f}.page{fill:#fff}.grid{stroke:#d0d7de}.tick{text-anchor:end;fill:#57606a}
+text{font:12px sans-serif;fill:#24292f}.title{font-weight:bold}.page{fill:#fff}.grid{stroke:#d0d7de}.tick{text-anchor:end;fill:#57606a}
 .time{text-anchor:middle;fill:#57606a}.line{fill:none;stroke-width:1.5}.load{stroke:#2166ac}.limit{stroke:#d97706;stroke-dasharray:4 3}
 .busy{stroke:#1b7837}.held{fill:#d0d7de;stroke:#8c959f}.add{fill:#2166ac}.remove{fill:#b2182b}
 @media(prefers-color-scheme:dark){text{fill:#e6edf3}.page{fill:#0d1117}.grid{stroke:#30363d}.tick,.time{fill:#9da7b1}
@@ -47,8 +47,8 @@ class Panel:
     def y(self, value):
         return round(self.top + self.height * (1 - min(value, self.most) / self.most), 1)
 
-    def axis(self, title, ticks):
-        yield f'<text x="{LEFT}" y="{self.top - 12}">{title}</text>'
+    def axis(self, title, key, ticks):
+        yield f'<text x="{LEFT}" y="{self.top - 12}"><tspan class="title">{title}</tspan> {key}</text>'
         for value in ticks:
             yield f'<line x1="{LEFT}" y1="{self.y(value)}" x2="{WIDTH - RIGHT}" y2="{self.y(value)}" class="grid"/>'
             yield f'<text x="{LEFT - 7}" y="{self.y(value) + 4}" class="tick">{value}</text>'
@@ -88,16 +88,16 @@ def draw(samples, requests):
     points = offered(requests, length)
     marks = ticks(max(value for _, value in points))
     first = Panel(TOP, OFFERED, marks[-1], length)
-    yield from first.axis("thousand requests a second that came", marks)
+    yield from first.axis("Requests that came:", "thousands a second", marks)
     yield from first.path(points, "busy")
     marks = ticks(max(sample.load for sample in samples))
     upper = Panel(TOP + OFFERED + GAP, UPPER, marks[-1], length)
-    yield from upper.axis("load: requests that a scan saw; dashed: over this a core is asked for (blue dots)", marks)
+    yield from upper.axis("Load:", "requests that a scan saw; over the dashed line a core is asked for (blue dots)", marks)
     yield from upper.path([(sample.end, sample.load) for sample in samples], "load")
     yield from upper.path([(0, UP), (length, UP)], "limit")
     yield from upper.dots(samples, lambda sample: sample.load, "add")
-    lower = Panel(TOP + OFFERED + UPPER + 2 * GAP, LOWER, most + 0.5, length)
-    yield from lower.axis("cores held (grey), and busy of them (green); red dots: one was given back", range(most + 1))
+    lower = Panel(TOP + OFFERED + UPPER + 2 * GAP, LOWER, most + 0.2, length)
+    yield from lower.axis("Cores", "held (grey), and busy of them (green); a red dot: one was given back", range(most + 1))
     stairs = [(time, sample.cores) for sample in samples for time in (sample.begin, sample.end)]
     points = [(0, 0), *stairs, (length, 0)]
     yield f'<polygon class="held" points="{" ".join(f"{lower.x(time)},{lower.y(value)}" for time, value in points)}"/>'

@@ -57,6 +57,28 @@ class Benchmarks(unittest.TestCase):
                 self.assertEqual(crates() & set().union(*named.values()), set(named) - {program})
                 self.assertTrue(all((work / "crates" / it / "src").is_dir() for it in named))
 
+    def test_the_table_of_the_gate_is_written_where_it_passes(self) -> None:
+        for passes, written in ((True, True), (False, False)):
+            with self.subTest(passes), tempfile.TemporaryDirectory() as room:
+                top = Path(room)
+                (top / "bench").mkdir()
+                gate, page, tool = top / "bench/gate", top / "bench/GATE.md", top / "rt"
+                shutil.copy(TOP / "bench/gate", gate)
+                (top / "crates.txt").write_text("lower:\nupper: lower\n")
+                around = re.split(r"(?<=-->\n).*?(?=<!--)", (TOP / "bench/GATE.md").read_text(), flags=re.S)
+                self.assertEqual(len(around), 2, "the page has one place for the table")
+                page.write_text("the last table\n".join(around))
+                tool.write_text(f"#!/bin/sh\necho \"$1 $2 --anew\"\necho 2 passed\nexit {int(not passes)}\n")
+                tool.chmod(0o755)
+                place = {**os.environ, "PATH": f"{room}:{os.environ['PATH']}"}
+                how = {"stdout": subprocess.PIPE, "stderr": subprocess.DEVNULL, "text": True, "env": place}
+                ran = subprocess.run([gate, "--write"], **how)
+                self.assertEqual(ran.returncode, int(not passes))
+                self.assertIn("`rt ci --anew` on ", ran.stdout)
+                self.assertIn(": `2 passed`, 0 minutes by the clock.", ran.stdout)
+                self.assertIn("| `upper` | 0 | 0 | 0 | 0 |\n", ran.stdout)
+                self.assertEqual(page.read_text(), (ran.stdout if written else "the last table\n").join(around))
+
 
 if __name__ == "__main__":
     unittest.main()

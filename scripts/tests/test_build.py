@@ -119,9 +119,9 @@ class Builds(unittest.TestCase):
         (self.top / texts).write_bytes((TOP / texts).read_bytes())
         (self.top / "crates.txt").write_text("lower:\narachne may_wait=1: lower\nunused: lower\n")
         (self.top / "HANDLES").write_text("Handles allowed: Wait.\n")
-        for name in ("scripts", "docs"):
+        for name in ("scripts", "bench"):
             (self.top / name).mkdir()
-        (self.top / "docs/contributing.md").write_text("| `lower` | 100 | 0 | 0 | 100 |\n")
+        (self.top / "bench/GATE.md").write_text("| `lower` | 100 | 0 | 0 | 100 |\n")
         for name in ("arachne", "scripts/build", "scripts/below", "scripts/take", "scripts/words"):
             (self.top / name).write_bytes((TOP / name).read_bytes())
             (self.top / name).chmod(0o755)
