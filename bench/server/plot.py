@@ -1,10 +1,10 @@
 #!/usr/bin/env python3
-"""Draws how many cores the server held when, and why, from what it printed.
+"""Draws how many cores the server had when, and why, from what it printed.
 
     example_server CORES INTERVAL < LIST | bench/server/plot.py LIST > server.svg
 
 Above are the requests that came, by the list; then the load (requests that a scan of a core saw), over the limit at which
-a core is asked for; below are the cores held and how many of them were busy (the utilisation). A dot is an advice that
+a core is asked for; below are the cores in use and how many of them were busy (the utilisation). A dot is an advice that
 was followed.
 """
 
@@ -97,7 +97,7 @@ def draw(samples, requests):
     yield from upper.path([(0, UP), (length, UP)], "limit")
     yield from upper.dots(samples, lambda sample: sample.load, "add")
     lower = Panel(TOP + OFFERED + UPPER + 2 * GAP, LOWER, most + 0.2, length)
-    yield from lower.axis("Cores", "held (grey), and busy of them (green); a red dot: one was given back", range(most + 1))
+    yield from lower.axis("Cores", "in use (grey), and busy of them (green); a red dot: one was given back", range(most + 1))
     stairs = [(time, sample.cores) for sample in samples for time in (sample.begin, sample.end)]
     points = [(0, 0), *stairs, (length, 0)]
     yield f'<polygon class="held" points="{" ".join(f"{lower.x(time)},{lower.y(value)}" for time, value in points)}"/>'
