@@ -1,5 +1,5 @@
 //! What the workers of a run share.
-ghost use Rattle.std.specs.Prelude.{◌≡◌, ◌≤◌, ◌⊎◌, ◌%◌, ◌^◌, true, [], All, Err, IfErr, IfOk, IfSome, IsOk, OnOk, length, map, not};
+ghost use Rattle.std.specs.Prelude.{◌≡◌, ◌≤◌, ◌⊎◌, ◌↔◌, ◌%◌, ◌^◌, false, [], All, Err, IfErr, IfOk, IfSome, IsOk, IsTrue, OnOk, length, map, not};
 ghost use Rattle.arachne_lang.specs.Program.{tree_of};
 ghost use Rattle.arachne_jobs.specs.Classes.{forks_exclusive};
 ghost use Rattle.arachne_policy.specs.Orders.{AreInOrder};
@@ -7,6 +7,7 @@ ghost use Rattle.arachne_sleep.specs.History.{IsSound};
 ghost use Rattle.arachne_sleep.specs.OneHolder.{HasOneHolderAtATime};
 ghost use Rattle.arachne_spill.specs.Views.{IsPassOf, IsWhole as IsWholePass};
 ghost use Rattle.arachne_run.specs.declared.fault.WorkerFault.TheVariants.{Memory, Token};
+ghost use Rattle.arachne_run.specs.Setups.{MayKeep};
 ghost use Rattle.arachne_run.specs.Tokens.{AreIdle, IsSetUp};
 
 use crate::fault::WorkerFault;
@@ -82,7 +83,8 @@ impl<C: Seats + Drop, K: Tagged + Drop> Machine<C, K> {
         ensures { IfOk result (λ made. AreIdle C.sits C.idle made.0 made.1 × IsSetUp C.core_count C.slot_count made.0
             × (made.0.orders ≡ length orders.items) × (length made.0.resources.locks ≡ program.now.locks)
             × (made.0.may_pull ≡ not (forks_exclusive (tree_of program.now.root)))
-            × (made.0.may_keep ≡ true → (made.0.may_pull ≡ true) × (orders.items ≡ []))
+            × (IsTrue made.0.may_keep ↔ MayKeep program.now (length orders.items) cores)
+            × (made.0.resources.ledgers.count ≡ program.now.ledgers)
             × (made.0.cores ≡ cores) × (made.0.slots ≡ slots) × (made.0.quantum ≡ quantum)) }
     {
         let count = orders.len();
@@ -92,7 +94,7 @@ impl<C: Seats + Drop, K: Tagged + Drop> Machine<C, K> {
         let (tickets, pass) = SpillQueue::new(alloc)?;
         let (table, seat) = C::new(alloc, cores, slots, 0)?;
         let machine = Machine {
-            shared: Shared::new(alloc, cores, u64::from(cores) * u64::from(slots))?,
+            shared: Shared::new(alloc, cores, slots)?,
             resources,
             tickets,
             table,
@@ -100,7 +102,7 @@ impl<C: Seats + Drop, K: Tagged + Drop> Machine<C, K> {
             slots,
             quantum,
             orders: count,
-            may_keep: may_keep_places(exclusive, count, program.locks > 0 && cores > 1),
+            may_keep: may_keep_places(exclusive, count, moves_holders(program.locks, cores)),
             may_pull: !exclusive,
         };
         let tokens = Tokens {
@@ -161,6 +163,13 @@ impl<C: Seats + Drop, K: Tagged + Drop> Machine<C, K> {
             (Ok(_), Err(fault)) => Err(fault),
         }
     }
+}
+
+/// Whether a thread that holds a lock may be moved to another core, of so many locks and cores.
+fn moves_holders(locks: u8, cores: u8) -> bool
+    ensures { result ≡ false ↔ (locks ≡ 0) ⊎ (cores ≤ 1) }
+{
+    locks > 0 && cores > 1
 }
 
 /// Closes the table and the queue of tickets, if each thread that was posted has ended. Where not all of the seat or of
