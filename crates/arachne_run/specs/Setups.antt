@@ -1,5 +1,5 @@
 -- Which setups of a run are refused.
-use Rattle.std.specs.Prelude.{◌≡◌, ◌≤◌, ◌⊎◌, true, false, ℕ, ◌==◌, Bool, ◌&&◌, nat_le, if◌then◌else◌, List, Option, None, Some}
+use Rattle.std.specs.Prelude.{◌≡◌, ◌⊎◌, true, false, ℕ, ◌==◌, Bool, ◌&&◌, nat_le, if◌then◌else◌, List, Option, None, Some}
 use Rattle.arachne_core.specs.declared.layout.TheConstants.{CORES, SLOTS}
 use Rattle.arachne_run.specs.declared.fault.RunFault.{RunFault}
 use Rattle.arachne_run.specs.declared.fault.RunFault.TheVariants.{Cores, Quantum, Slots, Choosers, Orders, Memory, Foreign, Threads, Ledgers, Token, KernelThread}
@@ -9,9 +9,6 @@ use Rattle.arachne_jobs.specs.declared.fault.JobFault.{JobFault}
 use Rattle.arachne_jobs.specs.declared.fault.JobFault.TheVariants as job
 use Rattle.arachne_team.specs.declared.team.TeamFault.{TeamFault}
 use Rattle.arachne_team.specs.declared.team.TeamFault.TheVariants as team
-use Rattle.arachne_lang.specs.declared.program.Program.{Program}
-use Rattle.arachne_lang.specs.Program.{tree_of}
-use Rattle.arachne_jobs.specs.Classes.{forks_exclusive}
 use Rattle.arachne_policy.specs.declared.orders.CoreOrder.{CoreOrder}
 use Rattle.arachne_policy.specs.declared.orders.OrderFault.{OrderFault}
 use Rattle.arachne_policy.specs.Orders.{IsFirstFault}
@@ -84,9 +81,3 @@ as_worker_fault job.Foreign = worker.Foreign
 abbrev pub of_team : TeamFault → WorkerFault
 of_team team.Memory = worker.Memory
 of_team team.KernelThread = worker.KernelThread
-
--- Workers may keep places: no thread may want a whole core, no order may close one, and no thread that holds a lock may
--- be moved.
-abbrev pub MayKeep : Program → ℕ → ℕ → Type 0
-MayKeep program orders cores =
-    (forks_exclusive (tree_of program.root) ≡ false) × (orders ≡ 0) × ((program.locks ≡ 0) ⊎ (cores ≤ 1))

@@ -53,6 +53,7 @@ impl<'a, T: RunJob, C: Contexts<T>, R: Rng + Drop, G: Gate> Team<Share<C::Seat, 
         rt: &H,
         share: Share<C::Seat, T, R>,
     ) -> (Share<C::Seat, T, R>, Option<Share<C::Seat, T, R>>)
+        requires { AreIdle C.sits C.idle self.now.machine.now share.tokens × IsSetUp C.core_count C.slot_count self.now.machine.now }
         ensures own { AreIdle C.sits C.idle self.now.machine.now result.0.tokens × IsSetUp C.core_count C.slot_count self.now.machine.now }
         ensures other { IfSome result.1 (λ theirs. AreIdle C.sits C.idle self.now.machine.now theirs.tokens × IsSetUp C.core_count C.slot_count self.now.machine.now) }
         ensures orders { (result.0.tokens.arbiter ≡ share.tokens.arbiter) × IfSome result.1 (λ theirs. theirs.tokens.arbiter ≡ None) }
@@ -115,6 +116,8 @@ impl<'a, T: RunJob, C: Contexts<T>, R: Rng + Drop, G: Gate> Team<Share<C::Seat, 
         share: Share<C::Seat, T, R>,
         other: Share<C::Seat, T, R>,
     ) -> Option<Share<C::Seat, T, R>>
+        requires own { AreIdle C.sits C.idle self.now.machine.now share.tokens × IsSetUp C.core_count C.slot_count self.now.machine.now }
+        requires other { AreIdle C.sits C.idle self.now.machine.now other.tokens × IsSetUp C.core_count C.slot_count self.now.machine.now }
         ensures idle { IfSome result (λ both. AreIdle C.sits C.idle self.now.machine.now both.tokens × IsSetUp C.core_count C.slot_count self.now.machine.now) }
         ensures orders { IfSome result (λ both. both.tokens.arbiter ≡ share.tokens.arbiter) }
     {
