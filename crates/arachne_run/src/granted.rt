@@ -18,6 +18,17 @@ pub(crate) struct Granted {
     pass: Snapshot<Pass>,
 }
 
+impl Granted {
+    #[inline(always)]
+    fn by(pass: Pass) -> Granted
+        ensures { result.pass.value ≡ pass }
+    {
+        Granted {
+            pass: Snapshot::of(&pass),
+        }
+    }
+}
+
 /// What came of one try to get a lock.
 #[derive(Drop)]
 pub(crate) enum Got {
@@ -40,9 +51,7 @@ pub(crate) fn ask(locks: &SleepLocks, seats: &mut LockSeats, lock: u8, who: Who)
         → ChangesAt lock seats.old seats.new (λ old new. AskAnswer lock who old (Answered (Ok (asked.Granted granted.pass.value))) new) }
 {
     match locks.ask(seats, lock, who) {
-        Tried::Answered(Ok(Asked::Granted(pass))) => Got::Granted(Granted {
-            pass: Snapshot::of(&pass),
-        }),
+        Tried::Answered(Ok(Asked::Granted(pass))) => Got::Granted(Granted::by(pass)),
         Tried::Answered(Ok(Asked::Queued { at: _ })) => Got::Waits,
         Tried::Answered(Err(fault)) => Got::Refused(fault),
         Tried::Contended => Got::Contended,
@@ -60,9 +69,7 @@ pub(crate) fn check(locks: &SleepLocks, seats: &mut LockSeats, lock: u8, who: Wh
         → ChangesAt lock seats.old seats.new (λ old new. CheckAnswer lock who old (Answered (Some granted.pass.value)) new) }
 {
     match locks.check(seats, lock, who) {
-        Tried::Answered(Some(pass)) => Got::Granted(Granted {
-            pass: Snapshot::of(&pass),
-        }),
+        Tried::Answered(Some(pass)) => Got::Granted(Granted::by(pass)),
         Tried::Answered(None) => Got::Waits,
         Tried::Contended => Got::Contended,
     }
