@@ -3,3 +3,4 @@ pub mod Cells
 pub mod Ends
 pub mod Slices
 pub mod Classes
+pub mod Places

@@ -1,44 +1,10 @@
 //! Words that all workers of a run share, and look at before each fork: free places, children that wait, tags.
-ghost use Rattle.std.specs.Prelude.{◌≡◌, ◌↔◌, ◌<◌, IsTrue};
+ghost use Rattle.std.specs.Prelude.{◌≡◌, ◌↔◌, ◌<◌, ◌≤◌, ◌*◌, ◌^◌, IsTrue};
 
+use crate::places::PlaceLeft;
+use crate::queued::{TicketPut, TicketTaken};
 use crossbeam_utils::CachePadded;
 use std::sync::atomic::{AtomicU64, Ordering};
-
-/// A place was given back, and is to be counted as free. It can't be dropped: [`Room::place_was_left`] takes it.
-pub struct PlaceLeft {
-    uncounted: (),
-}
-
-impl PlaceLeft {
-    #[inline(always)]
-    pub fn new() -> PlaceLeft {
-        PlaceLeft { uncounted: () }
-    }
-}
-
-/// A child's ticket was put into the queue, and is to be counted. It can't be dropped: [`Room::child_waits`] takes it.
-pub struct TicketPut {
-    uncounted: (),
-}
-
-impl TicketPut {
-    #[inline(always)]
-    pub fn new() -> TicketPut {
-        TicketPut { uncounted: () }
-    }
-}
-
-/// A child's ticket was taken, and is to be counted. It can't be dropped: [`Room::ticket_was_taken`] takes it.
-pub struct TicketTaken {
-    uncounted: (),
-}
-
-impl TicketTaken {
-    #[inline(always)]
-    pub fn new() -> TicketTaken {
-        TicketTaken { uncounted: () }
-    }
-}
 
 /// How many children may wait at most.
 #[derive(Clone, Copy)]
@@ -68,12 +34,13 @@ pub struct Room {
 }
 
 impl Room {
-    /// So many places are free, and no child waits, of at most so many. The tag 0 is drawn, for the root.
-    pub fn new(places: u64, most_waiting: u64) -> Room
+    /// All places of so many cores are free, of each so many, and no child waits, of at most so many. The tag 0 is
+    /// drawn, for the root.
+    pub fn new(cores: u8, slots: u8, most_waiting: u64) -> Room
         ensures { result.limit.most ≡ most_waiting }
     {
         Room {
-            free: CachePadded::new(AtomicU64::new(places)),
+            free: CachePadded::new(AtomicU64::new(places_of(cores, slots))),
             waiting: CachePadded::new(AtomicU64::new(0)),
             limit: Limit { most: most_waiting },
             next_tag: CachePadded::new(AtomicU64::new(1)),
@@ -94,7 +61,7 @@ impl Room {
     /// A place was given back, or its thread has ended.
     #[inline(always)]
     pub fn place_was_left(&self, left: PlaceLeft) {
-        let PlaceLeft { uncounted: _ } = left;
+        left.counted();
         self.free.fetch_add(1, Ordering::SeqCst);
     }
 
@@ -113,14 +80,14 @@ impl Room {
     /// A child begins to wait.
     #[inline(always)]
     pub fn child_waits(&self, put: TicketPut) {
-        let TicketPut { uncounted: _ } = put;
+        put.counted();
         self.waiting.fetch_add(1, Ordering::SeqCst);
     }
 
     /// A child's ticket was taken.
     #[inline(always)]
     pub fn ticket_was_taken(&self, taken: TicketTaken) {
-        let TicketTaken { uncounted: _ } = taken;
+        taken.counted();
         self.waiting.fetch_sub(1, Ordering::SeqCst);
     }
 
@@ -130,9 +97,24 @@ impl Room {
     }
 }
 
-/// A number of things that may be taken before they are counted: then it is below 0 for a moment, and reads as 0.
+/// How many places so many cores have, each so many.
+fn places_of(cores: u8, slots: u8) -> u64
+    ensures { result ≡ cores * slots }
+{
+    u64::from(cores) * u64::from(slots)
+}
+
+/// A number of things that may be taken before they are counted: then it is below 0 for a moment.
 #[inline(always)]
 fn seen(number: &AtomicU64) -> u64 {
-    let number = number.load(Ordering::SeqCst);
+    or_zero(number.load(Ordering::SeqCst))
+}
+
+/// What a number is that may be below 0, and then wraps round: 0 there.
+#[inline(always)]
+fn or_zero(number: u64) -> u64
+    ensures above { number < 2 ^ 63 → result ≡ number }
+    ensures below { 2 ^ 63 ≤ number → result ≡ 0 }
+{
     if number > u64::MAX / 2 { 0 } else { number }
 }

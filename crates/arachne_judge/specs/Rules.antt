@@ -1,12 +1,12 @@
 -- The rules by their numbers, and which break of them counts.
-use Rattle.std.specs.Prelude.{ℕ, List, [], ◌∷◌, Option, None, Some}
+use Rattle.std.specs.Prelude.{ℕ, Bool, true, false, List, [], ◌∷◌, Option, None, Some}
 use Rattle.arachne_judge.specs.declared.rules.Broken.{Broken}
 use Rattle.arachne_judge.specs.declared.rules.Rule.{Rule}
-use Rattle.arachne_judge.specs.declared.rules.Rule.TheVariants.{OwnCore, InHand, Numbers, Quantum, Due, CoreZero, Parks, Unparks, Alone, Upwards, Places, Waits, Stays}
+use Rattle.arachne_judge.specs.declared.rules.Rule.TheVariants.{OwnCore, InHand, Numbers, Quantum, Due, CoreZero, Parks, Unparks, Alone, Upwards, Places, Waits, Stays, Pulls}
 
 -- all of them
 abbrev pub rules : List Rule
-rules = OwnCore ∷ InHand ∷ Numbers ∷ Quantum ∷ Due ∷ CoreZero ∷ Parks ∷ Unparks ∷ Alone ∷ Upwards ∷ Places ∷ Waits ∷ Stays ∷ []
+rules = OwnCore ∷ InHand ∷ Numbers ∷ Quantum ∷ Due ∷ CoreZero ∷ Parks ∷ Unparks ∷ Alone ∷ Upwards ∷ Places ∷ Waits ∷ Stays ∷ Pulls ∷ []
 
 abbrev pub number_of : Rule → ℕ
 number_of OwnCore = 0
@@ -22,8 +22,14 @@ number_of Upwards = 9
 number_of Places = 10
 number_of Waits = 11
 number_of Stays = 12
+number_of Pulls = 13
 
 -- the first break stands
 abbrev pub first_broken : Option Broken → Broken → Option Broken
 first_broken None broken = Some broken
 first_broken (Some first) broken = Some first
+
+-- the same where a rule is broken here, and else what stood before
+abbrev pub broken_if : Bool → Option Broken → Broken → Option Broken
+broken_if true before broken = first_broken before broken
+broken_if false before broken = before

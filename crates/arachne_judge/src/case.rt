@@ -3,9 +3,11 @@
 //! An entry is written just after what it tells of was done, or just before. So another core may show what came of it
 //! first: that a thread was moved, that a core was closed or granted, or that a thread was woken. Core 0 is to tell what
 //! it did before its next slice, and each other core at once: until then such a thing is owed.
-ghost use Rattle.std.specs.Prelude.{◌≡◌, ◌≢◌, ◌<◌, IsSome};
-ghost use Rattle.arachne_judge.specs.Rules.{first_broken};
+ghost use Rattle.std.specs.Prelude.{◌≡◌, ◌≢◌, ◌<◌, ◌==◌, IsSome, not};
+ghost use Rattle.arachne_judge.specs.Rules.{broken_if, first_broken};
+ghost use Rattle.arachne_judge.specs.declared.rules.Rule.TheVariants.{CoreZero, Pulls, Quantum, Stays};
 
+use crate::breaks;
 use crate::cores::Core;
 use crate::log::{Entry, Log, What};
 use crate::rules::{Broken, Counts, Rule, Run, Verdict};
@@ -154,6 +156,16 @@ impl<'r> Case<'r> {
         }
     }
 
+    /// The rule is judged here, and is broken or not.
+    fn judges(&mut self, rule: Rule, is_broken: bool)
+        ensures { self.new ≡ record self.old { counts = self.new.counts; broken = broken_if is_broken self.old.broken (record { rule = rule; at = self.old.at }) } }
+    {
+        self.counts(rule);
+        if is_broken {
+            self.breaks(rule);
+        }
+    }
+
     fn look(&mut self, entry: Entry) {
         let core = entry.core;
         if !matches!(entry.what, What::Told(Event::Sliced(_, _))) {
@@ -176,7 +188,7 @@ impl<'r> Case<'r> {
         match event {
             Event::Sliced(steps, end) => self.sliced(core, steps, end),
             Event::Woken(id, _) => self.woken(id),
-            Event::Pulled(id, _) => self.pulled(core, id),
+            Event::Pulled(id, from) => self.pulled(core, id, from),
             Event::Spilled => {
                 if self.scans.spilled() {
                     self.counts(Rule::Places);
@@ -198,21 +210,14 @@ impl<'r> Case<'r> {
 
     fn slice(&mut self, core: u8, nth: u64) {
         let mut known = self.core(core);
-        self.counts(Rule::Numbers);
-        if known.next != nth {
-            self.breaks(Rule::Numbers);
-        }
+        self.judges(Rule::Numbers, breaks::is_out_of_turn(known.next, nth));
         known.next = nth.saturating_add(1);
         let is_second = known.is_in_slice;
         known.is_in_slice = true;
         self.set_core(core, known);
         self.counts(Rule::InHand);
         match known.turn.and_then(|id| self.thread(id)) {
-            Some(mut thread)
-                if thread.core == core
-                    && !thread.is_in_slice
-                    && !is_second
-                    && !thread.has_ended() => {
+            Some(mut thread) if !is_out_of_hand(&thread, core, is_second) => {
                 thread.is_in_slice = true;
                 self.set_thread(thread);
             }
@@ -229,10 +234,11 @@ impl<'r> Case<'r> {
         let Some(order) = self.run.orders.get(self.applied) else {
             return;
         };
-        self.counts(Rule::Due);
-        if order.after <= self.counted.saturating_add(self.core(0).ended) {
-            self.breaks(Rule::Due);
-        }
+        let own = self.core(0).ended;
+        self.judges(
+            Rule::Due,
+            breaks::is_overdue(order.after, self.counted, own),
+        );
     }
 
     /// Core 0 goes on, or the log is at its end: what was owed is broken.
@@ -246,16 +252,17 @@ impl<'r> Case<'r> {
             if known.owes_move {
                 known.owes_move = false;
                 self.untold = self.untold.saturating_add(1);
-                if self.run.has_exclusive || self.untold > self.most_untold() {
+                if breaks::is_untold(self.run.has_exclusive, self.untold, self.most_untold()) {
                     self.breaks(Rule::OwnCore);
                 }
             }
-            if known.owes_close || known.owes_return {
+            if breaks::parks_for_nothing(known.owes_close, known.owes_return) {
                 known.owes_close = false;
                 known.owes_return = false;
                 self.breaks(Rule::Parks);
             }
-            if known.unparks > known.grants.saturating_add(u64::from(self.is_over)) {
+            let ends = u64::from(self.is_over);
+            if breaks::unparks_for_nothing(known.unparks, known.grants, ends) {
                 self.breaks(Rule::Unparks);
             }
             self.set_core(core, known);
@@ -278,7 +285,7 @@ impl<'r> Case<'r> {
         if is_alone {
             self.counts(Rule::Alone);
         }
-        if known.alone.is_some_and(|alone| alone != id) {
+        if breaks::is_beside(known.alone, id) {
             self.breaks(Rule::Alone);
         }
         if is_alone {
@@ -363,11 +370,8 @@ impl<'r> Case<'r> {
     fn sliced(&mut self, core: u8, steps: u32, end: SliceEnd)
         ensures { self.old.run.quantum < steps → IsSome self.new.broken }
     {
-        self.counts(Rule::Quantum);
+        self.judges(Rule::Quantum, breaks::is_past(self.run.quantum, steps));
         self.steps = self.steps.saturating_add(u64::from(steps));
-        if steps > self.run.quantum {
-            self.breaks(Rule::Quantum);
-        }
         let mut known = self.core(core);
         if !known.is_in_slice {
             self.breaks(Rule::InHand);
@@ -404,10 +408,14 @@ impl<'r> Case<'r> {
         }
     }
 
-    fn pulled(&mut self, core: u8, id: ThreadId) {
+    /// A thread was moved to a core from another one, by the core's worker.
+    fn pulled(&mut self, core: u8, id: ThreadId, from: u8)
+        ensures { self.new.broken ≡ broken_if (from == core) (broken_if self.old.run.has_exclusive self.old.broken (record { rule = Stays; at = self.old.at })) (record { rule = Pulls; at = self.old.at }) }
+    {
         if self.run.has_exclusive {
             self.breaks(Rule::Stays);
         }
+        self.judges(Rule::Pulls, breaks::is_from_there(core, from));
         if let Some(mut thread) = self.thread(id) {
             thread.pulled = Some(core);
             self.set_thread(thread);
@@ -446,19 +454,14 @@ impl<'r> Case<'r> {
     fn applied(&mut self, core: u8, orders: usize)
         ensures { core ≢ 0 → IsSome self.new.broken }
     {
-        self.counts(Rule::CoreZero);
-        if core != 0 {
-            self.breaks(Rule::CoreZero);
-        }
+        let is_another = breaks::is_another(core);
+        self.judges(Rule::CoreZero, is_another);
         for nth in self.applied..orders {
             let Some(order) = self.run.orders.get(nth) else {
                 self.breaks(Rule::Due);
                 break;
             };
-            self.counts(Rule::Due);
-            if order.after > self.ended {
-                self.breaks(Rule::Due);
-            }
+            self.judges(Rule::Due, breaks::is_early(order.after, self.ended));
             let of = u8::try_from(order.core).unwrap_or(u8::MAX);
             let mut known = self.core(of);
             if order.kind == OrderKind::Grant {
@@ -476,12 +479,9 @@ impl<'r> Case<'r> {
 
     /// Threads were moved away to these cores, by a core, which has to be core 0.
     fn moved_away(&mut self, core: u8, receivers: u64)
-        ensures { core ≢ 0 → IsSome self.new.broken }
+        ensures { self.new.broken ≡ broken_if (not (core == 0)) self.old.broken (record { rule = CoreZero; at = self.old.at }) }
     {
-        self.counts(Rule::CoreZero);
-        if core > 0 {
-            self.breaks(Rule::CoreZero);
-        }
+        self.judges(Rule::CoreZero, breaks::is_another(core));
         for receiver in 0..self.run.cores {
             if receivers.checked_shr(u32::from(receiver)).unwrap_or(0) & 1 == 1 {
                 let mut known = self.core(receiver);
@@ -492,4 +492,16 @@ impl<'r> Case<'r> {
             }
         }
     }
+}
+
+/// `InHand`: a thread begins a slice on a core and may not, since it was last on another one, is in a slice or has ended,
+/// or since the core is in one.
+fn is_out_of_hand(thread: &Thread, core: u8, is_second: bool) -> bool {
+    breaks::is_not_in_hand(
+        core,
+        thread.core,
+        thread.is_in_slice,
+        is_second,
+        thread.has_ended(),
+    )
 }

@@ -1,6 +1,7 @@
 //! A judge of runs: a log of what a gate is told, and which rule of a run it breaks.
 #![tactic(auto)]
 
+mod breaks;
 mod case;
 mod cores;
 mod log;

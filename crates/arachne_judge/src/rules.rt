@@ -34,10 +34,12 @@ pub enum Rule {
     Waits,
     /// No worker moves a thread to its own core. Of programs with an exclusive fork.
     Stays,
+    /// A thread that a worker moves to its core was on another one.
+    Pulls,
 }
 
 /// How many rules there are.
-const RULES: usize = 13;
+const RULES: usize = 14;
 
 impl Rule {
     /// Its number, from 0.
@@ -59,6 +61,7 @@ impl Rule {
             Rule::Places => 10,
             Rule::Waits => 11,
             Rule::Stays => 12,
+            Rule::Pulls => 13,
         }
     }
 }

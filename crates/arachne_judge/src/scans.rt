@@ -1,6 +1,8 @@
 //! What a log shows of scans and places, where there is one core and no lock.
 //!
 //! A context has one index of the core there all the time, so its number is that of its index.
+ghost use Rattle.std.specs.Prelude.{◌≡◌, ◌≤◌, ◌<◌, ◌+◌, ◌↔◌, true, min, IfSome, IsSome, IsTrue};
+
 use crate::rules::Run;
 
 /// What is known of the scans, and of the places that are taken.
@@ -60,7 +62,9 @@ impl Scans {
     }
 
     /// A child waits for a place. Whether that is judged.
-    pub(crate) fn spilled(&mut self) -> bool {
+    pub(crate) fn spilled(&mut self) -> bool
+        ensures { result ≡ self.old.are_places }
+    {
         if !self.are_places {
             return false;
         }
@@ -72,7 +76,11 @@ impl Scans {
     }
 
     /// The thread at an index has a turn, its first one or not. Whether the one that had a turn last is ready.
-    pub(crate) fn turn(&mut self, index: u32, goes_on: bool, is_first: bool) -> Found {
+    pub(crate) fn turn(&mut self, index: u32, goes_on: bool, is_first: bool) -> Found
+        ensures downward { IsTrue result.is_downward ↔ (result.is_judged ≡ true) × IsSome self.old.due }
+        ensures free { IsTrue result.was_free ↔ (result.is_judged ≡ true) × (0 < self.old.unseen) × (1 < min (self.old.scans + 1) u32.MAX) }
+        ensures judged { IsTrue result.is_judged ↔ (self.old.is_judged ≡ true) × IsSome self.old.last × IfSome self.old.last (λ last. index ≤ last) }
+    {
         let mut found = Found {
             is_judged: false,
             is_downward: false,

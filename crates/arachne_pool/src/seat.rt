@@ -153,7 +153,7 @@ impl<'a, H: Wait, J: PoolJob, C: Contexts<Spawned<J>>> Desk for Seat<'a, H, J, C
     }
 
     #[inline(always)]
-    fn end(&mut self) -> Result<Option<ThreadId>, Halt> {
+    fn end(&mut self, _before: OccWord) -> Result<Option<ThreadId>, Halt> {
         if self.is_broken {
             return Err(Halt::from(PoolFault::Token));
         }
@@ -178,10 +178,6 @@ impl<'a, H: Wait, J: PoolJob, C: Contexts<Spawned<J>>> Desk for Seat<'a, H, J, C
                 Err(Halt::from(PoolFault::Token))
             }
         }
-    }
-
-    fn keep_place(&mut self, _before: OccWord) -> Result<(), Halt> {
-        Ok(())
     }
 
     fn kept(&self) -> usize {

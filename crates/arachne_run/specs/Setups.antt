@@ -7,6 +7,8 @@ use Rattle.arachne_run.specs.declared.fault.WorkerFault.{WorkerFault}
 use Rattle.arachne_run.specs.declared.fault.WorkerFault.TheVariants as worker
 use Rattle.arachne_jobs.specs.declared.fault.JobFault.{JobFault}
 use Rattle.arachne_jobs.specs.declared.fault.JobFault.TheVariants as job
+use Rattle.arachne_team.specs.declared.team.TeamFault.{TeamFault}
+use Rattle.arachne_team.specs.declared.team.TeamFault.TheVariants as team
 use Rattle.arachne_policy.specs.declared.orders.CoreOrder.{CoreOrder}
 use Rattle.arachne_policy.specs.declared.orders.OrderFault.{OrderFault}
 use Rattle.arachne_policy.specs.Orders.{IsFirstFault}
@@ -74,3 +76,8 @@ numbered n =
 abbrev pub as_worker_fault : JobFault → WorkerFault
 as_worker_fault job.Memory = worker.Memory
 as_worker_fault job.Foreign = worker.Foreign
+
+-- what the workers stop for where a kernel thread does not begin
+abbrev pub of_team : TeamFault → WorkerFault
+of_team team.Memory = worker.Memory
+of_team team.KernelThread = worker.KernelThread

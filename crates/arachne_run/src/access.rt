@@ -1,21 +1,20 @@
 //! What a worker does at the locks and the ledgers. A lock is tried again while another kernel thread is at it.
-ghost use Rattle.std.specs.Prelude.{◌≡◌, ◌<◌, Ok, Some, IfOk, IfSome, OnOk, length};
+ghost use Rattle.std.specs.Prelude.{◌≡◌, ◌<◌, Ok, IfOk, IfSome, OnOk, length};
 ghost use Rattle.arachne_ledger.specs.Sums.{raised};
 ghost use Rattle.arachne_ledger.specs.Views.{IsShareOf};
-ghost use Rattle.arachne_sleep.specs.declared.answer.Asked.TheVariants as asked;
-ghost use Rattle.arachne_sleep.specs.declared.answer.Pass.{Pass};
-ghost use Rattle.arachne_sleep.specs.declared.answer.Tried.TheVariants.{Answered};
 ghost use Rattle.arachne_run.specs.Serving.{IsPassFor, IsServed, IsWantOf, StopsAt, id_of};
 ghost use Rattle.arachne_run.specs.Tokens.{AreHoldingsOf};
+ghost use Rattle.arachne_run.specs.declared.granted.Got.TheVariants as got;
+ghost use Rattle.arachne_run.specs.declared.granted.Granted.{Granted};
 
 use crate::fault::WorkerFault;
-use crate::granted::Granted;
+use crate::granted::{self, Got, Granted};
 use crate::resources::{Holdings, Resources};
 use arachne_arbiter::Pace;
 use arachne_core::ThreadId;
 use arachne_jobs::RunThread;
 use arachne_ledger::{Ledgers, Share};
-use arachne_sleep::{AskFault, Asked, Freed, NotHolder, Pass, SleepLocks, Tried, Who};
+use arachne_sleep::{AskFault, Freed, NotHolder, SleepLocks, Tried, Who};
 use arachne_workers::{Stop, stand_by};
 use std::marker::Model;
 use std::sync::Wait;
@@ -160,11 +159,11 @@ impl<'a> Access<'a> {
         let mut tries: u32 = 0;
         for _ in rt.forever() {
             match self.try_ask(lock, who)? {
-                Tried::Answered(Ok(Asked::Granted(pass))) => return Ok(Some(Granted::by(pass))),
-                Tried::Answered(Ok(Asked::Queued { at: _ })) => return Ok(None),
-                Tried::Answered(Err(AskFault::Memory)) => return Err(WorkerFault::Memory),
-                Tried::Answered(Err(AskFault::AlreadyIn)) => return Err(WorkerFault::Threads),
-                Tried::Contended => {}
+                Got::Granted(granted) => return Ok(Some(granted)),
+                Got::Waits => return Ok(None),
+                Got::Refused(AskFault::Memory) => return Err(WorkerFault::Memory),
+                Got::Refused(AskFault::AlreadyIn) => return Err(WorkerFault::Threads),
+                Got::Contended => {}
             }
             stand_by(rt, pace, tries);
             tries = tries.saturating_add(1);
@@ -186,9 +185,10 @@ impl<'a> Access<'a> {
         let mut tries: u32 = 0;
         for _ in rt.forever() {
             match self.try_check(lock, who)? {
-                Tried::Answered(Some(pass)) => return Ok(Some(Granted::by(pass))),
-                Tried::Answered(None) => return Ok(None),
-                Tried::Contended => {}
+                Got::Granted(granted) => return Ok(Some(granted)),
+                Got::Waits => return Ok(None),
+                Got::Refused(_) => return Err(WorkerFault::Threads),
+                Got::Contended => {}
             }
             stand_by(rt, pace, tries);
             tries = tries.saturating_add(1);
@@ -220,27 +220,23 @@ impl<'a> Access<'a> {
     }
 
     /// Tries once to ask for a lock. In a checked program a pause names a lock that is there.
-    fn try_ask(
-        &mut self,
-        lock: u64,
-        who: Who,
-    ) -> Result<Tried<Result<Asked, AskFault>>, WorkerFault>
+    fn try_ask(&mut self, lock: u64, who: Who) -> Result<Got, WorkerFault>
         ensures same { self.new ≡ self.old }
-        ensures pass { (pass : Pass) → result ≡ Ok (Answered (Ok (asked.Granted pass))) → IsPassFor lock who pass }
+        ensures pass { (granted : Granted) → result ≡ Ok (got.Granted granted) → IsPassFor lock who granted.pass.value }
     {
         let locks = &self.resources.locks;
         let lock = number_of(locks, lock)?;
-        Ok(locks.ask(&mut self.holdings.lock_seats, lock, who))
+        Ok(granted::ask(locks, &mut self.holdings.lock_seats, lock, who))
     }
 
     /// Tries once to look whether a thread that has asked for a lock holds it now.
-    fn try_check(&mut self, lock: u64, who: Who) -> Result<Tried<Option<Pass>>, WorkerFault>
+    fn try_check(&mut self, lock: u64, who: Who) -> Result<Got, WorkerFault>
         ensures same { self.new ≡ self.old }
-        ensures pass { (pass : Pass) → result ≡ Ok (Answered (Some pass)) → IsPassFor lock who pass }
+        ensures pass { (granted : Granted) → result ≡ Ok (got.Granted granted) → IsPassFor lock who granted.pass.value }
     {
         let locks = &self.resources.locks;
         let lock = number_of(locks, lock)?;
-        Ok(locks.check(&mut self.holdings.lock_seats, lock, who))
+        Ok(granted::check(locks, &mut self.holdings.lock_seats, lock, who))
     }
 
     /// Tries once to free a lock.

@@ -1,6 +1,7 @@
 //! Why a run has no report.
 use arachne_jobs::JobFault;
 use arachne_policy::OrderFault;
+use arachne_team::TeamFault;
 use arachne_workers::Halt;
 use std::alloc::AllocError;
 use thiserror::Error;
@@ -133,6 +134,20 @@ impl From<JobFault> for WorkerFault {
         match fault {
             JobFault::Memory => WorkerFault::Memory,
             JobFault::Foreign => WorkerFault::Foreign,
+        }
+    }
+}
+
+impl From<TeamFault> for WorkerFault {
+    ghost use Rattle.std.specs.Prelude.{◌≡◌};
+    ghost use Rattle.arachne_run.specs.Setups.{of_team};
+
+    ghost from_gives = { λ fault e. e ≡ of_team fault };
+
+    fn from(fault: TeamFault) -> WorkerFault {
+        match fault {
+            TeamFault::Memory => WorkerFault::Memory,
+            TeamFault::KernelThread => WorkerFault::KernelThread,
         }
     }
 }

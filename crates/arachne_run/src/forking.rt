@@ -12,11 +12,11 @@ use crate::claims::Claims;
 use crate::fault::WorkerFault;
 use crate::machine::Machine;
 use arachne_arbiter::Pace;
-use arachne_contexts::{Contexts, Held, Identified, Placed, Tagged};
+use arachne_contexts::{Contexts, Held, Identified, Placed};
 use arachne_core::ThreadId;
-use arachne_jobs::{Openings, PlaceLeft, RunJob, Slice, TicketPut, TicketTaken};
+use arachne_jobs::{Openings, PlaceLeft, RunJob, Slice, give_back, put_ticket};
 use arachne_lang::Class;
-use arachne_spill::{SpillPass, SpillQueue};
+use arachne_spill::SpillPass;
 use arachne_workers::{Post, Stop};
 use rand_core::Rng;
 use std::alloc::Global;
@@ -147,37 +147,6 @@ fn may_wait(class: Class, is_full: bool) -> bool
     class == Class::Normal && !is_full
 }
 
-/// Puts a ticket into the queue, which is to be counted then. It comes back where the queue is full.
-#[inline(always)]
-fn put_ticket<H: Wait, K: Tagged + Drop>(
-    rt: &H,
-    tickets: &SpillQueue<K>,
-    pass: &mut SpillPass<K>,
-    ticket: K,
-) -> Result<TicketPut, K>
-    requires { IsPassOf tickets.now pass.old }
-    ensures { IsPassOf tickets.now pass.new }
-{
-    match tickets.push(rt, pass, ticket) {
-        Ok(()) => Ok(TicketPut::new()),
-        Err(ticket) => Err(ticket),
-    }
-}
-
-/// The next ticket of the queue, which is to be counted as taken.
-#[inline(always)]
-pub(crate) fn next_ticket<H: Wait, K: Tagged + Drop>(
-    rt: &H,
-    tickets: &SpillQueue<K>,
-    pass: &mut SpillPass<K>,
-) -> Option<(K, TicketTaken)>
-    requires { IsPassOf tickets.now pass.old }
-    ensures { IsPassOf tickets.now pass.new }
-{
-    let ticket = tickets.pop(rt, pass)?;
-    Some((ticket, TicketTaken::new()))
-}
-
 /// Gives back a place at which nothing was posted. It is to be counted then.
 pub(crate) fn give_place_back<H: Wait, T: RunJob, C: Contexts<T>>(
     rt: &H,
@@ -190,8 +159,8 @@ pub(crate) fn give_place_back<H: Wait, T: RunJob, C: Contexts<T>>(
     ensures seat { C.sits machine.now.table spare.new }
     ensures out { OnOk result (IsSpent (C.has machine.now.table) (a_claim claim) spare.old spare.new) }
 {
-    match machine.table.give_back(rt, spare, claim) {
-        Ok(()) => Ok(PlaceLeft::new()),
+    match give_back::<H, T, C>(rt, &machine.table, spare, claim) {
+        Ok(left) => Ok(left),
         Err(_) => Err(WorkerFault::Token),
     }
 }

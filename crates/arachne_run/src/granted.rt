@@ -1,23 +1,76 @@
-//! What shows that a thread holds a lock.
-ghost use Rattle.std.specs.Prelude.{◌≡◌};
+//! Tries to get a lock, and what shows that a thread holds one.
+ghost use Rattle.std.specs.Prelude.{◌≡◌, ◌<◌, Ok, Some, length};
+ghost use Rattle.arachne_sleep.specs.Calls.{AskAnswer, CheckAnswer};
+ghost use Rattle.arachne_sleep.specs.SleepLocks.{AreSeatsOf, ChangesAt};
+ghost use Rattle.arachne_sleep.specs.declared.answer.Asked.TheVariants as asked;
+ghost use Rattle.arachne_sleep.specs.declared.answer.Tried.TheVariants.{Answered};
+ghost use Rattle.arachne_run.specs.Serving.{IsPassFor};
+ghost use Rattle.arachne_run.specs.declared.granted.Got.TheVariants as got;
+ghost use Rattle.arachne_run.specs.declared.granted.Granted.{Granted};
 
-use arachne_sleep::Pass;
+use arachne_sleep::{AskFault, Asked, LockSeats, Pass, SleepLocks, Tried, Who};
 use std::snapshot::Snapshot;
 
-/// The thread in hand holds the lock that it asked for, by this pass. Only a pass gives one, and nobody goes on after an
-/// ask without. It has no bytes.
+/// The thread in hand holds the lock that it asked for, by this pass. [`ask`] and [`check`] alone give one, for a pass
+/// that the lock gave in that call, and nobody goes on after an ask without. It has no bytes.
 #[derive(Drop)]
 pub(crate) struct Granted {
-    pub(crate) pass: Snapshot<Pass>,
+    pass: Snapshot<Pass>,
 }
 
 impl Granted {
     #[inline(always)]
-    pub(crate) fn by(pass: Pass) -> Granted
+    fn by(pass: Pass) -> Granted
         ensures { result.pass.value ≡ pass }
     {
         Granted {
             pass: Snapshot::of(&pass),
         }
+    }
+}
+
+/// What came of one try to get a lock.
+#[derive(Drop)]
+pub(crate) enum Got {
+    Granted(Granted),
+    /// The thread waits for it.
+    Waits,
+    Refused(AskFault),
+    /// Another kernel thread was at the lock. Nothing has changed.
+    Contended,
+}
+
+/// Tries once to ask for a lock.
+#[inline(always)]
+pub(crate) fn ask(locks: &SleepLocks, seats: &mut LockSeats, lock: u8, who: Who) -> Got
+    requires own { AreSeatsOf locks.now seats.old }
+    requires lock { lock < length locks.now }
+    ensures own { AreSeatsOf locks.now seats.new }
+    ensures pass { (granted : Granted) → result ≡ got.Granted granted → IsPassFor lock who granted.pass.value }
+    ensures listed { (granted : Granted) → result ≡ got.Granted granted
+        → ChangesAt lock seats.old seats.new (λ old new. AskAnswer lock who old (Answered (Ok (asked.Granted granted.pass.value))) new) }
+{
+    match locks.ask(seats, lock, who) {
+        Tried::Answered(Ok(Asked::Granted(pass))) => Got::Granted(Granted::by(pass)),
+        Tried::Answered(Ok(Asked::Queued { at: _ })) => Got::Waits,
+        Tried::Answered(Err(fault)) => Got::Refused(fault),
+        Tried::Contended => Got::Contended,
+    }
+}
+
+/// Tries once to look whether a thread that has asked for a lock holds it now.
+#[inline(always)]
+pub(crate) fn check(locks: &SleepLocks, seats: &mut LockSeats, lock: u8, who: Who) -> Got
+    requires own { AreSeatsOf locks.now seats.old }
+    requires lock { lock < length locks.now }
+    ensures own { AreSeatsOf locks.now seats.new }
+    ensures pass { (granted : Granted) → result ≡ got.Granted granted → IsPassFor lock who granted.pass.value }
+    ensures listed { (granted : Granted) → result ≡ got.Granted granted
+        → ChangesAt lock seats.old seats.new (λ old new. CheckAnswer lock who old (Answered (Some granted.pass.value)) new) }
+{
+    match locks.check(seats, lock, who) {
+        Tried::Answered(Some(pass)) => Got::Granted(Granted::by(pass)),
+        Tried::Answered(None) => Got::Waits,
+        Tried::Contended => Got::Contended,
     }
 }

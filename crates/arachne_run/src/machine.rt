@@ -1,8 +1,9 @@
 //! What the workers of a run share.
-ghost use Rattle.std.specs.Prelude.{◌≡◌, ◌≤◌, ◌⊎◌, ◌%◌, ◌^◌, true, [], All, Err, IfErr, IfOk, IfSome, IsOk, OnOk, length, map, not};
+ghost use Rattle.std.specs.Prelude.{◌≡◌, ◌≤◌, ◌⊎◌, ◌↔◌, ◌%◌, ◌^◌, [], All, Err, IfErr, IfOk, IfSome, IsOk, IsTrue, OnOk, length, map, not};
 ghost use Rattle.arachne_lang.specs.Program.{tree_of};
 ghost use Rattle.arachne_jobs.specs.Classes.{forks_exclusive};
 ghost use Rattle.arachne_policy.specs.Orders.{AreInOrder};
+ghost use Rattle.arachne_workers.specs.Keeping.{MayKeepPlaces};
 ghost use Rattle.arachne_sleep.specs.History.{IsSound};
 ghost use Rattle.arachne_sleep.specs.OneHolder.{HasOneHolderAtATime};
 ghost use Rattle.arachne_spill.specs.Views.{IsPassOf, IsWhole as IsWholePass};
@@ -79,11 +80,12 @@ impl<C: Seats + Drop, K: Tagged + Drop> Machine<C, K> {
         requires most_slots { slots ≤ SLOTS }
         requires some_steps { 1 ≤ quantum }
         requires orders { AreInOrder cores orders.items }
-        ensures { IfOk result (λ made. AreIdle C.sits C.idle made.0 made.1 × IsSetUp C.core_count C.slot_count made.0
+        ensures made { IfOk result (λ made. AreIdle C.sits C.idle made.0 made.1 × IsSetUp C.core_count C.slot_count made.0
             × (made.0.orders ≡ length orders.items) × (length made.0.resources.locks ≡ program.now.locks)
             × (made.0.may_pull ≡ not (forks_exclusive (tree_of program.now.root)))
-            × (made.0.may_keep ≡ true → (made.0.may_pull ≡ true) × (orders.items ≡ []))
+            × (made.0.resources.ledgers.count ≡ program.now.ledgers)
             × (made.0.cores ≡ cores) × (made.0.slots ≡ slots) × (made.0.quantum ≡ quantum)) }
+        ensures keeps { IfOk result (λ made. IsTrue made.0.may_keep ↔ MayKeepPlaces (forks_exclusive (tree_of program.now.root)) (length orders.items) program.now.locks cores) }
     {
         let count = orders.len();
         let exclusive = has_exclusive(&program.root);
@@ -92,7 +94,7 @@ impl<C: Seats + Drop, K: Tagged + Drop> Machine<C, K> {
         let (tickets, pass) = SpillQueue::new(alloc)?;
         let (table, seat) = C::new(alloc, cores, slots, 0)?;
         let machine = Machine {
-            shared: Shared::new(alloc, cores, u64::from(cores) * u64::from(slots))?,
+            shared: Shared::new(alloc, cores, slots)?,
             resources,
             tickets,
             table,
@@ -100,7 +102,7 @@ impl<C: Seats + Drop, K: Tagged + Drop> Machine<C, K> {
             slots,
             quantum,
             orders: count,
-            may_keep: may_keep_places(exclusive, count, program.locks > 0 && cores > 1),
+            may_keep: may_keep_places(exclusive, count, program.locks, cores),
             may_pull: !exclusive,
         };
         let tokens = Tokens {

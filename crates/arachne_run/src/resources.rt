@@ -44,6 +44,7 @@ impl Resources {
         locks: u8,
     ) -> Result<(Resources, Holdings), AllocError>
         ensures holdings { IfOk result (λ made. AreHoldingsOf made.0 made.1) }
+        ensures ledgers { IfOk result (λ made. made.0.ledgers.count ≡ ledgers) }
         ensures locks { IfOk result (λ made. length made.0.locks ≡ locks) }
     {
         let (ledgers, share) = Ledgers::new(alloc, usize::from(ledgers))?;

@@ -9,14 +9,16 @@ ghost use Rattle.arachne_run.specs.Tokens.{AreIdle, IsSetUp, ground_of};
 use crate::access::Access;
 use crate::claims::Claims;
 use crate::fault::WorkerFault;
-use crate::forking::{Forks, free_place, give_place_back, go_on, next_ticket, post_waiting};
+use crate::forking::{Forks, free_place, give_place_back, go_on, post_waiting};
 use crate::gate::Gate;
 use crate::machine::Machine;
 use crate::tokens::Tokens;
 use arachne_arbiter::{Arbiter, Pace};
-use arachne_contexts::{Claimed, Contexts, Held, Moved, Placed, Rested, Taken, Woken};
+use arachne_contexts::{Contexts, Held, Moved, Placed, Rested, Taken, Woken};
 use arachne_core::{MarkWord, OccWord, Place, Rest, ThreadId};
-use arachne_jobs::{Openings, PlaceLeft, RunJob, RunSpares, RunThread, RunTicket};
+use arachne_jobs::{
+    Openings, PlaceLeft, RunJob, RunSpares, RunThread, RunTicket, claim_again, finish, next_ticket,
+};
 use arachne_spill::SpillPass;
 use arachne_workers::{
     Desk, Drained, Event, Grip, Halt, Post, Stop, Ticket, keeps_place, may_take_ticket,
@@ -132,6 +134,31 @@ impl<'a, H: Wait, T: RunJob, C: Contexts<T>, R: Rng + Drop, G: Gate> Seat<'a, H,
         self.is_broken = false;
         Ok(Some(index))
     }
+
+    /// Keeps a place for one that was left, if the core, which looked so before, was full. Else that is told of as free.
+    fn keep_or_count(&mut self, left: PlaceLeft, before: OccWord) -> Result<(), Halt>
+        ensures { self.new ≡ self.old }
+    {
+        let (machine, room) = (self.machine, self.machine.shared.room());
+        if !machine.may_keep || self.is_broken || !keeps_place(before, machine.slots) {
+            room.place_was_left(left);
+            return Ok(());
+        }
+        self.is_broken = true;
+        let spare = &mut self.spare;
+        let left = match claim_again::<H, T, C>(self.rt, &machine.table, spare, self.core, left) {
+            Ok(claim) => match self.kept.keep(claim) {
+                Ok(()) => None,
+                Err(claim) => Some(give_place_back::<H, T, C>(self.rt, machine, spare, claim)?),
+            },
+            Err(left) => Some(left),
+        };
+        self.is_broken = false;
+        if let Some(left) = left {
+            room.place_was_left(left);
+        }
+        Ok(())
+    }
 }
 
 impl<'a, H: Wait + Clock, T: RunJob, C: Contexts<T>, R: Rng + Drop, G: Gate> Desk
@@ -214,57 +241,31 @@ impl<'a, H: Wait + Clock, T: RunJob, C: Contexts<T>, R: Rng + Drop, G: Gate> Des
     }
 
     #[inline(always)]
-    fn end(&mut self) -> Result<Option<ThreadId>, Halt> {
+    fn end(&mut self, before: OccWord) -> Result<Option<ThreadId>, Halt> {
         if self.is_broken {
             return Err(Halt::from(WorkerFault::Token));
         }
         let Some(held) = self.held.take() else {
             return Err(Halt::from(WorkerFault::Token));
         };
-        let table = &self.machine.table;
-        match table.finish(self.rt, &mut self.seat, held) {
-            Ok(job) => match job.leave(&mut self.forks.spares) {
-                Ok(None) => {
-                    self.machine.shared.stop();
-                    Ok(None)
+        match finish(self.rt, &self.machine.table, &mut self.seat, held) {
+            Ok((job, left)) => {
+                let parent = job.leave(&mut self.forks.spares);
+                self.keep_or_count(left, before)?;
+                match parent {
+                    Ok(None) => {
+                        self.machine.shared.stop();
+                        Ok(None)
+                    }
+                    Ok(parent) => Ok(parent),
+                    Err(fault) => Err(Halt::from(WorkerFault::from(fault))),
                 }
-                Ok(parent) => Ok(parent),
-                Err(fault) => Err(Halt::from(WorkerFault::from(fault))),
-            },
+            }
             Err(held) => {
                 self.held = Some(held);
                 Err(Halt::from(WorkerFault::Token))
             }
         }
-    }
-
-    fn keep_place(&mut self, before: OccWord) -> Result<(), Halt> {
-        let room = self.machine.shared.room();
-        if !self.machine.may_keep || self.is_broken {
-            room.place_was_left(PlaceLeft::new());
-            return Ok(());
-        }
-        let mut is_kept = false;
-        if keeps_place(before, self.machine.slots) {
-            let table = &self.machine.table;
-            self.is_broken = true;
-            let claimed = table.claim(self.rt, &mut self.spare, self.core);
-            if let Ok(Claimed::Place(claim)) = claimed {
-                match self.kept.keep(claim) {
-                    Ok(()) => is_kept = true,
-                    Err(claim) => {
-                        if table.give_back(self.rt, &mut self.spare, claim).is_err() {
-                            return Err(Halt::from(WorkerFault::Token));
-                        }
-                    }
-                }
-            }
-            self.is_broken = false;
-        }
-        if !is_kept {
-            room.place_was_left(PlaceLeft::new());
-        }
-        Ok(())
     }
 
     fn kept(&self) -> usize {

@@ -27,13 +27,13 @@ impl Model for Shared {
 }
 
 impl Shared {
-    /// For so many cores, with so many places in all.
-    pub(crate) fn new(alloc: Global, cores: u8, places: u64) -> Result<Shared, AllocError>
+    /// For so many cores, of which each has so many places.
+    pub(crate) fn new(alloc: Global, cores: u8, slots: u8) -> Result<Shared, AllocError>
         ensures { IfOk result (λ shared. shared ≡ cores) }
     {
         let workers = Workers::new(alloc, cores)?;
         Ok(Shared {
-            room: Room::new(places, CAPACITY as u64),
+            room: Room::new(cores, slots, CAPACITY as u64),
             first_fault: Mutex::new(None),
             workers,
         })

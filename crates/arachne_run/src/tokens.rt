@@ -31,7 +31,7 @@ impl<S, K: Tagged + Drop> Tokens<S, K> {
         requires { AreIdle C.sits C.idle machine.now self }
         ensures own { IfOk result (λ parts. AreIdle C.sits C.idle machine.now parts.0) }
         ensures others { IfOk result (λ parts. AreIdle C.sits C.idle machine.now parts.1) }
-        ensures err { IfErr result (AreIdle C.sits C.idle machine.now) }
+        ensures err { IfErr result (λ back. AreIdle C.sits C.idle machine.now back × (back.arbiter ≡ self.arbiter)) }
         ensures arbiter { IfOk result (λ parts. (parts.0.arbiter ≡ self.arbiter) × (parts.1.arbiter ≡ None)) }
     {
         let (holdings, other_holdings) = match machine.resources.split(alloc, self.holdings) {

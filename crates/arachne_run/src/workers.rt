@@ -1,5 +1,5 @@
 //! The kernel threads of a run, one for each core.
-ghost use Rattle.std.specs.Prelude.{◌≡◌, ◌<◌, IfSome};
+ghost use Rattle.std.specs.Prelude.{◌≡◌, ◌<◌, None, IfSome};
 ghost use Rattle.arachne_run.specs.Tokens.{AreIdle, IsSetUp, ground_of};
 
 use crate::choosers::Choosers;
@@ -52,7 +52,12 @@ impl<'a, T: RunJob, C: Contexts<T>, R: Rng + Drop, G: Gate> Team<Share<C::Seat, 
         &self,
         rt: &H,
         share: Share<C::Seat, T, R>,
-    ) -> (Share<C::Seat, T, R>, Option<Share<C::Seat, T, R>>) {
+    ) -> (Share<C::Seat, T, R>, Option<Share<C::Seat, T, R>>)
+        requires { AreIdle C.sits C.idle self.now.machine.now share.tokens × IsSetUp C.core_count C.slot_count self.now.machine.now }
+        ensures own { AreIdle C.sits C.idle self.now.machine.now result.0.tokens × IsSetUp C.core_count C.slot_count self.now.machine.now }
+        ensures other { IfSome result.1 (λ theirs. AreIdle C.sits C.idle self.now.machine.now theirs.tokens × IsSetUp C.core_count C.slot_count self.now.machine.now) }
+        ensures orders { (result.0.tokens.arbiter ≡ share.tokens.arbiter) × IfSome result.1 (λ theirs. theirs.tokens.arbiter ≡ None) }
+    {
         let Share {
             tokens,
             root,
@@ -110,7 +115,12 @@ impl<'a, T: RunJob, C: Contexts<T>, R: Rng + Drop, G: Gate> Team<Share<C::Seat, 
         rt: &H,
         share: Share<C::Seat, T, R>,
         other: Share<C::Seat, T, R>,
-    ) -> Option<Share<C::Seat, T, R>> {
+    ) -> Option<Share<C::Seat, T, R>>
+        requires own { AreIdle C.sits C.idle self.now.machine.now share.tokens × IsSetUp C.core_count C.slot_count self.now.machine.now }
+        requires other { AreIdle C.sits C.idle self.now.machine.now other.tokens × IsSetUp C.core_count C.slot_count self.now.machine.now }
+        ensures idle { IfSome result (λ both. AreIdle C.sits C.idle self.now.machine.now both.tokens × IsSetUp C.core_count C.slot_count self.now.machine.now) }
+        ensures orders { IfSome result (λ both. both.tokens.arbiter ≡ share.tokens.arbiter) }
+    {
         let Share { tokens, .. } = share;
         Some(Share {
             tokens: tokens.join::<H, C>(rt, self.machine, other.tokens),
@@ -121,11 +131,7 @@ impl<'a, T: RunJob, C: Contexts<T>, R: Rng + Drop, G: Gate> Team<Share<C::Seat, 
     }
 
     fn fail<H: Wait>(&self, rt: &H, fault: TeamFault) {
-        let fault = match fault {
-            TeamFault::Memory => WorkerFault::Memory,
-            TeamFault::KernelThread => WorkerFault::KernelThread,
-        };
-        self.machine.shared.fail(rt, fault);
+        self.machine.shared.fail(rt, WorkerFault::from(fault));
     }
 }
 

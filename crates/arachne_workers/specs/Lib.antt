@@ -1,2 +1,3 @@
 pub mod Lowest
 pub mod Posts
+pub mod Keeping

@@ -43,14 +43,10 @@ pub trait Desk {
     fn rest(&mut self) -> Result<Rest, Halt>
         ensures { self.new ≡ self.old };
 
-    /// Ends the thread in hand, which leaves what it has ended with. The id of the thread that awaits it, if there is
-    /// one. Where it was the last one, the workers are stopped. Whoever calls it calls `keep_place` next, so that the
-    /// place is counted.
-    fn end(&mut self) -> Result<Option<ThreadId>, Halt>
-        ensures { self.new ≡ self.old };
-
-    /// Keeps the place that a thread has left, if the core was full before. Else it is told of as free.
-    fn keep_place(&mut self, before: OccWord) -> Result<(), Halt>
+    /// Ends the thread in hand, which leaves what it has ended with. Its place is kept, if the core, which looked so
+    /// before, was full, and else told of as free. The id of the thread that awaits it, if there is one. Where it was the
+    /// last one, the workers are stopped.
+    fn end(&mut self, before: OccWord) -> Result<Option<ThreadId>, Halt>
         ensures { self.new ≡ self.old };
 
     /// How many places are kept.

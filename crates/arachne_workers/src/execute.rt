@@ -5,10 +5,11 @@ use crate::desk::{Cause, Desk, Event, Halt, SliceEnd, Stop, thin_out};
 use crate::policy;
 use crate::queue::Agenda;
 use crate::sleep::{Shared, Sliced};
+use crate::steps::{Steps, advance};
 use crate::tending::Tended;
 use crate::wake::{posted, tell};
 use arachne_arbiter::Pace;
-use arachne_core::{OccWord, Rest, ThreadId};
+use arachne_core::Rest;
 use std::sync::Wait;
 use std::time::Clock;
 
@@ -25,12 +26,6 @@ pub struct Worker<'a, H, D> {
     /// Whether it may yield its processor where it waits.
     pub pace: Pace,
     pub desk: D,
-}
-
-/// The place of a thread that has ended was kept or told of as free. Nobody wakes who awaits the thread without it.
-#[derive(Drop)]
-struct Left {
-    done: (),
 }
 
 impl<'a, H: Wait + Clock, D: Desk> Worker<'a, H, D> {
@@ -108,19 +103,14 @@ impl<'a, H: Wait + Clock, D: Desk> Worker<'a, H, D> {
         ensures steps { IfOk result (λ sliced. sliced.steps ≤ quantum) }
     {
         self.agenda.begin_slice();
-        let mut left = quantum;
-        let mut made: u32 = 0;
+        let mut steps = Steps::new(quantum);
         for _ in 0..quantum {
-            if left == 0 {
+            if steps.left() == 0 {
                 break;
             }
-            let most = left.min(self.agenda.most_steps());
-            let mut steps = most;
-            let stop = self.desk.advance(&mut self.pace, &mut steps)?;
-            let spent = most - steps;
-            left = left.saturating_sub(spent);
-            made = made.wrapping_add(spent);
-            if self.agenda.spend(spent) {
+            let most = steps.left().min(self.agenda.most_steps());
+            let (stop, made) = advance(&mut self.desk, &mut self.pace, most)?;
+            if self.agenda.spend(steps.count(made)) {
                 tell(&mut self.agenda, self.shared);
             }
             match stop {
@@ -129,46 +119,28 @@ impl<'a, H: Wait + Clock, D: Desk> Worker<'a, H, D> {
                     posted(&mut self.agenda, self.shared, self.core, post);
                 }
                 Stop::Spilled => self.desk.told(Event::Spilled),
-                Stop::Ends => return Ok(Sliced::new(made, SliceEnd::Ended)),
-                Stop::Blocks => return Ok(Sliced::new(made, SliceEnd::AwaitsChild)),
-                Stop::Waits(number) => return Ok(Sliced::new(made, SliceEnd::Awaits(number))),
+                Stop::Ends => return Ok(Sliced::new(steps, SliceEnd::Ended)),
+                Stop::Blocks => return Ok(Sliced::new(steps, SliceEnd::AwaitsChild)),
+                Stop::Waits(number) => return Ok(Sliced::new(steps, SliceEnd::Awaits(number))),
                 Stop::Wakes(next) => {
                     self.wake(next, Cause::IsServed);
-                    left = policy::left_past_free(left, self.agenda.has_next());
+                    steps.pass_free(self.agenda.has_next());
                 }
             }
         }
         tell(&mut self.agenda, self.shared);
-        Ok(Sliced::new(made, SliceEnd::GoesOn))
+        Ok(Sliced::new(steps, SliceEnd::GoesOn))
     }
 
-    /// Ends the thread in hand. Its place is kept or told of as free before whoever awaits it is woken. Then places that
-    /// are kept may be given back.
+    /// Ends the thread in hand, and wakes who awaits it. Its place is kept or told of as free before. Then places that are
+    /// kept may be given back.
     fn end(&mut self) -> Result<(), Halt>
         ensures { self.new.desk ≡ self.old.desk }
     {
         let before = self.desk.look();
-        let parent = self.desk.end()?;
-        let left = self.leave_place(before)?;
-        if let Some(parent) = parent {
-            self.wake_parent(parent, left);
+        if let Some(parent) = self.desk.end(before)? {
+            self.wake(parent, Cause::ChildEnded);
         }
         thin_out(&mut self.desk, self.slots)
-    }
-
-    /// The place of a thread that has ended is kept or told of as free.
-    fn leave_place(&mut self, before: OccWord) -> Result<Left, Halt>
-        ensures { self.new.desk ≡ self.old.desk }
-    {
-        self.desk.keep_place(before)?;
-        Ok(Left { done: () })
-    }
-
-    /// Wakes who awaits the thread that has ended, whose place was left before.
-    fn wake_parent(&mut self, parent: ThreadId, left: Left)
-        ensures { self.new.desk ≡ self.old.desk }
-    {
-        let _ = left;
-        self.wake(parent, Cause::ChildEnded);
     }
 }

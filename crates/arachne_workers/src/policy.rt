@@ -4,6 +4,7 @@
 //! contract of each says its exact answer, so no test of its own is needed.
 ghost use Rattle.std.specs.Prelude.{◌≡◌, ◌≤◌, ◌<◌, ◌+◌, ◌-◌, ◌*◌, ◌↔◌, ◌⊎◌, false, true, if◌then◌else◌, min, IsTrue};
 ghost use Rattle.arachne_core.specs.Occupancy.{count_of};
+ghost use Rattle.arachne_workers.specs.Keeping.{MayKeepPlaces};
 ghost use Rattle.arachne_workers.specs.declared.policy.TheConstants.{STEPS_PAST_FREE, TOLD_AT_ONCE, LAST_SPIN, LAST_SPIN_ALONE, LAST_YIELD, SHORT_SLEEP, LONG_SLEEP};
 
 use arachne_core::OccWord;
@@ -43,10 +44,10 @@ pub(crate) fn keeps_back(posted: u32) -> bool
 
 /// Whether places may be kept at all: not where a thread may want a whole core, nor where orders may close one, nor
 /// where a thread that holds a lock may be moved from one core to another.
-pub fn may_keep_places(has_exclusive: bool, orders: usize, moves_holders: bool) -> bool
-    ensures { IsTrue result ↔ (has_exclusive ≡ false) × (orders ≡ 0) × (moves_holders ≡ false) }
+pub fn may_keep_places(has_exclusive: bool, orders: usize, locks: u8, cores: u8) -> bool
+    ensures { IsTrue result ↔ MayKeepPlaces has_exclusive orders locks cores }
 {
-    !has_exclusive && orders == 0 && !moves_holders
+    !has_exclusive && orders == 0 && (locks == 0 || cores <= 1)
 }
 
 /// Whether a place that a thread leaves is kept: its core was full.

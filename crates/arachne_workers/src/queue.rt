@@ -7,10 +7,11 @@ ghost use Rattle.std.specs.Int.RustNames.{bit_or};
 ghost use Rattle.arachne_core.specs.declared.layout.TheConstants.{SLOTS};
 ghost use Rattle.arachne_workers.specs.declared.policy.TheConstants.{MOST_KEPT_BACK, PATIENCE, SCANS_BETWEEN_LOOKS};
 ghost use Rattle.arachne_workers.specs.Lowest.{IsLowest};
-ghost use Rattle.arachne_workers.specs.Posts.{IsKeptBack};
+ghost use Rattle.arachne_workers.specs.Posts.{IsKeptBack, told_of};
 
 use crate::hints::bit_of;
 use crate::policy;
+use crate::refusal::{Refusal, room_for_one};
 use arachne_core::{Place, SLOTS, ThreadId};
 use std::alloc::Global;
 
@@ -19,6 +20,33 @@ use std::alloc::Global;
 pub struct Post {
     pub id: ThreadId,
     pub place: Place,
+}
+
+/// What becomes of a thread that was posted on another core.
+#[derive(Drop)]
+pub(crate) enum Keeping {
+    /// It is told of at once, since the worker has posted few before.
+    AtOnce(Post),
+    KeptBack,
+    /// As many as may be were kept back: it is in the place of this one, the oldest, which is told of.
+    ForOldest(Post),
+    /// The same where memory was refused. Where none was kept back it is told of itself.
+    Refused(Post, Refusal),
+}
+
+impl Keeping {
+    /// What is to be told of.
+    #[inline(always)]
+    pub(crate) fn told(self) -> Option<Post>
+        ensures { result ≡ told_of self }
+    {
+        match self {
+            Keeping::KeptBack => None,
+            Keeping::AtOnce(post) => Some(post),
+            Keeping::ForOldest(oldest) => Some(oldest),
+            Keeping::Refused(oldest, _) => Some(oldest),
+        }
+    }
 }
 
 /// What a worker remembers.
@@ -141,26 +169,27 @@ impl Agenda {
         self.next.take()
     }
 
-    /// A thread was posted on another core. What is to be told of at once: it, or the oldest that was kept back.
-    pub(crate) fn keep_back(&mut self, post: Post) -> Option<Post>
-        ensures kept { IsKeptBack self.old.posts.items post result self.new.posts.items }
+    /// A thread was posted on another core: it is told of at once, or kept back.
+    pub(crate) fn keep_back(&mut self, post: Post) -> Keeping
+        ensures kept { IsKeptBack self.old.posted self.old.posts.items post result self.new.posts.items }
         ensures few { length self.old.posts.items ≤ MOST_KEPT_BACK → length self.new.posts.items ≤ MOST_KEPT_BACK }
+        ensures counted { self.new.posted ≡ min (self.old.posted + 1) u32.MAX }
     {
         let before = self.posted;
         self.posted = before.saturating_add(1);
         if !policy::keeps_back(before) {
-            return Some(post);
+            return Keeping::AtOnce(post);
         }
-        if self.posts.len() < policy::MOST_KEPT_BACK && self.posts.try_reserve(1).is_ok() {
-            self.posts.push_reserved(post);
-            return None;
+        if self.posts.len() >= policy::MOST_KEPT_BACK {
+            return Keeping::ForOldest(for_oldest(&mut self.posts, post));
         }
-        if self.posts.is_empty() {
-            return Some(post);
+        match room_for_one(&mut self.posts) {
+            Ok(()) => {
+                self.posts.push_reserved(post);
+                Keeping::KeptBack
+            }
+            Err(refusal) => Keeping::Refused(for_oldest(&mut self.posts, post), refusal),
         }
-        let oldest = self.posts.remove(0);
-        self.posts.push_reserved(post);
-        Some(oldest)
     }
 
     /// The newest that is kept back, and is no longer.
@@ -196,4 +225,17 @@ impl Agenda {
         self.patience -= steps;
         false
     }
+}
+
+/// Puts one behind those that are kept back, and takes the oldest of all.
+fn for_oldest(posts: &mut Vec<Post>, post: Post) -> Post
+    ensures all { result ∷ posts.new.items ≡ posts.old.items ++ post ∷ [] }
+    ensures many { length posts.new.items ≡ length posts.old.items }
+{
+    if posts.is_empty() {
+        return post;
+    }
+    let oldest = posts.remove(0);
+    posts.push_reserved(post);
+    oldest
 }

@@ -5,6 +5,7 @@ ghost use Rattle.arachne_arbiter.specs.KernelThreads.{counted_cores, parked_core
 use crate::desk::SliceEnd;
 use crate::drained::Drained;
 use crate::hints::{Hints, SLEEPS, bit_of};
+use crate::steps::Steps;
 use arachne_arbiter::{Parking, SliceCounts};
 use arachne_core::{CORES, FULL_MASK, Place};
 use std::alloc::{AllocError, Global};
@@ -22,10 +23,13 @@ pub(crate) struct Sliced {
 
 impl Sliced {
     #[inline(always)]
-    pub(crate) fn new(steps: u32, end: SliceEnd) -> Sliced
-        ensures { result ≡ record { steps = steps; end = end } }
+    pub(crate) fn new(steps: Steps, end: SliceEnd) -> Sliced
+        ensures { result ≡ record { steps = steps.made; end = end } }
     {
-        Sliced { steps, end }
+        Sliced {
+            steps: steps.made(),
+            end,
+        }
     }
 
     pub(crate) fn steps(&self) -> u32

@@ -93,7 +93,7 @@ fn ready_place(mark: MarkWord, id: ThreadId) -> Option<Place>
 pub(crate) fn posted(agenda: &mut Agenda, shared: &Shared, core: u8, post: Post) {
     if post.place.core == core {
         agenda.note(post.place.index);
-    } else if let Some(told) = agenda.keep_back(post) {
+    } else if let Some(told) = agenda.keep_back(post).told() {
         shared.hint(told.place);
     }
 }

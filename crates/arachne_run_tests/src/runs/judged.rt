@@ -283,7 +283,7 @@ const HOLDING: Row = Row {
 const HOLDS: Judged = Judged {
     row: HOLDING,
     steps: 240,
-    rules: &[Rule::OwnCore, Rule::Waits],
+    rules: &[Rule::OwnCore, Rule::Waits, Rule::Pulls],
     ..COUNTS
 };
 

@@ -1,6 +1,6 @@
 use Rattle.std.proofs.Common.{◌≡◌, ◌+◌, ◌≤◌}
 use Rattle.arachne_workers.proofs.execute.Worker.spend_quantum.Given as goal
 
--- the steps that were made, and those that are left, are a quantum at most
+-- the steps that are left, and those that were made, are a quantum at most
 abbrev pub invariant-loop : goal.invariant-loop
-invariant-loop g l = (l.self.desk ≡ l.initial.self.desk) × (l.made + l.left ≤ l.fn.quantum)
+invariant-loop g l = (l.self.desk ≡ l.initial.self.desk) × (l.steps.left + l.steps.made ≤ l.fn.quantum)

@@ -1,0 +1,85 @@
+//! The steps of a slice: how many are left, and how many were made.
+ghost use Rattle.std.specs.Prelude.{◌≡◌, ◌≤◌, ◌+◌, ◌-◌, if◌then◌else◌, min, IfOk};
+ghost use Rattle.arachne_workers.specs.declared.policy.TheConstants.{STEPS_PAST_FREE};
+
+use crate::desk::{Desk, Halt, Stop};
+use crate::policy;
+use arachne_arbiter::Pace;
+
+/// Steps that the thread in hand has made. It can't be dropped, so that they are counted. [`advance`] alone gives it.
+pub(crate) struct Made {
+    steps: u32,
+}
+
+/// The thread in hand goes on for at most so many steps ([`Desk::advance`]). Where it stops, and the steps that it has
+/// made.
+#[inline(always)]
+pub(crate) fn advance<D: Desk>(
+    desk: &mut D,
+    pace: &mut Pace,
+    most: u32,
+) -> Result<(Stop, Made), Halt>
+    requires { 1 ≤ most }
+    ensures desk { desk.new ≡ desk.old }
+    ensures made { IfOk result (λ went. went.1.steps ≤ most) }
+{
+    let mut left = most;
+    let stop = desk.advance(pace, &mut left)?;
+    Ok((stop, Made { steps: most - left }))
+}
+
+/// How many steps a slice has left, and how many were made in it.
+#[derive(Drop)]
+pub(crate) struct Steps {
+    left: u32,
+    made: u32,
+}
+
+impl Steps {
+    /// Those of a slice of at most so many.
+    #[inline(always)]
+    pub(crate) fn new(most: u32) -> Steps
+        ensures { result ≡ record { left = most; made = 0 } }
+    {
+        Steps {
+            left: most,
+            made: 0,
+        }
+    }
+
+    #[inline(always)]
+    pub(crate) fn left(&self) -> u32
+        ensures { result ≡ self.now.left }
+    {
+        self.left
+    }
+
+    #[inline(always)]
+    pub(crate) fn made(&self) -> u32
+        ensures { result ≡ self.now.made }
+    {
+        self.made
+    }
+
+    /// Counts steps that were made. How many they are.
+    #[inline(always)]
+    pub(crate) fn count(&mut self, made: Made) -> u32
+        requires left { made.steps ≤ self.old.left }
+        requires few { self.old.left + self.old.made ≤ u32.MAX }
+        ensures counted { self.new ≡ record { left = self.old.left - made.steps; made = self.old.made + made.steps } }
+        ensures steps { result ≡ made.steps }
+    {
+        let Made { steps } = made;
+        self.left -= steps;
+        self.made += steps;
+        steps
+    }
+
+    /// The thread has freed a lock, whose next holder is to go on here or not.
+    #[inline(always)]
+    pub(crate) fn pass_free(&mut self, goes_next: bool)
+        ensures { self.new ≡ record self.old { left = if goes_next then min self.old.left STEPS_PAST_FREE else self.old.left } }
+    {
+        self.left = policy::left_past_free(self.left, goes_next);
+    }
+}
