@@ -88,11 +88,13 @@ whole xs ys zs n both none few = sym (ap (take n) (both ∙ ap (λ rest. ys ++ r
 module _ (word most pick left count : ℕ) (now : Picked word most pick left count) where
   -- as many as asked are picked
   pub enough-picked : most ≤ count → (block : ℕ) → PicksLowest block word most pick
-  enough-picked reached block =
-      first-part (places_in_word block word) (places_in_word block pick) (places_in_word block left) (max 1 most) (now.both block) (now.many block ∙ omega (arith, reached, now.begun, now.so_far))
+  enough-picked reached block = record {
+    first = first-part (places_in_word block word) (places_in_word block pick) (places_in_word block left) (max 1 most) (now.both block) (now.many block ∙ omega (arith, reached, now.begun, now.so_far));
+  }
 
   -- none is left
   pub all-picked : left ≡ 0 → (block : ℕ) → PicksLowest block word most pick
-  all-picked empty block = 
-      whole (places_in_word block word) (places_in_word block pick) (places_in_word block left) (max 1 most) (now.both block) (ap (places_in_word block) empty ∙ none-there block bit_at-zero)
-      (omega (arith, now.many block, now.so_far))
+  all-picked empty block = record {
+    first = whole (places_in_word block word) (places_in_word block pick) (places_in_word block left) (max 1 most) (now.both block) (ap (places_in_word block) empty ∙ none-there block bit_at-zero)
+        (omega (arith, now.many block, now.so_far));
+  }

@@ -48,8 +48,8 @@ abbrev pub places_in_word : ℕ → ℕ → List ℕ
 places_in_word block word = places_from block word 0 64
 
 -- the places of a block that are picked are the first of those that a word says: so many, at least one, or all
-abbrev pub PicksLowest : ℕ → ℕ → ℕ → ℕ → Type 0
-PicksLowest block word most pick = places_in_word block pick ≡ take (max 1 most) (places_in_word block word)
+pub record PicksLowest (block word most pick : ℕ) : Type 0 where
+  pub first : places_in_word block pick ≡ take (max 1 most) (places_in_word block word)
 
 -- A mark is four times the number of jobs that have ended at the place, and 1 more where its job was woken since it was
 -- taken, 2 more where it is blocked. A place where so many have ended as a name can't say is blocked for ever.
