@@ -1,6 +1,6 @@
 mod Bits
 pub mod Places
-mod Counting
+mod Lowest
 mod Keeping
 mod Balancing
 mod Hearing

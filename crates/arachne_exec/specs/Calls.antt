@@ -1,5 +1,5 @@
 -- What each call answers, by what its seat has and knows then.
-use Rattle.std.specs.Prelude.{◌≡◌, ◌≢◌, ◌⊎◌, ℕ, ◌+◌, ◌*◌, ◌/◌, ◌%◌, ◌<◌, ◌≤◌, max, List, ◌∷◌, ◌++◌, map, length}
+use Rattle.std.specs.Prelude.{◌≡◌, ◌≢◌, ◌⊎◌, ℕ, ◌+◌, ◌*◌, ◌/◌, ◌%◌, ◌<◌, ◌≤◌, List, ◌∷◌, ◌++◌, map}
 use Rattle.std.specs.Int.{bit_at}
 use Rattle.std.specs.Int.RustNames.{bit_and}
 use Rattle.arachne_exec.specs.declared.view.Known.{Known}
@@ -20,7 +20,7 @@ use Rattle.arachne_exec.specs.declared.answers.WokenHere.TheVariants as here
 use Rattle.arachne_exec.specs.declared.waking.Found.{Found}
 use Rattle.arachne_exec.specs.declared.waking.Found.TheVariants as found
 use Rattle.arachne_exec.specs.Seats.{CallView}
-use Rattle.arachne_exec.specs.Layout.{summary_at, ready_at, free_at, mark_at, places_in_word, worker_of, last_generation, name_of}
+use Rattle.arachne_exec.specs.Layout.{summary_at, ready_at, free_at, mark_at, places_in_word, PicksLowest, worker_of, last_generation, name_of}
 use Rattle.arachne_exec.specs.Changes.{older, gained, gaining, unblocking, readying, blocking, spawning, beginning, ending, marking, hearing, noted, rousing, having_seen}
 
 -- the worker of a place
@@ -75,12 +75,12 @@ pub record HasTaken (job : Job) (block : ℕ) (k after : Known) : Type 0 where
   pub heard : ℕ
   pub known : after ≡ hearing (heard % 2) job.place (noted (mark_at job.place) mark (gained job.place job.job (noted (ready_at block) ready k)))
 
--- The ready word was found empty; or places of it were picked, and those whose bits were then found set are in hand,
--- with their jobs, the lowest as the newest: at most so many, or one.
+-- The ready word was found empty; or its lowest places were picked, so many or all, and those whose bits were then found
+-- set are in hand, with their jobs, the lowest as the newest.
 abbrev pub HasTakenMany : ℕ → ℕ → ℕ → Known → Known → Type 0
 HasTakenMany bits block most k after = ((bits ≡ 0) × (after ≡ noted (ready_at block) 0 k))
     ⊎ ((ready pick found : ℕ) × (jobs : List (ℕ × ℕ)) × (0 < pick) × (bit_and ready pick ≡ pick) × (bits ≡ bit_and found pick) × (map (λ (x : ℕ × ℕ). x.0) jobs ≡ places_in_word block bits)
-    × (length jobs ≤ max 1 most) × (after ≡ gaining jobs (noted (ready_at block) found (noted (ready_at block) ready k))))
+    × PicksLowest block ready most pick × (after ≡ gaining jobs (noted (ready_at block) found (noted (ready_at block) ready k))))
 
 -- the newest job in hand, with the name that its mark says; a wake that the mark said of is used up
 pub record HasStarted (job : Job) (place : ℕ) (k after : Known) : Type 0 where

@@ -1,5 +1,5 @@
 -- Where the words of an executor lie.
-use Rattle.std.specs.Prelude.{ℕ, zero, suc, [], ◌∷◌, ◌+◌, ◌-◌, ◌*◌, ◌/◌, ◌%◌, ◌^◌, ◌==◌, List, slice_index, if◌then◌else◌}
+use Rattle.std.specs.Prelude.{◌≡◌, ℕ, zero, suc, [], ◌∷◌, ◌+◌, ◌-◌, ◌*◌, ◌/◌, ◌%◌, ◌^◌, ◌==◌, max, List, take, slice_index, if◌then◌else◌}
 use Rattle.std.specs.Int.{bit_at}
 
 -- a bit for each worker that is asleep, or about to be
@@ -46,6 +46,10 @@ places_from block word i (suc more) = if bit_at word i == 1 then (64 * block + i
 
 abbrev pub places_in_word : ℕ → ℕ → List ℕ
 places_in_word block word = places_from block word 0 64
+
+-- the places of a block that are picked are the first of those that a word says: so many, at least one, or all
+pub record PicksLowest (block word most pick : ℕ) : Type 0 where
+  pub first : places_in_word block pick ≡ take (max 1 most) (places_in_word block word)
 
 -- A mark is four times the number of jobs that have ended at the place, and 1 more where its job was woken since it was
 -- taken, 2 more where it is blocked. A place where so many have ended as a name can't say is blocked for ever.

@@ -1,13 +1,13 @@
 //! Several jobs of a block that are taken at once.
-ghost use Rattle.std.specs.Prelude.{◌≡◌, ℕ, ◌*◌, ◌<◌, ◌≤◌, max, length};
+ghost use Rattle.std.specs.Prelude.{◌≡◌, ℕ, ◌*◌, ◌<◌};
 ghost use Rattle.std.specs.Int.RustNames.{bit_and};
-ghost use Rattle.arachne_exec.specs.Layout.{places_in_word};
+ghost use Rattle.arachne_exec.specs.Layout.{PicksLowest};
 ghost use Rattle.arachne_exec.specs.Seats.{IsNewest};
 ghost use Rattle.arachne_exec.specs.Calls.{HasTakenMany, HasStarted, HandsMany, KeepsHand};
 
 use crate::answers::Job;
 use crate::executor::Executor;
-use crate::layout::{bit, name_at, ready_word};
+use crate::layout::{all_but, bit, name_at, ready_word};
 use crate::seat::ExecSeat;
 use crate::turns::lowest_index;
 
@@ -16,17 +16,18 @@ fn lowest(word: u64, most: u32) -> u64
     requires { 0 < word }
     ensures some { 0 < result }
     ensures within { bit_and word result ≡ result }
-    ensures few { (block : ℕ) → length (places_in_word block result) ≤ max 1 most }
+    ensures lowest { (block : ℕ) → PicksLowest block word most result }
 {
     let first = lowest_index(word);
     let mut pick = bit(first);
+    let mut left = word & all_but(first);
     for count in 1..most {
-        let left = word & (u64::MAX - pick);
         if left == 0 {
-            break;
+            return pick;
         }
         let index = lowest_index(left);
         pick |= bit(index);
+        left &= all_but(index);
     }
     pick
 }

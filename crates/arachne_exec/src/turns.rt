@@ -1,5 +1,5 @@
 //! Where a search begins, so that jobs which are ready again and again don't keep others waiting.
-ghost use Rattle.std.specs.Prelude.{◌≡◌, ◌⊎◌, ◌<◌};
+ghost use Rattle.std.specs.Prelude.{◌≡◌, ◌⊎◌, ℕ, ◌<◌};
 ghost use Rattle.std.specs.Int.{bit_at};
 
 /// The lowest index whose bit is set.
@@ -7,6 +7,7 @@ pub(crate) fn lowest_index(word: u64) -> usize
     requires { 0 < word }
     ensures low { result < 64 }
     ensures there { bit_at word result ≡ 1 }
+    ensures lowest { (index : ℕ) → index < result → bit_at word index ≡ 0 }
 {
     word.trailing_zeros() as usize
 }

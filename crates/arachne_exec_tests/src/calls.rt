@@ -106,3 +106,16 @@ fn a_full_block_and_what_is_left(rt: HostRuntime) -> Result<(), Fail> {
     }
     Ok(())
 }
+
+#[test]
+fn several_jobs_are_taken_the_lowest_first(rt: HostRuntime) -> Result<(), Fail> {
+    let (executor, mut seat) = Executor::new(rt.alloc(), 1)?;
+    for _ in 0..40 {
+        executor.spawn(&mut seat, 3, 5);
+    }
+    assert!(rt; executor.take_many(&mut seat, 3, 3) == 7);
+    assert!(rt; executor.take_many(&mut seat, 3, 0) == 8);
+    assert!(rt; executor.take_many(&mut seat, 3, 64) == (1 << 40) - 16);
+    assert!(rt; executor.take_many(&mut seat, 3, 3) == 0);
+    Ok(())
+}

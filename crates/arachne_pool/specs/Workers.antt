@@ -1,5 +1,5 @@
 -- What contracts see of a worker, and whose worker it is.
-use Rattle.std.specs.Prelude.{◌≡◌, ℕ, ◌≤◌, List, ◌++◌, Option, IfSome, All}
+use Rattle.std.specs.Prelude.{◌≡◌, ℕ, ◌≤◌, List, ◌++◌, Option, None, Some, IfSome, All, length}
 use Rattle.arachne_arbiter.specs.Orders.{Progress}
 use Rattle.arachne_pool.specs.declared.tally.Tally.{Tally}
 use Rattle.arachne_policy.specs.declared.orders.CoreOrder.{CoreOrder}
@@ -21,6 +21,11 @@ HasNoCore cores worker = cores ≤ worker.core
 -- the orders, if there are some, are for so many cores
 abbrev pub IsArbiterFor : ℕ → Option Progress → Type 0
 IsArbiterFor cores arbiter = IfSome arbiter (λ progress. progress.cores ≡ cores)
+
+-- how many orders there are, applied or not
+abbrev pub count_orders : Option Progress → ℕ
+count_orders None = 0
+count_orders (Some progress) = length progress.list
 
 -- the orders come last in this list, behind some that close cores at once
 pub record ComeLast (orders list : List CoreOrder) : Type 0 where

@@ -3,11 +3,11 @@ ghost use Rattle.std.specs.Prelude.{◌≡◌, ◌+◌, ◌<◌, [], IfErr, IfOk
 ghost use Rattle.std.specs.VecDeque.{deque_capacity, deque_len};
 
 use crate::job::PoolJob;
+use crate::orders::Orders;
 use crate::outcome::{Cells, ResultReceiver, Wanted};
 use crate::spawned::Spawned;
 use crate::statistics::Statistics;
 use crate::tally::Tally;
-use arachne_arbiter::Arbiter;
 use rand_core::SeedableRng;
 use rand_xoshiro::Xoshiro256PlusPlus;
 use std::alloc::Global;
@@ -29,9 +29,7 @@ pub(crate) struct Bench<J: PoolJob> {
     pub(crate) done: Statistics,
     /// The core that it works on, or has worked on. At first a number that is none.
     pub(crate) core: u8,
-    pub(crate) arbiter: Option<Arbiter>,
-    /// How many orders that has.
-    pub(crate) orders: usize,
+    pub(crate) orders: Orders,
     /// Memory was refused, and nobody was told yet.
     pub(crate) is_short: bool,
     /// A job has ended since this was looked at last.
@@ -45,7 +43,7 @@ impl<J: PoolJob> Bench<J> {
     pub(crate) fn new(alloc: Global, seed: u64) -> Bench<J>
         ensures tally { (result.tally.spawned ≡ 0) × (result.tally.ended ≡ 0) }
         ensures near { deque_len result.near ≡ 0 }
-        ensures arbiter { result.arbiter ≡ None }
+        ensures orders { result.orders ≡ None }
         ensures core { result.core ≡ u8.MAX }
     {
         Bench {
@@ -57,8 +55,7 @@ impl<J: PoolJob> Bench<J> {
             told: Tally::new(),
             done: Statistics::new(),
             core: u8::MAX,
-            arbiter: None,
-            orders: 0,
+            orders: Orders::none(),
             is_short: false,
             has_ended: false,
         }
@@ -76,7 +73,7 @@ impl<J: PoolJob> Bench<J> {
         ensures ended { self.new.tally.ended ≡ self.old.tally.ended }
         ensures refused { OnErr result (self.new.tally ≡ self.old.tally) }
         ensures handed_back { IfErr result (λ back. back ≡ job) }
-        ensures same { (self.new.arbiter ≡ self.old.arbiter) × (self.new.core ≡ self.old.core) }
+        ensures same { (self.new.orders ≡ self.old.orders) × (self.new.core ≡ self.old.core) }
     {
         if self.near.reserve(1).is_err() {
             return Err(job);
@@ -99,7 +96,7 @@ impl<J: PoolJob> Bench<J> {
     /// begun.
     #[tactic(auto, using(crate::proofs::Counts::count_near_push))]
     pub(crate) fn let_go(&mut self, job: &mut Spawned<J>) -> bool
-        ensures same { (self.new.tally ≡ self.old.tally) × (self.new.arbiter ≡ self.old.arbiter) }
+        ensures same { (self.new.tally ≡ self.old.tally) × (self.new.orders ≡ self.old.orders) }
         ensures job { job.new ≡ record job.old { many = job.new.many } }
         ensures many { count_near self.new.near.items + job.new.many ≡ count_near self.old.near.items + job.old.many }
     {
@@ -132,14 +129,6 @@ impl<J: PoolJob> Bench<J> {
         };
         self.told = self.tally;
         news
-    }
-
-    /// How many orders it has, or else the other has.
-    pub(crate) fn orders_or(&self, other: &Bench<J>) -> usize {
-        match self.arbiter {
-            Some(_) => self.orders,
-            None => other.orders,
-        }
     }
 
     /// Whether memory was refused since this was asked last.

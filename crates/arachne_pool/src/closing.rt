@@ -9,11 +9,11 @@ ghost use Rattle.arachne_weights.specs.Weight.{whole};
 
 use crate::bench::Bench;
 use crate::job::PoolJob;
+use crate::orders::Orders;
 use crate::pool::Pool;
 use crate::spawned::Spawned;
 use crate::tally::Tally;
 use crate::worker::Worker;
-use arachne_arbiter::Arbiter;
 use arachne_contexts::{Contexts, Seats};
 use arachne_core::{CORES, OccWord, SLOTS, ThreadId};
 use arachne_policy::{CoreOrder, OrderKind};
@@ -66,12 +66,10 @@ impl<C: Seats + Drop> Pool<C> {
         ensures orders { IfOk result (λ made. made.1.arbiter ≡ Some (record { list = orders.items; cores = cores; applied = 0 })) }
         ensures core { IfOk result (λ made. HasNoCore made.0.cores made.1) }
     {
-        let count = orders.len();
-        let arbiter = Arbiter::new(alloc, orders, cores)?;
+        let orders = Orders::new(alloc, orders, cores)?;
         let (pool, seat) = Pool::<C>::with_seat(alloc, cores, slots)?;
         let mut worker = Worker::new(alloc, Some(seat), 0);
-        worker.bench.arbiter = Some(arbiter);
-        worker.bench.orders = count;
+        worker.bench.orders = orders;
         Ok((pool, worker))
     }
 }
@@ -106,10 +104,7 @@ impl<C: Seats> Pool<C> {
                 orders.insert(0, closes_at_once(core))?;
             }
         }
-        let count = orders.len();
-        let arbiter = Arbiter::new(worker.bench.alloc, orders, self.cores)?;
-        worker.bench.arbiter = Some(arbiter);
-        worker.bench.orders = count;
+        worker.bench.orders = Orders::new(worker.bench.alloc, orders, self.cores)?;
         Ok(())
     }
 

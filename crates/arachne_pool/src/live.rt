@@ -1,4 +1,5 @@
 //! How many jobs of a pool were spawned and have ended, and what its workers have done, as they tell it.
+use crate::counting::{Counts, EndsSeen};
 use crate::statistics::Statistics;
 use crate::tally::Tally;
 use crossbeam_utils::CachePadded;
@@ -7,9 +8,8 @@ use std::sync::atomic::{AtomicU64, Ordering};
 
 /// What the workers of one core have told.
 #[derive(Drop)]
-struct Told {
-    spawned: AtomicU64,
-    ended: AtomicU64,
+pub(crate) struct Told {
+    pub(crate) counts: Counts,
     slices: AtomicU64,
     steps: AtomicU64,
     wakes: AtomicU64,
@@ -21,8 +21,7 @@ impl Told {
     /// Nothing was told.
     fn new() -> Told {
         Told {
-            spawned: AtomicU64::new(0),
-            ended: AtomicU64::new(0),
+            counts: Counts::new(),
             slices: AtomicU64::new(0),
             steps: AtomicU64::new(0),
             wakes: AtomicU64::new(0),
@@ -51,14 +50,8 @@ impl Live {
     /// So many more were spawned and have ended, by a worker of this core, or of none where there is no such core. A job
     /// is told of before another kernel thread may have it.
     pub(crate) fn add(&self, core: u8, news: Tally) {
-        let Some(told) = self.told.get(usize::from(core)).or(self.told.last()) else {
-            return;
-        };
-        if news.spawned != 0 {
-            told.spawned.fetch_add(news.spawned, Ordering::SeqCst);
-        }
-        if news.ended != 0 {
-            told.ended.fetch_add(news.ended, Ordering::SeqCst);
+        if let Some(told) = self.told.get(usize::from(core)).or(self.told.last()) {
+            told.counts.add(news);
         }
     }
 
@@ -103,14 +96,7 @@ impl Live {
 
     /// How many were spawned and have not ended. Ends are looked at first: so no job lives where the answer is 0.
     pub(crate) fn count(&self) -> u64 {
-        let ended = self.told.iter().fold(
-            0u64,
-            |sum, told| sum.wrapping_add(told.ended.load(Ordering::SeqCst)),
-        );
-        let spawned = self.told.iter().fold(
-            0u64,
-            |sum, told| sum.wrapping_add(told.spawned.load(Ordering::SeqCst)),
-        );
-        spawned.wrapping_sub(ended)
+        let told = self.told.as_slice();
+        EndsSeen::look(told).still_live(told)
     }
 }

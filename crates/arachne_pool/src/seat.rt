@@ -61,7 +61,7 @@ impl<'a, H, J: PoolJob, C: Contexts<Spawned<J>>> Model for Seat<'a, H, J, C> {
 
     ghost view = { λ s. ground_at s.pool.now.table s.pool.now.cores };
 
-    ghost invariant = { λ s. (s.core < s.pool.now.cores) × C.sits s.pool.now.table s.seat × IsArbiterFor s.pool.now.cores s.bench.arbiter
+    ghost invariant = { λ s. (s.core < s.pool.now.cores) × C.sits s.pool.now.table s.seat × IsArbiterFor s.pool.now.cores s.bench.orders
         × (s.is_broken ≡ false → C.has s.pool.now.table s.seat (in_hand (λ job. job.tag) s.held)) };
 }
 
@@ -259,31 +259,20 @@ impl<'a, H: Wait, J: PoolJob, C: Contexts<Spawned<J>>> Desk for Seat<'a, H, J, C
 
     fn tend(&mut self) -> (Option<usize>, u64) {
         let pool = self.pool;
-        let Some(arbiter) = &mut self.bench.arbiter else {
-            return (None, 0);
-        };
-        let before = arbiter.applied();
         let cores = pool.cores::<H, Spawned<J>>(self.rt);
-        let shared = &pool.shared;
-        let receivers = arbiter.tend(&cores, &mut self.seat, shared.parking(), shared.slices());
-        let after = arbiter.applied();
-        let applied = if after != before { Some(after) } else { None };
-        (applied, receivers)
+        self.bench.orders.tend(&cores, &mut self.seat, &pool.shared)
     }
 
     #[inline(always)]
     fn has_orders(&self) -> bool {
-        self.bench.orders != 0
+        self.bench.orders.has_any()
     }
 
     fn is_waited_for(&self) -> bool {
         if self.call != Call::Work || !self.bench.near.is_empty() {
             return true;
         }
-        match &self.bench.arbiter {
-            Some(arbiter) => arbiter.applied() < self.bench.orders,
-            None => false,
-        }
+        self.bench.orders.has_more()
     }
 
     fn is_drained(&mut self) -> Option<Drained> {

@@ -1,18 +1,20 @@
 //! Workers of a pool: what each has of it, how one is split in two, and how two are put together.
 ghost use Rattle.std.specs.Option.{option_or};
-ghost use Rattle.std.specs.Prelude.{◌≡◌, ◌+◌, ◌≤◌, ℕ, IfErr, IfOk, None};
-ghost use Rattle.arachne_pool.specs.Workers.{HasNoCore, IsArbiterFor};
+ghost use Rattle.std.specs.Prelude.{◌≡◌, ◌+◌, ◌≤◌, IfErr, IfOk, None};
+ghost use Rattle.arachne_pool.specs.Workers.{HasNoCore};
 
 use crate::bench::Bench;
 use crate::job::PoolJob;
+use crate::orders::Orders;
 use crate::pool::Pool;
 use crate::tally::Tally;
-use arachne_arbiter::{Arbiter, Pace};
+use arachne_arbiter::Pace;
 use arachne_contexts::Seats;
 use arachne_workers::{Agenda, Halt};
 use rand_core::Rng;
 use std::alloc::Global;
 use std::marker::Model;
+use std::mem::replace;
 use std::sync::Wait;
 use thiserror::Error;
 
@@ -72,7 +74,7 @@ impl<S, J: PoolJob> Model for Worker<S, J> {
 
     ghost Value = { WorkerView S };
 
-    ghost view = { λ w. record { seat = w.seat; near = deque_len w.bench.near; tally = w.bench.tally; arbiter = w.bench.arbiter; core = w.bench.core } };
+    ghost view = { λ w. record { seat = w.seat; near = deque_len w.bench.near; tally = w.bench.tally; arbiter = w.bench.orders; core = w.bench.core } };
 }
 
 impl<S, J: PoolJob> Worker<S, J> {
@@ -96,17 +98,6 @@ impl<S, J: PoolJob> Worker<S, J> {
             agenda: Agenda::new(alloc, None),
             pace: Pace::new(),
         }
-    }
-}
-
-/// The orders of the first, or else of the second.
-fn first_of(first: Option<Arbiter>, second: Option<Arbiter>) -> Option<Arbiter>
-    ensures kept { result ≡ option_or first second }
-    ensures cores { (cores : ℕ) → IsArbiterFor cores first → IsArbiterFor cores second → IsArbiterFor cores result }
-{
-    match first {
-        Some(arbiter) => Some(arbiter),
-        None => second,
     }
 }
 
@@ -169,8 +160,9 @@ impl<C: Seats> Pool<C> {
         }
         worker.bench.tally = worker.bench.tally.with(other.bench.tally);
         worker.bench.told = worker.bench.tally;
-        worker.bench.orders = worker.bench.orders_or(&other.bench);
-        worker.bench.arbiter = first_of(worker.bench.arbiter.take(), other.bench.arbiter.take());
+        let own = replace(&mut worker.bench.orders, Orders::none());
+        let theirs = replace(&mut other.bench.orders, Orders::none());
+        worker.bench.orders = own.or(theirs);
         worker.seat = self.join_seats(rt, worker.seat.take(), other.seat.take());
         Ok(worker)
     }

@@ -1,4 +1,4 @@
-use Rattle.arachne_exec.proofs.Counting.{common_bit}
+use Rattle.arachne_exec.proofs.Lowest.{common_bit}
 use Rattle.arachne_exec.proofs.turns.first_from.Goals as goal
 
 pub returns-else-ahead-eq0-clause-there : goal.returns-else-ahead-eq0-clause-there

@@ -4,4 +4,4 @@ use Rattle.std.proofs.lemmas.Nat.Bits.{bit_at-trailing_zeros}
 use Rattle.arachne_exec.proofs.turns.lowest_index.Goals as goal
 
 pub returns : goal.returns
-returns c = let it = bit_at-trailing_zeros w64 c.args.word c.requires (omega arith) in record { low = it.0; there = it.1 }
+returns c = let it = bit_at-trailing_zeros w64 c.args.word c.requires (omega arith) in record { low = it.0; there = it.1; lowest = it.2 }

@@ -6,5 +6,5 @@ use Rattle.arachne_pool.proofs.pool.Pool.open.Goals as goal
 pub invariant_of-result : goal.invariant_of-result
 invariant_of-result g c =
     let idle : IsIdleAt g.C.Seats.sits g.C.Seats.idle c.args.self.now.table c.in-Some.seat = search rules in
-    let orders : IsArbiterFor c.args.self.now.cores c.bench.inside.bench.arbiter = search rules in
+    let orders : IsArbiterFor c.args.self.now.cores c.bench.inside.bench.orders = search rules in
     (c.requires.core, idle.0, orders, λ _. g.met.C.Contexts.nothing_out c.args.self.now.table c.in-Some.seat idle.1)

@@ -1,0 +1,122 @@
+//! The orders by which the cores of a pool come and go. One of its workers has them.
+ghost use Rattle.std.specs.Option.{option_or};
+ghost use Rattle.std.specs.Prelude.{◌≡◌, ℕ, ◌<◌, ◌≤◌, ◌↔◌, IfOk, IsTrue, None, Some};
+ghost use Rattle.arachne_contexts.specs.Out.{KeepsOut};
+ghost use Rattle.arachne_core.specs.declared.layout.TheConstants.{CORES};
+ghost use Rattle.arachne_policy.specs.Orders.{AreInOrder};
+ghost use Rattle.arachne_pool.specs.Workers.{IsArbiterFor, count_orders};
+
+use arachne_arbiter::{Arbiter, Cores};
+use arachne_contexts::{Contexts, Tagged};
+use arachne_policy::CoreOrder;
+use arachne_workers::Shared;
+use std::alloc::{AllocError, Global};
+use std::marker::Model;
+use std::sync::Wait;
+
+/// The orders of a pool, where a worker has them. Contracts see how far they are applied.
+#[derive(Drop)]
+pub(crate) struct Orders {
+    arbiter: Option<Arbiter>,
+    /// How many there are, applied or not.
+    count: usize,
+}
+
+impl Model for Orders {
+    ghost use Rattle.std.specs.Prelude.{◌≡◌, Option};
+    ghost use Rattle.arachne_arbiter.specs.Orders.{Progress};
+    ghost use Rattle.arachne_pool.specs.Workers.{count_orders};
+
+    ghost Value = { Option Progress };
+
+    ghost view = { λ o. o.arbiter };
+
+    ghost invariant = { λ o. o.count ≡ count_orders o.arbiter };
+}
+
+impl Orders {
+    /// None: another worker has them.
+    pub(crate) fn none() -> Orders
+        ensures { result ≡ None }
+    {
+        Orders {
+            arbiter: None,
+            count: 0,
+        }
+    }
+
+    /// These, of which none was applied yet, for so many cores.
+    pub(crate) fn new(
+        alloc: Global,
+        orders: Vec<CoreOrder>,
+        cores: u8,
+    ) -> Result<Orders, AllocError>
+        requires orders { AreInOrder cores orders.items }
+        requires cores { cores ≤ CORES }
+        ensures { IfOk result (λ made. made ≡ Some (record { list = orders.items; cores = cores; applied = 0 })) }
+    {
+        let count = orders.len();
+        let arbiter = Arbiter::new(alloc, orders, cores)?;
+        Ok(Orders {
+            arbiter: Some(arbiter),
+            count,
+        })
+    }
+
+    /// These, or else the other worker's.
+    pub(crate) fn or(self, other: Orders) -> Orders
+        ensures kept { result ≡ option_or self other }
+        ensures cores { (cores : ℕ) → IsArbiterFor cores self → IsArbiterFor cores other → IsArbiterFor cores result }
+    {
+        let Orders { arbiter, count } = self;
+        match arbiter {
+            Some(arbiter) => Orders {
+                arbiter: Some(arbiter),
+                count,
+            },
+            None => other,
+        }
+    }
+
+    /// Whether there is any, applied or not.
+    #[inline(always)]
+    pub(crate) fn has_any(&self) -> bool
+        ensures { IsTrue result ↔ (0 < count_orders self.now) }
+    {
+        self.count != 0
+    }
+
+    /// Whether one is not applied yet.
+    pub(crate) fn has_more(&self) -> bool {
+        match &self.arbiter {
+            Some(arbiter) => arbiter.applied() < self.count,
+            None => false,
+        }
+    }
+
+    /// Applies those that are due, and moves jobs away from a closed core. How many are applied, if these are more now,
+    /// and the cores to which jobs were moved, a bit for each.
+    pub(crate) fn tend<H: Wait, T: Tagged, C: Contexts<T>>(
+        &mut self,
+        cores: &Cores<'_, H, T, C>,
+        seat: &mut C::Seat,
+        shared: &Shared,
+    ) -> (Option<usize>, u64)
+        requires seat { C.sits cores.now.table.now seat.old }
+        requires cores { IsArbiterFor cores.now.count self.old }
+        requires shared { shared.now ≡ cores.now.count }
+        ensures seat { C.sits cores.now.table.now seat.new }
+        ensures out { KeepsOut (C.has cores.now.table.now) seat.old seat.new }
+        ensures cores { IsArbiterFor cores.now.count self.new }
+        ensures same { count_orders self.new ≡ count_orders self.old }
+    {
+        let Some(arbiter) = &mut self.arbiter else {
+            return (None, 0);
+        };
+        let before = arbiter.applied();
+        let receivers = arbiter.tend(cores, seat, shared.parking(), shared.slices());
+        let after = arbiter.applied();
+        let applied = if after != before { Some(after) } else { None };
+        (applied, receivers)
+    }
+}
