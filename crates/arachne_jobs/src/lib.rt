@@ -21,7 +21,7 @@ pub use fault::JobFault;
 pub use job::Job;
 pub use openings::Openings;
 pub use places::{PlaceLeft, claim_again, finish, give_back};
-pub use queued::{TicketPut, TicketTaken, next_ticket, put_ticket};
+pub use queued::{TicketPut, TicketTaken, drop_stale, next_ticket, put_ticket};
 pub use room::Room;
 pub use slice::{JobOf, RunJob, RunSpares, RunThread, RunTicket, Slice};
 pub use spares::Spares;

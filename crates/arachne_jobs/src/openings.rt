@@ -10,7 +10,12 @@ use arachne_machine::Placing;
 pub struct Openings {
     pub tags: Tags,
     pub draws: u64,
+    /// Whether the child that was forked last has much to do.
+    pub is_large: bool,
 }
+
+/// How many turns of a sweep a child has at least that is worth room in the queue.
+const LARGE: u64 = 1024;
 
 impl Openings {
     /// No tag is drawn yet, and no word is owed.
@@ -18,6 +23,7 @@ impl Openings {
         Openings {
             tags: Tags::new(),
             draws: 0,
+            is_large: false,
         }
     }
 }
@@ -29,6 +35,18 @@ pub(crate) struct Asked<'a> {
     pub(crate) openings: &'a mut Openings,
 }
 
+impl<'a> Asked<'a> {
+    /// Whether a child may get a place or wait for one. If not, a word of the chooser is owed.
+    #[inline(always)]
+    fn may_have_a_place(&mut self, class: Class) -> bool {
+        if class == Class::Exclusive || self.room.has_free_place() || self.room.may_wait() {
+            return true;
+        }
+        self.openings.draws = self.openings.draws.wrapping_add(1);
+        false
+    }
+}
+
 impl<'a> Placing for Asked<'a> {
     ghost use Rattle.std.specs.Prelude.{false};
 
@@ -36,11 +54,14 @@ impl<'a> Placing for Asked<'a> {
 
     #[inline(always)]
     fn is_any(&mut self, class: Class) -> bool {
-        if class == Class::Exclusive || self.room.has_free_place() || self.room.may_wait() {
-            return true;
-        }
-        self.openings.draws = self.openings.draws.wrapping_add(1);
-        false
+        self.openings.is_large = false;
+        self.may_have_a_place(class)
+    }
+
+    #[inline(always)]
+    fn is_any_for(&mut self, class: Class, turns: u64) -> bool {
+        self.openings.is_large = turns >= LARGE;
+        self.openings.is_large || self.may_have_a_place(class)
     }
 
     #[inline(always)]

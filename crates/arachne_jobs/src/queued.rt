@@ -2,8 +2,10 @@
 ghost use Rattle.std.specs.Prelude.{◌≡◌, IfErr};
 ghost use Rattle.arachne_spill.specs.Views.{IsPassOf};
 
+use crate::room::Room;
+use crate::slice::RunTicket;
 use arachne_contexts::Tagged;
-use arachne_spill::{SpillPass, SpillQueue};
+use arachne_spill::{CAPACITY, SpillPass, SpillQueue};
 use std::sync::Wait;
 
 /// A child's ticket was put into the queue, and is to be counted. It can't be dropped. [`put_ticket`] alone gives it, and
@@ -64,4 +66,37 @@ pub fn next_ticket<R: Wait, K: Tagged + Drop>(
 {
     let ticket = tickets.pop(rt, pass)?;
     Some((ticket, TicketTaken { uncounted: () }))
+}
+
+/// How many tickets whose children wait still may go to the end of the queue while room is made in it.
+const MOST_LIVE: u32 = 8;
+
+/// Where the queue is full, drops tickets whose children are gone, the oldest first, until there is room for one. A
+/// ticket whose child waits still goes to the end of the queue.
+pub fn drop_stale<R: Wait, K: RunTicket>(
+    rt: &R,
+    tickets: &SpillQueue<K>,
+    room: &Room,
+    pass: &mut SpillPass<K>,
+)
+    requires { IsPassOf tickets.now pass.old }
+    ensures { IsPassOf tickets.now pass.new }
+{
+    let mut live = 0;
+    for _ in 0..CAPACITY {
+        if live >= MOST_LIVE || !tickets.is_full(rt, pass) {
+            return;
+        }
+        let Some((ticket, taken)) = next_ticket(rt, tickets, pass) else {
+            return;
+        };
+        room.ticket_was_taken(taken);
+        if ticket.still_waits() {
+            live += 1;
+            // Where the queue was filled meanwhile, the child waits on without a ticket, for its parent.
+            if let Ok(put) = put_ticket(rt, tickets, pass, ticket) {
+                room.child_waits(put);
+            }
+        }
+    }
 }

@@ -119,7 +119,7 @@ impl<'p> State<'p> {
         let count = stretch.end.saturating_sub(stretch.first);
         if count > stretch.grain.max(1) {
             let middle = stretch.first + count / 2;
-            if !places.is_any(Class::Normal) {
+            if !places.is_any_for(Class::Normal, count / 2) {
                 return self.halve_here(stretch, middle);
             }
             return self.halve(stretch, middle, spares);

@@ -13,6 +13,13 @@ pub trait Placing {
     fn is_any(&mut self, class: Class) -> bool
         ensures { gives_all ≡ true → IsTrue result };
 
+    /// The same for a child that has so many turns of a sweep to do.
+    fn is_any_for(&mut self, class: Class, _turns: u64) -> bool
+        ensures { gives_all ≡ true → IsTrue result }
+    {
+        self.is_any(class)
+    }
+
     /// The tag of a child that begins in its parent's place.
     fn tag(&mut self) -> u64;
 }

@@ -14,7 +14,7 @@ use crate::machine::Machine;
 use arachne_arbiter::Pace;
 use arachne_contexts::{Contexts, Held, Identified, Placed};
 use arachne_core::ThreadId;
-use arachne_jobs::{Openings, PlaceLeft, RunJob, Slice, give_back, put_ticket};
+use arachne_jobs::{Openings, PlaceLeft, RunJob, Slice, drop_stale, give_back, put_ticket};
 use arachne_lang::Class;
 use arachne_spill::SpillPass;
 use arachne_workers::{Post, Stop};
@@ -127,6 +127,9 @@ fn answer_fork<H: Wait, T: RunJob, C: Contexts<T>, R: Rng>(
             Ok(id) => Ok(Stop::Posted(Post { id, place })),
             Err(_) => Err(WorkerFault::Token),
         };
+    }
+    if forks.openings.is_large && class == Class::Normal {
+        drop_stale(rt, &machine.tickets, room, pass);
     }
     let waits = may_wait(class, machine.tickets.is_full(rt, pass));
     if let Some(ticket) = held.value.put_aside(alloc, me, child, tag, waits)? {

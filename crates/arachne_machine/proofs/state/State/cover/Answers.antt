@@ -25,14 +25,14 @@ halve-requires-clause-number g c =
 pub halve-requires-clause-line : goal.halve-requires-clause-line
 halve-requires-clause-line g c = line_in c.args.self.now c.requires.sound
 
-pub returns-then-not-is_any-clause-ok : goal.returns-then-not-is_any-clause-ok
-returns-then-not-is_any-clause-ok g c =
+pub returns-then-not-is_any_for-clause-ok : goal.returns-then-not-is_any_for-clause-ok
+returns-then-not-is_any_for-clause-ok g c =
     let t = c.args.self.now in
     let s = c.args.stretch in
     let new = c.halve_here.new.self in
     let long : max 1 s.grain < s.end - s.first = omega (arith, c.if-count-max.true, c.max.ensures, c.saturating_sub-count.ensures) in
     ok_known c.halve_here.result way.Goes (λ p. Comes _ _ _ t p new) c.halve_here.ensures.goes c.halve_here.ensures.counts (λ counts. (
-      runs_place _ t new _ _ _ (λ all. search (rules, c.is_any.ensures all)) c.requires.sound counts
+      runs_place _ t new _ _ _ (λ all. search (rules, c.is_any_for.ensures all)) c.requires.sound counts
           (λ pushed. places_half (top t) (top new) s (s.first + c.saturating_sub-count.result / 2) c.requires.covers long (ap (λ n. s.first + n / 2) c.saturating_sub-count.ensures) pushed),
       subst IsLeftOver (sym counts.control_is) tt,
     ))
