@@ -2,7 +2,7 @@
 //! other cores.
 //!
 //! Plain data: it touches no word that another worker sees.
-ghost use Rattle.std.specs.Prelude.{◌≡◌, ◌≢◌, ◌≤◌, ◌<◌, ◌↔◌, ◌⊎◌, [], ◌∷◌, ◌++◌, ◌^◌, ◌+◌, ◌-◌, min, length, None, Some, if◌then◌else◌, IfSome, IsSome, IsTrue, MatchOption};
+ghost use Rattle.std.specs.Prelude.{◌≡◌, ◌≢◌, ◌≤◌, ◌<◌, ◌↔◌, ◌⊎◌, [], ◌∷◌, ◌++◌, ◌^◌, ◌+◌, ◌-◌, max, min, length, None, Some, if◌then◌else◌, IfSome, IsSome, IsTrue, MatchOption};
 ghost use Rattle.std.specs.Int.RustNames.{bit_or};
 ghost use Rattle.arachne_core.specs.declared.layout.TheConstants.{SLOTS};
 ghost use Rattle.arachne_workers.specs.declared.policy.TheConstants.{MOST_KEPT_BACK, PATIENCE, SCANS_BETWEEN_LOOKS};
@@ -70,7 +70,12 @@ pub struct Agenda {
 
 impl Agenda {
     /// Nothing is remembered but the index of the root, if that begins here. It takes no memory.
-    pub fn new(alloc: Global, root: Option<u8>) -> Agenda {
+    pub fn new(alloc: Global, root: Option<u8>) -> Agenda
+        ensures root { IfSome root (λ index. index < SLOTS → result.ready ≡ 2 ^ index) }
+        ensures rootless { root ≡ None → result.ready ≡ 0 }
+        ensures posts { (result.posts.items ≡ []) × (result.posted ≡ 0) × (result.patience ≡ PATIENCE) }
+        ensures scan { (result.scan ≡ 0) × (result.scans ≡ 0) × (result.next ≡ None) }
+    {
         Agenda {
             scan: 0,
             ready: match root {
@@ -88,7 +93,7 @@ impl Agenda {
     /// The thread at an index may be ready.
     pub fn note(&mut self, index: u8)
         ensures there { index < SLOTS → self.new.ready ≡ bit_or self.old.ready (2 ^ index) }
-        ensures scan { self.new.scan ≡ self.old.scan }
+        ensures others { self.new ≡ record self.old { ready = self.new.ready } }
     {
         self.ready |= bit_of(index);
     }
@@ -97,6 +102,7 @@ impl Agenda {
     pub(crate) fn begin_scan(&mut self, indexes: u64)
         ensures begun { (self.new.scan ≡ bit_or self.old.ready indexes) × (self.new.ready ≡ 0) }
         ensures counted { self.new.scans ≡ min (self.old.scans + 1) u32.MAX }
+        ensures others { self.new ≡ record self.old { scan = self.new.scan; ready = self.new.ready; scans = self.new.scans } }
     {
         self.scan = self.ready | indexes;
         self.ready = 0;
@@ -106,7 +112,7 @@ impl Agenda {
     /// Whether the next scan is to be one of all that is occupied.
     pub(crate) fn is_look_due(&mut self) -> bool
         ensures due { IsTrue result ↔ SCANS_BETWEEN_LOOKS ≤ self.old.scans }
-        ensures counted { self.new.scans ≡ (if result then 0 else self.old.scans) }
+        ensures counted { self.new ≡ record self.old { scans = if result then 0 else self.old.scans } }
     {
         let is_due = self.scans >= policy::SCANS_BETWEEN_LOOKS;
         if is_due {
@@ -119,6 +125,7 @@ impl Agenda {
     pub(crate) fn next_index(&mut self) -> Option<u8>
         ensures lowest { MatchOption result (self.old.scan ≡ 0) (IsLowest self.old.scan) }
         ensures fewer { IfSome result (λ _. self.new.scan < self.old.scan) }
+        ensures others { self.new ≡ record self.old { scan = self.new.scan } }
     {
         if self.scan == 0 {
             return None;
@@ -130,7 +137,7 @@ impl Agenda {
 
     /// The scan ends before all was looked at.
     pub(crate) fn end_scan(&mut self)
-        ensures { (self.new.ready ≡ bit_or self.old.ready self.old.scan) × (self.new.scan ≡ 0) }
+        ensures { self.new ≡ record self.old { ready = bit_or self.old.ready self.old.scan; scan = 0 } }
     {
         self.ready |= self.scan;
         self.scan = 0;
@@ -146,7 +153,7 @@ impl Agenda {
     /// The thread at an index goes on before all others, unless another does. Whether it will.
     pub(crate) fn goes_next(&mut self, index: u8) -> bool
         ensures will { IsTrue result ↔ (self.old.next ≡ None) × (index < SLOTS) }
-        ensures next { self.new.next ≡ (if result then Some index else self.old.next) }
+        ensures next { self.new ≡ record self.old { next = if result then Some index else self.old.next } }
     {
         if self.next.is_some() || index >= SLOTS {
             return false;
@@ -164,7 +171,7 @@ impl Agenda {
 
     /// The index at which a thread goes on before all others, and does no longer.
     pub(crate) fn take_next(&mut self) -> Option<u8>
-        ensures { (result ≡ self.old.next) × (self.new.next ≡ None) }
+        ensures { (result ≡ self.old.next) × (self.new ≡ record self.old { next = None }) }
     {
         self.next.take()
     }
@@ -174,6 +181,7 @@ impl Agenda {
         ensures kept { IsKeptBack self.old.posted self.old.posts.items post result self.new.posts.items }
         ensures few { length self.old.posts.items ≤ MOST_KEPT_BACK → length self.new.posts.items ≤ MOST_KEPT_BACK }
         ensures counted { self.new.posted ≡ min (self.old.posted + 1) u32.MAX }
+        ensures others { self.new ≡ record self.old { posts = self.new.posts; posted = self.new.posted } }
     {
         let before = self.posted;
         self.posted = before.saturating_add(1);
@@ -194,13 +202,17 @@ impl Agenda {
 
     /// The newest that is kept back, and is no longer.
     pub(crate) fn take_newest(&mut self) -> Option<Post>
-        ensures { MatchOption result (self.old.posts.items ≡ []) (λ newest. self.old.posts.items ≡ self.new.posts.items ++ newest ∷ []) }
+        ensures newest { MatchOption result (self.old.posts.items ≡ []) (λ newest. self.old.posts.items ≡ self.new.posts.items ++ newest ∷ []) }
+        ensures others { self.new ≡ record self.old { posts = self.new.posts } }
     {
         self.posts.pop()
     }
 
     /// A slice begins. If nothing is kept back, what is posted from now on may be for as long as anything.
-    pub(crate) fn begin_slice(&mut self) {
+    pub(crate) fn begin_slice(&mut self)
+        ensures empty { self.old.posts.items ≡ [] → self.new ≡ record self.old { patience = PATIENCE } }
+        ensures kept_back { self.old.posts.items ≢ [] → self.new ≡ self.old }
+    {
         if self.posts.is_empty() {
             self.patience = policy::PATIENCE;
         }
@@ -208,7 +220,7 @@ impl Agenda {
 
     /// After how many steps at most the worker is to tell of what is kept back.
     pub(crate) fn most_steps(&self) -> u32
-        ensures { 1 ≤ result }
+        ensures { result ≡ max 1 self.now.patience }
     {
         self.patience.max(1)
     }
@@ -216,7 +228,7 @@ impl Agenda {
     /// The worker has made so many steps. Whether it is to tell now of all that is kept back.
     pub(crate) fn spend(&mut self, steps: u32) -> bool
         ensures due { IsTrue result ↔ self.old.patience ≤ steps }
-        ensures left { self.new.patience ≡ (if result then PATIENCE else self.old.patience - steps) }
+        ensures left { self.new ≡ record self.old { patience = if result then PATIENCE else self.old.patience - steps } }
     {
         if self.patience <= steps {
             self.patience = policy::PATIENCE;
