@@ -43,6 +43,31 @@ const TICKETS: Row = Row {
     told: "",
 };
 
+/// The root has the only place. The first sweep leaves the queue full of tickets whose children are gone. Those of the
+/// halves of the next two that have 1,024 turns find room.
+const LARGE: Row = Row {
+    shows: "a large half waits though the queue is full of tickets whose children are gone",
+    source: Source {
+        ledgers: 0,
+        locks: 0,
+        forks: 0,
+        expr: "(fold (num 0) (num 3) (num 0) (add (var 1) (sweep add 1 (num 0) (num 2048) (var 2))))",
+    },
+    forms: FORMS,
+    slots: 1,
+    machines: &[(1, 100, 1), (1, 10_000, 1)],
+    draws: ZEROS,
+    orders: &[],
+    watching: Watching::Spills,
+    facts: &[
+        (Fact::Value, 6_288_384),
+        (Fact::Threads, 6142),
+        (Fact::Tickets(258), 1),
+    ],
+    telling: Telling::Nothing,
+    told: "",
+};
+
 /// The root waits for a lock that its first child has. Meanwhile its second child ends, which wakes it.
 const STILL_WAITS: Row = Row {
     shows: "a thread that is woken while it waits for a lock waits on",
@@ -222,7 +247,14 @@ const GIVEN_BACK: Row = Row {
     told: "",
 };
 
-const ROWS: &[Row] = &[TICKETS, STILL_WAITS, LOST_ALONE, LOST_WAKE, GIVEN_BACK];
+const ROWS: &[Row] = &[
+    TICKETS,
+    LARGE,
+    STILL_WAITS,
+    LOST_ALONE,
+    LOST_WAKE,
+    GIVEN_BACK,
+];
 
 #[test]
 fn what_a_thread_is_due_is_heeded(rt: HostRuntime) -> Result<(), Fail> {
