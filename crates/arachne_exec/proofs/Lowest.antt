@@ -43,8 +43,8 @@ module _ (word t : ℕ) (low : t < 64) (there : bit_at word t ≡ 1) (lowest : (
   behind i is = dite (ℕ_discrete i t)
       (λ e. let wrong : 0 ≡ 1 = sym (clear_same word t low) ∙ sym (ap (bit_at (bit_and word (others t))) e) ∙ is in absurd (omega (arith, wrong)))
       (λ ne. let apart : ¬ (i ≡ t) = ne in dite (ℕ_discrete (bit_at word i) 0)
-          (λ clear. let wrong : 0 ≡ 1 = sym clear ∙ common_bit word (others t) i is in absurd (omega (arith, wrong)))
-          (λ set. let before : ¬ (i < t) = λ less. set (lowest i less) in omega (arith, apart, before)))
+      (λ clear. let wrong : 0 ≡ 1 = sym clear ∙ common_bit word (others t) i is in absurd (omega (arith, wrong)))
+      (λ set. let before : ¬ (i < t) = λ less. set (lowest i less) in omega (arith, apart, before)))
 
   pub first-picked : (most : ℕ) → Picked word most (2 ^ t) (bit_and word (others t)) 1
   first-picked most = record {

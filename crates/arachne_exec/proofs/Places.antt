@@ -67,8 +67,8 @@ module _ (block : ℕ) where
         ∙ (λ j. (64 * block + e j) ∷ [])
         ∙ ap (λ ps. ps ++ (64 * block + t) ∷ []) (sym (none-from word (suc more) i (λ j after. none j (omega (arith, e, after))))))
         (λ ne. let apart : ¬ (i ≡ t) = ne in let rest = last more (suc i) (omega (arith, before, apart)) (omega (arith, end)) in let same = set_other word t i ne in dite (ℕ_discrete (bit_at word i) 1)
-            (λ is. listed (bit_or word (2 ^ t)) i more (same ∙ is) ∙ ap (λ ps. (64 * block + i) ∷ ps) rest ∙ ap (λ ps. ps ++ (64 * block + t) ∷ []) (sym (listed word i more is)))
-            (λ other. let clear = not_one word i other in skipped (bit_or word (2 ^ t)) i more (same ∙ clear) ∙ rest ∙ ap (λ ps. ps ++ (64 * block + t) ∷ []) (sym (skipped word i more clear))))
+        (λ is. listed (bit_or word (2 ^ t)) i more (same ∙ is) ∙ ap (λ ps. (64 * block + i) ∷ ps) rest ∙ ap (λ ps. ps ++ (64 * block + t) ∷ []) (sym (listed word i more is)))
+        (λ other. let clear = not_one word i other in skipped (bit_or word (2 ^ t)) i more (same ∙ clear) ∙ rest ∙ ap (λ ps. ps ++ (64 * block + t) ∷ []) (sym (skipped word i more clear))))
 
     -- a bit behind all others is set
     pub highest-last : t < 64 → places_in_word block (bit_or word (2 ^ t)) ≡ places_in_word block word ++ (64 * block + t) ∷ []
