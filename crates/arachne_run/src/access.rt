@@ -248,7 +248,12 @@ impl<'a> Access<'a> {
     ) -> Result<Tried<Result<Freed, NotHolder>>, WorkerFault>
         ensures { self.new ≡ self.old }
     {
-        free_at(&self.resources.locks, &mut self.holdings.lock_seats, lock, who)
+        free_at(
+            &self.resources.locks,
+            &mut self.holdings.lock_seats,
+            lock,
+            who,
+        )
     }
 
     /// Adds to a ledger. In a checked program a pause names a ledger that is there.
