@@ -4,3 +4,4 @@ pub mod Ends
 pub mod Slices
 pub mod Classes
 pub mod Places
+pub mod Faults

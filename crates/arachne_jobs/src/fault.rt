@@ -1,4 +1,5 @@
 //! Why a job can't go on.
+use arachne_machine::{NotJoined, NotPlaced};
 use std::alloc::AllocError;
 use thiserror::Error;
 
@@ -22,5 +23,33 @@ impl From<AllocError> for JobFault {
 
     fn from(_: AllocError) -> JobFault {
         JobFault::Memory
+    }
+}
+
+impl<'p> From<NotJoined<'p>> for JobFault {
+    ghost use Rattle.std.specs.Prelude.{◌≡◌};
+    ghost use Rattle.arachne_jobs.specs.Faults.{of_join};
+
+    ghost from_gives = { λ fault e. e ≡ of_join fault };
+
+    fn from(fault: NotJoined<'p>) -> JobFault {
+        match fault {
+            NotJoined::Foreign(_) => JobFault::Foreign,
+            NotJoined::Memory(_) => JobFault::Memory,
+        }
+    }
+}
+
+impl<'p> From<NotPlaced<'p>> for JobFault {
+    ghost use Rattle.std.specs.Prelude.{◌≡◌};
+    ghost use Rattle.arachne_jobs.specs.Faults.{of_place};
+
+    ghost from_gives = { λ fault e. e ≡ of_place fault };
+
+    fn from(fault: NotPlaced<'p>) -> JobFault {
+        match fault {
+            NotPlaced::Foreign(_) => JobFault::Foreign,
+            NotPlaced::Memory(_) => JobFault::Memory,
+        }
     }
 }

@@ -23,7 +23,7 @@ use crate::wanted::{OutcomeReceiver, Wanted};
 use arachne_contexts::Tagged;
 use arachne_core::{Rest, ThreadId};
 use arachne_lang::{Name, Program};
-use arachne_machine::{NotJoined, NotPlaced, Pause, Pending, Thread};
+use arachne_machine::{Pause, Pending, Thread};
 use std::alloc::{AllocError, Global};
 use std::marker::Model;
 use std::snapshot::Snapshot;
@@ -294,11 +294,8 @@ impl<'p> Job<'p> {
         ensures parent { self.new.parent ≡ self.old.parent }
         ensures answered { OnOk result (pause_of self.new.thread ≡ None) }
     {
-        match self.thread.in_place(child) {
-            Ok(()) => Ok(()),
-            Err(NotPlaced::Memory(_)) => Err(JobFault::Memory),
-            Err(NotPlaced::Foreign(_)) => Err(JobFault::Foreign),
-        }
+        self.thread.in_place(child)?;
+        Ok(())
     }
 
     /// Has this end of a cell too.
@@ -323,11 +320,8 @@ impl<'p> Job<'p> {
         match self.find(spares)? {
             Found::Outcome(outcome) => {
                 let program = self.thread.program();
-                match self.thread.joined(outcome.attach(program)) {
-                    Ok(()) => Ok(true),
-                    Err(NotJoined::Memory(_)) => Err(JobFault::Memory),
-                    Err(NotJoined::Foreign(_)) => Err(JobFault::Foreign),
-                }
+                self.thread.joined(outcome.attach(program))?;
+                Ok(true)
             }
             Found::Child(child) => {
                 self.place(child)?;

@@ -7,6 +7,8 @@ use Rattle.arachne_run.specs.declared.fault.WorkerFault.{WorkerFault}
 use Rattle.arachne_run.specs.declared.fault.WorkerFault.TheVariants as worker
 use Rattle.arachne_jobs.specs.declared.fault.JobFault.{JobFault}
 use Rattle.arachne_jobs.specs.declared.fault.JobFault.TheVariants as job
+use Rattle.arachne_sleep.specs.declared.answer.AskFault.{AskFault}
+use Rattle.arachne_sleep.specs.declared.answer.AskFault.TheVariants as ask
 use Rattle.arachne_team.specs.declared.team.TeamFault.{TeamFault}
 use Rattle.arachne_team.specs.declared.team.TeamFault.TheVariants as team
 use Rattle.arachne_policy.specs.declared.orders.CoreOrder.{CoreOrder}
@@ -81,3 +83,8 @@ as_worker_fault job.Foreign = worker.Foreign
 abbrev pub of_team : TeamFault → WorkerFault
 of_team team.Memory = worker.Memory
 of_team team.KernelThread = worker.KernelThread
+
+-- what a worker stops for where an ask for a lock is refused
+abbrev pub of_ask : AskFault → WorkerFault
+of_ask ask.AlreadyIn = worker.Threads
+of_ask ask.Memory = worker.Memory

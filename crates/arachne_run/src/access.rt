@@ -2,6 +2,8 @@
 ghost use Rattle.std.specs.Prelude.{◌≡◌, ◌<◌, Ok, IfOk, IfSome, OnOk, length};
 ghost use Rattle.arachne_ledger.specs.Sums.{raised};
 ghost use Rattle.arachne_ledger.specs.Views.{IsShareOf};
+ghost use Rattle.arachne_sleep.specs.Calls.{FreeAnswer};
+ghost use Rattle.arachne_sleep.specs.SleepLocks.{AreSeatsOf, ChangesAt};
 ghost use Rattle.arachne_run.specs.Serving.{IsPassFor, IsServed, IsWantOf, StopsAt, id_of};
 ghost use Rattle.arachne_run.specs.Tokens.{AreHoldingsOf};
 ghost use Rattle.arachne_run.specs.declared.granted.Got.TheVariants as got;
@@ -14,7 +16,7 @@ use arachne_arbiter::Pace;
 use arachne_core::ThreadId;
 use arachne_jobs::RunThread;
 use arachne_ledger::{Ledgers, Share};
-use arachne_sleep::{AskFault, Freed, NotHolder, SleepLocks, Tried, Who};
+use arachne_sleep::{Freed, LockSeats, NotHolder, SleepLocks, Tried, Who};
 use arachne_workers::{Stop, stand_by};
 use std::marker::Model;
 use std::sync::Wait;
@@ -161,8 +163,7 @@ impl<'a> Access<'a> {
             match self.try_ask(lock, who)? {
                 Got::Granted(granted) => return Ok(Some(granted)),
                 Got::Waits => return Ok(None),
-                Got::Refused(AskFault::Memory) => return Err(WorkerFault::Memory),
-                Got::Refused(AskFault::AlreadyIn) => return Err(WorkerFault::Threads),
+                Got::Refused(fault) => return Err(WorkerFault::from(fault)),
                 Got::Contended => {}
             }
             stand_by(rt, pace, tries);
@@ -210,7 +211,7 @@ impl<'a> Access<'a> {
         for _ in rt.forever() {
             match self.try_free(lock, who)? {
                 Tried::Answered(Ok(freed)) => return Ok(next_holder(freed)),
-                Tried::Answered(Err(_)) => return Err(WorkerFault::Threads),
+                Tried::Answered(Err(fault)) => return Err(WorkerFault::from(fault)),
                 Tried::Contended => {}
             }
             stand_by(rt, pace, tries);
@@ -247,9 +248,12 @@ impl<'a> Access<'a> {
     ) -> Result<Tried<Result<Freed, NotHolder>>, WorkerFault>
         ensures { self.new ≡ self.old }
     {
-        let locks = &self.resources.locks;
-        let lock = number_of(locks, lock)?;
-        Ok(locks.free(&mut self.holdings.lock_seats, lock, who))
+        free_at(
+            &self.resources.locks,
+            &mut self.holdings.lock_seats,
+            lock,
+            who,
+        )
     }
 
     /// Adds to a ledger. In a checked program a pause names a ledger that is there.
@@ -259,6 +263,21 @@ impl<'a> Access<'a> {
         let ledgers = &self.resources.ledgers;
         add_to(ledgers, &mut self.holdings.share, ledger, amount)
     }
+}
+
+/// Tries once to free the lock of this number, if that is there.
+fn free_at(
+    locks: &SleepLocks,
+    seats: &mut LockSeats,
+    lock: u64,
+    who: Who,
+) -> Result<Tried<Result<Freed, NotHolder>>, WorkerFault>
+    requires { AreSeatsOf locks.now seats.old }
+    ensures own { AreSeatsOf locks.now seats.new }
+    ensures freed { IfOk result (λ tried. ChangesAt lock seats.old seats.new (λ old new. FreeAnswer lock who old tried new)) }
+{
+    let lock = number_of(locks, lock)?;
+    Ok(locks.free(seats, lock, who))
 }
 
 /// The id of the thread that holds a lock once it is freed, if any waited.

@@ -1,6 +1,7 @@
 //! Why a run has no report.
 use arachne_jobs::JobFault;
 use arachne_policy::OrderFault;
+use arachne_sleep::{AskFault, NotHolder};
 use arachne_team::TeamFault;
 use arachne_workers::Halt;
 use std::alloc::AllocError;
@@ -149,6 +150,31 @@ impl From<TeamFault> for WorkerFault {
             TeamFault::Memory => WorkerFault::Memory,
             TeamFault::KernelThread => WorkerFault::KernelThread,
         }
+    }
+}
+
+impl From<AskFault> for WorkerFault {
+    ghost use Rattle.std.specs.Prelude.{◌≡◌};
+    ghost use Rattle.arachne_run.specs.Setups.{of_ask};
+
+    ghost from_gives = { λ fault e. e ≡ of_ask fault };
+
+    fn from(fault: AskFault) -> WorkerFault {
+        match fault {
+            AskFault::AlreadyIn => WorkerFault::Threads,
+            AskFault::Memory => WorkerFault::Memory,
+        }
+    }
+}
+
+impl From<NotHolder> for WorkerFault {
+    ghost use Rattle.std.specs.Prelude.{◌≡◌};
+    ghost use Rattle.arachne_run.specs.declared.fault.WorkerFault.TheVariants.{Threads};
+
+    ghost from_gives = { λ _ e. e ≡ Threads };
+
+    fn from(_: NotHolder) -> WorkerFault {
+        WorkerFault::Threads
     }
 }
 

@@ -2,4 +2,4 @@ use Rattle.arachne_spill.specs.Views.{IsPassOf}
 use Rattle.arachne_jobs.proofs.queued.drop_stale.Given as goal
 
 abbrev pub invariant-loop : goal.invariant-loop
-invariant-loop g l = IsPassOf l.tickets.now l.pass.now
+invariant-loop g l = IsPassOf l.tickets l.pass

@@ -1,0 +1,15 @@
+-- What a job answers where a child was not joined or placed.
+use Rattle.arachne_machine.specs.declared.pause.NotJoined.{NotJoined}
+use Rattle.arachne_machine.specs.declared.pause.NotJoined.TheVariants as not_joined
+use Rattle.arachne_machine.specs.declared.pause.NotPlaced.{NotPlaced}
+use Rattle.arachne_machine.specs.declared.pause.NotPlaced.TheVariants as not_placed
+use Rattle.arachne_jobs.specs.declared.fault.JobFault.{JobFault}
+use Rattle.arachne_jobs.specs.declared.fault.JobFault.TheVariants.{Memory, Foreign}
+
+abbrev pub of_join : NotJoined → JobFault
+of_join (not_joined.Foreign outcome) = Foreign
+of_join (not_joined.Memory outcome) = Memory
+
+abbrev pub of_place : NotPlaced → JobFault
+of_place (not_placed.Foreign child) = Foreign
+of_place (not_placed.Memory child) = Memory
