@@ -42,6 +42,40 @@ fn a_job_is_spawned_taken_and_ends(rt: HostRuntime) -> Result<(), Fail> {
 }
 
 #[test]
+fn a_worker_that_stays_awake_is_not_unparked(rt: HostRuntime) -> Result<(), Fail> {
+    let (executor, mut seat) = Executor::new(rt.alloc(), 1)?;
+    assert!(rt; executor.register(&mut seat, 0));
+    let mut other = executor.split(&mut seat);
+    assert!(rt; executor.next(&mut seat, 0) == Next::Park);
+    let first = Placed {
+        place: 192,
+        name: 192,
+        unpark: true,
+    };
+    assert!(rt; executor.spawn(&mut other, 3, 1) == Spawned::Placed(first));
+    assert!(rt; !executor.may_park(&mut seat, 0));
+    let second = Placed {
+        place: 193,
+        name: 193,
+        unpark: false,
+    };
+    assert!(rt; executor.spawn(&mut other, 3, 2) == Spawned::Placed(second));
+    Ok(())
+}
+
+#[test]
+fn jobs_that_are_left_come_by_place(rt: HostRuntime) -> Result<(), Fail> {
+    let (executor, mut seat) = Executor::new(rt.alloc(), 1)?;
+    executor.spawn(&mut seat, 3, 1);
+    executor.spawn(&mut seat, 3, 2);
+    match executor.close(rt.alloc(), seat) {
+        Ok(left) => assert!(rt; left.len() == 2 && left[0] == 1 && left[1] == 2),
+        Err(_) => panic!(rt; "no memory"),
+    }
+    Ok(())
+}
+
+#[test]
 fn a_job_waits_and_is_woken(rt: HostRuntime) -> Result<(), Fail> {
     let (executor, mut seat) = Executor::new(rt.alloc(), 1)?;
     let mut other = executor.split(&mut seat);

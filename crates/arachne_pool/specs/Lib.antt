@@ -7,3 +7,4 @@ pub mod Leftover
 pub mod Spawning
 pub mod Waking
 pub mod Calls
+pub mod Faults

@@ -1,5 +1,5 @@
 //! What a worker has beside its seat.
-ghost use Rattle.std.specs.Prelude.{◌≡◌, ◌+◌, ◌<◌, [], IfErr, IfOk, None, OnErr};
+ghost use Rattle.std.specs.Prelude.{◌≡◌, ◌+◌, ◌<◌, ◌≤◌, [], IfErr, IfOk, None, OnErr};
 ghost use Rattle.std.specs.VecDeque.{deque_capacity, deque_len};
 
 use crate::job::PoolJob;
@@ -119,9 +119,22 @@ impl<J: PoolJob> Bench<J> {
         true
     }
 
+    /// What another worker has counted is counted here too. Both have told the pool of it.
+    pub(crate) fn count_too(&mut self, other: Tally)
+        ensures same { self.new ≡ record self.old { tally = self.new.tally; told = self.new.told } }
+        ensures spawned { self.old.tally.spawned + other.spawned ≤ u64.MAX → self.new.tally.spawned ≡ self.old.tally.spawned + other.spawned }
+        ensures ended { self.old.tally.ended + other.ended ≤ u64.MAX → self.new.tally.ended ≡ self.old.tally.ended + other.ended }
+        ensures told { self.new.told ≡ self.new.tally }
+    {
+        self.tally = self.tally.with(other);
+        self.told = self.tally;
+    }
+
     /// How many jobs were spawned and have ended since the pool was told last, which it is now.
     pub(crate) fn news(&mut self) -> Tally
-        ensures same { self.new ≡ record self.old { told = self.new.told } }
+        ensures same { self.new ≡ record self.old { told = self.new.tally } }
+        ensures spawned { self.old.told.spawned ≤ self.old.tally.spawned → self.old.told.spawned + result.spawned ≡ self.old.tally.spawned }
+        ensures ended { self.old.told.ended ≤ self.old.tally.ended → self.old.told.ended + result.ended ≡ self.old.tally.ended }
     {
         let news = Tally {
             spawned: self.tally.spawned.wrapping_sub(self.told.spawned),

@@ -470,6 +470,12 @@ pub(crate) fn idle_seat<J: PoolJob, C: Contexts<Spawned<J>>>(
 }
 
 impl From<Disowned> for Halt {
+    ghost use Rattle.std.specs.Prelude.{◌≡◌};
+    ghost use Rattle.arachne_pool.specs.Faults.{number_of};
+    ghost use Rattle.arachne_pool.specs.declared.worker.PoolFault.TheVariants.{Token};
+
+    ghost from_gives = { λ _ halt. halt.why ≡ number_of Token };
+
     fn from(_: Disowned) -> Halt {
         Halt::from(PoolFault::Token)
     }

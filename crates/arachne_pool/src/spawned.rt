@@ -1,5 +1,5 @@
 //! A job in a pool, with those that run in its place, and the end at which it leaves its result.
-ghost use Rattle.std.specs.Prelude.{◌≡◌, ◌+◌, ◌<◌, ◌≤◌, [], IfSome, IsSome, MatchOption, Some, None, true};
+ghost use Rattle.std.specs.Prelude.{◌≡◌, ◌+◌, ◌<◌, ◌≤◌, [], IfSome, IsSome, MatchOption, Some, None, length, true};
 ghost use Rattle.arachne_pool.specs.Frames.{CountsEach};
 
 use crate::job::PoolJob;
@@ -170,7 +170,7 @@ impl<J: PoolJob> Spawned<J> {
     /// The job and those that run or wait in its place, as they are now, but for those that have ended. It leaves no
     /// result then, unless it has ended.
     pub fn into_jobs(self) -> Jobs<J>
-        ensures { result ≡ self.many }
+        ensures { length result ≡ self.many }
     {
         let Spawned { stack, sender, .. } = self;
         let (jobs, output) = stack.into_jobs();

@@ -1,5 +1,5 @@
 //! A job and those that run in its place.
-ghost use Rattle.std.specs.Prelude.{◌≡◌, ◌+◌, ◌<◌, ◌≤◌, [], None, IfSome, IsSome, MatchOption, true};
+ghost use Rattle.std.specs.Prelude.{◌≡◌, ◌+◌, ◌<◌, ◌≤◌, [], ◌∷◌, None, IfSome, IsSome, MatchOption, length, true};
 ghost use Rattle.arachne_pool.specs.Frames.{CountsEach, KeepsMany};
 
 use crate::job::{PoolJob, Step};
@@ -351,7 +351,7 @@ impl<J: PoolJob> Stack<J> {
 
     /// All that have not ended, and what the first job has ended with, if it has.
     pub(crate) fn into_jobs(self) -> (Jobs<J>, Option<J::Output>)
-        ensures many { result.0 ≡ self.many }
+        ensures many { length result.0 ≡ self.many }
         ensures output { IfSome result.1 (J.is_result self.asked) }
     {
         let Stack {
@@ -377,7 +377,7 @@ impl<J: PoolJob> Stack<J> {
 /// The jobs of one that was taken apart, which have not ended. They make no step more here; those that had not begun may
 /// be spawned.
 ///
-/// Contracts see how many are left.
+/// Contracts see those that are left, in the order in which they come.
 #[derive(Drop)]
 pub struct Jobs<J: PoolJob> {
     child: Option<J>,
@@ -387,19 +387,18 @@ pub struct Jobs<J: PoolJob> {
 }
 
 impl<J: PoolJob> Model for Jobs<J> {
-    ghost use Rattle.std.specs.Prelude.{ℕ, ◌+◌, vec_len};
-    ghost use Rattle.std.specs.VecDeque.{deque_len};
-    ghost use Rattle.arachne_pool.specs.Frames.{count_one};
+    ghost use Rattle.std.specs.Prelude.{List, ◌++◌, map, reverse};
+    ghost use Rattle.arachne_pool.specs.Jobs.{children_of};
 
-    ghost Value = { ℕ };
+    ghost Value = { List J };
 
-    ghost view = { λ j. count_one j.top + vec_len j.below + deque_len j.aside + count_one j.child };
+    ghost view = { λ j. children_of j.child (reverse j.aside.items ++ children_of j.top (map (λ f. f.job) (reverse j.below.items))) };
 }
 
 impl<J: PoolJob> Jobs<J> {
-    /// The next one: those that had not begun come first, then those that had, the newest first.
+    /// The next one: those that had not begun come first, then those that had, of both the newest first.
     pub fn take(&mut self) -> Option<J>
-        ensures { MatchOption result ((self.old ≡ 0) × (self.new ≡ 0)) (λ job. self.new + 1 ≡ self.old) }
+        ensures { MatchOption result ((self.old ≡ []) × (self.new ≡ [])) (λ job. self.old ≡ job ∷ self.new) }
     {
         if let Some(child) = self.child.take() {
             return Some(child);

@@ -34,6 +34,11 @@ pub enum PoolFault {
 
 /// The worker's loop knows a fault by its number.
 impl From<PoolFault> for Halt {
+    ghost use Rattle.std.specs.Prelude.{◌≡◌};
+    ghost use Rattle.arachne_pool.specs.Faults.{number_of};
+
+    ghost from_gives = { λ fault halt. halt.why ≡ number_of fault };
+
     fn from(fault: PoolFault) -> Halt {
         Halt {
             why: match fault {
@@ -46,6 +51,11 @@ impl From<PoolFault> for Halt {
 }
 
 impl From<Halt> for PoolFault {
+    ghost use Rattle.std.specs.Prelude.{◌≡◌};
+    ghost use Rattle.arachne_pool.specs.Faults.{numbered};
+
+    ghost from_gives = { λ halt fault. fault ≡ numbered halt.why };
+
     fn from(halt: Halt) -> PoolFault {
         match halt.why {
             0 => PoolFault::Memory,
@@ -102,11 +112,11 @@ impl<S, J: PoolJob> Worker<S, J> {
 }
 
 impl<C: Seats> Pool<C> {
-    ghost use Rattle.std.specs.Prelude.{IfSome};
+    ghost use Rattle.std.specs.Prelude.{IfSome, IsSome};
     ghost use Rattle.arachne_pool.specs.Workers.{IsIdleAt, IsWorkerOf};
 
     /// Two workers of one, which keeps its jobs, its counts, its orders and its core. The other has half of the weight
-    /// of its seat, and has worked for no core.
+    /// of its seat, if it has one, and has worked for no core.
     pub fn split<H: Wait, J: PoolJob>(
         &self,
         rt: &H,
@@ -118,6 +128,7 @@ impl<C: Seats> Pool<C> {
         ensures kept { (result.0.tally ≡ worker.tally) × (result.0.near ≡ worker.near) × (result.0.arbiter ≡ worker.arbiter) }
         ensures nothing { (result.1.tally.spawned ≡ 0) × (result.1.tally.ended ≡ 0) × (result.1.near ≡ 0) }
         ensures cores { (result.0.core ≡ worker.core) × HasNoCore self.now.cores result.1 }
+        ensures seats { IsSome worker.seat → IsSome result.0.seat × IsSome result.1.seat }
     {
         let Worker {
             seat,
@@ -158,8 +169,7 @@ impl<C: Seats> Pool<C> {
         if worker.bench.near.append(&mut other.bench.near).is_err() {
             return Err((worker, other));
         }
-        worker.bench.tally = worker.bench.tally.with(other.bench.tally);
-        worker.bench.told = worker.bench.tally;
+        worker.bench.count_too(other.bench.tally);
         let own = replace(&mut worker.bench.orders, Orders::none());
         let theirs = replace(&mut other.bench.orders, Orders::none());
         worker.bench.orders = own.or(theirs);
@@ -175,6 +185,7 @@ impl<C: Seats> Pool<C> {
         requires { IfSome seat (IsIdleAt C.sits C.idle self.now.table) }
         ensures first { IfSome result.0 (IsIdleAt C.sits C.idle self.now.table) }
         ensures second { IfSome result.1 (IsIdleAt C.sits C.idle self.now.table) }
+        ensures both { IsSome seat → IsSome result.0 × IsSome result.1 }
     {
         match seat {
             Some(seat) => {
@@ -193,7 +204,8 @@ impl<C: Seats> Pool<C> {
     ) -> Option<C::Seat>
         requires first { IfSome first (IsIdleAt C.sits C.idle self.now.table) }
         requires second { IfSome second (IsIdleAt C.sits C.idle self.now.table) }
-        ensures { IfSome result (IsIdleAt C.sits C.idle self.now.table) }
+        ensures idle { IfSome result (IsIdleAt C.sits C.idle self.now.table) }
+        ensures one { IsSome first → IsSome second → IsSome result }
     {
         Some(self.table.join_seats(rt, first?, second?))
     }

@@ -322,6 +322,24 @@ const ROWS: &[Row] = &[
         ..NOTHING
     },
     Row {
+        shows: "new orders can grant each of many cores that were closed",
+        cores: 20,
+        slots: 1,
+        orders: &[(0, RELEASE, 1), (0, RELEASE, 18)],
+        acts: &[
+            Act::Turns(0, false),
+            Act::Has(1, 0, Is::Closed),
+            Act::Has(17, 0, Is::Open),
+            Act::Has(18, 0, Is::Closed),
+            Act::Orders(&[(0, GRANT, 1), (0, GRANT, 18)]),
+            Act::Turns(0, false),
+            Act::Has(1, 0, Is::Open),
+            Act::Has(17, 0, Is::Open),
+            Act::Has(18, 0, Is::Open),
+        ],
+        ..NOTHING
+    },
+    Row {
         shows: "new orders leave closed what was closed, and can grant it",
         cores: 3,
         slots: 4,
