@@ -314,7 +314,10 @@ impl<'p> Job<'p> {
         match self.find(spares)? {
             Found::Outcome(outcome) => {
                 let program = self.thread.program();
-                match self.thread.joined_into(outcome.attach(program), &mut spares.threads) {
+                match self
+                    .thread
+                    .joined_into(outcome.attach(program), &mut spares.threads)
+                {
                     Ok(()) => Ok(true),
                     Err(NotJoined::Memory(_)) => Err(JobFault::Memory),
                     Err(NotJoined::Foreign(_)) => Err(JobFault::Foreign),
