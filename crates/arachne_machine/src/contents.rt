@@ -6,7 +6,6 @@ use crate::lines::Lines;
 use crate::outcome::OutcomeParts;
 use arachne_lang::Sequence;
 use std::alloc::{AllocError, Global};
-use std::marker::Model;
 use std::mem::replace;
 
 /// What an outcome brings beside its program. A thread has a box for it from its beginning, and only that box is moved
@@ -22,34 +21,17 @@ pub struct Contents {
     pub below: Lines,
 }
 
-/// The box for the contents of an outcome that is not there yet. Contracts see nothing of it.
-#[derive(Drop)]
-pub struct Blank {
-    pub contents: Box<Contents>,
-}
-
-impl Model for Blank {
-    ghost Value = { Unit {0} };
-
-    ghost view = { λ b. tt };
-}
-
-impl Blank {
-    /// A new box.
-    pub fn new(alloc: Global) -> Result<Blank, AllocError> {
-        let contents = Contents {
+impl Contents {
+    /// That of no thread. It allocates nothing.
+    pub fn vacant(alloc: Global) -> Contents {
+        Contents {
             value: 0,
             sums: Vec::new(alloc),
             own: ThreadLine::vacant(alloc),
             below: Lines::new(alloc),
-        };
-        Ok(Blank {
-            contents: Box::new(alloc, contents)?,
-        })
+        }
     }
-}
 
-impl Contents {
     /// The value, the sums and the lines, of which nothing is left. It takes memory for the list of lines; where that is
     /// refused nothing has changed.
     pub fn take_parts(&mut self) -> Result<OutcomeParts, AllocError>

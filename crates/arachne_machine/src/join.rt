@@ -1,5 +1,5 @@
 //! How children begin in their parent's place, and how they are joined.
-use crate::contents::{Blank, Contents};
+use crate::contents::Contents;
 use crate::frame::{Control, Frame};
 use crate::level::{Level, Parent, move_parents};
 use crate::line::{Ran, ThreadLine};
@@ -211,7 +211,7 @@ impl<'p> State<'p> {
             return Err(NotJoined::Memory(Outcome { program, contents }));
         }
         self.resume_joined(contents.value);
-        spares.keep_blank(Blank { contents });
+        spares.keep_contents(contents);
         Ok(())
     }
 

@@ -1,23 +1,23 @@
 //! Memory that ended threads leave for new ones.
-use crate::contents::Blank;
+use crate::contents::Contents;
 use crate::state::State;
 use arachne_lang::Program;
 use std::alloc::{AllocError, Global};
 use std::marker::Model;
 
-/// How many states are kept at most, and how many boxes.
+/// How many states are kept at most.
 const MOST: usize = 64;
 
-/// A new state takes a spare box only where there are more than these, since each thread that ends wants one.
+/// A new state takes a box of those only where there are more: each thread that ends wants one.
 const MANY: usize = 32;
 
 /// The memory that ended threads leave for those that begin: their states, with the room of their environments and
-/// frames, and the boxes of outcomes that were joined. It is for the threads of one core.
+/// frames, and what outcomes that were joined leave, for states whose threads end. It is for the threads of one core.
 #[derive(Drop)]
 pub struct Spares<'p> {
     most: usize,
     states: Vec<Box<State<'p>>>,
-    blanks: Vec<Blank>,
+    contents: Vec<Box<Contents>>,
 }
 
 impl<'p> Model for Spares<'p> {
@@ -32,7 +32,7 @@ impl<'p> Spares<'p> {
         Spares {
             most: MOST,
             states: Vec::new(alloc),
-            blanks: Vec::new(alloc),
+            contents: Vec::new(alloc),
         }
     }
 
@@ -41,7 +41,7 @@ impl<'p> Spares<'p> {
         Spares {
             most: 0,
             states: Vec::new(alloc),
-            blanks: Vec::new(alloc),
+            contents: Vec::new(alloc),
         }
     }
 
@@ -61,29 +61,29 @@ impl<'p> Spares<'p> {
     #[cold]
     #[inline(never)]
     fn make(&mut self, alloc: Global, program: &'p Program) -> Result<Box<State<'p>>, AllocError> {
-        let spare = if self.blanks.len() > MANY {
-            self.blanks.pop()
+        let contents = if self.contents.len() > MANY {
+            self.contents.pop()
         } else {
             None
         };
-        let blank = match spare {
-            Some(blank) => blank,
-            None => Blank::new(alloc)?,
+        let contents = match contents {
+            Some(contents) => contents,
+            None => Box::new(alloc, Contents::vacant(alloc))?,
         };
-        Ok(Box::new(alloc, State::vacant(alloc, program, blank))?)
+        Ok(Box::new(alloc, State::vacant(alloc, program, contents))?)
     }
 
-    /// The box of an outcome that was joined, if there is one.
+    /// What an outcome that was joined has left, if there is some.
     #[inline(always)]
-    pub(crate) fn take_blank(&mut self) -> Option<Blank> {
-        self.blanks.pop()
+    pub(crate) fn take_contents(&mut self) -> Option<Box<Contents>> {
+        self.contents.pop()
     }
 
-    /// Keeps the box of an outcome that was joined, unless there are enough.
+    /// Keeps what an outcome that was joined leaves, unless there is enough.
     #[inline(always)]
-    pub(crate) fn keep_blank(&mut self, blank: Blank) {
-        if self.blanks.len() < self.most {
-            let _ = self.blanks.push(blank);
+    pub(crate) fn keep_contents(&mut self, contents: Box<Contents>) {
+        if self.contents.len() < self.most {
+            let _ = self.contents.push(contents);
         }
     }
 

@@ -1,5 +1,5 @@
 //! What a thread is between two steps.
-use crate::contents::{Blank, Contents};
+use crate::contents::Contents;
 use crate::frame::{Control, Frame};
 use crate::level::{Level, Parent};
 use crate::line::{Label, Ran, ThreadLine};
@@ -21,7 +21,7 @@ pub struct Own {
     /// For each lock how often it held it, modulo 2^64.
     pub holds: Vec<u64>,
     /// What the thread brings is written here once it has ended.
-    pub blank: Blank,
+    pub room: Box<Contents>,
 }
 
 impl Own {
@@ -29,7 +29,7 @@ impl Own {
     ghost use Rattle.arachne_machine.specs.Strands.{own_line};
 
     /// That of no thread.
-    fn vacant(alloc: Global, blank: Blank) -> Own {
+    fn vacant(alloc: Global, room: Box<Contents>) -> Own {
         Own {
             name: Name::root(alloc),
             label: Label {
@@ -37,7 +37,7 @@ impl Own {
                 ran: Ran::Slot,
             },
             holds: Vec::new(alloc),
-            blank,
+            room,
         }
     }
 
@@ -164,11 +164,11 @@ impl<'p> State<'p> {
     /// A thread of the program that does nothing.
     #[cold]
     #[inline(never)]
-    pub fn vacant(alloc: Global, program: &'p Program, blank: Blank) -> State<'p> {
+    pub fn vacant(alloc: Global, program: &'p Program, room: Box<Contents>) -> State<'p> {
         State {
             program,
             alloc,
-            own: Own::vacant(alloc, blank),
+            own: Own::vacant(alloc, room),
             lines: Lines::new(alloc),
             sums: Vec::new(alloc),
             parents: Vec::new(alloc),
@@ -379,7 +379,7 @@ impl<'p> State<'p> {
 
     /// The outcome of a thread that has ended, in the box that the thread has for it. The spare box is there from now on.
     #[inline(always)]
-    pub fn finish(&mut self, spare: Blank) -> Outcome<'p>
+    pub fn finish(&mut self, spare: Box<Contents>) -> Outcome<'p>
         requires ended { pending_of self.old.control ≡ Some pause.Ended }
         requires alone { self.old.parents.items ≡ [] }
         requires sound { IsSoundState self.old }
@@ -389,7 +389,7 @@ impl<'p> State<'p> {
         ensures lines { result.lines ≡ own_line self.old.own ∷ self.old.lines }
     {
         let value = self.value();
-        let Blank { mut contents } = replace(&mut self.own.blank, spare);
+        let mut contents = replace(&mut self.own.room, spare);
         *contents = Contents {
             value,
             sums: replace(&mut self.sums, Vec::new(self.alloc)),
@@ -425,9 +425,9 @@ impl<'p> State<'p> {
             name,
             label,
             holds,
-            blank,
+            room,
         } = own;
-        let Blank { mut contents } = blank;
+        let mut contents = room;
         *contents = Contents {
             value,
             sums,

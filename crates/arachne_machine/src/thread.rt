@@ -324,7 +324,7 @@ impl<'p> Thread<'p> {
         ensures lines { result.lines ≡ own_line_of (whole self.entry) ∷ (whole self.entry).below }
     {
         let mut state = self.state;
-        let Some(spare) = spares.take_blank() else {
+        let Some(spare) = spares.take_contents() else {
             return Box::into_inner(state).finish_last();
         };
         let outcome = state.finish(spare);
