@@ -130,39 +130,41 @@ pub(crate) struct Row {
     pub(crate) alive: usize,
 }
 
-/// A row's pool and its worker, which has done the row's first acts. None where one doesn't come out as it says.
+/// A row's board, its pool and its worker, which has done the row's first acts. None where one doesn't come out as it says.
 pub(crate) fn begin<C: Contexts<Spawned<Task>> + Drop, R: Wait + Clock>(
     rt: &R,
     alloc: Global,
-    board: &Arc<Board>,
     row: &Row,
-) -> Option<(Pool<C>, Worker<C::Seat, Task>)>
-    ensures { IfSome result (λ made. IsWorkerOf C.sits C.idle made.0.table made.0.cores made.1) }
+) -> Option<(Arc<Board>, Pool<C>, Worker<C::Seat, Task>)>
+    ensures { IfSome result (λ made. IsWorkerOf C.sits C.idle made.1.table made.1.cores made.2) }
 {
     let Row { cores, slots, .. } = *row;
     if cores < 1 || cores > CORES || slots < 1 || slots > SLOTS {
         return None;
     }
+    let board = Board::new(alloc)?;
     let orders = orders_of(alloc, row.orders, cores)?;
     let (pool, worker) = Pool::<C>::new::<Task>(alloc, cores, slots, orders).ok()?;
-    match all_hold::<C, R>(rt, alloc, &pool, board, worker, row.acts) {
-        Some(worker) => Some((pool, worker)),
+    match all_hold::<C, R>(rt, alloc, &pool, &board, worker, row.acts) {
+        Some(worker) => Some((board, pool, worker)),
         None => None,
     }
 }
 
-/// Whether the acts that come last do too once both kernel threads have worked, and so many jobs are left.
+/// Whether both kernel threads have worked, the acts that come last do too, and so many jobs are left.
 pub(crate) fn end<C: Contexts<Spawned<Task>> + Drop, R: Wait + Clock>(
     rt: &R,
     alloc: Global,
     board: &Arc<Board>,
     pool: Pool<C>,
-    share: Share<C::Seat>,
+    share: Option<Share<C::Seat>>,
     row: &Row,
 ) -> bool
-    requires { IsWorkerOf C.sits C.idle pool.table pool.cores share.worker }
+    requires { IfSome share (λ share. IsWorkerOf C.sits C.idle pool.table pool.cores share.worker) }
 {
-    let Share { worker, busy } = share;
+    let Some(Share { worker, busy }) = share else {
+        return false;
+    };
     let Some(worker) = all_hold::<C, R>(rt, alloc, &pool, board, worker, row.then) else {
         return false;
     };
@@ -262,10 +264,7 @@ fn holds<C: Contexts<Spawned<Task>>, R: Wait + Clock>(
     ensures worker { IsWorkerOf C.sits C.idle pool.now.table pool.now.cores worker.new }
 {
     match act {
-        Act::Spawns(sort) => match Task::new(sort, board) {
-            Some(task) => pool.spawn(rt, worker, task).is_ok(),
-            None => false,
-        },
+        Act::Spawns(sort) => spawns_many::<C, R>(rt, pool, board, worker, 1, sort),
         Act::SpawnsMany(jobs, sort) => spawns_many::<C, R>(rt, pool, board, worker, jobs, sort),
         Act::Turns(core, finds) if core < pool.cores => pool.turn(rt, worker, core) == Ok(finds),
         Act::Works(core) if core < pool.cores => pool.work(rt, worker, core).is_ok(),

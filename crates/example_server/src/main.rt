@@ -22,8 +22,12 @@ use requests::{Class, Due, requests};
 use start::run;
 use std::env;
 use std::io::Read;
+use std::sync::Wait;
+use std::thread::Threads;
+use std::time::Clock;
 
 /// The numbers among the arguments.
+#[derive(Clone, Copy)]
 struct Numbers {
     /// How many cores it may have.
     cores: Option<u64>,
@@ -56,35 +60,35 @@ fn list(rt: &HostRuntime) -> Result<Vec<Due>> {
     }
 }
 
-fn main(rt: HostRuntime) -> Result<()> {
-    let Numbers {
-        cores,
-        interval,
-        patience,
-    } = arguments(&rt)?;
-    let list = list(&rt)?;
-    let most = cores.unwrap_or(2).clamp(1, u64::from(Keeper::MOST)) as u8;
-    let interval = interval.unwrap_or(1000).saturating_mul(1000);
-    let patience = patience.unwrap_or(u64::MAX).saturating_mul(1000);
-    let keeper = Keeper::new(rt.alloc(), most, interval);
+/// Answers or refuses all requests of a list, as the numbers ask for it. What was done, or why that can't be.
+fn answer<R: Threads + Wait + Clock + Sync>(
+    rt: &R,
+    host: HostRuntime,
+    numbers: Numbers,
+    list: &[Due],
+) -> Result<Books, &'static str> {
+    let most = numbers.cores.unwrap_or(2).clamp(1, u64::from(Keeper::MOST)) as u8;
+    let interval = numbers.interval.unwrap_or(1000).saturating_mul(1000);
+    let patience = numbers.patience.unwrap_or(u64::MAX).saturating_mul(1000);
+    let keeper = Keeper::new(host.alloc(), most, interval);
     let template = Request {
-        clock: rt,
+        clock: host,
         number: 0,
         work: 0,
         class: Class::Normal,
     };
-    let done = run(&rt, rt.alloc(), list.as_slice(), keeper, patience, template);
-    let Books { keeper, report } = match done {
-        Ok(books) => books,
+    run(rt, host.alloc(), list, keeper, patience, template)
+}
+
+fn main(rt: HostRuntime) -> Result<()> {
+    let numbers = arguments(&rt)?;
+    let list = list(&rt)?;
+    match answer(&rt, rt, numbers, list.as_slice()) {
+        Ok(books) => {
+            let is_asked = numbers.cores.is_some();
+            print::all(&rt, rt.alloc(), &books, list.len(), is_asked)?;
+            Ok(())
+        }
         Err(why) => bail!("{why}"),
-    };
-    print::all(
-        &rt,
-        rt.alloc(),
-        &report,
-        &keeper,
-        list.len(),
-        cores.is_some(),
-    )?;
-    Ok(())
+    }
 }

@@ -1,4 +1,5 @@
 //! What the server prints.
+use crate::crew::Books;
 use crate::keeper::Keeper;
 use crate::report::{Report, quantile};
 use crate::requests::Class;
@@ -9,15 +10,14 @@ use std::io;
 pub fn all(
     rt: &impl Print,
     alloc: Global,
-    report: &Report,
-    keeper: &Keeper,
+    books: &Books,
     requests: usize,
     is_asked: bool,
 ) -> io::Result<()> {
-    served(rt, report, requests)?;
+    served(rt, &books.report, requests)?;
     if is_asked {
-        times(rt, alloc, report)?;
-        cores(rt, keeper)?;
+        times(rt, alloc, &books.report)?;
+        cores(rt, &books.keeper)?;
     }
     Ok(())
 }

@@ -1,5 +1,5 @@
 //! The kernel thread that sends the requests, takes the answers, and has the cores kept.
-ghost use Rattle.std.specs.Prelude.{◌≡◌, ◌+◌, IfSome, OnSome, length, vec_len};
+ghost use Rattle.std.specs.Prelude.{◌≡◌, ◌+◌, ◌<◌, IfOk, IfSome, IsSome, OnSome, if◌then◌else◌, length, vec_len};
 ghost use Rattle.std.specs.VecDeque.{deque_len};
 ghost use Rattle.arachne_pool.specs.Workers.{IsWorkerOf};
 
@@ -9,7 +9,7 @@ use crate::keeper::Keeper;
 use crate::report::{Answered, Report};
 use crate::requests::Due;
 use crate::serve::Server;
-use arachne_pool::{Handle, Refusal, Spawned, Worker};
+use arachne_pool::{Handle, Refusal, Refused, Spawned, Worker};
 use arachne_table::Contexts;
 use std::alloc::Global;
 use std::collections::VecDeque;
@@ -98,37 +98,13 @@ fn send_all<R: Wait + Clock, C: Contexts<Spawned<Request>>>(
     let mut look: u64 = 0;
     for _ in rt.forever() {
         let at = now(&server.clock).saturating_sub(begin);
-        if let Some(due) = requests.get(next)
-            && due.at <= at
-        {
-            let (due, number, late) = (*due, next as u64, at - due.at);
-            match server
-                .pool
-                .try_spawn(rt, worker, template.next(number, due))
-            {
-                Ok(handle) => {
-                    report.late.push(late).ok()?;
-                    let one = Sent {
-                        number,
-                        due,
-                        handle,
-                    };
-                    sent.push_back(one).ok()?;
-                    next += 1;
-                    continue;
-                }
-                Err(refused) if refused.why == Refusal::Memory => return None,
-                Err(_) if late > patience => {
-                    report.refused += 1;
-                    next += 1;
-                    continue;
-                }
-                // It waits until there is a place.
-                Err(_) => {}
+        if let Some(due) = due_by(requests, next, at) {
+            let request = template.next(next as u64, due);
+            let spawned = server.pool.try_spawn(rt, worker, request);
+            if settles(spawned, request.number, due, at, patience, report, sent)? {
+                next += 1;
+                continue;
             }
-        }
-        if server.pool.is_stopped() {
-            return None;
         }
         look = keep_cores(rt, server, worker, keeper, report.busy, at, look)?;
         if !take_answer(sent, begin, report)? && next == requests.len() && sent.is_empty() {
@@ -139,7 +115,53 @@ fn send_all<R: Wait + Clock, C: Contexts<Spawned<Request>>>(
     unreachable!()
 }
 
+/// The next request, if its time has come.
+fn due_by(requests: &[Due], next: usize, at: u64) -> Option<Due>
+    ensures { IsSome result → next < length requests.now }
+{
+    let due = *requests.get(next)?;
+    if due.at <= at { Some(due) } else { None }
+}
+
+/// Whether a request that was due is settled: it was spawned, or is refused, since no core has a place and it is later
+/// than the patience. None where memory is refused.
+fn settles(
+    spawned: Result<Handle<Request>, Refused<Request>>,
+    number: u64,
+    due: Due,
+    at: u64,
+    patience: u64,
+    report: &mut Report,
+    sent: &mut VecDeque<Sent>,
+) -> Option<bool>
+    requires handle { IfOk spawned (λ handle. (handle.number ≡ number) × (handle.work ≡ due.work)) }
+    requires few { report.old.refused < usize.MAX }
+    ensures all { IfSome result (λ settled. vec_len report.new.answers + report.new.refused + deque_len sent.new ≡ vec_len report.old.answers + report.old.refused + deque_len sent.old + (if settled then 1 else 0)) }
+{
+    let late = at.saturating_sub(due.at);
+    match spawned {
+        Ok(handle) => {
+            report.late.push(late).ok()?;
+            let one = Sent {
+                number,
+                due,
+                handle,
+            };
+            sent.push_back(one).ok()?;
+            Some(true)
+        }
+        Err(refused) if refused.why == Refusal::Memory => None,
+        Err(_) if late > patience => {
+            report.refused += 1;
+            Some(true)
+        }
+        // It waits until there is a place.
+        Err(_) => Some(false),
+    }
+}
+
 /// Where that is due, has orders applied, looks at the load, and orders a core or gives one back. When it is due again.
+/// None where memory is refused, or the server is over before.
 fn keep_cores<R: Wait + Clock, C: Contexts<Spawned<Request>>>(
     rt: &R,
     server: &Server<C>,
@@ -154,6 +176,9 @@ fn keep_cores<R: Wait + Clock, C: Contexts<Spawned<Request>>>(
     ensures worker { IsWorkerOf C.sits C.idle server.now.pool.table server.now.pool.cores worker.new }
     ensures cores { keeper.new.most ≡ keeper.old.most }
 {
+    if server.pool.is_stopped() {
+        return None;
+    }
     if at < look {
         return Some(look);
     }

@@ -1,5 +1,5 @@
 //! Starts the server, and ends it.
-ghost use Rattle.std.specs.Prelude.{◌≡◌, ◌+◌, ◌≤◌, IfOk, IfSome, Some, length, vec_len};
+ghost use Rattle.std.specs.Prelude.{◌≡◌, ◌+◌, ◌≤◌, IfOk, IfSome, IsSome, Some, length, vec_len};
 ghost use Rattle.arachne_pool.specs.Workers.{IsWorkerOf};
 
 use crate::crew::{Books, Crew, Share};
@@ -8,7 +8,7 @@ use crate::keeper::Keeper;
 use crate::report::Report;
 use crate::requests::Due;
 use crate::serve::Server;
-use arachne_pool::{Pool, Spawned};
+use arachne_pool::{Left, Pool, Spawned};
 use arachne_table::{Contexts, WordContexts};
 use arachne_team::work_together;
 use std::alloc::{AllocError, Global};
@@ -41,10 +41,8 @@ pub fn run<R: Threads + Wait + Clock + Sync>(
         requests,
         template,
     };
-    match work_together(rt, alloc, &crew, share) {
-        Some(share) => end::<Table, R>(rt, alloc, server.pool, share),
-        None => Err("memory or a kernel thread was refused"),
-    }
+    let share = work_together(rt, alloc, &crew, share);
+    end::<Table, R>(rt, alloc, server.pool, share)
 }
 
 /// The server before anything is sent, and what its kernel threads have of it, for so many requests.
@@ -71,26 +69,32 @@ fn begin<C: Contexts<Spawned<Request>> + Drop>(
     Ok((Server::new(pool, clock), share))
 }
 
-/// Closes the pool of a server that is over. What it has done, or why that can't be told.
+/// Closes the pool of a server that is over, with what its kernel threads have left. What it has done, or why that can't be
+/// told.
 fn end<C: Contexts<Spawned<Request>> + Drop, R: Wait>(
     rt: &R,
     alloc: Global,
     pool: Pool<C>,
-    share: Share<C::Seat>,
+    share: Option<Share<C::Seat>>,
 ) -> Result<Books, &'static str>
-    requires { IsWorkerOf C.sits C.idle pool.table pool.cores share.worker }
-    ensures { IfOk result (λ books. share.done ≡ Some books) }
+    requires { IfSome share (λ share. IsWorkerOf C.sits C.idle pool.table pool.cores share.worker) }
+    ensures { IfOk result (λ books. IfSome share (λ share. share.done ≡ Some books) × IsSome share) }
 {
-    let Share { worker, done, .. } = share;
-    let Some(books) = done else {
-        return Err("the sender has not ended");
+    let Some(Share { worker, done, .. }) = share else {
+        return Err("memory or a kernel thread was refused");
     };
-    let Ok(left) = pool.close(rt, alloc, worker) else {
+    done_of(pool.close(rt, alloc, worker).ok(), done)
+}
+
+/// What the server has done, where its pool was closed with nothing left and the sender has ended. Else what is amiss.
+fn done_of(left: Option<Left<Request>>, done: Option<Books>) -> Result<Books, &'static str>
+    ensures { IfOk result (λ books. done ≡ Some books) }
+{
+    let Some(left) = left else {
         return Err("the pool was not closed");
     };
-    if left.placed.is_empty() && left.near.is_empty() {
-        Ok(books)
-    } else {
-        Err("requests are left")
+    if !left.placed.is_empty() || !left.near.is_empty() {
+        return Err("requests are left");
     }
+    done.ok_or("the sender has not ended")
 }
