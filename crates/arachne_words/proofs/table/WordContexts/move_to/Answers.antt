@@ -102,7 +102,7 @@ all-moved : (g : given.Over) (c : goal.After-move_off g) (y generation : ℕ) �
     })
 all-moved g c y generation is =
     let told = c.move_off.ensures in
-    let x : ℕ = c.see_name-replaced.result in
+    let x = c.see_name-replaced.result in
     let big : ℕ = c.with_place.result.generation in
     let off = λ (u : Known). moved_off c.args.self.now.table.slots c.args.moving x big c.args.source c.args.target told.0 told.1 told.2 told.3 (without_context u (claimed_at c.args.source x big)) in
     (told.0, told.1, told.2, told.3, told.4 ∙ ap (λ (v : CallView g.row.T.Denot). record v { known = off v.known }) (away g (goal.at.After-move_off g c).After-with_place y generation is))
@@ -138,7 +138,7 @@ pub returns-in-Err-clause-answer : goal.returns-in-Err-clause-answer
 returns-in-Err-clause-answer g c y gen y_in given =
     let is = found g (goal.at.After-release g c).After-see_mark-free y gen y_in given in
     let told = undone g c y gen is in
-    let x : ℕ = c.see_name-replaced.result in
+    let x = c.see_name-replaced.result in
     let i : ℕ = occ_index c.args.self.now.table.slots c.args.target.core in
     subst (λ (n : ℕ). ToAnswer c.args.self.now c.args.moving c.args.seen c.args.target n gen c.args.seat.now.known (moved.Lost c.in-Err.found) c.release.new.seat.known) is.same (
       told.0,
@@ -174,7 +174,7 @@ pub move_off-requires-clause-left : goal.move_off-requires-clause-left
 move_off-requires-clause-left g c =
     let at = goal.at.move_off-requires-clause-left g c in
     let is = mine g at.After-see_mark-free in
-    let x : ℕ = c.see_name-replaced.result in
+    let x = c.see_name-replaced.result in
     let l : Carried = left_context (claimed_at c.args.target x c.requires.claim.generation) c.args.seen.place in
     let same = ap (λ (m : Marked). m.generation) (placed g at.After-with_place _ _ is) in
     subst (λ (z : ℕ × Place). Carries c.try_move.new.seat.known (left_context (claimed_at c.args.target x z.0) z.1)) (λ i. (sym same i, c.requires.places.2 i))
@@ -191,7 +191,7 @@ returns-clause-answer g c y gen y_in given =
     let is = found g at.After-see_mark-free y gen y_in given in
     let told = all-moved g c y gen is in
     let same = ap (λ (m : Marked). m.generation) (placed g at.After-with_place y gen is) in
-    let x : ℕ = c.see_name-replaced.result in
+    let x = c.see_name-replaced.result in
     let n : ℕ = c.args.self.now.table.slots in
     let k : Known = c.args.seat.now.known in
     let l : Carried = left_context (claimed_at c.args.target x gen) c.args.seen.place in

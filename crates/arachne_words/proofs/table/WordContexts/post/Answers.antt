@@ -28,8 +28,7 @@ has-claim z claim inner k inner_k is known has = subst (λ (q : Known). HasClaim
 mine : (g : given.Over) (c : goal.After-take_slot-context g) → HasClaim c.args.self.now c.seat.inside.at.known (record { place = c.claim.inside.place; alone = c.claim.inside.alone })
 mine g c = has-claim c.args.self.now c.args.claim _ c.args.seat.now.known _ c.claim.view_is (ap (λ v. v.known) c.seat.view_is) c.requires.claim
 
-slot-out : (g : given.Over) (c : goal.After-take_slot-context g) (x y : ℕ) (inside : x < c.args.self.now.table.slots)
-    → Carries c.seat.inside.at.known (claimed_by (record { place = c.claim.inside.place; alone = c.claim.inside.alone }) x y)
+slot-out : (g : given.Over) (c : goal.After-take_slot-context g) (x y : ℕ) (inside : x < c.args.self.now.table.slots) → Carries c.seat.inside.at.known (claimed_by (record { place = c.claim.inside.place; alone = c.claim.inside.alone }) x y)
     → (c.take_slot-context.result ≡ x) × (c.take_slot-context.new.seat ≡ record c.seat.inside.at {
       known = learned (name_index c.args.self.now.table.slots c.claim.inside.place) c.take_slot-context.result
           (with_context c.seat.inside.at.known (out_with c.args.self.now (record { place = c.claim.inside.place; alone = c.claim.inside.alone }) x y inside));
@@ -53,15 +52,13 @@ ready-is : (g : given.Over) (c : goal.After-new-ready g)
     → c.new-ready.result ≡ record { mark = mark.Ready; alone = c.claim.inside.alone; place = c.claim.inside.place; generation = c.see_mark.result.generation }
 ready-is g c = c.new-ready.ensures ∙ (λ i. record { mark = mark.Ready; alone = c.claim.inside.alone; place = c.claim.inside.place; generation = c.generation-generation.ensures.value i })
 
-may-post : (g : given.Over) (c : goal.After-new-ready g) (x y : ℕ) (inside : x < c.args.self.now.table.slots)
-    → Carries c.seat.inside.at.known (claimed_by (record { place = c.claim.inside.place; alone = c.claim.inside.alone }) x y)
+may-post : (g : given.Over) (c : goal.After-new-ready g) (x y : ℕ) (inside : x < c.args.self.now.table.slots) → Carries c.seat.inside.at.known (claimed_by (record { place = c.claim.inside.place; alone = c.claim.inside.alone }) x y)
     → IsPostable c.args.self.now c.lay_in.new.seat c.take_slot-context.result c.new-ready.result (out_with c.args.self.now (record { place = c.claim.inside.place; alone = c.claim.inside.alone }) x y inside) c.args.value
 may-post g c x y inside has =
     postable c.args.self.now (record { place = c.claim.inside.place; alone = c.claim.inside.alone }) x y inside c.seat.inside.at c.take_slot-context.new.seat c.see_mark.new.seat c.lay_in.new.seat c.take_slot-context.result c.see_mark.result c.new-ready.result c.args.value
     (slot-out g (goal.at.After-new-ready g c).After-take_slot-context x y inside has) c.see_mark.ensures.carried c.see_mark.ensures.read c.see_mark.ensures.seat c.lay_in.ensures (ready-is g c)
 
-posted-whole : (g : given.Over) (c : goal.After-store_posted g) (x y : ℕ) (inside : x < c.args.self.now.table.slots)
-    → Carries c.seat.inside.at.known (claimed_by (record { place = c.claim.inside.place; alone = c.claim.inside.alone }) x y)
+posted-whole : (g : given.Over) (c : goal.After-store_posted g) (x y : ℕ) (inside : x < c.args.self.now.table.slots) → Carries c.seat.inside.at.known (claimed_by (record { place = c.claim.inside.place; alone = c.claim.inside.alone }) x y)
     → (before : ℕ) × (c.store_posted.new.seat ≡ record c.seat.inside.at {
       known = noted kind.Post x before (mark_word CORE_BITS (marked_as mark.Ready (claimed_by (record { place = c.claim.inside.place; alone = c.claim.inside.alone }) x y)))
           (looked x (mark_word CORE_BITS c.see_mark.result) (learned (name_index c.args.self.now.table.slots c.claim.inside.place) x
@@ -109,8 +106,7 @@ store_posted-requires-clause-own g c =
 
 pub store_posted-requires-clause-postable : goal.store_posted-requires-clause-postable
 store_posted-requires-clause-postable g c =
-    let at = goal.at.store_posted-requires-clause-postable g c in
-    let is = mine g at.After-take_slot-context in
+    let at = goal.at.store_posted-requires-clause-postable g c in let is = mine g at.After-take_slot-context in
     (out_with c.args.self.now (record { place = c.claim.inside.place; alone = c.claim.inside.alone }) is.context is.generation is.inside, c.args.value, may-post g at.After-new-ready is.context is.generation is.inside is.carried)
 
 pub overflow_cast-result : goal.overflow_cast-result
@@ -120,16 +116,14 @@ overflow_cast-result g c =
 
 pub invariant_of-seat : goal.invariant_of-seat
 invariant_of-seat g c =
-    let at = goal.at.invariant_of-seat g c in
-    let is = mine g at.After-take_slot-context in
+    let at = goal.at.invariant_of-seat g c in let is = mine g at.After-take_slot-context in
     keeps-less c.seat.inside.at c.store_posted.new.seat c.seat.inside.weight c.seat.inside.out _ c.seat.invariant
     (posted-whole g at.After-store_posted is.context is.generation is.inside is.carried).1
     (claimed_by (record { place = c.claim.inside.place; alone = c.claim.inside.alone }) is.context is.generation) is.carried refl
 
 pub returns-clause-seat : goal.returns-clause-seat
 returns-clause-seat g c =
-    let at = goal.at.returns-clause-seat g c in
-    let is = mine g at.After-take_slot-context in
+    let at = goal.at.returns-clause-seat g c in let is = mine g at.After-take_slot-context in
     let whole = (posted-whole g at.After-store_posted is.context is.generation is.inside is.carried).1 in
     (ap (λ v. v.table) whole ∙ ap (λ v. v.table) c.seat.view_is, ap (λ v. v.weight) c.seat.view_is)
 

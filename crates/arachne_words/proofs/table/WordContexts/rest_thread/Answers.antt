@@ -32,7 +32,7 @@ put z h tag k = learned (name_index z.table.slots h.place) h.id.context (without
 
 home : (g : given.Over) (c : goal.After-place g) → IsAtHome c.args.self.now c.place.result c.args.seat.now.known (held_by (hold c.args.id c.args.held) (g.T.Tagged.tag_of c.args.value))
 home g c =
-    let h : HoldView = hold c.args.id c.args.held in
+    let h = hold c.args.id c.args.held in
     subst (λ (p : Place). IsAtHome c.args.self.now p c.args.seat.now.known (held_by h (g.T.Tagged.tag_of c.args.value))) (sym c.place.ensures.value)
     (at-home g.T.Tagged.tag_of c.args.self.now h c.args.value c.args.seat.now.known c.requires.thread)
 
@@ -42,7 +42,7 @@ taken : (g : given.Over) (c : goal.After-take_slot-context g) → (c.take_slot-c
       slots = (c.take_slot-context.result, None) ∷ c.args.seat.now.slots;
     })
 taken g c =
-    let h : HoldView = hold c.args.id c.args.held in
+    let h = hold c.args.id c.args.held in
     let out : Carried = out_with g.T.Tagged.tag_of c.args.self.now h c.args.value in
     let told = c.take_slot-context.ensures (held_by h (g.T.Tagged.tag_of c.args.value)) (home g (goal.at.After-take_slot-context g c).After-place) in (
       told.0,
@@ -69,7 +69,7 @@ made-ready : (g : given.Over) (c : goal.After-rest_ready g) → (before : ℕ) �
 })
 made-ready g c =
     let at = goal.at.After-rest_ready g c in
-    let h : HoldView = hold c.args.id c.args.held in
+    let h = hold c.args.id c.args.held in
     let told = c.rest_ready.ensures (out_with g.T.Tagged.tag_of c.args.self.now h c.args.value) c.args.value (restable-now g at.After-with_mark-ready) in (
       told.0,
       after-ready g.T.Tagged.tag_of c.args.self.now h c.args.value c.args.seat.now c.take_slot-context.new.seat c.lay_in.new.seat c.take_slot-context.result c.requires.thread
@@ -83,7 +83,7 @@ made-blocked : (g : given.Over) (c : goal.In_default-try_rest_blocked g) → c.t
 }
 made-blocked g c =
     let at = goal.at.In_default-try_rest_blocked g c in
-    let h : HoldView = hold c.args.id c.args.held in
+    let h = hold c.args.id c.args.held in
     let told = c.in_default-try_rest_blocked.ensures.won (out_with g.T.Tagged.tag_of c.args.self.now h c.args.value) c.args.value (restable-now g at.After-with_mark-ready) in
     after-blocked g.T.Tagged.tag_of c.args.self.now h c.args.value c.args.seat.now c.take_slot-context.new.seat c.lay_in.new.seat c.take_slot-context.result c.requires.thread
     (taken g at.After-take_slot-context) c.lay_in.ensures c.try_rest_blocked.new.seat c.args.held c.requires.held told
@@ -100,7 +100,7 @@ forestalled : (g : given.Over) (c : goal.After-rest_ready-in-Err g) → (before 
 })
 forestalled g c =
     let at = goal.at.After-rest_ready-in-Err g c in
-    let h : HoldView = hold c.args.id c.args.held in
+    let h = hold c.args.id c.args.held in
     let told = c.rest_ready-in-Err.ensures (out_with g.T.Tagged.tag_of c.args.self.now h c.args.value) c.args.value (restable-still g at.In-Err) in (
       told.0,
       after-lost g.T.Tagged.tag_of c.args.self.now h c.args.value c.args.seat.now c.take_slot-context.new.seat c.lay_in.new.seat c.take_slot-context.result c.requires.thread
