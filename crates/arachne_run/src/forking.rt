@@ -69,7 +69,7 @@ pub(crate) fn go_on<H: Wait + Clock, T: RunJob, C: Contexts<T>, R: Rng>(
                 rt, alloc, machine, seat, pass, held, class, child, forks,
             );
         }
-        Slice::Blocks => return Ok(Stop::Blocks),
+        Slice::Blocks(_) => return Ok(Stop::Blocks),
         Slice::Ends => return Ok(Stop::Ends),
         Slice::Asks(lock) => Want::Asks(lock),
         Slice::Awaits(lock) => Want::Awaits(lock),
