@@ -4,6 +4,7 @@ pub mod Frames
 pub mod Grounds
 pub mod Workers
 pub mod Leftover
+pub mod NotClosed
 pub mod Spawning
 pub mod Waking
 pub mod Calls

@@ -1,5 +1,5 @@
 -- What contracts see of a worker, and whose worker it is.
-use Rattle.std.specs.Prelude.{◌≡◌, ℕ, ◌≤◌, List, ◌++◌, Option, None, Some, IfSome, All, length}
+use Rattle.std.specs.Prelude.{◌≡◌, ℕ, ◌<◌, ◌≤◌, List, ◌++◌, Option, None, Some, IfSome, All, length}
 use Rattle.arachne_arbiter.specs.Orders.{Progress}
 use Rattle.arachne_pool.specs.declared.tally.Tally.{Tally}
 use Rattle.arachne_policy.specs.declared.orders.CoreOrder.{CoreOrder}
@@ -26,6 +26,11 @@ IsArbiterFor cores arbiter = IfSome arbiter (λ progress. progress.cores ≡ cor
 abbrev pub count_orders : Option Progress → ℕ
 count_orders None = 0
 count_orders (Some progress) = length progress.list
+
+-- one of the orders is not applied yet
+abbrev pub IsOneLeft : Option Progress → Type 0
+IsOneLeft None = ⊥
+IsOneLeft (Some progress) = progress.applied < length progress.list
 
 -- the orders come last in this list, behind some that close cores at once
 pub record ComeLast (orders list : List CoreOrder) : Type 0 where

@@ -1,5 +1,6 @@
 //! What the table has answered to a wake.
 ghost use Rattle.std.specs.Prelude.{◌≡◌, IfSome};
+ghost use Rattle.arachne_contexts.specs.Answers.{WakesAs};
 ghost use Rattle.arachne_contexts.specs.Out.{KeepsOut};
 ghost use Rattle.arachne_pool.specs.Waking.{Answers};
 
@@ -51,6 +52,14 @@ pub(crate) fn ask<H: Wait, J: PoolJob, C: Contexts<Spawned<J>>>(
     ensures answer { IfSome result (Answers id) }
 {
     let woken = table.wake(rt, seat, id);
+    settled(id, woken)
+}
+
+/// What the table has answered to a wake of this id, unless it was lost.
+fn settled(id: ThreadId, woken: Woken) -> Option<WakeAnswer>
+    requires { WakesAs id woken }
+    ensures { IfSome result (Answers id) }
+{
     woken.settled()?;
     Some(WakeAnswer {
         id: Snapshot::of(&id),

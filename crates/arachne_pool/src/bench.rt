@@ -1,6 +1,7 @@
 //! What a worker has beside its seat.
 ghost use Rattle.std.specs.Prelude.{◌≡◌, ◌+◌, ◌<◌, ◌≤◌, [], IfErr, IfOk, None, OnErr};
 ghost use Rattle.std.specs.VecDeque.{deque_capacity, deque_len};
+ghost use Rattle.arachne_pool.specs.Jobs.{one};
 
 use crate::job::PoolJob;
 use crate::orders::Orders;
@@ -37,11 +38,11 @@ pub(crate) struct Bench<J: PoolJob> {
 }
 
 impl<J: PoolJob> Bench<J> {
-    ghost use Rattle.arachne_pool.specs.Jobs.{count_near, one};
+    ghost use Rattle.arachne_pool.specs.Jobs.{count_near};
 
     /// One with no job, whose choices go by this seed.
     pub(crate) fn new(alloc: Global, seed: u64) -> Bench<J>
-        ensures tally { (result.tally.spawned ≡ 0) × (result.tally.ended ≡ 0) }
+        ensures tally { (result.tally.spawned ≡ 0) × (result.tally.ended ≡ 0) × (result.told ≡ result.tally) }
         ensures near { deque_len result.near ≡ 0 }
         ensures orders { result.orders ≡ None }
         ensures core { result.core ≡ u8.MAX }
@@ -73,22 +74,18 @@ impl<J: PoolJob> Bench<J> {
         ensures ended { self.new.tally.ended ≡ self.old.tally.ended }
         ensures refused { OnErr result (self.new.tally ≡ self.old.tally) }
         ensures handed_back { IfErr result (λ back. back ≡ job) }
-        ensures same { (self.new.orders ≡ self.old.orders) × (self.new.core ≡ self.old.core) }
+        ensures same { self.new ≡ record self.old { near = self.new.near; cells = self.new.cells; tally = self.new.tally } }
     {
         if self.near.reserve(1).is_err() {
             return Err(job);
         }
-        let wanted = Wanted {
-            job: Snapshot::of(&job),
-        };
-        let Ok((receiver, sender)) = self.cells.open(self.alloc, &wanted) else {
-            return Err(job);
-        };
-        self.tally.count_spawned();
-        Ok((
-            receiver,
-            Spawned::begin(self.alloc, job, Some(sender), None),
-        ))
+        match open(self.alloc, &mut self.cells, job) {
+            Ok(begun) => {
+                self.tally.count_spawned();
+                Ok(begun)
+            }
+            Err(job) => Err(job),
+        }
     }
 
     /// The children that this job, or one in its place, has ended without are let go: those that have not begun wait
@@ -96,7 +93,7 @@ impl<J: PoolJob> Bench<J> {
     /// begun.
     #[tactic(auto, using(crate::proofs::Counts::count_near_push))]
     pub(crate) fn let_go(&mut self, job: &mut Spawned<J>) -> bool
-        ensures same { (self.new.tally ≡ self.old.tally) × (self.new.orders ≡ self.old.orders) }
+        ensures same { self.new ≡ record self.old { near = self.new.near; is_short = self.new.is_short } }
         ensures job { job.new ≡ record job.old { many = job.new.many } }
         ensures many { count_near self.new.near.items + job.new.many ≡ count_near self.old.near.items + job.old.many }
     {
@@ -143,13 +140,27 @@ impl<J: PoolJob> Bench<J> {
         self.told = self.tally;
         news
     }
+}
 
-    /// Whether memory was refused since this was asked last.
-    pub(crate) fn take_short(&mut self) -> bool
-        ensures same { self.new ≡ record self.old { is_short = self.new.is_short } }
-    {
-        let is_short = self.is_short;
-        self.is_short = false;
-        is_short
+/// A job that begins, and the end that its result comes to. Where memory is refused the job comes back.
+fn open<J: PoolJob>(
+    alloc: Global,
+    cells: &mut Cells<J>,
+    job: J,
+) -> Result<(ResultReceiver<J>, Spawned<J>), J>
+    requires { J.awaits job [] }
+    ensures receiver { IfOk result (λ begun. begun.0.opening.key.job.value ≡ job) }
+    ensures job { IfOk result (λ begun. begun.1 ≡ one (J.tag_of job) job None) }
+    ensures handed_back { IfErr result (λ back. back ≡ job) }
+{
+    let wanted = Wanted {
+        job: Snapshot::of(&job),
+    };
+    match cells.open(alloc, &wanted) {
+        Ok((receiver, sender)) => {
+            let begun = Spawned::begin(alloc, job, Some(sender), None);
+            Ok((receiver, begun))
+        }
+        Err(_) => Err(job),
     }
 }

@@ -7,19 +7,16 @@ use crate::job::PoolJob;
 use crate::place::place;
 use crate::pool::Pool;
 use crate::posting::Disowned;
+use crate::rounds::go_on;
 use crate::seat::{Call, Seat, idle_seat};
 use crate::spawned::Spawned;
 use crate::spawning::{Refusal, Refused};
-use crate::statistics::Statistics;
 use crate::worker::{PoolFault, Worker};
 use arachne_contexts::{Contexts, Seats};
 use arachne_workers::Worker as Loop;
 use std::mem::replace;
 use std::sync::Wait;
 use std::time::Clock;
-
-/// How many slices a worker has at most before it tells what it has done.
-const MOST_UNTOLD: u64 = 1024;
 
 impl<C: Seats> Pool<C> {
     ghost use Rattle.arachne_pool.specs.Calls.{AnswersFor};
@@ -48,6 +45,7 @@ impl<C: Seats> Pool<C> {
         ensures spawned { OnOk result (worker.old.tally.spawned < u64.MAX → worker.new.tally.spawned ≡ worker.old.tally.spawned + 1) }
         ensures ended { worker.new.tally.ended ≡ worker.old.tally.ended }
         ensures near { KeepsOneAtMost self.now.cores worker.old worker.new }
+        ensures kept { worker.new ≡ record worker.old { seat = worker.new.seat; tally = worker.new.tally; near = worker.new.near } }
     {
         if worker.bench.core >= self.cores {
             return self.try_spawn(rt, worker, job);
@@ -178,8 +176,7 @@ impl<C: Seats> Pool<C> {
             Ok(kernel) => kernel,
             Err(fault) => return Came::failed(fault, handle),
         };
-        let came = self.go_on(rt, &mut kernel, handle);
-        self.tell_done(&mut kernel);
+        let came = go_on(&mut kernel, handle);
         let Loop {
             agenda,
             pace,
@@ -201,28 +198,6 @@ impl<C: Seats> Pool<C> {
             pace,
         };
         came
-    }
-
-    /// What the call in hand asks for: a round, or rounds until all jobs, or that of a handle, have ended.
-    #[inline(always)]
-    fn go_on<'a, H: Wait + Clock, J: PoolJob>(
-        &self,
-        rt: &H,
-        kernel: &mut Loop<'a, H, Seat<'a, H, J, C>>,
-        handle: Option<Handle<J>>,
-    ) -> Came<J>
-    where
-        C: Contexts<Spawned<J>>,
-        ensures desk { kernel.new.desk ≡ kernel.old.desk }
-        ensures answer { AnswersFor J.is_result handle result }
-    {
-        if let Some(handle) = handle {
-            return Came::Joined(self.run_until(rt, kernel, handle));
-        }
-        if kernel.desk.call == Call::Turn {
-            return Came::Ran(self.run_once(kernel));
-        }
-        Came::Ran(self.run(rt, kernel))
     }
 
     /// What works with a worker on a core, if the worker has a seat. The worker has nothing meanwhile.
@@ -277,126 +252,5 @@ impl<C: Seats> Pool<C> {
                 bench,
             },
         })
-    }
-
-    /// One round, before which orders that are due are applied. Whether it found anything.
-    fn run_once<'a, H: Wait + Clock, J: PoolJob>(
-        &self,
-        kernel: &mut Loop<'a, H, Seat<'a, H, J, C>>,
-    ) -> Result<bool, PoolFault>
-    where
-        C: Contexts<Spawned<J>>,
-        ensures { kernel.new.desk ≡ kernel.old.desk }
-    {
-        kernel.tend();
-        let found = kernel.round(0);
-        let is_short = kernel.desk.bench.take_short();
-        if replace(&mut kernel.desk.bench.has_ended, false) {
-            self.tell_if_over();
-        }
-        if is_short {
-            return Err(PoolFault::Memory);
-        }
-        Ok(found?)
-    }
-
-    /// Rounds until no job lives and none is to come, or the workers are to stop. Whether the last one found anything.
-    fn run<'a, H: Wait + Clock, J: PoolJob>(
-        &self,
-        rt: &H,
-        kernel: &mut Loop<'a, H, Seat<'a, H, J, C>>,
-    ) -> Result<bool, PoolFault>
-    where
-        C: Contexts<Spawned<J>>,
-        ensures { kernel.new.desk ≡ kernel.old.desk }
-    {
-        // How many rounds in turn have found nothing, and whether all may be over.
-        let (mut idle, mut looks) = (0u32, true);
-        for _ in rt.forever() {
-            if self.is_stopped() || looks && self.is_over() {
-                if idle > 0 && self.shared.hints().is_asleep(kernel.core) {
-                    // It has slept its time out, and nobody has told it of the end.
-                    self.live.add_overslept(kernel.core);
-                }
-                return Ok(idle == 0);
-            }
-            let found = self.round(kernel, idle)?;
-            looks = !found || kernel.desk.is_drained;
-            kernel.desk.is_drained = false;
-            idle = if found { 0 } else { idle.saturating_add(1) };
-        }
-        unreachable!()
-    }
-
-    /// Rounds until the job of a handle has ended. Its result.
-    fn run_until<'a, H: Wait + Clock, J: PoolJob>(
-        &self,
-        rt: &H,
-        kernel: &mut Loop<'a, H, Seat<'a, H, J, C>>,
-        handle: Handle<J>,
-    ) -> Result<J::Output, (PoolFault, Handle<J>)>
-    where
-        C: Contexts<Spawned<J>>,
-        ensures desk { kernel.new.desk ≡ kernel.old.desk }
-        ensures output { IfOk result (J.is_result handle) }
-        ensures handed_back { IfErr result (λ back. back.1 ≡ handle) }
-    {
-        let mut handle = handle;
-        let mut idle: u32 = 0;
-        for _ in rt.forever() {
-            handle = match handle.poll() {
-                Ok(output) => return Ok(output),
-                Err(handle) => handle,
-            };
-            if self.is_stopped() {
-                return Err((PoolFault::Stopped, handle));
-            }
-            idle = match self.round(kernel, idle) {
-                Ok(true) => 0,
-                Ok(false) => idle.saturating_add(1),
-                Err(fault) => return Err((fault, handle)),
-            };
-        }
-        unreachable!()
-    }
-
-    /// A round, and a wait where it found nothing, after so many in turn.
-    fn round<'a, H: Wait + Clock, J: PoolJob>(
-        &self,
-        kernel: &mut Loop<'a, H, Seat<'a, H, J, C>>,
-        idle: u32,
-    ) -> Result<bool, PoolFault>
-    where
-        C: Contexts<Spawned<J>>,
-        ensures { kernel.new.desk ≡ kernel.old.desk }
-    {
-        let found = kernel.round(idle)?;
-        if kernel.desk.bench.take_short() {
-            return Err(PoolFault::Memory);
-        }
-        if !found {
-            kernel.desk.bench.done.rests = kernel.desk.bench.done.rests.wrapping_add(1);
-        }
-        if !found || kernel.slices >= MOST_UNTOLD {
-            self.tell_done(kernel);
-        }
-        if !found {
-            kernel.rest_for(idle);
-        }
-        Ok(found)
-    }
-
-    /// What was done on a core is told.
-    fn tell_done<'a, H: Wait + Clock, J: PoolJob>(
-        &self,
-        kernel: &mut Loop<'a, H, Seat<'a, H, J, C>>,
-    )
-    where
-        C: Contexts<Spawned<J>>,
-        ensures { kernel.new.desk ≡ kernel.old.desk }
-    {
-        let mut done = replace(&mut kernel.desk.bench.done, Statistics::new());
-        done.slices = replace(&mut kernel.slices, 0);
-        self.live.add_done(kernel.core, done);
     }
 }

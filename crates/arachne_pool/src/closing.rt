@@ -1,11 +1,10 @@
 //! The begin of a pool, and its end.
-ghost use Rattle.std.specs.Prelude.{◌≡◌, ◌+◌, ◌<◌, ◌≤◌, ◌↔◌, IfOk, IfSome, IsSome, IsTrue, MatchOption, OnErr, OnOk, Some, length};
+ghost use Rattle.std.specs.Prelude.{◌≡◌, ◌+◌, ◌<◌, ◌≤◌, ◌↔◌, IfErr, IfOk, IfSome, IsSome, IsTrue, MatchOption, OnErr, OnOk, Some, length};
 ghost use Rattle.arachne_core.specs.declared.layout.TheConstants.{CORES, SLOTS};
 ghost use Rattle.arachne_policy.specs.Orders.{AreInOrder};
 ghost use Rattle.arachne_policy.specs.declared.orders.OrderKind.TheVariants.{Release};
 ghost use Rattle.arachne_pool.specs.Jobs.{count_near};
-ghost use Rattle.arachne_pool.specs.Leftover.{count_placed};
-ghost use Rattle.arachne_weights.specs.Weight.{whole};
+ghost use Rattle.arachne_pool.specs.Leftover.{IsWhole, count_placed};
 
 use crate::bench::Bench;
 use crate::job::PoolJob;
@@ -60,7 +59,7 @@ impl<C: Seats + Drop> Pool<C> {
         ensures cores { IfOk result (λ made. made.0.cores ≡ cores) }
         ensures slots { IfOk result (λ made. made.0.slots ≡ slots) }
         ensures worker { IfOk result (λ made. IsWorkerOf C.sits C.idle made.0.table made.0.cores made.1) }
-        ensures weight { IfOk result (λ made. IfSome made.1.seat (λ seat. C.weight seat ≡ whole)) }
+        ensures whole { IfOk result (λ made. IsWhole C.weight made.1.seat) }
         ensures tally { IfOk result (λ made. (made.1.tally.spawned ≡ 0) × (made.1.tally.ended ≡ 0)) }
         ensures near { IfOk result (λ made. made.1.near ≡ 0) }
         ensures orders { IfOk result (λ made. made.1.arbiter ≡ Some (record { list = orders.items; cores = cores; applied = 0 })) }
@@ -77,6 +76,7 @@ impl<C: Seats + Drop> Pool<C> {
 impl<C: Seats> Pool<C> {
     ghost use Rattle.arachne_pool.specs.Workers.{IsWorkerOf};
     ghost use Rattle.arachne_pool.specs.Leftover.{count_of};
+    ghost use Rattle.arachne_pool.specs.NotClosed.{ComesBack};
     ghost use Rattle.arachne_pool.specs.Workers.{ComeLast};
 
     /// From now on these orders, as by a policy of the caller's between two rounds; what is left of those before is
@@ -133,17 +133,14 @@ impl<C: Seats> Pool<C> {
         requires { IsWorkerOf C.sits C.idle self.table self.cores worker }
         ensures each_once { IfOk result (λ left. worker.tally.spawned ≡ worker.tally.ended + count_of left) }
         ensures near { IfOk result (λ left. length left.near.items ≡ worker.near) }
+        ensures comes_back { IfErr result (ComesBack self worker) }
     {
-        let mut worker = worker;
-        let Some(seat) = worker.seat.take() else {
-            return Err(NotClosed::NotWhole(self, worker));
-        };
-        if !self.table.is_whole(&seat) {
-            worker.seat = Some(seat);
+        if !self.is_whole(&worker) {
             return Err(NotClosed::NotWhole(self, worker));
         }
+        let Worker { seat, bench, .. } = worker;
+        let Some(seat) = seat else { unreachable!() };
         let Pool { table, .. } = self;
-        let Worker { bench, .. } = worker;
         let Bench { near, tally, .. } = bench;
         let placed = match table.close(rt, alloc, seat) {
             Ok(placed) => placed,
@@ -154,6 +151,16 @@ impl<C: Seats> Pool<C> {
             Ok(left)
         } else {
             Err(NotClosed::Lost(left))
+        }
+    }
+
+    /// Whether a worker has its seat, and no other has a part of the pool.
+    fn is_whole<J: PoolJob>(&self, worker: &Worker<C::Seat, J>) -> bool
+        ensures { IsTrue result ↔ IsWhole C.weight worker.now.seat }
+    {
+        match &worker.seat {
+            Some(seat) => self.table.is_whole(seat),
+            None => false,
         }
     }
 }

@@ -20,6 +20,7 @@ mod outcome;
 mod place;
 mod pool;
 mod posting;
+mod rounds;
 mod seat;
 mod seen;
 mod spawned;

@@ -4,7 +4,7 @@ ghost use Rattle.std.specs.Prelude.{◌≡◌, ℕ, ◌<◌, ◌≤◌, ◌↔�
 ghost use Rattle.arachne_contexts.specs.Out.{KeepsOut};
 ghost use Rattle.arachne_core.specs.declared.layout.TheConstants.{CORES};
 ghost use Rattle.arachne_policy.specs.Orders.{AreInOrder};
-ghost use Rattle.arachne_pool.specs.Workers.{IsArbiterFor, count_orders};
+ghost use Rattle.arachne_pool.specs.Workers.{IsArbiterFor, IsOneLeft, count_orders};
 
 use arachne_arbiter::{Arbiter, Cores};
 use arachne_contexts::{Contexts, Tagged};
@@ -87,7 +87,9 @@ impl Orders {
     }
 
     /// Whether one is not applied yet.
-    pub(crate) fn has_more(&self) -> bool {
+    pub(crate) fn has_more(&self) -> bool
+        ensures { IsTrue result ↔ IsOneLeft self.now }
+    {
         match &self.arbiter {
             Some(arbiter) => arbiter.applied() < self.count,
             None => false,

@@ -72,7 +72,7 @@ pub(crate) fn place<H: Wait, J: PoolJob, C: Contexts<Spawned<J>>>(
     requires room { deque_len bench.old.near < deque_capacity bench.old.near }
     ensures seat { C.sits pool.now.table seat.new }
     ensures out { OnOk result (KeepsOut (C.has pool.now.table) seat.old seat.new) }
-    ensures same { (bench.new.tally ≡ bench.old.tally) × (bench.new.orders ≡ bench.old.orders) }
+    ensures same { bench.new ≡ record bench.old { near = bench.new.near; chooser = bench.new.chooser } }
     ensures near { IfOk result (λ posted. MatchOption posted (bench.new.near.items ≡ bench.old.near.items ++ job ∷ []) (λ at. (at ≡ job) × (bench.new.near.items ≡ bench.old.near.items))) }
     ensures disowned { OnErr result (bench.new.near.items ≡ bench.old.near.items) }
 {
@@ -96,7 +96,7 @@ pub(crate) fn place_oldest<H: Wait, J: PoolJob, C: Contexts<Spawned<J>>>(
     requires known { IsKnown (C.has pool.now.table) seat.old }
     ensures seat { C.sits pool.now.table seat.new }
     ensures out { OnOk result (KeepsOut (C.has pool.now.table) seat.old seat.new) }
-    ensures same { (bench.new.tally ≡ bench.old.tally) × (bench.new.orders ≡ bench.old.orders) }
+    ensures same { bench.new ≡ record bench.old { near = bench.new.near; chooser = bench.new.chooser } }
     ensures near { IfOk result (λ posted. MatchOption posted (bench.new.near.items ≡ bench.old.near.items) (λ at. bench.old.near.items ≡ at ∷ bench.new.near.items)) }
 {
     let Some(job) = bench.near.front() else {
@@ -130,7 +130,7 @@ pub(crate) fn post_oldest<H: Wait, J: PoolJob, C: Contexts<Spawned<J>>>(
     ensures out { OnOk result (C.has pool.now.table seat.new (thread_in (λ s. s.tag) held.new ∷ [])) }
     ensures parted { IfOk result (PartsOne (C.Hold.id_of held.old.hold) held.old.value held.new.value) }
     ensures hold { held.new.hold ≡ held.old.hold }
-    ensures same { (bench.new.tally ≡ bench.old.tally) × (bench.new.orders ≡ bench.old.orders) }
+    ensures same { bench.new ≡ record bench.old { cells = bench.new.cells; chooser = bench.new.chooser; is_short = bench.new.is_short } }
 {
     if !held.value.has_aside() {
         return Ok(None);

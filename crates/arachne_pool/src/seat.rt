@@ -9,7 +9,9 @@ use crate::job::PoolJob;
 use crate::place::{place_oldest, post_oldest};
 use crate::pool::Pool;
 use crate::posting::{Disowned, Posted};
+use crate::rounds::PoolDesk;
 use crate::spawned::Spawned;
+use crate::statistics::Statistics;
 use crate::stop::Stop as JobStop;
 use crate::worker::PoolFault;
 use arachne_arbiter::Pace;
@@ -291,6 +293,46 @@ impl<'a, H: Wait, J: PoolJob, C: Contexts<Spawned<J>>> Desk for Seat<'a, H, J, C
     }
 }
 
+impl<'a, H: Wait, J: PoolJob, C: Contexts<Spawned<J>>> PoolDesk for Seat<'a, H, J, C> {
+    fn call(&self) -> Call {
+        self.call
+    }
+
+    fn is_over(&self) -> bool {
+        self.pool.is_over()
+    }
+
+    fn tell_of_ends(&mut self) {
+        let has_ended = self.bench.has_ended;
+        self.bench.has_ended = false;
+        if has_ended {
+            self.pool.tell_if_over();
+        }
+    }
+
+    fn take_short(&mut self) -> bool {
+        let is_short = self.bench.is_short;
+        self.bench.is_short = false;
+        is_short
+    }
+
+    fn take_drained(&mut self) -> bool {
+        let is_drained = self.is_drained;
+        self.is_drained = false;
+        is_drained
+    }
+
+    fn tell_done(&mut self, slices: u64, rests: u64) {
+        let done = Statistics {
+            slices,
+            rests,
+            ..self.bench.done
+        };
+        self.bench.done = Statistics::new();
+        self.pool.live.add_done(self.core, done);
+    }
+}
+
 impl<'a, H: Wait, J: PoolJob, C: Contexts<Spawned<J>>> Seat<'a, H, J, C> {
     /// The job in hand goes on for at most as many steps as are left. Without one it waits.
     #[inline(always)]
@@ -383,15 +425,26 @@ impl<'a, H: Wait, J: PoolJob, C: Contexts<Spawned<J>>> Seat<'a, H, J, C> {
             return false;
         }
         for core in 0..self.pool.cores {
-            if let Some(place) = self.waiting_on(core)
-                && self.move_here(place)
-            {
-                let hints = self.pool.shared.hints();
-                hints.hint(self.core, self.occupied(self.core));
+            if self.fetch_from(core) {
                 return true;
             }
         }
         false
+    }
+
+    /// A job that waits on this core is moved to the worker's, if there is one. Whether there was.
+    fn fetch_from(&mut self, core: u8) -> bool
+        ensures { self.new ≡ self.old }
+    {
+        let Some(place) = self.waiting_on(core) else {
+            return false;
+        };
+        let was_moved = self.move_here(place);
+        if was_moved {
+            let hints = self.pool.shared.hints();
+            hints.hint(self.core, self.occupied(self.core));
+        }
+        was_moved
     }
 
     /// Moves the job at a place of another core here, unless it runs or has its core alone. Whether it was.

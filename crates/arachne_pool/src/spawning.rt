@@ -65,6 +65,7 @@ impl<C: Seats> Pool<C> {
         requires worker { IsWorkerOf C.sits C.idle self.now.table self.now.cores worker.old }
         requires fresh { J.awaits job [] }
         ensures worker { IsWorkerOf C.sits C.idle self.now.table self.now.cores worker.new }
+        ensures kept { worker.new ≡ record worker.old { seat = worker.new.seat; tally = worker.new.tally } }
         ensures begun { IfOk result (λ handle. (handle ≡ job) × SpawnsOne worker.old worker.new) }
         ensures handed_back { IfErr result (λ back. HandsBack 0 self.now.cores self.now.slots job worker.old worker.new back.job back.why) }
     {
@@ -95,6 +96,7 @@ impl<C: Seats> Pool<C> {
         requires core { core < self.now.cores }
         requires fresh { J.awaits job [] }
         ensures worker { IsWorkerOf C.sits C.idle self.now.table self.now.cores worker.new }
+        ensures kept { worker.new ≡ record worker.old { seat = worker.new.seat; tally = worker.new.tally } }
         ensures begun { IfOk result (λ begun. (begun.0 ≡ job) × (begun.1.core ≡ core) × SpawnsOne worker.old worker.new) }
         ensures handed_back { IfErr result (λ back. HandsBack core 1 self.now.slots job worker.old worker.new back.job back.why) }
     {
@@ -129,6 +131,7 @@ impl<C: Seats> Pool<C> {
         requires worker { IsWorkerOf C.sits C.idle self.now.table self.now.cores worker.old }
         requires fresh { J.awaits job [] }
         ensures worker { IsWorkerOf C.sits C.idle self.now.table self.now.cores worker.new }
+        ensures kept { worker.new ≡ record worker.old { seat = worker.new.seat; tally = worker.new.tally } }
         ensures begun { OnOk result (SpawnsOne worker.old worker.new) }
         ensures handed_back { IfErr result (λ back. HandsBack 0 self.now.cores self.now.slots job worker.old worker.new back.job back.why) }
     {
@@ -165,6 +168,7 @@ impl<C: Seats> Pool<C> {
         requires seat { C.sits self.now.table seat × C.has self.now.table seat (Claim claim ∷ []) }
         requires fresh { J.awaits job [] }
         ensures worker { IsWorkerOf C.sits C.idle self.now.table self.now.cores worker.new }
+        ensures kept { worker.new ≡ record worker.old { seat = worker.new.seat; tally = worker.new.tally } }
         ensures begun { IfOk result (λ handle. (handle ≡ job) × SpawnsOne worker.old worker.new) }
         ensures handed_back { IfErr result (λ back. (back.why ≡ Memory) × HandsBack 0 self.now.cores self.now.slots job worker.old worker.new back.job back.why) }
     {

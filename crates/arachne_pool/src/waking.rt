@@ -27,6 +27,7 @@ impl<S> Model for Waker<S> {
 }
 
 impl<C: Seats> Pool<C> {
+    ghost use Rattle.std.specs.Prelude.{IsSome};
     ghost use Rattle.arachne_pool.specs.Workers.{IsWorkerOf};
 
     /// A worker without a part of its seat's weight, which a waker has. Nothing else of it has changed. None comes where
@@ -39,6 +40,7 @@ impl<C: Seats> Pool<C> {
         requires { IsWorkerOf C.sits C.idle self.now.table self.now.cores worker }
         ensures worker { IsWorkerOf C.sits C.idle self.now.table self.now.cores result.0 }
         ensures waker { IfSome result.1 (IsIdleAt C.sits C.idle self.now.table) }
+        ensures seats { IsSome worker.seat → IsSome result.0.seat × IsSome result.1 }
         ensures kept { result.0 ≡ record worker { seat = result.0.seat } }
     {
         let mut worker = worker;
@@ -60,6 +62,7 @@ impl<C: Seats> Pool<C> {
         requires worker { IsWorkerOf C.sits C.idle self.now.table self.now.cores worker }
         requires waker { IsIdleAt C.sits C.idle self.now.table waker }
         ensures worker { IsWorkerOf C.sits C.idle self.now.table self.now.cores result }
+        ensures seat { IsSome worker.seat → IsSome result.seat }
         ensures kept { result ≡ record worker { seat = result.seat } }
     {
         let mut worker = worker;

@@ -126,7 +126,7 @@ impl<C: Seats> Pool<C> {
         ensures own { IsWorkerOf C.sits C.idle self.now.table self.now.cores result.0 }
         ensures others { IsWorkerOf C.sits C.idle self.now.table self.now.cores result.1 }
         ensures kept { (result.0.tally ≡ worker.tally) × (result.0.near ≡ worker.near) × (result.0.arbiter ≡ worker.arbiter) }
-        ensures nothing { (result.1.tally.spawned ≡ 0) × (result.1.tally.ended ≡ 0) × (result.1.near ≡ 0) }
+        ensures nothing { (result.1.tally.spawned ≡ 0) × (result.1.tally.ended ≡ 0) × (result.1.near ≡ 0) × (result.1.arbiter ≡ None) }
         ensures cores { (result.0.core ≡ worker.core) × HasNoCore self.now.cores result.1 }
         ensures seats { IsSome worker.seat → IsSome result.0.seat × IsSome result.1.seat }
     {
@@ -147,8 +147,8 @@ impl<C: Seats> Pool<C> {
         (own, others)
     }
 
-    /// One worker of two, with the orders of the first, or of the other where that has none. Where memory is refused to
-    /// put their jobs together both come back.
+    /// One worker of two, with the core of the first, and its orders, or those of the other where that has none. It has a
+    /// seat where both have. Where memory is refused to put their jobs together both come back.
     pub fn join_workers<H: Wait, J: PoolJob>(
         &self,
         rt: &H,
@@ -159,6 +159,7 @@ impl<C: Seats> Pool<C> {
         requires other { IsWorkerOf C.sits C.idle self.now.table self.now.cores other }
         ensures both { IfOk result (IsWorkerOf C.sits C.idle self.now.table self.now.cores) }
         ensures near { IfOk result (λ both. both.near ≡ worker.near + other.near) }
+        ensures seat { IfOk result (λ both. (both.core ≡ worker.core) × (IsSome worker.seat → IsSome other.seat → IsSome both.seat)) }
         ensures orders { IfOk result (λ both. both.arbiter ≡ option_or worker.arbiter other.arbiter) }
         ensures spawned { worker.tally.spawned + other.tally.spawned ≤ u64.MAX → IfOk result (λ both. both.tally.spawned ≡ worker.tally.spawned + other.tally.spawned) }
         ensures ended { worker.tally.ended + other.tally.ended ≤ u64.MAX → IfOk result (λ both. both.tally.ended ≡ worker.tally.ended + other.tally.ended) }
