@@ -60,14 +60,17 @@ module _ {T : Type 0} (tag_in : T → ℕ) (bits : ℕ) (words : List ℕ) (t : 
   abbrev counted : ℕ → List (Option T) → ℕ
   counted x slots = count_by (same_thread t) (threads_of tag_in (left_from bits x words slots))
 
+  -- a slot of another context adds nothing
+  skips : (x : ℕ) (v : T) (slots : List (Option T)) → (t.0.context ≡ x → ⊥) → counted x (Some v ∷ slots) ≡ counted (suc x) slots
+  skips x v slots n =
+      let u : Thread = (record { context = x; generation = (marked_of bits (get_or words x 0)).generation }, tag_in v) in
+      more-threads t u (threads_of tag_in (left_from bits (suc x) words slots))
+      ∙ cond-false {A = ℕ} (same_thread t u) (counted (suc x) slots + 1) (counted (suc x) slots) (other-thread t u n)
+
   none-before : (x : ℕ) (slots : List (Option T)) → t.0.context < x → counted x slots ≡ 0
   none-before x [] l = refl
   none-before x (None ∷ slots) l = none-before (suc x) slots (omega (arith, l))
-  none-before x (Some v ∷ slots) l =
-      let u : Thread = (record { context = x; generation = (marked_of bits (get_or words x 0)).generation }, tag_in v) in
-      more-threads t u (threads_of tag_in (left_from bits (suc x) words slots))
-      ∙ cond-false {A = ℕ} (same_thread t u) (counted (suc x) slots + 1) (counted (suc x) slots) (other-thread t u (λ e. omega (arith, e, l)))
-      ∙ none-before (suc x) slots (omega (arith, l))
+  none-before x (Some v ∷ slots) l = skips x v slots (λ e. omega (arith, e, l)) ∙ none-before (suc x) slots (omega (arith, l))
 
   -- a thread is left where the slot of its context has it
   count-at : (x y : ℕ) (slots : List (Option T)) (slot : Option T) → t.0.context ≡ x + y → get_elem? slots y ≡ opt.some slot
@@ -93,20 +96,13 @@ module _ {T : Type 0} (tag_in : T → ℕ) (bits : ℕ) (words : List ℕ) (t : 
       count-at (suc x) y slots slot (omega (arith, at)) e
       ∙ ap (λ (n : ℕ). cond (eqb (marked_of bits (get_or words n 0)).generation t.0.generation && has_tag tag_in slot t.1) 1 0) (omega arith)
   count-at x (suc y) (Some v ∷ slots) slot at e =
-      let u : Thread = (record { context = x; generation = (marked_of bits (get_or words x 0)).generation }, tag_in v) in
-      more-threads t u (threads_of tag_in (left_from bits (suc x) words slots))
-      ∙ cond-false {A = ℕ} (same_thread t u) (counted (suc x) slots + 1) (counted (suc x) slots) (other-thread t u (λ f. omega (arith, at, f)))
-      ∙ count-at (suc x) y slots slot (omega (arith, at)) e
+      skips x v slots (λ f. omega (arith, at, f)) ∙ count-at (suc x) y slots slot (omega (arith, at)) e
       ∙ ap (λ (n : ℕ). cond (eqb (marked_of bits (get_or words n 0)).generation t.0.generation && has_tag tag_in slot t.1) 1 0) (omega arith)
 
   none-past : (x : ℕ) (slots : List (Option T)) → x + length slots ≤ t.0.context → counted x slots ≡ 0
   none-past x [] l = refl
   none-past x (None ∷ slots) l = none-past (suc x) slots (omega (arith, l))
-  none-past x (Some v ∷ slots) l =
-      let u : Thread = (record { context = x; generation = (marked_of bits (get_or words x 0)).generation }, tag_in v) in
-      more-threads t u (threads_of tag_in (left_from bits (suc x) words slots))
-      ∙ cond-false {A = ℕ} (same_thread t u) (counted (suc x) slots + 1) (counted (suc x) slots) (other-thread t u (λ e. omega (arith, e, l)))
-      ∙ none-past (suc x) slots (omega (arith, l))
+  none-past x (Some v ∷ slots) l = skips x v slots (λ e. omega (arith, e, l)) ∙ none-past (suc x) slots (omega (arith, l))
 
 -- what lies at home in the slot of a context that nobody carries
 at-home : {T : Type 0} (tag_in : T → ℕ) (s : State) (z : opt.Option (opt.Option (Option T))) → IsLeft s → HasValue tag_in s z → (o : Option T) × (z ≡ opt.some (opt.some o)) × ((tag : ℕ) → has_thread s tag ≡ has_tag tag_in o tag)

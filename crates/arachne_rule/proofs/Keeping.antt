@@ -1,5 +1,5 @@
 -- A step that may come next, and after which the World of its event is shown, keeps the rule with its history.
-use Rattle.std.proofs.Common.{◌≡◌, ℕ, List, length, refl, subst, get_or, Option}
+use Rattle.std.proofs.Common.{◌≡◌, ℕ, List, length, refl, subst, Option}
 use mathlib.Core.Option.{some}
 use lib.ListN.{get_elem?}
 use Rattle.atomic_table.specs.Table.{Act, homes_after}

@@ -1,5 +1,7 @@
--- The words that are mended after a move, and after a take.
-use Rattle.std.proofs.Common.{◌≡◌, ℕ, Bool, true, false, ◌&&◌, ◌∷◌, refl, sym, ap, ◌∙◌, subst, inl, inr, set, []}
+-- The words that are mended after a move, and after a take. Each changes what one context's words say and what its seat
+-- knows of it, and the World not at all (`mends`); a context that was claimed stays claimed (`mends-claimed`). A word more
+-- is a lemma more by these, with the field of `Phase` that it ends.
+use Rattle.std.proofs.Common.{◌≡◌, ◌<◌, ℕ, Bool, true, false, ◌&&◌, ◌∷◌, refl, sym, ap, ◌∙◌, subst, inl, inr, set, []}
 use Rattle.std.proofs.lemmas.Bool.{true≢false, cond-true, cond-false, false_from_ne_true}
 use mathlib.Core.Option as opt
 use lib.ListN.{get_elem?}
@@ -17,7 +19,7 @@ use Rattle.arachne_weights.specs.Tokens.{held}
 use Rattle.arachne_rule.specs.declared.view.Carried.{Carried}
 use Rattle.arachne_rule.specs.declared.view.Known.{Known}
 use Rattle.arachne_rule.specs.Views.{carried_at, with_context}
-use Rattle.arachne_rule.specs.Rule.{settled, Coherent, carried_if, carried_of, HasValue, Board, Phase, Shows}
+use Rattle.arachne_rule.specs.Rule.{settled, Coherent, carried_if, carried_of, share_of, HasValue, Board, Phase, ShowsContext, Shows}
 use Rattle.arachne_rule.specs.Changes.{with_name}
 use Rattle.arachne_rule.proofs.Shares.{my-share}
 use Rattle.arachne_rule.proofs.Carrying.{with-at, with-else}
@@ -32,11 +34,61 @@ with_name-other f p x q n = cond-false (same_place q p) x (f q) (false_from_ne_t
 
 module _ {T : Type 0} (tag_in : T → ℕ) (bits : ℕ) (w : World) (d : ℕ → Phase) (b : Board T) (s : Shows tag_in bits w d b)
     (h weight : ℕ) (k : Known) (mine : get_elem? b.views h ≡ opt.some (held weight k)) where
+  -- what a seat has that isn't held, it has claimed
+  claims : (y : ℕ) (g : Carried) → IsContext w y → carried_at y k.carried ≡ g ∷ [] → g.held ≡ false → (w.state y ≡ Claimed h) × (g ≡ carried_of w d y false 0)
+  claims y g y_in got free = claimed-carried (w.state y) h (carried_of w d y) g (λ q t. refl) (my-share tag_in bits w d b s h weight k mine y g y_in got) free
+
+  abbrev unchanged : Small
+  unchanged = record { state = w.state; generation = w.generation; given = w.given; ended = w.ended }
+
+  -- what the seat knows of context y, and what the words at its places say, change alone
+  mends : (y : ℕ) (g : Carried) (r : Phase) (a : Board T) → IsContext w y → g.context ≡ y
+      → a.views ≡ set b.views h (held weight (with_context k g))
+      → ((j : ℕ) → j < w.cores → a.occ j ≡ b.occ j)
+      → ((z : ℕ) → IsContext w z → (z ≡ y → ⊥) → a.mark z ≡ b.mark z)
+      → ((z : ℕ) → IsContext w z → (z ≡ y → ⊥) → a.home z ≡ b.home z)
+      → ((p : Place) → IsPlace w p → (p ≡ w.at y → ⊥) → a.name p ≡ b.name p)
+      → ShowsContext tag_in bits w (with_at d y r) a y
+      → IsContext w (a.name (w.at y))
+      → g ∷ [] ≡ share_of w (with_at d y r) h y
+      → ((j : ℕ) → (j ≡ h → ⊥) → share_of w d j y ≡ share_of w (with_at d y r) j y)
+      → Shows tag_in bits w (with_at d y r) a
+  mends y g r a y_in same views occ mark home name here named share others =
+      marking tag_in bits w unchanged d (with_at d y r) b a y h weight k (with_context k g) s y_in
+      (record {
+        mine = mine;
+        views = views;
+        occ = occ;
+        mark = mark;
+        home = home;
+        name = name;
+        phase = λ z m. with_at-other d y r z m;
+        carried = λ z m. with-else g y z k.carried same m;
+        state = λ z m. refl;
+        generation = λ z m. refl;
+      })
+      s.owned here named
+      (with-at g y k.carried same ∙ share) others
+      (λ t. s.given t ∙ given-same b.views h weight k (with_context k g) mine refl t)
+      (λ t. s.ended t ∙ ended-same b.views h weight k (with_context k g) mine refl t)
+
+  -- the same of a context that is claimed and stays so
+  mends-claimed : (y : ℕ) (g : Carried) (r : Phase) (a : Board T) → IsContext w y → g.context ≡ y → w.state y ≡ Claimed h → g ≡ carried_of w (with_at d y r) y false 0
+      → a.views ≡ set b.views h (held weight (with_context k g)) → ((j : ℕ) → j < w.cores → a.occ j ≡ b.occ j)
+      → ((z : ℕ) → IsContext w z → (z ≡ y → ⊥) → a.mark z ≡ b.mark z) → ((z : ℕ) → IsContext w z → (z ≡ y → ⊥) → a.home z ≡ b.home z)
+      → ((p : Place) → IsPlace w p → (p ≡ w.at y → ⊥) → a.name p ≡ b.name p) → ShowsContext tag_in bits w (with_at d y r) a y → IsContext w (a.name (w.at y))
+      → Shows tag_in bits w (with_at d y r) a
+  mends-claimed y g r a y_in same claimed g_is views occ mark home name here named =
+      let e : ℕ → Phase = with_at d y r in
+      mends y g r a y_in same views occ mark home name here named
+      (ap (λ (u : Carried). u ∷ []) g_is ∙ sym (ap (λ (t : State). carried_if t h (carried_of w e y)) claimed ∙ mine-claimed h (carried_of w e y)))
+      (λ j m. ap (λ (t : State). carried_if t j (carried_of w d y)) claimed ∙ not-claimed h j (carried_of w d y) m ∙ sym (ap (λ (t : State). carried_if t j (carried_of w e y)) claimed ∙ not-claimed h j (carried_of w e y) m))
+
   -- the place word of any place that names y, which my move has left unnamed, may name any context instead
   pub name_target : (q : Place) (x y : ℕ) (g : Carried) → IsContext w x → IsContext w y → b.name q ≡ y → carried_at y k.carried ≡ g ∷ [] → g.held ≡ false → g.named ≡ false
       → Shows tag_in bits w d (record b { name = with_name b.name q x })
   name_target q x y g x_in y_in found got free unnamed =
-      let is = claimed-carried (w.state y) h (carried_of w d y) g (λ q t. refl) (my-share tag_in bits w d b s h weight k mine y g y_in got) free in
+      let is = claims y g y_in got free in
       let unnamed' : (d y).named ≡ false = sym (ap (λ (r : Carried). r.named) is.1) ∙ unnamed in
       record {
         owned = s.owned;
@@ -62,9 +114,6 @@ module _ {T : Type 0} (tag_in : T → ℕ) (bits : ℕ) (w : World) (d : ℕ →
         ended = s.ended;
       }
 
-  abbrev unchanged : Small
-  unchanged = record { state = w.state; generation = w.generation; given = w.given; ended = w.ended }
-
   -- the mark word of y says where it stands now
   pub replace : (y : ℕ) (g : Carried) → IsContext w y → carried_at y k.carried ≡ g ∷ [] → g.context ≡ y → g.held ≡ false
       → Shows tag_in bits w (with_at d y (record (d y) { shown = g.place })) (record b {
@@ -72,15 +121,14 @@ module _ {T : Type 0} (tag_in : T → ℕ) (bits : ℕ) (w : World) (d : ℕ →
         views = set b.views h (held weight (with_context k (record g { shown = g.place })));
       })
   replace y g y_in got same free =
-      let is = claimed-carried (w.state y) h (carried_of w d y) g (λ q t. refl) (my-share tag_in bits w d b s h weight k mine y g y_in got) free in
-      let claimed : w.state y ≡ Claimed h = is.0 in
+      let is = claims y g y_in got free in
       let place : g.place ≡ w.at y = ap (λ (r : Carried). r.place) is.1 in
       let r : Phase = record (d y) { shown = g.place } in
       let e : ℕ → Phase = with_at d y r in
       let g' : Carried = record g { shown = g.place } in
       let n : Marked = record { mark = mark.Free; alone = false; place = g.place; generation = g.generation } in
       let a : Board T = record b { mark = with_at b.mark y (mark_word bits n); views = set b.views h (held weight (with_context k g')) } in
-      let now : e y ≡ r = with_at-same d y r in
+      let now = with_at-same d y r in
       let old = s.contexts y y_in in
       let g_is : g' ≡ carried_of w e y false 0 = λ i. record {
         context = same i;
@@ -93,32 +141,15 @@ module _ {T : Type 0} (tag_in : T → ℕ) (bits : ℕ) (w : World) (d : ℕ →
         named = (ap (λ (u : Carried). u.named) is.1 ∙ sym (ap (λ (u : Phase). u.named) now)) i;
         away = (ap (λ (u : Carried). u.away) is.1 ∙ sym (ap (λ (u : Phase). u.away) now)) i;
       } in
-      marking tag_in bits w unchanged d e b a y h weight k (with_context k g') s y_in
-      (record {
-        mine = mine;
-        views = refl;
-        occ = λ j _. refl;
-        mark = λ z _ m. with_at-other b.mark y (mark_word bits n) z m;
-        home = λ z _ m. refl;
-        name = λ p _ m. refl;
-        phase = λ z m. with_at-other d y r z m;
-        carried = λ z m. with-else g' y z k.carried same m;
-        state = λ z m. refl;
-        generation = λ z m. refl;
-      })
-      s.owned
+      mends-claimed y g' r a y_in same is.0 g_is refl (λ j _. refl) (λ z _ m. with_at-other b.mark y (mark_word bits n) z m) (λ z _ m. refl) (λ p _ m. refl)
       (record {
         within = subst (λ (u : Phase). IsPlace w u.shown) (sym now) (subst (IsPlace w) (sym place) (s.owned.placed y y_in));
-        coherent = subst (λ (t : State). Coherent t (w.at y) (e y)) (sym claimed) (λ _. ap (λ (u : Phase). u.shown) now ∙ place);
-        mark = with_at-same b.mark y (mark_word bits n) ∙ sym (ap (mark_word bits) (λ i. record { mark = mark_of (claimed i); alone = is_live_state (claimed i) && w.alone (core_of w y); place = (now i).shown; generation = (sym (ap (λ (u : Carried). u.generation) is.1)) i }));
+        coherent = subst (λ (t : State). Coherent t (w.at y) (e y)) (sym is.0) (λ _. ap (λ (u : Phase). u.shown) now ∙ place);
+        mark = with_at-same b.mark y (mark_word bits n) ∙ sym (ap (mark_word bits) (λ i. record { mark = mark_of (is.0 i); alone = is_live_state (is.0 i) && w.alone (core_of w y); place = (now i).shown; generation = (sym (ap (λ (u : Carried). u.generation) is.1)) i }));
         named = λ f. old.named (ap (λ (u : Phase). u.named) (sym now) ∙ f);
         value = λ f. old.value (ap (λ (u : Phase). u.away) (sym now) ∙ f);
       })
       (s.names (w.at y) (s.owned.placed y y_in))
-      (with-at g' y k.carried same ∙ ap (λ (u : Carried). u ∷ []) g_is ∙ sym (ap (λ (t : State). carried_if t h (carried_of w e y)) claimed ∙ mine-claimed h (carried_of w e y)))
-      (λ j m. ap (λ (t : State). carried_if t j (carried_of w d y)) claimed ∙ not-claimed h j (carried_of w d y) m ∙ sym (ap (λ (t : State). carried_if t j (carried_of w e y)) claimed ∙ not-claimed h j (carried_of w e y) m))
-      (λ t. s.given t ∙ given-same b.views h weight k (with_context k g') mine refl t)
-      (λ t. s.ended t ∙ ended-same b.views h weight k (with_context k g') mine refl t)
 
   -- the place word of the place that was left names y
   pub name_source : (y : ℕ) (g : Carried) → IsContext w y → carried_at y k.carried ≡ g ∷ [] → g.context ≡ y → g.held ≡ false → g.shown ≡ g.place
@@ -127,14 +158,13 @@ module _ {T : Type 0} (tag_in : T → ℕ) (bits : ℕ) (w : World) (d : ℕ →
         views = set b.views h (held weight (with_context k (record g { named = true })));
       })
   name_source y g y_in got same free settled =
-      let is = claimed-carried (w.state y) h (carried_of w d y) g (λ q t. refl) (my-share tag_in bits w d b s h weight k mine y g y_in got) free in
-      let claimed : w.state y ≡ Claimed h = is.0 in
+      let is = claims y g y_in got free in
       let place : g.place ≡ w.at y = ap (λ (r : Carried). r.place) is.1 in
       let r : Phase = record (d y) { named = true } in
       let e : ℕ → Phase = with_at d y r in
       let g' : Carried = record g { named = true } in
       let a : Board T = record b { name = with_name b.name g.place y; views = set b.views h (held weight (with_context k g')) } in
-      let now : e y ≡ r = with_at-same d y r in
+      let now = with_at-same d y r in
       let old = s.contexts y y_in in
       let shown : (d y).shown ≡ w.at y = sym (ap (λ (u : Carried). u.shown) is.1) ∙ settled ∙ place in
       let g_is : g' ≡ carried_of w e y false 0 = λ i. record {
@@ -149,32 +179,15 @@ module _ {T : Type 0} (tag_in : T → ℕ) (bits : ℕ) (w : World) (d : ℕ →
         away = (ap (λ (u : Carried). u.away) is.1 ∙ sym (ap (λ (u : Phase). u.away) now)) i;
       } in
       let names : a.name (w.at y) ≡ y = ap a.name (sym place) ∙ with_name-same b.name g.place y in
-      marking tag_in bits w unchanged d e b a y h weight k (with_context k g') s y_in
-      (record {
-        mine = mine;
-        views = refl;
-        occ = λ j _. refl;
-        mark = λ z _ m. refl;
-        home = λ z _ m. refl;
-        name = λ p _ m. with_name-other b.name g.place y p (λ f. m (f ∙ place));
-        phase = λ z m. with_at-other d y r z m;
-        carried = λ z m. with-else g' y z k.carried same m;
-        state = λ z m. refl;
-        generation = λ z m. refl;
-      })
-      s.owned
+      mends-claimed y g' r a y_in same is.0 g_is refl (λ j _. refl) (λ z _ m. refl) (λ z _ m. refl) (λ p _ m. with_name-other b.name g.place y p (λ f. m (f ∙ place)))
       (record {
         within = subst (λ (u : Phase). IsPlace w u.shown) (sym now) old.within;
-        coherent = subst (λ (t : State). Coherent t (w.at y) (e y)) (sym claimed) (λ _. ap (λ (u : Phase). u.shown) now ∙ shown);
+        coherent = subst (λ (t : State). Coherent t (w.at y) (e y)) (sym is.0) (λ _. ap (λ (u : Phase). u.shown) now ∙ shown);
         mark = old.mark ∙ ap (λ (u : Phase). mark_word bits (record (marked w y) { place = u.shown })) (sym now);
         named = λ _. names;
         value = λ f. old.value (ap (λ (u : Phase). u.away) (sym now) ∙ f);
       })
       (subst (IsContext w) (sym names) y_in)
-      (with-at g' y k.carried same ∙ ap (λ (u : Carried). u ∷ []) g_is ∙ sym (ap (λ (t : State). carried_if t h (carried_of w e y)) claimed ∙ mine-claimed h (carried_of w e y)))
-      (λ j m. ap (λ (t : State). carried_if t j (carried_of w d y)) claimed ∙ not-claimed h j (carried_of w d y) m ∙ sym (ap (λ (t : State). carried_if t j (carried_of w e y)) claimed ∙ not-claimed h j (carried_of w e y) m))
-      (λ t. s.given t ∙ given-same b.views h weight k (with_context k g') mine refl t)
-      (λ t. s.ended t ∙ ended-same b.views h weight k (with_context k g') mine refl t)
 
   -- the place word of a held context's place names it, and the empty slot goes home
   pub keep_name : (x : ℕ) (g : Carried) → IsContext w x → carried_at x k.carried ≡ g ∷ [] → g.context ≡ x → g.held ≡ true
@@ -208,20 +221,7 @@ module _ {T : Type 0} (tag_in : T → ℕ) (bits : ℕ) (w : World) (d : ℕ →
         away = (sym (ap (λ (u : Phase). u.away) now)) i;
       } in
       let names : a.name (w.at x) ≡ x = ap a.name (sym place) ∙ with_name-same b.name g.place x in
-      marking tag_in bits w unchanged d e b a x h weight k (with_context k g') s x_in
-      (record {
-        mine = mine;
-        views = refl;
-        occ = λ j _. refl;
-        mark = λ z _ m. refl;
-        home = λ z _ m. with_at-other b.home x (opt.some (opt.some None)) z m;
-        name = λ p _ m. with_name-other b.name g.place x p (λ f. m (f ∙ place));
-        phase = λ z m. with_at-other d x r z m;
-        carried = λ z m. with-else g' x z k.carried same m;
-        state = λ z m. refl;
-        generation = λ z m. refl;
-      })
-      s.owned
+      mends x g' r a x_in same refl (λ j _. refl) (λ z _ m. refl) (λ z _ m. with_at-other b.home x (opt.some (opt.some None)) z m) (λ p _ m. with_name-other b.name g.place x p (λ f. m (f ∙ place)))
       (record {
         within = subst (λ (u : Phase). IsPlace w u.shown) (sym now) old.within;
         coherent = subst (λ (t : State). Coherent t (w.at x) (e x)) (sym here) (ap (λ (u : Phase). u.shown) now ∙ shown);
@@ -230,7 +230,5 @@ module _ {T : Type 0} (tag_in : T → ℕ) (bits : ℕ) (w : World) (d : ℕ →
         value = λ _. subst (λ (t : State). HasValue tag_in t (a.home x)) (sym here) (with_at-same b.home x (opt.some (opt.some None)));
       })
       (subst (IsContext w) (sym names) x_in)
-      (with-at g' x k.carried same ∙ ap (λ (u : Carried). u ∷ []) g_is ∙ sym (ap (λ (t : State). carried_if t h (carried_of w e x)) here ∙ mine-held h woken tag (carried_of w e x)))
+      (ap (λ (u : Carried). u ∷ []) g_is ∙ sym (ap (λ (t : State). carried_if t h (carried_of w e x)) here ∙ mine-held h woken tag (carried_of w e x)))
       (λ j m. ap (λ (t : State). carried_if t j (carried_of w d x)) here ∙ not-held h woken tag j (carried_of w d x) m ∙ sym (ap (λ (t : State). carried_if t j (carried_of w e x)) here ∙ not-held h woken tag j (carried_of w e x) m))
-      (λ t. s.given t ∙ given-same b.views h weight k (with_context k g') mine refl t)
-      (λ t. s.ended t ∙ ended-same b.views h weight k (with_context k g') mine refl t)

@@ -1,6 +1,7 @@
 -- One seat has learned something: what becomes of what seats carry, and of totals.
 use Rattle.std.proofs.Common.{◌≡◌, ℕ, ◌+◌, Bool, true, false, cond, List, ◌∷◌, set, sym, ap, ◌∙◌, arith, inl, inr}
 use Rattle.std.specs.Prelude.{count_by}
+use Rattle.std.specs.List.{sum_by}
 use Rattle.std.proofs.lemmas.List.Sums.{sum_by-cons}
 use Rattle.std.proofs.lemmas.Bool.{cases_eq, cond-true, cond-false, cases_Bool}
 use mathlib.Core.Option.{some}
@@ -47,32 +48,33 @@ module _ (vs : List (Token Known)) (h weight : ℕ) (before after : Known) (mine
     | inr n ↦ ap (λ (r : Known). carried_at x r.carried) (known-else vs h k (held weight after) n) ∙ others k n
   ]
 
+  -- how often a thread is in what each seat has of a kind, as in what was given to it or what it has ended
+  abbrev times : (Known → List Thread) → Thread → List (Token Known) → ℕ
+  times of t views = sum_by (λ (v : Token Known). count_by (same_thread t) (of v.known)) views
+
+  total-times : (of : Known → List Thread) (t : Thread) → times of t learned + count_by (same_thread t) (of before) ≡ times of t vs + count_by (same_thread t) (of after)
+  total-times of t = total-set (λ (v : Token Known). count_by (same_thread t) (of v.known)) vs h (held weight before) (held weight after) mine
+
+  times-same : (of : Known → List Thread) → of after ≡ of before → (t : Thread) → times of t vs ≡ times of t learned
+  times-same of e t =
+      let total = total-times of t in
+      let same : count_by (same_thread t) (of after) ≡ count_by (same_thread t) (of before) = ap (count_by (same_thread t)) e in omega arith
+
+  times-more : (of : Known → List Thread) (g : Thread → ℕ) (u : Thread) → ((t : Thread) → g t ≡ times of t vs) → of after ≡ u ∷ of before → (t : Thread) → with_thread g u t ≡ times of t learned
+  times-more of g u was e t =
+      let more : count_by (same_thread t) (of after) ≡ cond (same_thread t u) (count_by (same_thread t) (of before) + 1) (count_by (same_thread t) (of before)) =
+      ap (count_by (same_thread t)) e ∙ more-threads t u (of before) in
+      ap (λ (n : ℕ). cond (same_thread t u) (n + 1) n) (was t)
+      ∙ sym (lifted-cond (same_thread t u) (times of t learned) (count_by (same_thread t) (of before)) (times of t vs) 0 (total-times of t ∙ ap (λ (n : ℕ). times of t vs + n) more))
+
   pub given-same : after.given ≡ before.given → (t : Thread) → given_in t vs ≡ given_in t learned
-  given-same e t =
-      let f : Token Known → ℕ = λ (v : Token Known). count_by (same_thread t) v.known.given in
-      let total = total-set f vs h (held weight before) (held weight after) mine in
-      let same : count_by (same_thread t) after.given ≡ count_by (same_thread t) before.given = ap (count_by (same_thread t)) e in omega arith
+  given-same = times-same (λ (k : Known). k.given)
 
   pub ended-same : after.ended ≡ before.ended → (t : Thread) → ended_in t vs ≡ ended_in t learned
-  ended-same e t =
-      let f : Token Known → ℕ = λ (v : Token Known). count_by (same_thread t) v.known.ended in
-      let total = total-set f vs h (held weight before) (held weight after) mine in
-      let same : count_by (same_thread t) after.ended ≡ count_by (same_thread t) before.ended = ap (count_by (same_thread t)) e in omega arith
+  ended-same = times-same (λ (k : Known). k.ended)
 
   pub given-more : (g : Thread → ℕ) (u : Thread) → ((t : Thread) → g t ≡ given_in t vs) → after.given ≡ u ∷ before.given → (t : Thread) → with_thread g u t ≡ given_in t learned
-  given-more g u was e t =
-      let f : Token Known → ℕ = λ (v : Token Known). count_by (same_thread t) v.known.given in
-      let total = total-set f vs h (held weight before) (held weight after) mine in
-      let more : count_by (same_thread t) after.given ≡ cond (same_thread t u) (count_by (same_thread t) before.given + 1) (count_by (same_thread t) before.given) =
-      ap (count_by (same_thread t)) e ∙ more-threads t u before.given in
-      ap (λ (n : ℕ). cond (same_thread t u) (n + 1) n) (was t)
-      ∙ sym (lifted-cond (same_thread t u) (given_in t learned) (count_by (same_thread t) before.given) (given_in t vs) 0 (total ∙ ap (λ (n : ℕ). given_in t vs + n) more))
+  given-more = times-more (λ (k : Known). k.given)
 
   pub ended-more : (g : Thread → ℕ) (u : Thread) → ((t : Thread) → g t ≡ ended_in t vs) → after.ended ≡ u ∷ before.ended → (t : Thread) → with_thread g u t ≡ ended_in t learned
-  ended-more g u was e t =
-      let f : Token Known → ℕ = λ (v : Token Known). count_by (same_thread t) v.known.ended in
-      let total = total-set f vs h (held weight before) (held weight after) mine in
-      let more : count_by (same_thread t) after.ended ≡ cond (same_thread t u) (count_by (same_thread t) before.ended + 1) (count_by (same_thread t) before.ended) =
-      ap (count_by (same_thread t)) e ∙ more-threads t u before.ended in
-      ap (λ (n : ℕ). cond (same_thread t u) (n + 1) n) (was t)
-      ∙ sym (lifted-cond (same_thread t u) (ended_in t learned) (count_by (same_thread t) before.ended) (ended_in t vs) 0 (total ∙ ap (λ (n : ℕ). ended_in t vs + n) more))
+  ended-more = times-more (λ (k : Known). k.ended)

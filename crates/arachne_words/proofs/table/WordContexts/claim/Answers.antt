@@ -1,3 +1,6 @@
+-- A claim by one look and one try. The idea: what the try won is one context more that is out with the seat
+-- (`keeps-more`), which was not its own before. More tries, or a place chosen by another rule, change `ClaimAnswer` and
+-- `IsLowestFree`.
 use Rattle.std.proofs.Common.{◌<◌, ℕ, ◌∙◌, ap, sym, subst, refl, arith, false}
 use Rattle.arachne_core.specs.Occupancy.{occupancy_word}
 use Rattle.arachne_rule.specs.Layout.{occ_index}

@@ -1,77 +1,76 @@
-use Rattle.std.proofs.Common.{ℕ, ◌∙◌, ap, refl}
+-- The steps after the exchange of a move. The idea: each of the four leaves the context of the target in a form that
+-- the next one asks (`left`, `replaced`, `named` of `MoveCall`); here its call is told so (`second`, `third`), and
+-- `after` of `MoveCall` makes one equation of the four. Another order of the steps is another chain there.
+use Rattle.std.proofs.Common.{◌≡◌, ℕ, ◌∙◌, ap, refl}
 use Rattle.arachne_core.specs.declared.layout.TheConstants.{CORE_BITS}
 use Rattle.arachne_core.specs.Marked.{mark_word}
+use Rattle.arachne_rule.specs.declared.view.Carried.{Carried}
 use Rattle.arachne_rule.specs.declared.view.Kind.TheVariants as kind
+use Rattle.arachne_rule.specs.Layout.{name_index}
 use Rattle.arachne_rule.specs.Views.{noted, with_context}
+use Rattle.arachne_words.specs.Seats.{claimed_by}
+use Rattle.arachne_words.specs.Moves.{free_at, shared_claim}
+use Rattle.arachne_words.specs.Steps.{IsClaimed}
 use Rattle.arachne_words.proofs.MoveCall.{left, replaced, named, left-claimed-1, replaced-claimed, named-carried, source-claim, after}
+use Rattle.arachne_words.proofs.table.WordContexts.move_off.Given as given
+use Rattle.arachne_words.proofs.table.WordContexts.move_off.Goals.{After-name_target, After-replace, After-name_source}
 use Rattle.arachne_words.proofs.table.WordContexts.move_off.Goals as goal
+
+left-claimed : (g : given.Over) (c : goal.After-name_target g)
+    → IsClaimed c.args.self.now c.name_target.new.seat.known (left c.args.self.now c.args.moving c.args.replaced c.args.free.generation c.args.source c.args.target c.requires.contexts.1)
+left-claimed g c = left-claimed-1 c.args.self.now c.args.moving c.args.replaced c.args.free.generation c.args.source c.args.target c.requires.contexts.1 c.args.seat.now c.name_target.new.seat c.requires.left c.name_target.result c.name_target.ensures
+
+second : (g : given.Over) (c : goal.After-replace g) → (before : ℕ) × (c.replace.new.seat ≡ record c.name_target.new.seat {
+  known = noted kind.Replace c.args.replaced before (mark_word CORE_BITS (free_at c.args.source c.args.free.generation))
+      (with_context c.name_target.new.seat.known (replaced c.args.self.now c.args.moving c.args.replaced c.args.free.generation c.args.source c.args.target c.requires.contexts.1));
+})
+second g c =
+    let b : Carried = replaced c.args.self.now c.args.moving c.args.replaced c.args.free.generation c.args.source c.args.target c.requires.contexts.1 in
+    let told = c.replace.ensures (left c.args.self.now c.args.moving c.args.replaced c.args.free.generation c.args.source c.args.target c.requires.contexts.1) (left-claimed g (goal.at.After-replace g c).After-name_target) refl in
+    (told.0, told.1 ∙ ap (λ (w : ℕ). record c.name_target.new.seat { known = noted kind.Replace c.args.replaced told.0 w (with_context c.name_target.new.seat.known b) }) (ap (mark_word CORE_BITS) c.requires.free))
+
+is-replaced : (g : given.Over) (c : goal.After-replace g)
+    → IsClaimed c.args.self.now c.replace.new.seat.known (replaced c.args.self.now c.args.moving c.args.replaced c.args.free.generation c.args.source c.args.target c.requires.contexts.1)
+is-replaced g c =
+    let told = second g c in
+    replaced-claimed c.args.self.now c.args.moving c.args.replaced c.args.free.generation c.args.source c.args.target c.requires.contexts.1 c.name_target.new.seat c.replace.new.seat told.0 told.1
+
+third : (g : given.Over) (c : goal.After-name_source g) → (before : ℕ) × (c.name_source.new.seat ≡ record c.replace.new.seat {
+  known = noted kind.NameSource (name_index c.args.self.now.table.slots c.args.source) before c.args.replaced
+      (with_context c.replace.new.seat.known (named c.args.self.now c.args.moving c.args.replaced c.args.free.generation c.args.source c.args.target c.requires.contexts.1));
+})
+third g c =
+    c.name_source.ensures (replaced c.args.self.now c.args.moving c.args.replaced c.args.free.generation c.args.source c.args.target c.requires.contexts.1) (is-replaced g (goal.at.After-name_source g c).After-replace) refl
 
 pub name_target-requires-clause-claimed : goal.name_target-requires-clause-claimed
 name_target-requires-clause-claimed g c =
-    let a = left c.args.self.now c.args.moving c.args.replaced c.args.free.generation c.args.source c.args.target c.requires.contexts.1 in
-    let b = replaced c.args.self.now c.args.moving c.args.replaced c.args.free.generation c.args.source c.args.target c.requires.contexts.1 in
-    let d = named c.args.self.now c.args.moving c.args.replaced c.args.free.generation c.args.source c.args.target c.requires.contexts.1 in
-    let word = ap (mark_word CORE_BITS) c.requires.free in
-    (a, record { inside = c.requires.contexts.1; carried = c.requires.left; claimed = refl }, refl, refl)
+    (left c.args.self.now c.args.moving c.args.replaced c.args.free.generation c.args.source c.args.target c.requires.contexts.1, record { inside = c.requires.contexts.1; carried = c.requires.left; claimed = refl }, refl, refl)
 
 pub replace-requires-clause-claimed : goal.replace-requires-clause-claimed
 replace-requires-clause-claimed g c =
-    let a = left c.args.self.now c.args.moving c.args.replaced c.args.free.generation c.args.source c.args.target c.requires.contexts.1 in
-    let b = replaced c.args.self.now c.args.moving c.args.replaced c.args.free.generation c.args.source c.args.target c.requires.contexts.1 in
-    let d = named c.args.self.now c.args.moving c.args.replaced c.args.free.generation c.args.source c.args.target c.requires.contexts.1 in
-    let word = ap (mark_word CORE_BITS) c.requires.free in
-    (a, left-claimed-1 c.args.self.now c.args.moving c.args.replaced c.args.free.generation c.args.source c.args.target c.requires.contexts.1 c.args.seat.now c.name_target.new.seat c.requires.left c.name_target.result c.name_target.ensures, refl, c.requires.free)
+    (left c.args.self.now c.args.moving c.args.replaced c.args.free.generation c.args.source c.args.target c.requires.contexts.1, left-claimed g (goal.at.replace-requires-clause-claimed g c).After-name_target, refl, c.requires.free)
 
 pub name_source-requires-clause-own : goal.name_source-requires-clause-own
-name_source-requires-clause-own g c =
-    let a = left c.args.self.now c.args.moving c.args.replaced c.args.free.generation c.args.source c.args.target c.requires.contexts.1 in
-    let b = replaced c.args.self.now c.args.moving c.args.replaced c.args.free.generation c.args.source c.args.target c.requires.contexts.1 in
-    let d = named c.args.self.now c.args.moving c.args.replaced c.args.free.generation c.args.source c.args.target c.requires.contexts.1 in
-    let word = ap (mark_word CORE_BITS) c.requires.free in
-    let t2 = c.replace.ensures a (left-claimed-1 c.args.self.now c.args.moving c.args.replaced c.args.free.generation c.args.source c.args.target c.requires.contexts.1 c.args.seat.now c.name_target.new.seat c.requires.left c.name_target.result c.name_target.ensures) refl in
-    let e2 = t2.1 ∙ ap (λ (w : ℕ). record c.name_target.new.seat { known = noted kind.Replace c.args.replaced t2.0 w (with_context c.name_target.new.seat.known b) }) word in
-    ap (λ v. v.table) e2 ∙ ap (λ v. v.table) c.name_target.ensures ∙ c.requires.own
+name_source-requires-clause-own g c = ap (λ v. v.table) (second g (goal.at.name_source-requires-clause-own g c).After-replace).1 ∙ ap (λ v. v.table) c.name_target.ensures ∙ c.requires.own
 
 pub name_source-requires-clause-claimed : goal.name_source-requires-clause-claimed
 name_source-requires-clause-claimed g c =
-    let a = left c.args.self.now c.args.moving c.args.replaced c.args.free.generation c.args.source c.args.target c.requires.contexts.1 in
-    let b = replaced c.args.self.now c.args.moving c.args.replaced c.args.free.generation c.args.source c.args.target c.requires.contexts.1 in
-    let d = named c.args.self.now c.args.moving c.args.replaced c.args.free.generation c.args.source c.args.target c.requires.contexts.1 in
-    let word = ap (mark_word CORE_BITS) c.requires.free in
-    let t2 = c.replace.ensures a (left-claimed-1 c.args.self.now c.args.moving c.args.replaced c.args.free.generation c.args.source c.args.target c.requires.contexts.1 c.args.seat.now c.name_target.new.seat c.requires.left c.name_target.result c.name_target.ensures) refl in
-    let e2 = t2.1 ∙ ap (λ (w : ℕ). record c.name_target.new.seat { known = noted kind.Replace c.args.replaced t2.0 w (with_context c.name_target.new.seat.known b) }) word in
-    (b, replaced-claimed c.args.self.now c.args.moving c.args.replaced c.args.free.generation c.args.source c.args.target c.requires.contexts.1 c.name_target.new.seat c.replace.new.seat t2.0 e2, refl, refl, refl)
+    (replaced c.args.self.now c.args.moving c.args.replaced c.args.free.generation c.args.source c.args.target c.requires.contexts.1, is-replaced g (goal.at.name_source-requires-clause-claimed g c).After-replace, refl, refl, refl)
 
 pub release-requires-clause-own : goal.release-requires-clause-own
 release-requires-clause-own g c =
-    let a = left c.args.self.now c.args.moving c.args.replaced c.args.free.generation c.args.source c.args.target c.requires.contexts.1 in
-    let b = replaced c.args.self.now c.args.moving c.args.replaced c.args.free.generation c.args.source c.args.target c.requires.contexts.1 in
-    let d = named c.args.self.now c.args.moving c.args.replaced c.args.free.generation c.args.source c.args.target c.requires.contexts.1 in
-    let word = ap (mark_word CORE_BITS) c.requires.free in
-    let t2 = c.replace.ensures a (left-claimed-1 c.args.self.now c.args.moving c.args.replaced c.args.free.generation c.args.source c.args.target c.requires.contexts.1 c.args.seat.now c.name_target.new.seat c.requires.left c.name_target.result c.name_target.ensures) refl in
-    let e2 = t2.1 ∙ ap (λ (w : ℕ). record c.name_target.new.seat { known = noted kind.Replace c.args.replaced t2.0 w (with_context c.name_target.new.seat.known b) }) word in
-    let t3 = c.name_source.ensures b (replaced-claimed c.args.self.now c.args.moving c.args.replaced c.args.free.generation c.args.source c.args.target c.requires.contexts.1 c.name_target.new.seat c.replace.new.seat t2.0 e2) refl in
-    ap (λ v. v.table) t3.1 ∙ ap (λ v. v.table) e2 ∙ ap (λ v. v.table) c.name_target.ensures ∙ c.requires.own
+    let at = goal.at.release-requires-clause-own g c in
+    ap (λ v. v.table) (third g at.After-name_source).1 ∙ ap (λ v. v.table) (second g at.After-replace).1 ∙ ap (λ v. v.table) c.name_target.ensures ∙ c.requires.own
 
 pub release-requires-clause-claim : goal.release-requires-clause-claim
 release-requires-clause-claim g c =
-    let a = left c.args.self.now c.args.moving c.args.replaced c.args.free.generation c.args.source c.args.target c.requires.contexts.1 in
-    let b = replaced c.args.self.now c.args.moving c.args.replaced c.args.free.generation c.args.source c.args.target c.requires.contexts.1 in
-    let d = named c.args.self.now c.args.moving c.args.replaced c.args.free.generation c.args.source c.args.target c.requires.contexts.1 in
-    let word = ap (mark_word CORE_BITS) c.requires.free in
-    let t2 = c.replace.ensures a (left-claimed-1 c.args.self.now c.args.moving c.args.replaced c.args.free.generation c.args.source c.args.target c.requires.contexts.1 c.args.seat.now c.name_target.new.seat c.requires.left c.name_target.result c.name_target.ensures) refl in
-    let e2 = t2.1 ∙ ap (λ (w : ℕ). record c.name_target.new.seat { known = noted kind.Replace c.args.replaced t2.0 w (with_context c.name_target.new.seat.known b) }) word in
-    let t3 = c.name_source.ensures b (replaced-claimed c.args.self.now c.args.moving c.args.replaced c.args.free.generation c.args.source c.args.target c.requires.contexts.1 c.name_target.new.seat c.replace.new.seat t2.0 e2) refl in
-    source-claim c.args.self.now c.args.moving c.args.replaced c.args.free.generation c.args.source c.args.target c.requires.contexts.1 c.replace.new.seat c.name_source.new.seat t3.0 t3.1 c.requires.places.1
+    let told = third g (goal.at.release-requires-clause-claim g c).After-name_source in
+    source-claim c.args.self.now c.args.moving c.args.replaced c.args.free.generation c.args.source c.args.target c.requires.contexts.1 c.replace.new.seat c.name_source.new.seat told.0 told.1 c.requires.places.1
 
 pub returns : goal.returns
 returns g c =
-    let a = left c.args.self.now c.args.moving c.args.replaced c.args.free.generation c.args.source c.args.target c.requires.contexts.1 in
-    let b = replaced c.args.self.now c.args.moving c.args.replaced c.args.free.generation c.args.source c.args.target c.requires.contexts.1 in
-    let d = named c.args.self.now c.args.moving c.args.replaced c.args.free.generation c.args.source c.args.target c.requires.contexts.1 in
-    let word = ap (mark_word CORE_BITS) c.requires.free in
-    let t2 = c.replace.ensures a (left-claimed-1 c.args.self.now c.args.moving c.args.replaced c.args.free.generation c.args.source c.args.target c.requires.contexts.1 c.args.seat.now c.name_target.new.seat c.requires.left c.name_target.result c.name_target.ensures) refl in
-    let e2 = t2.1 ∙ ap (λ (w : ℕ). record c.name_target.new.seat { known = noted kind.Replace c.args.replaced t2.0 w (with_context c.name_target.new.seat.known b) }) word in
-    let t3 = c.name_source.ensures b (replaced-claimed c.args.self.now c.args.moving c.args.replaced c.args.free.generation c.args.source c.args.target c.requires.contexts.1 c.name_target.new.seat c.replace.new.seat t2.0 e2) refl in
-    let t4 = c.release.ensures c.args.replaced c.args.free.generation c.requires.contexts.1 (named-carried c.args.self.now c.args.moving c.args.replaced c.args.free.generation c.args.source c.args.target c.requires.contexts.1 c.replace.new.seat c.name_source.new.seat t3.0 t3.1) in
-    (c.name_target.result, t2.0, t3.0, t4.0, after c.args.self.now c.args.moving c.args.replaced c.args.free.generation c.args.source c.args.target c.requires.contexts.1 c.args.seat.now c.name_target.new.seat c.replace.new.seat c.name_source.new.seat c.release.new.seat c.name_target.result t2.0 t3.0 t4.0 c.name_target.ensures e2 t3.1 t4.1)
+    let at = goal.at.returns g c in
+    let b = second g at.After-replace in
+    let d = third g at.After-name_source in
+    let last = c.release.ensures c.args.replaced c.args.free.generation c.requires.contexts.1 (named-carried c.args.self.now c.args.moving c.args.replaced c.args.free.generation c.args.source c.args.target c.requires.contexts.1 c.replace.new.seat c.name_source.new.seat d.0 d.1) in
+    (c.name_target.result, b.0, d.0, last.0, after c.args.self.now c.args.moving c.args.replaced c.args.free.generation c.args.source c.args.target c.requires.contexts.1 c.args.seat.now c.name_target.new.seat c.replace.new.seat c.name_source.new.seat c.release.new.seat c.name_target.result b.0 d.0 last.0 c.name_target.ensures b.1 d.1 last.1)

@@ -1,4 +1,7 @@
-use Rattle.std.proofs.Common.{ℕ, ◌∙◌, ap, sym, subst, refl, inl}
+-- A move of a thread that was seen at rest: look at the core, claim its lowest free place, and move there. The idea:
+-- the claim's equation holds of the seat as it was before the look (`won`), so that `move_to` finds the claim, and what
+-- it answers is a step of `SeenAnswer`. Another way to choose the place changes `HasRoom` and the last answer.
+use Rattle.std.proofs.Common.{◌≡◌, ◌<◌, ℕ, [], ◌∙◌, ap, sym, subst, refl, inl}
 use Rattle.arachne_core.specs.declared.place.Place.{Place}
 use Rattle.arachne_rule.specs.declared.view.Carried.{Carried}
 use Rattle.arachne_rule.specs.Layout.{occ_index}
@@ -7,69 +10,76 @@ use Rattle.arachne_rule.specs.Views.{without, carried_at}
 use Rattle.arachne_words.specs.Seats.{CallView, claimed_by}
 use Rattle.arachne_core.specs.Occupancy.{Occupancy, occupancy_word}
 use Rattle.arachne_rule.proofs.Carrying.{with-at}
-use Rattle.arachne_words.specs.Calls.{won_claim, lost_claim, IsLowestFree}
+use Rattle.arachne_words.specs.Calls.{looked, won_claim, lost_claim, IsLowestFree}
 use Rattle.arachne_words.specs.Moves.{shared_claim}
 use Rattle.arachne_words.proofs.Out.{without-with, without-fresh}
 use Rattle.arachne_words.proofs.MoveCall.{to-carried, seen-answer}
+use Rattle.arachne_words.proofs.table.WordContexts.move_seen.Given as given
+use Rattle.arachne_words.proofs.table.WordContexts.move_seen.Goals.{In_default-try_claim}
 use Rattle.arachne_words.proofs.table.WordContexts.move_seen.Goals as goal
+
+-- the context of the claim, at the place that was free
+abbrev claimed_at : ℕ → ℕ → ℕ → ℕ → Carried
+claimed_at core index y generation = claimed_by (shared_claim (record { core = core; index = index })) y generation
+
+-- the claim was won: the seat has its context, which was not its own, and knows what the look and the exchange showed
+record Won (g : given.Over) (c : goal.In_default-try_claim g) : Type 0 where
+  context : ℕ
+  generation : ℕ
+  inside : context < c.args.self.now.table.slots
+  fresh : carried_at context c.args.seat.now.known.carried ≡ []
+  steps : c.try_claim.new.seat ≡ record c.args.seat.now {
+    known = won_claim (occ_index c.args.self.now.table.slots c.args.to) (occupancy_word c.see_core-room.result) (claimed_at c.args.to c.in-Some.index context generation)
+        (looked (occ_index c.args.self.now.table.slots c.args.to) (occupancy_word c.see_core-room.result) c.args.seat.now.known);
+  }
+  carried : Carries c.try_claim.new.seat.known (claimed_at c.args.to c.in-Some.index context generation)
+
+won : (g : given.Over) (c : goal.In_default-try_claim g) → Won g c
+won g c =
+    let is = c.in_default-try_claim.ensures.won in
+    let i : ℕ = occ_index c.args.self.now.table.slots c.args.to in
+    let a : Carried = claimed_at c.args.to c.in-Some.index is.0 is.1 in
+    let steps = is.4 ∙ ap (λ (v : CallView g.row.T.Denot). record v { known = won_claim i (occupancy_word c.see_core-room.result) a v.known }) c.see_core-room.ensures.seat in
+    record {
+      context = is.0;
+      generation = is.1;
+      inside = is.2;
+      fresh = ap (λ (v : CallView g.row.T.Denot). carried_at is.0 v.known.carried) (sym c.see_core-room.ensures.seat) ∙ is.3;
+      steps = steps;
+      carried = subst (λ (v : CallView g.row.T.Denot). Carries v.known a) (sym steps) (with-at a is.0 c.args.seat.now.known.carried refl);
+    }
 
 pub move_to-requires-clause-claim : goal.move_to-requires-clause-claim
 move_to-requires-clause-claim g c =
-    let won = c.in_default-try_claim.ensures.won in
-    let i : ℕ = occ_index c.args.self.now.table.slots c.args.to in
-    let word : ℕ = occupancy_word c.see_core-room.result in
-    let target : Place = record { core = c.args.to; index = c.in-Some.index } in
-    let a : Carried = claimed_by (shared_claim target) won.0 won.1 in
-    let whole = won.4 ∙ ap (λ (v : CallView g.row.T.Denot). record v { known = won_claim i word a v.known }) c.see_core-room.ensures.seat in
-    let mine = subst (λ (v : CallView g.row.T.Denot). Carries v.known a) (sym whole) (with-at a won.0 c.args.seat.now.known.carried refl) in
-    record { context = won.0; generation = won.1; placed = (c.requires.places.0, c.in-Some.ensures.some.inside); inside = won.2; carried = mine }
+    let is = won g (goal.at.move_to-requires-clause-claim g c).In_default-try_claim in
+    record { context = is.context; generation = is.generation; placed = (c.requires.places.0, c.in-Some.ensures.some.inside); inside = is.inside; carried = is.carried }
 
 pub returns-clause-seat : goal.returns-clause-seat
 returns-clause-seat g c =
-    let won = c.in_default-try_claim.ensures.won in
-    let i : ℕ = occ_index c.args.self.now.table.slots c.args.to in
-    let word : ℕ = occupancy_word c.see_core-room.result in
-    let target : Place = record { core = c.args.to; index = c.in-Some.index } in
-    let a : Carried = claimed_by (shared_claim target) won.0 won.1 in
-    let whole = won.4 ∙ ap (λ (v : CallView g.row.T.Denot). record v { known = won_claim i word a v.known }) c.see_core-room.ensures.seat in
-    let mine = subst (λ (v : CallView g.row.T.Denot). Carries v.known a) (sym whole) (with-at a won.0 c.args.seat.now.known.carried refl) in
+    let whole = (won g (goal.at.returns-clause-seat g c).In_default-try_claim).steps in
     let seat = c.move_to.ensures.seat in
     (seat.0 ∙ ap (λ v. v.table) whole, seat.1 ∙ ap (λ v. v.weight) whole, seat.2 ∙ ap (λ v. v.slots) whole)
 
 pub returns-clause-carried : goal.returns-clause-carried
 returns-clause-carried g c =
-    let won = c.in_default-try_claim.ensures.won in
-    let i : ℕ = occ_index c.args.self.now.table.slots c.args.to in
-    let word : ℕ = occupancy_word c.see_core-room.result in
+    let is = won g (goal.at.returns-clause-carried g c).In_default-try_claim in
     let target : Place = record { core = c.args.to; index = c.in-Some.index } in
-    let a : Carried = claimed_by (shared_claim target) won.0 won.1 in
-    let whole = won.4 ∙ ap (λ (v : CallView g.row.T.Denot). record v { known = won_claim i word a v.known }) c.see_core-room.ensures.seat in
-    let mine = subst (λ (v : CallView g.row.T.Denot). Carries v.known a) (sym whole) (with-at a won.0 c.args.seat.now.known.carried refl) in
-    let fresh = ap (λ (v : CallView g.row.T.Denot). carried_at won.0 v.known.carried) (sym c.see_core-room.ensures.seat) ∙ won.3 in
-    let told = c.move_to.ensures.answer won.0 won.1 won.2 mine in
-    to-carried c.args.self.now c.args.moving c.args.seen target won.0 won.1 c.try_claim.new.seat.known c.move_to.new.seat.known c.move_to.result told
-    ∙ ap (λ (v : CallView g.row.T.Denot). without won.0 v.known.carried) whole ∙ without-with a c.args.seat.now.known.carried ∙ without-fresh won.0 c.args.seat.now.known.carried fresh
+    to-carried c.args.self.now c.args.moving c.args.seen target is.context is.generation c.try_claim.new.seat.known c.move_to.new.seat.known c.move_to.result (c.move_to.ensures.answer is.context is.generation is.inside is.carried)
+    ∙ ap (λ (v : CallView g.row.T.Denot). without is.context v.known.carried) is.steps
+    ∙ without-with (claimed_at c.args.to c.in-Some.index is.context is.generation) c.args.seat.now.known.carried ∙ without-fresh is.context c.args.seat.now.known.carried is.fresh
 
 pub returns-clause-answer : goal.returns-clause-answer
 returns-clause-answer g c =
-    let won = c.in_default-try_claim.ensures.won in
-    let i : ℕ = occ_index c.args.self.now.table.slots c.args.to in
-    let word : ℕ = occupancy_word c.see_core-room.result in
-    let target : Place = record { core = c.args.to; index = c.in-Some.index } in
-    let a : Carried = claimed_by (shared_claim target) won.0 won.1 in
-    let whole = won.4 ∙ ap (λ (v : CallView g.row.T.Denot). record v { known = won_claim i word a v.known }) c.see_core-room.ensures.seat in
-    let mine = subst (λ (v : CallView g.row.T.Denot). Carries v.known a) (sym whole) (with-at a won.0 c.args.seat.now.known.carried refl) in
-    let fresh = ap (λ (v : CallView g.row.T.Denot). carried_at won.0 v.known.carried) (sym c.see_core-room.ensures.seat) ∙ won.3 in
-    let told = c.move_to.ensures.answer won.0 won.1 won.2 mine in
+    let is = won g (goal.at.returns-clause-answer g c).In_default-try_claim in
     let read = c.see_core-room.ensures.read in
-    seen-answer c.args.self.now c.args.moving c.args.seen c.args.to c.args.seat.now.known c.move_to.new.seat.known c.move_to.result word c.in-Some.index won.0 won.1 c.try_claim.new.seat.known
+    seen-answer c.args.self.now c.args.moving c.args.seen c.args.to c.args.seat.now.known c.move_to.new.seat.known c.move_to.result (occupancy_word c.see_core-room.result) c.in-Some.index is.context is.generation c.try_claim.new.seat.known
     (record {
       is_open = ap (λ (o : Occupancy). o.closed) read ∙ sym c.is_closed.ensures ∙ c.if-is_closed.false;
       lowest = subst (λ (o : Occupancy). IsLowestFree c.args.self.now.shape.places_per_core o c.in-Some.index) (sym read) c.in-Some.ensures.some;
-      inside = won.2;
-      fresh = fresh;
-      steps = ap (λ v. v.known) whole;
-    }) told
+      inside = is.inside;
+      fresh = is.fresh;
+      steps = ap (λ v. v.known) is.steps;
+    }) (c.move_to.ensures.answer is.context is.generation is.inside is.carried)
 
 pub returns-in-Err-clause-answer : goal.returns-in-Err-clause-answer
 returns-in-Err-clause-answer g c =
