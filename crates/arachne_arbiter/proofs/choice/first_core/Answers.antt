@@ -1,3 +1,6 @@
+-- The core for a new thread. The idea: each turn lists the loads of one core more, a candidate's or none
+-- (`loads_of-push`, `loads_of-skip`), and a choice among cores below the number of all is below it. Which cores are
+-- candidates is in `is_candidate_at`; another list of loads changes `Loads`, another choice among them nothing here.
 use Rattle.std.proofs.Common.{◌≡◌, ◌<◌, ◌≤◌, true, false, length, get_or, take, ap, ◌∙◌, arith, rules}
 use Rattle.std.proofs.lemmas.List.{get_or_default}
 use Rattle.arachne_core.specs.declared.layout.TheConstants.{CORES}

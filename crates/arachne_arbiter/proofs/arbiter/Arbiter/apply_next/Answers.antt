@@ -1,3 +1,6 @@
+-- An order is applied. The idea: the core that waits for its threads to leave is the one that the order closes, and no
+-- other (`AreDraining-closes`, `AreDraining-opens`). A new kind of order is another arm with such a lemma in
+-- `DrainingCores`.
 use Rattle.std.proofs.Common.{◌≡◌, rules}
 use Rattle.arachne_arbiter.specs.declared.orders.Effect.TheVariants.{Closes, Opens}
 use Rattle.arachne_arbiter.specs.Orders.{next_effect, with_next}
