@@ -1,7 +1,7 @@
 //! The way of a job: spawn, take, rest, finish.
 ghost use Rattle.std.specs.Prelude.{◌≡◌, ◌≢◌, ◌⊎◌, ℕ, ◌+◌, ◌*◌, ◌/◌, ◌%◌, ◌^◌, ◌<◌, IsTrue, IsFalse, IfSome, IfNone};
 ghost use Rattle.atomic_table.specs.Table.{rest};
-ghost use Rattle.arachne_exec.specs.Layout.{mark_at};
+ghost use Rattle.arachne_exec.specs.Layout.{mark_at, name_of};
 ghost use Rattle.arachne_exec.specs.Changes.{readying, blocking, hearing, noted, rousing};
 ghost use Rattle.arachne_exec.specs.Seats.{HasNewest, IsNewest};
 ghost use Rattle.arachne_exec.specs.Calls.{worker_at, HasSpawned, HasSpawnedHere, HandsSpawned, HasTaken, HasTakenNone, HasRested, HasFinished, KeepsHand, HandsOver, LaysDown};
@@ -12,20 +12,42 @@ use crate::layout::{LAST_GENERATION, free_word, mark_word, name_at, ready_word};
 use crate::seat::{CallSeat, ExecSeat};
 use crate::turns::{first_from, has_more, lowest_index};
 
+/// The mark of a place in hand, in which a wake was used up if there was one. [`Executor::refresh`] alone gives one, and
+/// no job that was ready is about to run without.
+#[derive(Drop)]
+pub(crate) struct Refreshed {
+    mark: u64,
+}
+
+impl Refreshed {
+    /// The job of this number at the place.
+    #[inline(always)]
+    pub(crate) fn job_at(&self, place: usize, job: u64) -> Job
+        requires { place < 1048576 }
+        ensures { result ≡ record { place = place; name = name_of place self.now.mark; job = job } }
+    {
+        Job {
+            place,
+            name: name_at(place, self.mark),
+            job,
+        }
+    }
+}
+
 impl Executor {
     /// The mark of the newest place says of no wake from now on. The mark that was found.
-    pub(crate) fn refresh(&self, seat: &mut CallSeat, place: usize) -> u64
+    pub(crate) fn refresh(&self, seat: &mut CallSeat, place: usize) -> Refreshed
         requires own { seat.old.table ≡ self.now.table }
         requires place { place < 4096 * self.now.shards }
         requires newest { (job : ℕ) × (inside : ℕ) × HasNewest place job inside seat.old }
-        ensures { (heard : ℕ) × (seat.new ≡ record seat.old { known = hearing (heard % 2) place (noted (mark_at place) result seat.old.known) }) }
+        ensures { (heard : ℕ) × (seat.new ≡ record seat.old { known = hearing (heard % 2) place (noted (mark_at place) result.mark seat.old.known) }) }
     {
         self.few();
         let mark = self.look(seat, mark_word(place));
         if mark % 4 != 0 {
             self.hear(seat, place);
         }
-        mark
+        Refreshed { mark }
     }
 
     /// Puts a job at a free place of a block, where it is ready: one try.
@@ -110,12 +132,7 @@ impl Executor {
         let mark = self.refresh(&mut seat.at, place);
         let job = self.lay(&mut seat.at, place, 0);
         self.lay(&mut seat.at, place, job);
-        let job = Job {
-            place,
-            name: name_at(place, mark),
-            job,
-        };
-        Some((job, has_more(ready, index)))
+        Some((mark.job_at(place, job), has_more(ready, index)))
     }
 
     /// Takes a job that is ready at a block, of any worker: one try, at the first ready place behind the index of the one

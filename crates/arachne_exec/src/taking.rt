@@ -7,7 +7,7 @@ ghost use Rattle.arachne_exec.specs.Calls.{HasTakenMany, HasStarted, HandsMany, 
 
 use crate::answers::Job;
 use crate::executor::Executor;
-use crate::layout::{all_but, bit, name_at, ready_word};
+use crate::layout::{all_but, bit, ready_word};
 use crate::seat::ExecSeat;
 use crate::turns::lowest_index;
 
@@ -64,10 +64,6 @@ impl Executor {
         let mark = self.refresh(&mut seat.at, place);
         let job = self.lay(&mut seat.at, place, 0);
         self.lay(&mut seat.at, place, job);
-        Job {
-            place,
-            name: name_at(place, mark),
-            job,
-        }
+        mark.job_at(place, job)
     }
 }

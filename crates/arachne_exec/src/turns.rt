@@ -1,5 +1,5 @@
 //! Where a search begins, so that jobs which are ready again and again don't keep others waiting.
-ghost use Rattle.std.specs.Prelude.{◌≡◌, ◌⊎◌, ℕ, ◌<◌};
+ghost use Rattle.std.specs.Prelude.{◌≡◌, ◌≢◌, ◌⊎◌, ◌↔◌, ℕ, ◌+◌, ◌-◌, ◌*◌, ◌/◌, ◌%◌, ◌^◌, ◌<◌, ◌≤◌, false, true, IsTrue};
 ghost use Rattle.std.specs.Int.{bit_at};
 
 /// The lowest index whose bit is set.
@@ -29,6 +29,7 @@ pub(crate) fn first_from(word: u64, from: usize) -> usize
 /// Whether a bit behind the index is set.
 pub(crate) fn has_more(word: u64, index: usize) -> bool
     requires { index < 64 }
+    ensures { IsTrue result ↔ (2 * 2 ^ index ≤ word) }
 {
     word >> index as u32 > 1
 }
@@ -40,13 +41,18 @@ pub(crate) struct Turn {
 }
 
 impl Turn {
-    pub(crate) fn start() -> Turn {
+    pub(crate) fn start() -> Turn
+        ensures { result.place ≡ 0 }
+    {
         Turn { place: 0 }
     }
 
     /// Behind a place that was taken, with whether its block, and its shard, had another ready place behind it.
     pub(crate) fn behind(place: usize, in_block: bool, in_shard: bool) -> Turn
         requires { place < 1048576 }
+        ensures in_block { in_block ≡ true → result.place ≡ place + 1 }
+        ensures in_shard { in_block ≡ false → in_shard ≡ true → result.place ≡ place - place % 64 + 64 }
+        ensures next_shard { in_block ≡ false → in_shard ≡ false → result.place ≡ place - place % 4096 + 262144 }
     {
         let place = if in_block {
             place + 1
@@ -60,7 +66,9 @@ impl Turn {
 
     /// Which of a worker's shards comes first, of so many.
     pub(crate) fn first_shard(&self, count: usize) -> usize
-        ensures { (result ≡ 0) ⊎ (result < count) }
+        ensures within { (result ≡ 0) ⊎ (result < count) }
+        ensures turn { self.now.place / 262144 < count → result ≡ self.now.place / 262144 }
+        ensures round { count ≤ self.now.place / 262144 → result ≡ 0 }
     {
         let first = self.place / (4096 * 64);
         if first < count { first } else { 0 }
@@ -68,7 +76,9 @@ impl Turn {
 
     /// Which block of a shard comes first.
     pub(crate) fn first_block(&self, shard: usize) -> usize
-        ensures { result < 64 }
+        ensures within { result < 64 }
+        ensures turn { self.now.place / 4096 ≡ shard → result ≡ self.now.place / 64 % 64 }
+        ensures other { self.now.place / 4096 ≢ shard → result ≡ 0 }
     {
         if self.place / 4096 == shard {
             self.place / 64 % 64
@@ -78,7 +88,10 @@ impl Turn {
     }
 
     /// Which place of a block comes first.
-    pub(crate) fn first_place(&self, block: usize) -> usize {
+    pub(crate) fn first_place(&self, block: usize) -> usize
+        ensures turn { self.now.place / 64 ≡ block → result ≡ self.now.place % 64 }
+        ensures other { self.now.place / 64 ≢ block → result ≡ 0 }
+    {
         if self.place / 64 == block {
             self.place % 64
         } else {

@@ -64,6 +64,22 @@ fn a_worker_that_stays_awake_is_not_unparked(rt: HostRuntime) -> Result<(), Fail
 }
 
 #[test]
+fn a_worker_that_has_woken_up_is_not_unparked(rt: HostRuntime) -> Result<(), Fail> {
+    let (executor, mut seat) = Executor::new(rt.alloc(), 1)?;
+    assert!(rt; executor.register(&mut seat, 0));
+    let mut other = executor.split(&mut seat);
+    assert!(rt; executor.next(&mut seat, 0) == Next::Park);
+    executor.wake_up(&mut seat, 0);
+    let placed = Placed {
+        place: 192,
+        name: 192,
+        unpark: false,
+    };
+    assert!(rt; executor.spawn(&mut other, 3, 1) == Spawned::Placed(placed));
+    Ok(())
+}
+
+#[test]
 fn jobs_that_are_left_come_by_place(rt: HostRuntime) -> Result<(), Fail> {
     let (executor, mut seat) = Executor::new(rt.alloc(), 1)?;
     executor.spawn(&mut seat, 3, 1);
@@ -151,5 +167,19 @@ fn several_jobs_are_taken_the_lowest_first(rt: HostRuntime) -> Result<(), Fail> 
     assert!(rt; executor.take_many(&mut seat, 3, 0) == 8);
     assert!(rt; executor.take_many(&mut seat, 3, 64) == (1 << 40) - 16);
     assert!(rt; executor.take_many(&mut seat, 3, 3) == 0);
+    Ok(())
+}
+
+#[test]
+fn a_start_uses_up_a_wake(rt: HostRuntime) -> Result<(), Fail> {
+    let (executor, mut seat) = Executor::new(rt.alloc(), 1)?;
+    let mut other = executor.split(&mut seat);
+    executor.spawn(&mut other, 3, 77);
+    let Some(job) = executor.take(&mut seat, 3) else {
+        panic!(rt; "no job")
+    };
+    assert!(rt; executor.wake(&mut other, 192) == Woken::Marked);
+    assert!(rt; executor.start(&mut seat, job.place) == FIRST);
+    assert!(rt; executor.rest_blocked(&mut seat, job.place) == Rested::Blocked);
     Ok(())
 }

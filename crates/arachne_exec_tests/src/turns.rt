@@ -89,3 +89,30 @@ fn blocks_that_others_empty_keep_no_shard_waiting(rt: HostRuntime) -> Result<(),
     assert!(rt; run == 3);
     Ok(())
 }
+
+/// Takes a job of a block and ends it.
+fn end_one(executor: &Executor, seat: &mut ExecSeat, block: usize)
+    requires own { seat.old.table ≡ executor.now.table }
+    requires block { block < 64 * executor.now.shards }
+    ensures { seat.new.table ≡ executor.now.table }
+{
+    if let Some(job) = executor.take(seat, block) {
+        executor.finish(seat, job.place);
+    }
+}
+
+#[test]
+fn a_worker_goes_round_its_shards(rt: HostRuntime) -> Result<(), Fail> {
+    let (executor, mut seat) = Executor::new(rt.alloc(), 65)?;
+    let mut other = executor.split(&mut seat);
+    assert!(rt; executor.register(&mut seat, 0));
+    executor.spawn(&mut other, 4096, 1);
+    executor.spawn(&mut other, 4096, 2);
+    assert!(rt; run_again(&executor, &mut seat) == 1);
+    // The turn is in the second shard now, where no job is left.
+    end_one(&executor, &mut other, 4096);
+    end_one(&executor, &mut other, 4096);
+    executor.spawn(&mut other, 0, 4);
+    assert!(rt; run_again(&executor, &mut seat) == 4);
+    Ok(())
+}

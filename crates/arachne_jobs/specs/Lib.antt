@@ -4,4 +4,5 @@ pub mod Ends
 pub mod Slices
 pub mod Classes
 pub mod Places
+pub mod Queued
 pub mod Faults

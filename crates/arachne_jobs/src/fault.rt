@@ -1,4 +1,5 @@
 //! Why a job can't go on.
+use crate::refusal::Refusal;
 use arachne_machine::{NotJoined, NotPlaced};
 use std::alloc::AllocError;
 use thiserror::Error;
@@ -22,6 +23,17 @@ impl From<AllocError> for JobFault {
     ghost from_gives = { λ _ e. e ≡ Memory };
 
     fn from(_: AllocError) -> JobFault {
+        JobFault::Memory
+    }
+}
+
+impl From<Refusal> for JobFault {
+    ghost use Rattle.std.specs.Prelude.{◌≡◌};
+    ghost use Rattle.arachne_jobs.specs.declared.fault.JobFault.TheVariants.{Memory};
+
+    ghost from_gives = { λ _ e. e ≡ Memory };
+
+    fn from(_: Refusal) -> JobFault {
         JobFault::Memory
     }
 }

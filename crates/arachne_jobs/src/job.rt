@@ -1,5 +1,5 @@
 //! What a context holds in a run: a thread of the program.
-ghost use Rattle.std.specs.Prelude.{◌≡◌, ◌≤◌, ℕ, List, false, true, [], IfErr, IfOk, OnOk, None, Some};
+ghost use Rattle.std.specs.Prelude.{◌≡◌, ◌≤◌, ℕ, List, [], IfErr, IfOk, IfSome, OnOk, None, Some};
 ghost use Rattle.arachne_lang.specs.declared.program.Program.{Program};
 ghost use Rattle.arachne_lang.specs.Program.{source_of};
 ghost use Rattle.arachne_lang.specs.Checked.{IsChecked};
@@ -15,8 +15,9 @@ use crate::ends::Link;
 use crate::fault::JobFault;
 use crate::left::{Found, Waiting};
 use crate::openings::{Asked, Openings};
+use crate::refusal::{Refusal, push};
 use crate::room::Room;
-use crate::slice::{JobOf, RunJob, RunThread, Slice};
+use crate::slice::{JobOf, RunJob, RunThread, Slice, Unended};
 use crate::spares::Spares;
 use crate::waiting::{Ticket, WaitCell};
 use crate::wanted::{OutcomeReceiver, Wanted};
@@ -121,8 +122,8 @@ impl<'p> RunJob for Job<'p> {
         match self.thread.pending() {
             None => {}
             Some(Pending::Joins) => {
-                if !self.join(spares)? {
-                    return Ok(Slice::Blocks);
+                if let Some(unended) = self.join(spares)? {
+                    return Ok(Slice::Blocks(unended));
                 }
             }
             Some(Pending::Asks(lock)) => return Ok(Slice::Awaits(lock)),
@@ -271,13 +272,10 @@ impl<'p> Job<'p> {
         {
             Pause::Budget => Ok(Slice::Goes),
             Pause::Forks(class, child) => Ok(Slice::Forks(class, child)),
-            Pause::Joins => {
-                if self.join(spares)? {
-                    Ok(Slice::Goes)
-                } else {
-                    Ok(Slice::Blocks)
-                }
-            }
+            Pause::Joins => match self.join(spares)? {
+                None => Ok(Slice::Goes),
+                Some(unended) => Ok(Slice::Blocks(unended)),
+            },
             Pause::Asks(lock) => Ok(Slice::Asks(lock)),
             Pause::Frees(lock) => Ok(Slice::Frees(lock)),
             Pause::Tallies(ledger, amount) => Ok(Slice::Tallies(ledger, amount)),
@@ -299,35 +297,32 @@ impl<'p> Job<'p> {
     }
 
     /// Has this end of a cell too.
-    fn expect(&mut self, link: Link<'p>) -> Result<(), JobFault>
+    fn expect(&mut self, link: Link<'p>) -> Result<(), Refusal>
         requires { IsLinked (program_of self.old.thread) (name_of self.old.thread) link }
         ensures { self.new ≡ self.old }
     {
-        match self.links.push(link) {
-            Ok(()) => Ok(()),
-            Err(_) => Err(JobFault::Memory),
-        }
+        push(&mut self.links, link)
     }
 
-    /// Joins the child that it awaits, if that has ended, and runs it in place, if it waits still. Whether it goes on.
-    fn join(&mut self, spares: &mut Spares<'p>) -> Result<bool, JobFault>
+    /// Joins the child that it awaits, if that has ended, and runs it in place, if it waits still. Else it can't go on.
+    fn join(&mut self, spares: &mut Spares<'p>) -> Result<Option<Unended>, JobFault>
         requires { IsAwaiting self.old.thread }
         ensures tag { tag_of self.new.thread ≡ tag_of self.old.thread }
         ensures parent { self.new.parent ≡ self.old.parent }
-        ensures joined { IfOk result (λ joined. joined ≡ true → IsGoing self.new.thread) }
-        ensures awaits { IfOk result (λ joined. joined ≡ false → IsAwaiting self.new.thread) }
+        ensures joined { IfOk result (λ missed. missed ≡ None → IsGoing self.new.thread) }
+        ensures awaits { IfOk result (λ missed. IfSome missed (λ _. IsAwaiting self.new.thread)) }
     {
         match self.find(spares)? {
             Found::Outcome(outcome) => {
                 let program = self.thread.program();
                 self.thread.joined(outcome.attach(program))?;
-                Ok(true)
+                Ok(None)
             }
             Found::Child(child) => {
                 self.place(child)?;
-                Ok(true)
+                Ok(None)
             }
-            Found::Nothing => Ok(false),
+            Found::Nothing(unended) => Ok(Some(unended)),
         }
     }
 
@@ -343,7 +338,7 @@ impl<'p> Job<'p> {
             Ok(found) => Ok(found),
             Err(link) => {
                 self.links.push_reserved(link);
-                Ok(Found::Nothing)
+                Ok(Found::Nothing(Unended { looked: () }))
             }
         }
     }

@@ -1,4 +1,7 @@
 //! What a thread is told at its forks.
+ghost use Rattle.std.specs.Prelude.{◌≡◌, ◌↔◌, ◌≤◌, ◌+◌, ◌%◌, ◌^◌, false, true, if◌then◌else◌, IsTrue};
+ghost use Rattle.arachne_jobs.specs.declared.openings.TheConstants.{LARGE};
+
 use crate::room::Room;
 use crate::tags::Tags;
 use arachne_lang::Class;
@@ -19,12 +22,33 @@ const LARGE: u64 = 1024;
 
 impl Openings {
     /// No tag is drawn yet, and no word is owed.
-    pub fn new() -> Openings {
+    pub fn new() -> Openings
+        ensures { (result.tags.left ≡ 0) × (result.draws ≡ 0) × (result.is_large ≡ false) }
+    {
         Openings {
             tags: Tags::new(),
             draws: 0,
             is_large: false,
         }
+    }
+
+    /// A fork is no pause where its child may have no place: then a word of the chooser is owed.
+    #[inline(always)]
+    fn owe_unless(&mut self, may: bool)
+        ensures { self.new ≡ record self.old { draws = if may then self.old.draws else (self.old.draws + 1) % 2 ^ 64 } }
+    {
+        if !may {
+            self.draws = self.draws.wrapping_add(1);
+        }
+    }
+
+    /// The child that is forked has so many turns to make.
+    #[inline(always)]
+    fn note_turns(&mut self, turns: u64)
+        ensures others { self.new ≡ record self.old { is_large = self.new.is_large } }
+        ensures large { IsTrue self.new.is_large ↔ (LARGE ≤ turns) }
+    {
+        self.is_large = turns >= LARGE;
     }
 }
 
@@ -38,12 +62,12 @@ pub(crate) struct Asked<'a> {
 impl<'a> Asked<'a> {
     /// Whether a child may get a place or wait for one. If not, a word of the chooser is owed.
     #[inline(always)]
-    fn may_have_a_place(&mut self, class: Class) -> bool {
-        if class == Class::Exclusive || self.room.has_free_place() || self.room.may_wait() {
-            return true;
-        }
-        self.openings.draws = self.openings.draws.wrapping_add(1);
-        false
+    fn may_have_a_place(&mut self, class: Class) -> bool
+        ensures { class ≡ Class.Exclusive → IsTrue result }
+    {
+        let may = class == Class::Exclusive || self.room.has_free_place() || self.room.may_wait();
+        self.openings.owe_unless(may);
+        may
     }
 }
 
@@ -53,14 +77,21 @@ impl<'a> Placing for Asked<'a> {
     ghost gives_all = { false };
 
     #[inline(always)]
-    fn is_any(&mut self, class: Class) -> bool {
-        self.openings.is_large = false;
+    fn is_any(&mut self, class: Class) -> bool
+        ensures all { false ≡ true → IsTrue result }
+        ensures exclusive { class ≡ Class.Exclusive → IsTrue result }
+    {
+        self.openings.note_turns(0);
         self.may_have_a_place(class)
     }
 
     #[inline(always)]
-    fn is_any_for(&mut self, class: Class, turns: u64) -> bool {
-        self.openings.is_large = turns >= LARGE;
+    fn is_any_for(&mut self, class: Class, turns: u64) -> bool
+        ensures all { false ≡ true → IsTrue result }
+        ensures exclusive { class ≡ Class.Exclusive → IsTrue result }
+        ensures large { LARGE ≤ turns → IsTrue result }
+    {
+        self.openings.note_turns(turns);
         self.openings.is_large || self.may_have_a_place(class)
     }
 

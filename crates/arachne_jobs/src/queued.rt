@@ -1,11 +1,13 @@
 //! Tickets that are put into the queue and taken out, each of which is counted.
-ghost use Rattle.std.specs.Prelude.{◌≡◌, IfErr};
+ghost use Rattle.std.specs.Prelude.{◌≡◌, ◌++◌, ◌∷◌, [], IfErr, IfNone, IfOk, IfSome, OnErr, OnOk};
 ghost use Rattle.arachne_spill.specs.Views.{IsPassOf};
+ghost use Rattle.arachne_jobs.specs.Queued.{HasTurned};
 
 use crate::room::Room;
 use crate::slice::RunTicket;
 use arachne_contexts::Tagged;
 use arachne_spill::{CAPACITY, SpillPass, SpillQueue};
+use std::snapshot::Snapshot;
 use std::sync::Wait;
 
 /// A child's ticket was put into the queue, and is to be counted. It can't be dropped. [`put_ticket`] alone gives it, and
@@ -18,6 +20,38 @@ pub struct TicketPut {
 /// [`Room::ticket_was_taken`](crate::Room::ticket_was_taken) takes it.
 pub struct TicketTaken {
     uncounted: (),
+}
+
+/// The queue was full as a ticket was to be put into it. [`put_ticket`] alone gives it.
+#[derive(Drop)]
+pub struct NoRoom {
+    seen: (),
+}
+
+/// The child of the ticket with this tag waited no longer, and the ticket is dropped. [`if_live`] alone gives it. It can't
+/// be dropped.
+pub(crate) struct Gone {
+    tag: Snapshot<u64>,
+}
+
+/// What became of the oldest ticket of the queue.
+pub(crate) enum Turned {
+    /// There was none.
+    Empty,
+    /// Its child waits still, and it went to the end of the queue.
+    Kept,
+    /// Its child waits still, for its parent: the queue was filled meanwhile.
+    Unkept(NoRoom),
+    /// Its child waited no longer.
+    Dropped(Gone),
+}
+
+impl Gone {
+    /// The ticket is gone too.
+    #[inline(always)]
+    fn dropped(self) {
+        let Gone { tag: _ } = self;
+    }
 }
 
 impl TicketPut {
@@ -43,14 +77,16 @@ pub fn put_ticket<R: Wait, K: Tagged + Drop>(
     tickets: &SpillQueue<K>,
     pass: &mut SpillPass<K>,
     ticket: K,
-) -> Result<TicketPut, K>
+) -> Result<TicketPut, (K, NoRoom)>
     requires { IsPassOf tickets.now pass.old }
     ensures pass { IsPassOf tickets.now pass.new }
-    ensures handed_back { IfErr result (λ back. back ≡ ticket) }
+    ensures put { OnOk result (pass.new ≡ record pass.old { pushed = pass.old.pushed ++ K.tag_of ticket ∷ [] }) }
+    ensures same { OnErr result (pass.new ≡ pass.old) }
+    ensures handed_back { IfErr result (λ back. back.0 ≡ ticket) }
 {
     match tickets.push(rt, pass, ticket) {
         Ok(()) => Ok(TicketPut { uncounted: () }),
-        Err(ticket) => Err(ticket),
+        Err(ticket) => Err((ticket, NoRoom { seen: () })),
     }
 }
 
@@ -62,7 +98,9 @@ pub fn next_ticket<R: Wait, K: Tagged + Drop>(
     pass: &mut SpillPass<K>,
 ) -> Option<(K, TicketTaken)>
     requires { IsPassOf tickets.now pass.old }
-    ensures { IsPassOf tickets.now pass.new }
+    ensures pass { IsPassOf tickets.now pass.new }
+    ensures taken { IfSome result (λ next. pass.new ≡ record pass.old { popped = pass.old.popped ++ K.tag_of next.0 ∷ [] }) }
+    ensures same { IfNone result (pass.new ≡ pass.old) }
 {
     let ticket = tickets.pop(rt, pass)?;
     Some((ticket, TicketTaken { uncounted: () }))
@@ -70,6 +108,47 @@ pub fn next_ticket<R: Wait, K: Tagged + Drop>(
 
 /// How many tickets whose children wait still may go to the end of the queue while room is made in it.
 const MOST_LIVE: u32 = 8;
+
+/// The ticket, if its child waits still.
+#[inline(always)]
+fn if_live<K: RunTicket>(ticket: K) -> Result<K, Gone>
+    ensures same { IfOk result (λ back. back ≡ ticket) }
+    ensures gone { IfErr result (λ gone. gone.tag.value ≡ K.tag_of ticket) }
+{
+    if ticket.still_waits() {
+        return Ok(ticket);
+    }
+    Err(Gone {
+        tag: Snapshot::of(&ticket.tag()),
+    })
+}
+
+/// Takes the oldest ticket out of the queue. One whose child waits still goes to its end, and another one is dropped.
+fn turn_over<R: Wait, K: RunTicket>(
+    rt: &R,
+    tickets: &SpillQueue<K>,
+    room: &Room,
+    pass: &mut SpillPass<K>,
+) -> Turned
+    requires { IsPassOf tickets.now pass.old }
+    ensures pass { IsPassOf tickets.now pass.new }
+    ensures turned { HasTurned result pass.old pass.new }
+{
+    let Some((ticket, taken)) = next_ticket(rt, tickets, pass) else {
+        return Turned::Empty;
+    };
+    room.ticket_was_taken(taken);
+    match if_live(ticket) {
+        Ok(ticket) => match put_ticket(rt, tickets, pass, ticket) {
+            Ok(put) => {
+                room.child_waits(put);
+                Turned::Kept
+            }
+            Err((_, full)) => Turned::Unkept(full),
+        },
+        Err(gone) => Turned::Dropped(gone),
+    }
+}
 
 /// Where the queue is full, drops tickets whose children are gone, the oldest first, until there is room for one. A
 /// ticket whose child waits still goes to the end of the queue.
@@ -87,16 +166,10 @@ pub fn drop_stale<R: Wait, K: RunTicket>(
         if live >= MOST_LIVE || !tickets.is_full(rt, pass) {
             return;
         }
-        let Some((ticket, taken)) = next_ticket(rt, tickets, pass) else {
-            return;
-        };
-        room.ticket_was_taken(taken);
-        if ticket.still_waits() {
-            live += 1;
-            // Where the queue was filled meanwhile, the child waits on without a ticket, for its parent.
-            if let Ok(put) = put_ticket(rt, tickets, pass, ticket) {
-                room.child_waits(put);
-            }
+        match turn_over(rt, tickets, room, pass) {
+            Turned::Empty => return,
+            Turned::Kept | Turned::Unkept(_) => live += 1,
+            Turned::Dropped(gone) => gone.dropped(),
         }
     }
 }

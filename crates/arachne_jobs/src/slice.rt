@@ -25,7 +25,7 @@ pub enum Slice<Child> {
     /// It forks this child, and goes on once it is answered.
     Forks(Class, Child),
     /// It awaits a child that has not ended.
-    Blocks,
+    Blocks(Unended),
     /// It asks for this lock, and goes on once it is answered.
     Asks(u64),
     /// It has asked for this lock before, and is not answered yet.
@@ -36,6 +36,12 @@ pub enum Slice<Child> {
     Tallies(u64, u64),
     /// It has ended.
     Ends,
+}
+
+/// The cell of the child that a job awaits was looked at, and nothing was there. No job blocks without. It has no bytes.
+#[derive(Drop)]
+pub struct Unended {
+    pub(crate) looked: (),
 }
 
 /// A thread that runs, as its workers see it: its name, whose turn it is, how it rests, and the answer to what it asks

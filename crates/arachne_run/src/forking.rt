@@ -1,7 +1,7 @@
 //! How threads get their places: the child of a fork is posted at one, waits for one, or runs in its parent's.
 //!
 //! It may touch the table through the seat that it is given, and the queue of those that wait.
-ghost use Rattle.std.specs.Prelude.{◌≡◌, ◌↔◌, ◌<◌, ◌≤◌, [], ◌∷◌, false, IfOk, IsTrue, MatchOption, OnOk, map};
+ghost use Rattle.std.specs.Prelude.{◌≡◌, ◌↔◌, ◌<◌, ◌≤◌, [], ◌∷◌, false, IfOk, IsOk, IsTrue, MatchOption, OnOk, map};
 ghost use Rattle.arachne_contexts.specs.Out.{Claim as a_claim, HasOut};
 ghost use Rattle.arachne_spill.specs.Views.{IsPassOf};
 ghost use Rattle.arachne_run.specs.Serving.{StopsAt};
@@ -42,6 +42,7 @@ pub(crate) fn go_on<H: Wait + Clock, T: RunJob, C: Contexts<T>, R: Rng>(
     seat: &mut C::Seat,
     pass: &mut SpillPass<T::Ticket>,
     held: &mut Held<T, C::Hold>,
+    has_lock: &mut bool,
     forks: &mut Forks<R, T::Spares>,
     access: &mut Access<'_>,
     pace: &mut Pace,
@@ -55,6 +56,7 @@ pub(crate) fn go_on<H: Wait + Clock, T: RunJob, C: Contexts<T>, R: Rng>(
     ensures kept { C.sits machine.now.table seat.new × IsPassOf machine.now.tickets pass.new × (access.new ≡ access.old)
         × OnOk result (C.has machine.now.table seat.new (thread_in T.tag_of held.new ∷ []) × (left.new ≤ left.old)) }
     ensures stops { IfOk result (λ stop. StopsAt stop (T.pause_of held.new.value)) }
+    ensures drawn { IsOk result → forks.new.openings.draws ≡ 0 }
 {
     let room = machine.shared.room();
     let slice = held
@@ -69,7 +71,7 @@ pub(crate) fn go_on<H: Wait + Clock, T: RunJob, C: Contexts<T>, R: Rng>(
                 rt, alloc, machine, seat, pass, held, class, child, forks,
             );
         }
-        Slice::Blocks => return Ok(Stop::Blocks),
+        Slice::Blocks(_) => return Ok(Stop::Blocks),
         Slice::Ends => return Ok(Stop::Ends),
         Slice::Asks(lock) => Want::Asks(lock),
         Slice::Awaits(lock) => Want::Awaits(lock),
@@ -77,7 +79,7 @@ pub(crate) fn go_on<H: Wait + Clock, T: RunJob, C: Contexts<T>, R: Rng>(
         Slice::Tallies(ledger, amount) => Want::Tallies(ledger, amount),
     };
     let id = held.id();
-    access.serve(rt, pace, want, id, &mut held.value)
+    access.serve(rt, pace, want, id, &mut held.value, has_lock)
 }
 
 /// Draws so many words from the chooser.
@@ -109,6 +111,7 @@ fn answer_fork<H: Wait, T: RunJob, C: Contexts<T>, R: Rng>(
     ensures kept { C.sits machine.now.table seat.new × IsPassOf machine.now.tickets pass.new
         × OnOk result (C.has machine.now.table seat.new (thread_in T.tag_of held.new ∷ [])) }
     ensures stops { IfOk result (λ stop. StopsAt stop (T.pause_of held.new.value)) }
+    ensures draws { forks.new.openings.draws ≡ forks.old.openings.draws }
 {
     let (me, room) = (held.id(), machine.shared.room());
     let tag = forks.openings.tags.take(room);

@@ -1,5 +1,5 @@
 //! What a worker does next: a scan of what may be ready, a ticket, a look at all, and else it waits.
-ghost use Rattle.std.specs.Prelude.{◌≡◌};
+ghost use Rattle.std.specs.Prelude.{◌≡◌, IsOk};
 
 use crate::desk::{Desk, Event, Grip, Halt, Ticket, give_all_back, thin_out};
 use crate::execute::Worker;
@@ -36,8 +36,8 @@ impl<'a, H: Wait + Clock, D: Desk> Worker<'a, H, D> {
     pub fn round(&mut self, idle: u32) -> Result<bool, Halt>
         ensures { self.new.desk ≡ self.old.desk }
     {
-        let sleeps = idle > policy::last_awake(self.pace.may_yield());
-        let looks = idle == 0 || sleeps;
+        let sleeps = policy::sleeps(idle, self.pace.may_yield());
+        let looks = policy::looks_at_all(idle, sleeps);
         // Nothing has told it to look: its sleep ended by its time.
         let overslept = sleeps && self.shared.hints().is_asleep(self.core);
         let found = self.scan()? || looks && self.scan_all()?;
@@ -52,10 +52,11 @@ impl<'a, H: Wait + Clock, D: Desk> Worker<'a, H, D> {
 
     /// What is done after so many rounds in turn that found nothing: orders that are due are applied, and it waits.
     pub fn rest_for(&mut self, idle: u32)
-        ensures { self.new.desk ≡ self.old.desk }
+        ensures desk { self.new.desk ≡ self.old.desk }
+        ensures same { (self.new.agenda ≡ self.old.agenda) × (self.new.slices ≡ self.old.slices) }
     {
         self.tend();
-        if idle > policy::last_awake(self.pace.may_yield()) {
+        if policy::sleeps(idle, self.pace.may_yield()) {
             let spell = Duration::from_micros(policy::sleep_of(self.desk.is_waited_for()));
             self.shared.sleep(self.rt, self.core, spell);
         } else {
@@ -66,7 +67,8 @@ impl<'a, H: Wait + Clock, D: Desk> Worker<'a, H, D> {
 
     /// Runs each thread that may be ready as far as is known, once, and then takes a ticket. Whether there was anything.
     fn scan(&mut self) -> Result<bool, Halt>
-        ensures { self.new.desk ≡ self.old.desk }
+        ensures desk { self.new.desk ≡ self.old.desk }
+        ensures ended { IsOk result → self.new.agenda.scan ≡ 0 }
     {
         thin_out(&mut self.desk, self.slots)?;
         let mut indexes = self.shared.hints().take(self.core);
@@ -81,7 +83,8 @@ impl<'a, H: Wait + Clock, D: Desk> Worker<'a, H, D> {
     /// The same for all that is occupied, and parks where the core is closed and nothing is on it. Before it waits for
     /// anything the places that it keeps are given back, and all that it has posted is told of.
     fn scan_all(&mut self) -> Result<bool, Halt>
-        ensures { self.new.desk ≡ self.old.desk }
+        ensures desk { self.new.desk ≡ self.old.desk }
+        ensures ended { IsOk result → self.new.agenda.scan ≡ 0 }
     {
         let occupied = self.desk.look().mask();
         self.agenda.begin_scan(occupied);
@@ -105,7 +108,8 @@ impl<'a, H: Wait + Clock, D: Desk> Worker<'a, H, D> {
     /// Runs each thread that is ready at the indexes of the scan, upwards, unless all workers stop. Whether there was
     /// one.
     fn run_each(&mut self) -> Result<bool, Halt>
-        ensures { self.new.desk ≡ self.old.desk }
+        ensures desk { self.new.desk ≡ self.old.desk }
+        ensures ended { IsOk result → self.new.agenda.scan ≡ 0 }
     {
         let mut found = false;
         for _ in 0..SLOTS {
@@ -155,7 +159,8 @@ impl<'a, H: Wait + Clock, D: Desk> Worker<'a, H, D> {
 
     /// Takes a ticket, if a place of the core is free or kept for its child. Whether there was one.
     fn take_ticket(&mut self) -> Result<bool, Halt>
-        ensures { self.new.desk ≡ self.old.desk }
+        ensures desk { self.new.desk ≡ self.old.desk }
+        ensures others { (self.new.agenda.scan ≡ self.old.agenda.scan) × (self.new.agenda.next ≡ self.old.agenda.next) × (self.new.slices ≡ self.old.slices) }
     {
         if !self.desk.may_take_ticket() {
             return Ok(false);

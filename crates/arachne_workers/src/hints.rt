@@ -1,7 +1,7 @@
 //! Where threads may be ready, and whose workers sleep: a word for each core.
 //!
 //! It may touch atomics alone, so any host may call it: whom to wake each call says, and waking is the caller's.
-ghost use Rattle.std.specs.Prelude.{◌≡◌, ◌<◌, ◌≤◌, ◌^◌, IfOk};
+ghost use Rattle.std.specs.Prelude.{◌≡◌, ◌↔◌, ◌<◌, ◌≤◌, ◌*◌, ◌/◌, ◌%◌, ◌^◌, IfOk, IsSome, IsTrue};
 ghost use Rattle.arachne_core.specs.declared.layout.TheConstants.{SLOTS};
 
 use arachne_core::SLOTS;
@@ -25,6 +25,30 @@ pub(crate) fn bit_of(index: u8) -> u64
     } else {
         0
     }
+}
+
+/// What a word is told of indexes, a bit for each.
+#[inline(always)]
+fn hint_of(indexes: u64) -> u64
+    ensures { result ≡ indexes * 2 % 2 ^ 64 }
+{
+    indexes << INDEX_SHIFT
+}
+
+/// The indexes in a word, a bit for each.
+#[inline(always)]
+fn indexes_in(word: u64) -> u64
+    ensures { result ≡ word / 2 }
+{
+    word >> INDEX_SHIFT
+}
+
+/// Whether a word says that the core's worker sleeps.
+#[inline(always)]
+fn says_sleeps(word: u64) -> bool
+    ensures { IsTrue result ↔ (word % 2 ≡ 1) }
+{
+    word & SLEEPS != 0
 }
 
 /// For each core a word on a cache line of its own. It has a bit for each index at which a thread may be ready, and one
@@ -66,7 +90,7 @@ impl Hints {
     /// Threads of a core may be ready at these indexes, a bit for each. Whether its worker sleeps, and is to be woken.
     pub fn hint(&self, core: u8, indexes: u64) -> bool {
         match self.word(core) {
-            Some(word) => { word.fetch_or(indexes << INDEX_SHIFT, Ordering::SeqCst) & SLEEPS != 0 }
+            Some(word) => says_sleeps(word.fetch_or(hint_of(indexes), Ordering::SeqCst)),
             None => false,
         }
     }
@@ -75,7 +99,7 @@ impl Hints {
     pub fn take(&self, core: u8) -> u64 {
         match self.word(core) {
             Some(word) if word.load(Ordering::SeqCst) != 0 => {
-                word.swap(0, Ordering::SeqCst) >> INDEX_SHIFT
+                indexes_in(word.swap(0, Ordering::SeqCst))
             }
             _ => 0,
         }
@@ -88,7 +112,7 @@ impl Hints {
 
     /// Whether the core's worker sleeps, or has slept its time out and not looked since.
     pub fn is_asleep(&self, core: u8) -> bool {
-        self.now(core) & SLEEPS != 0
+        says_sleeps(self.now(core))
     }
 
     fn now(&self, core: u8) -> u64 {
@@ -116,7 +140,9 @@ impl Hints {
     }
 
     /// The word of a core, on whose low 32 bits its worker may sleep.
-    pub fn word(&self, core: u8) -> Option<&AtomicU64> {
+    pub fn word(&self, core: u8) -> Option<&AtomicU64>
+        ensures { IsSome result ↔ (core < self.now) }
+    {
         match self.words.get(usize::from(core)) {
             Some(word) => Some(word),
             None => None,

@@ -2,10 +2,10 @@
 //!
 //! Pure functions: what they answer changes when and where threads run, and how fast, and never what a run means. The
 //! contract of each says its exact answer, so no test of its own is needed.
-ghost use Rattle.std.specs.Prelude.{◌≡◌, ◌≤◌, ◌<◌, ◌+◌, ◌-◌, ◌*◌, ◌↔◌, ◌⊎◌, false, true, if◌then◌else◌, min, IsTrue};
+ghost use Rattle.std.specs.Prelude.{◌≡◌, ◌≤◌, ◌<◌, ◌+◌, ◌-◌, ◌*◌, ◌^◌, ◌↔◌, ◌⊎◌, false, true, if◌then◌else◌, min, IsTrue};
 ghost use Rattle.arachne_core.specs.Occupancy.{count_of};
 ghost use Rattle.arachne_workers.specs.Keeping.{MayKeepPlaces};
-ghost use Rattle.arachne_workers.specs.declared.policy.TheConstants.{STEPS_PAST_FREE, TOLD_AT_ONCE, LAST_SPIN, LAST_SPIN_ALONE, LAST_YIELD, SHORT_SLEEP, LONG_SLEEP};
+ghost use Rattle.arachne_workers.specs.declared.policy.TheConstants.{STEPS_PAST_FREE, TOLD_AT_ONCE, LAST_SPIN, LAST_SPIN_ALONE, LAST_YIELD, MOST_SPINS, SHORT_SLEEP, LONG_SLEEP};
 
 use arachne_core::OccWord;
 
@@ -141,6 +141,59 @@ pub(crate) fn last_awake(may_yield: bool) -> u32
         LAST_YIELD
     } else {
         LAST_SPIN_ALONE
+    }
+}
+
+/// Whether a worker that may yield or not still spins in this round.
+#[inline(always)]
+pub(crate) fn spins(round: u32, may_yield: bool) -> bool
+    ensures { IsTrue result ↔ (round ≤ (if may_yield then LAST_SPIN else LAST_SPIN_ALONE)) }
+{
+    round <= last_spin(may_yield)
+}
+
+/// How often it looks while it spins in this round.
+#[inline(always)]
+pub(crate) fn spins_of(round: u32) -> u32
+    ensures { result ≡ 2 ^ min round MOST_SPINS }
+{
+    1 << round.min(MOST_SPINS)
+}
+
+/// Whether a worker that may yield or not sleeps after so many rounds in turn that found nothing.
+#[inline(always)]
+pub(crate) fn sleeps(idle: u32, may_yield: bool) -> bool
+    ensures { IsTrue result ↔ ((if may_yield then LAST_YIELD else LAST_SPIN_ALONE) < idle) }
+{
+    idle > last_awake(may_yield)
+}
+
+/// Whether a round looks at all that is occupied, after so many in turn that found nothing: the first one, and each before
+/// a sleep.
+#[inline(always)]
+pub(crate) fn looks_at_all(idle: u32, sleeps: bool) -> bool
+    ensures { IsTrue result ↔ (idle ≡ 0) ⊎ (sleeps ≡ true) }
+{
+    idle == 0 || sleeps
+}
+
+/// Whether a thread that holds what others may come to wait for has made all steps that it may make at once for that.
+#[inline(always)]
+pub(crate) fn is_grace_over(holds: bool, grace: u32) -> bool
+    ensures { IsTrue result ↔ (holds ≡ true) × (grace ≡ 0) }
+{
+    holds && grace == 0
+}
+
+/// How many of those are left where it may make so many now.
+#[inline(always)]
+pub(crate) fn grace_left(holds: bool, grace: u32, most: u32) -> u32
+    ensures { result ≡ (if holds then grace - most else grace) }
+{
+    if holds {
+        grace.saturating_sub(most)
+    } else {
+        grace
     }
 }
 

@@ -202,7 +202,7 @@ impl Agenda {
 
     /// The newest that is kept back, and is no longer.
     pub(crate) fn take_newest(&mut self) -> Option<Post>
-        ensures newest { MatchOption result (self.old.posts.items ≡ []) (λ newest. self.old.posts.items ≡ self.new.posts.items ++ newest ∷ []) }
+        ensures newest { MatchOption result ((self.old.posts.items ≡ []) × (self.new.posts.items ≡ [])) (λ newest. self.old.posts.items ≡ self.new.posts.items ++ newest ∷ []) }
         ensures others { self.new ≡ record self.old { posts = self.new.posts } }
     {
         self.posts.pop()
@@ -212,6 +212,7 @@ impl Agenda {
     pub(crate) fn begin_slice(&mut self)
         ensures empty { self.old.posts.items ≡ [] → self.new ≡ record self.old { patience = PATIENCE } }
         ensures kept_back { self.old.posts.items ≢ [] → self.new ≡ self.old }
+        ensures others { self.new ≡ record self.old { patience = self.new.patience } }
     {
         if self.posts.is_empty() {
             self.patience = policy::PATIENCE;

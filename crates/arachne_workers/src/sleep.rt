@@ -1,5 +1,6 @@
 //! What all workers see, and how they sleep, wake one another, park and stop.
-ghost use Rattle.std.specs.Prelude.{◌≡◌, IfOk};
+ghost use Rattle.std.specs.Prelude.{◌≡◌, ◌↔◌, ◌<◌, IfOk, IsTrue};
+ghost use Rattle.std.specs.Int.{bit_at};
 ghost use Rattle.arachne_arbiter.specs.KernelThreads.{counted_cores, parked_cores};
 
 use crate::desk::SliceEnd;
@@ -43,6 +44,33 @@ impl Sliced {
     {
         self.end
     }
+
+    /// It is counted now. How it has ended.
+    #[inline(always)]
+    fn counted(self, counted: Counted) -> SliceEnd
+        ensures { result ≡ self.end }
+    {
+        let _ = counted;
+        let Sliced { steps: _, end } = self;
+        end
+    }
+}
+
+/// A slice was counted. [`count_on`] alone gives one, and it knows nothing of the slice.
+#[derive(Drop)]
+struct Counted {
+    done: (),
+}
+
+/// Counts a slice that has ended on a core, if there is one.
+#[inline(always)]
+fn count_on(slices: &SliceCounts, core: u8, cores: usize) -> Counted
+    requires { counted_cores slices.now ≡ cores }
+{
+    if usize::from(core) < cores {
+        slices.count(core);
+    }
+    Counted { done: () }
 }
 
 /// The word that stops all workers, the hints, on whose words they sleep, the counts of their slices and their parkers.
@@ -104,11 +132,7 @@ impl Shared {
     pub(crate) fn count_slice(&self, core: u8, sliced: Sliced) -> SliceEnd
         ensures { result ≡ sliced.end }
     {
-        if usize::from(core) < self.hints.cores() {
-            self.slices.count(core);
-        }
-        let Sliced { steps: _, end } = sliced;
-        end
+        sliced.counted(count_on(&self.slices, core, self.hints.cores()))
     }
 
     /// The thread at a place may be ready. The core's worker is woken if it sleeps.
@@ -121,7 +145,7 @@ impl Shared {
     /// Threads of these cores, a bit for each, may be ready at any index.
     pub fn hint_cores(&self, cores: u64) {
         for core in 0..CORES {
-            if cores >> u32::from(core) & 1 == 1 && self.hints.hint(core, FULL_MASK) {
+            if has_core(cores, core) && self.hints.hint(core, FULL_MASK) {
                 self.wake(core);
             }
         }
@@ -166,4 +190,13 @@ impl Shared {
             word.park_timeout(rt, SLEEPS as u32, spell);
         }
     }
+}
+
+/// Whether a core is among these, a bit for each.
+#[inline(always)]
+fn has_core(cores: u64, core: u8) -> bool
+    requires { core < 64 }
+    ensures { IsTrue result ↔ (bit_at cores core ≡ 1) }
+{
+    cores >> u32::from(core) & 1 == 1
 }

@@ -28,8 +28,8 @@ pub(crate) fn advance<D: Desk>(
     Ok((stop, Made { steps: most - left }))
 }
 
-/// How many steps a slice has left, and how many were made in it.
-#[derive(Drop)]
+/// How many steps a slice has left, and how many were made in it. It can't be dropped or begun anew, so that those that
+/// were made are told at the slice's end.
 pub(crate) struct Steps {
     left: u32,
     made: u32,
@@ -54,11 +54,22 @@ impl Steps {
         self.left
     }
 
+    /// The slice has ended. How many steps were made in it.
     #[inline(always)]
-    pub(crate) fn made(&self) -> u32
-        ensures { result ≡ self.now.made }
+    pub(crate) fn made(self) -> u32
+        ensures { result ≡ self.made }
     {
-        self.made
+        let Steps { left: _, made } = self;
+        made
+    }
+
+    /// The slice meets a fault, and nothing is told of it.
+    #[inline(always)]
+    pub(crate) fn untold(self, halt: Halt) -> Halt
+        ensures { result ≡ halt }
+    {
+        let Steps { left: _, made: _ } = self;
+        halt
     }
 
     /// Counts steps that were made. How many they are.

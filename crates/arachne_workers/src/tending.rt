@@ -17,7 +17,8 @@ impl<'a, H: Wait + Clock, D: Desk> Worker<'a, H, D> {
     /// closed core.
     #[inline(always)]
     pub fn tend(&mut self) -> Tended
-        ensures { self.new.desk ≡ self.old.desk }
+        ensures desk { self.new.desk ≡ self.old.desk }
+        ensures same { (self.new.agenda ≡ self.old.agenda) × (self.new.slices ≡ self.old.slices) }
     {
         if self.desk.has_orders() {
             self.apply_orders();
@@ -26,7 +27,8 @@ impl<'a, H: Wait + Clock, D: Desk> Worker<'a, H, D> {
     }
 
     fn apply_orders(&mut self)
-        ensures { self.new.desk ≡ self.old.desk }
+        ensures desk { self.new.desk ≡ self.old.desk }
+        ensures same { (self.new.agenda ≡ self.old.agenda) × (self.new.slices ≡ self.old.slices) }
     {
         let (applied, receivers) = self.desk.tend();
         if let Some(applied) = applied {

@@ -1,5 +1,8 @@
 //! Threads that a worker posts or wakes, and how the workers of their cores learn of them.
-ghost use Rattle.std.specs.Prelude.{◌≡◌, ◌↔◌, IfSome, IsSome};
+ghost use Rattle.std.specs.Prelude.{◌≡◌, ◌≢◌, ◌↔◌, ◌≤◌, ◌<◌, ◌+◌, ◌^◌, [], false, length, min, IfSome, IsSome, None};
+ghost use Rattle.std.specs.Int.RustNames.{bit_or};
+ghost use Rattle.arachne_core.specs.declared.layout.TheConstants.{SLOTS};
+ghost use Rattle.arachne_workers.specs.declared.policy.TheConstants.{MOST_KEPT_BACK};
 
 use crate::desk::{Cause, Desk, Event};
 use crate::execute::Worker;
@@ -15,7 +18,9 @@ impl<'a, H: Wait + Clock, D: Desk> Worker<'a, H, D> {
     /// others may wait for it; another one too where its core's worker sleeps: moving it takes less than waking a
     /// kernel thread. If the thread is moved meanwhile, the arbiter says so of its new core.
     pub(crate) fn wake(&mut self, id: ThreadId, cause: Cause)
-        ensures { self.new.desk ≡ self.old.desk }
+        ensures desk { self.new.desk ≡ self.old.desk }
+        ensures others { (self.new.agenda ≡ record self.old.agenda { ready = self.new.agenda.ready; next = self.new.agenda.next }) × (self.new.slices ≡ self.old.slices) }
+        ensures next { cause ≢ Cause.IsServed → self.new.agenda.next ≡ self.old.agenda.next }
     {
         if !desk::wake(self.rt, &mut self.desk, id) {
             return;
@@ -50,7 +55,10 @@ impl<'a, H: Wait + Clock, D: Desk> Worker<'a, H, D> {
     /// wait and nothing here may be ready, the newest that the worker has posted and not told of, which is moved here.
     /// Those that can't be are told of, and those that went on meanwhile are forgotten.
     pub(crate) fn next(&mut self, waits: bool) -> Option<u8>
-        ensures { self.new.desk ≡ self.old.desk }
+        ensures desk { self.new.desk ≡ self.old.desk }
+        ensures next { IsSome self.old.agenda.next → (result ≡ self.old.agenda.next) × (self.new.agenda ≡ record self.old.agenda { next = None }) }
+        ensures goes_on { self.old.agenda.next ≡ None → waits ≡ false → (result ≡ None) × (self.new.agenda ≡ self.old.agenda) }
+        ensures others { (self.new.agenda ≡ record self.old.agenda { posts = self.new.agenda.posts; next = None }) × (self.new.slices ≡ self.old.slices) }
     {
         if let Some(index) = self.agenda.take_next() {
             return Some(index);
@@ -90,7 +98,13 @@ fn ready_place(mark: MarkWord, id: ThreadId) -> Option<Place>
 
 /// A thread was posted by the worker of a core. The worker of another core is told of it later, unless it is taken back
 /// until then.
-pub(crate) fn posted(agenda: &mut Agenda, shared: &Shared, core: u8, post: Post) {
+pub(crate) fn posted(agenda: &mut Agenda, shared: &Shared, core: u8, post: Post)
+    ensures others { (agenda.new.scan ≡ agenda.old.scan) × (agenda.new.next ≡ agenda.old.next) }
+    ensures here { post.place.core ≡ core → agenda.new ≡ record agenda.old { ready = agenda.new.ready } }
+    ensures noted { post.place.core ≡ core → post.place.index < SLOTS → agenda.new.ready ≡ bit_or agenda.old.ready (2 ^ post.place.index) }
+    ensures elsewhere { post.place.core ≢ core → (agenda.new ≡ record agenda.old { posts = agenda.new.posts; posted = agenda.new.posted })
+        × (agenda.new.posted ≡ min (agenda.old.posted + 1) u32.MAX) }
+{
     if post.place.core == core {
         agenda.note(post.place.index);
     } else if let Some(told) = agenda.keep_back(post).told() {
@@ -99,7 +113,10 @@ pub(crate) fn posted(agenda: &mut Agenda, shared: &Shared, core: u8, post: Post)
 }
 
 /// Tells of all that was kept back.
-pub(crate) fn tell(agenda: &mut Agenda, shared: &Shared) {
+pub(crate) fn tell(agenda: &mut Agenda, shared: &Shared)
+    ensures others { agenda.new ≡ record agenda.old { posts = agenda.new.posts } }
+    ensures all { length agenda.old.posts.items ≤ MOST_KEPT_BACK → agenda.new.posts.items ≡ [] }
+{
     for _ in 0..policy::MOST_KEPT_BACK {
         let Some(post) = agenda.take_newest() else {
             break;

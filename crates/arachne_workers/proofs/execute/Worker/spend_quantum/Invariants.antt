@@ -3,4 +3,6 @@ use Rattle.arachne_workers.proofs.execute.Worker.spend_quantum.Given as goal
 
 -- the steps that are left, and those that were made, are a quantum at most
 abbrev pub invariant-loop : goal.invariant-loop
-invariant-loop g l = (l.self.desk ≡ l.initial.self.desk) × (l.steps.left + l.steps.made ≤ l.fn.quantum)
+invariant-loop g l =
+    (l.self.desk ≡ l.initial.self.desk) × (l.steps.left + l.steps.made ≤ l.fn.quantum)
+    × (l.self.slices ≡ l.initial.self.slices) × (l.self.agenda.scan ≡ l.initial.self.agenda.scan)

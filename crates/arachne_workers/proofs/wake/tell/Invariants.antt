@@ -1,0 +1,9 @@
+use Rattle.std.proofs.Common.{◌≡◌, ◌+◌, ◌≤◌, length}
+use Rattle.arachne_workers.specs.declared.policy.TheConstants.{MOST_KEPT_BACK}
+use Rattle.arachne_workers.proofs.wake.tell.Given as goal
+
+-- of those that were kept back at first one fewer is left with each turn
+abbrev pub invariant-loop : goal.invariant-loop
+invariant-loop l =
+    (l.agenda ≡ record l.initial.agenda { posts = l.agenda.posts })
+    × (length l.initial.agenda.posts.items ≤ MOST_KEPT_BACK → length l.agenda.posts.items + l.counter ≤ MOST_KEPT_BACK)
