@@ -14,6 +14,8 @@ use Rattle.arachne_jobs.specs.contracts.job.Job as job
 use Rattle.arachne_jobs.specs.contracts.left.Left as left
 use Rattle.arachne_jobs.specs.contracts.left.Waiting as waiting
 use Rattle.arachne_jobs.specs.contracts.spares.Spares as spares
+use Rattle.arachne_jobs.specs.contracts.ties.SpareTies as spare_ties
+use Rattle.arachne_jobs.specs.contracts.ties.Ties as ties
 use Rattle.arachne_jobs.specs.contracts.waiting.Ticket as ticket
 use Rattle.arachne_jobs.specs.contracts.waiting.WaitCell as wait_cell
 use Rattle.arachne_jobs.specs.contracts.wanted.Wanted as wanted
@@ -40,8 +42,14 @@ ticket_send κ = search (sendable, std.crosses, cell.the_send, cell.the_sync, le
 link_send : (κ : NamedLft) → IsSend (link.the_row κ)
 link_send κ = search (sendable, std.crosses, sender_send, receiver_send, detached_send, wait_cell_send, sending_end.the_send, left_send, wanted_send, wanted_sync) depth 40
 
+ties_send : (κ : NamedLft) → IsSend (ties.the_row κ)
+ties_send κ = search (sendable, std.crosses, link_send, id.the_field_send) depth 30
+
 pub job_send : (κ : NamedLft) → IsSend (job.the_row κ)
-job_send κ = search (sendable, std.crosses, thread_field_send, link_send, id.the_field_send) depth 30
+job_send κ = search (sendable, std.crosses, thread_field_send, ties_send) depth 30
+
+spare_ties_send : (κ : NamedLft) → IsSend (spare_ties.the_field κ).row
+spare_ties_send κ = search (sendable, std.crosses, ties_send) depth 30
 
 pub spares_send : (κ : NamedLft) → IsSend (spares.the_row κ)
-spares_send κ = search (sendable, std.crosses, spares_field_send, unused_send, detached_send) depth 30
+spares_send κ = search (sendable, std.crosses, spares_field_send, spare_ties_send, unused_send, detached_send) depth 30

@@ -18,6 +18,7 @@ use crate::openings::{Asked, Openings};
 use crate::room::Room;
 use crate::slice::{JobOf, RunJob, RunThread, Slice};
 use crate::spares::Spares;
+use crate::ties::Ties;
 use crate::waiting::{Ticket, WaitCell};
 use crate::wanted::{OutcomeReceiver, Wanted};
 use arachne_contexts::Tagged;
@@ -36,8 +37,7 @@ use std::snapshot::Snapshot;
 #[derive(Drop)]
 pub struct Job<'p> {
     thread: Thread<'p>,
-    links: Vec<Link<'p>>,
-    parent: Option<ThreadId>,
+    ties: Box<Ties<'p>>,
 }
 
 impl<'p> Model for Job<'p> {
@@ -52,9 +52,9 @@ impl<'p> Model for Job<'p> {
 
     ghost coded = { Prim.hlevel (codes, expr.the_row.coded) };
 
-    ghost view = { λ j. record { thread = j.thread; parent = j.parent } };
+    ghost view = { λ j. record { thread = j.thread; parent = j.ties.value.parent } };
 
-    ghost invariant = { λ j. All (IsLinked (program_of j.thread) (name_of j.thread)) j.links.items };
+    ghost invariant = { λ j. All (IsLinked (program_of j.thread) (name_of j.thread)) j.ties.value.links.items };
 }
 
 impl<'p> Tagged for Job<'p> {
@@ -174,31 +174,26 @@ impl<'p> RunJob for Job<'p> {
         }
     }
 
-    fn of_ticket(alloc: Global, ticket: Ticket<'p>, _spares: &mut Spares<'p>) -> Option<Job<'p>> {
-        let mut links = Vec::with_capacity(alloc, 2).ok()?;
-        let (waiting, cell, end) = ticket.take(&links)?;
+    fn of_ticket(alloc: Global, ticket: Ticket<'p>, spares: &mut Spares<'p>) -> Option<Job<'p>> {
+        let mut ties = spares.ties.take(alloc).ok()?;
+        let (waiting, cell, end) = ticket.take(&ties.links)?;
         let Waiting { mut thread, parent } = waiting;
         thread.set_spilled();
-        links.push_reserved(Link::Waits(cell, Some(end)));
-        Some(Job {
-            thread,
-            links,
-            parent: Some(parent),
-        })
+        ties.links.push_reserved(Link::Waits(cell, Some(end)));
+        ties.parent = Some(parent);
+        Some(Job { thread, ties })
     }
 
     fn leave(self, spares: &mut Spares<'p>) -> Result<Option<ThreadId>, JobFault> {
-        let Job {
-            thread,
-            mut links,
-            parent,
-        } = self;
+        let Job { thread, mut ties } = self;
         if thread.pending() != Some(Pending::Ended) {
             return Err(JobFault::Foreign);
         }
-        let Some(link) = links.pop() else {
+        let Some(link) = ties.links.pop() else {
             return Err(JobFault::Foreign);
         };
+        let parent = ties.parent;
+        spares.ties.keep(ties);
         let outcome = thread.finish_into(&mut spares.threads).detach();
         match link {
             Link::Leaves(end) => end.leave(outcome),
@@ -238,15 +233,11 @@ impl<'p> Job<'p> {
             program: Snapshot::of(thread.program()),
             name: Snapshot::of(thread.name()),
         };
-        let mut links = Vec::with_capacity(alloc, 2)?;
+        let mut ties = spares.ties.take(alloc)?;
         let (receiver, end) = spares.cells.open(alloc, &wanted)?;
-        links.push_reserved(Link::Leaves(end));
-        let job = Job {
-            thread,
-            links,
-            parent,
-        };
-        Ok((job, receiver))
+        ties.links.push_reserved(Link::Leaves(end));
+        ties.parent = parent;
+        Ok((Job { thread, ties }, receiver))
     }
 
     /// Goes on for at most as many steps as are left.
@@ -303,7 +294,7 @@ impl<'p> Job<'p> {
         requires { IsLinked (program_of self.old.thread) (name_of self.old.thread) link }
         ensures { self.new ≡ self.old }
     {
-        match self.links.push(link) {
+        match self.ties.links.push(link) {
             Ok(()) => Ok(()),
             Err(_) => Err(JobFault::Memory),
         }
@@ -320,7 +311,8 @@ impl<'p> Job<'p> {
         match self.find(spares)? {
             Found::Outcome(outcome) => {
                 let program = self.thread.program();
-                self.thread.joined(outcome.attach(program))?;
+                self.thread
+                    .joined_into(outcome.attach(program), &mut spares.threads)?;
                 Ok(true)
             }
             Found::Child(child) => {
@@ -336,13 +328,13 @@ impl<'p> Job<'p> {
         ensures same { self.new ≡ self.old }
         ensures found { IfOk result (IsFoundOf (program_of self.old.thread)) }
     {
-        let Some(link) = self.links.pop() else {
+        let Some(link) = self.ties.links.pop() else {
             return Err(JobFault::Foreign);
         };
         match look_at(link, spares) {
             Ok(found) => Ok(found),
             Err(link) => {
-                self.links.push_reserved(link);
+                self.ties.links.push_reserved(link);
                 Ok(Found::Nothing)
             }
         }

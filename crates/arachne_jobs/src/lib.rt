@@ -13,6 +13,7 @@ mod room;
 mod slice;
 mod spares;
 mod tags;
+mod ties;
 mod waiting;
 mod wanted;
 

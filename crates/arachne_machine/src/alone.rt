@@ -109,7 +109,7 @@ fn go_on<'p>(
         }
         Pause::Joins => {
             let outcome = outcomes.pop().unwrap();
-            match thread.joined(outcome) {
+            match thread.joined_into(outcome, spares) {
                 Ok(()) => Ok(Turn::Goes),
                 Err(NotJoined::Memory(_)) => return Err(AllocError),
                 Err(NotJoined::Foreign(_)) => unreachable!(),

@@ -4,6 +4,7 @@
 mod alone;
 mod answer;
 mod begin;
+mod contents;
 mod detached;
 mod fork;
 mod frame;

@@ -1,4 +1,5 @@
 //! Memory that ended threads leave for new ones.
+use crate::contents::Contents;
 use crate::state::State;
 use arachne_lang::Program;
 use std::alloc::{AllocError, Global};
@@ -7,12 +8,16 @@ use std::marker::Model;
 /// How many states are kept at most.
 const MOST: usize = 64;
 
+/// A new state takes a box of those only where there are more: each thread that ends wants one.
+const MANY: usize = 32;
+
 /// The memory that ended threads leave for those that begin: their states, with the room of their environments and
-/// frames. It is for the threads of one core.
+/// frames, and what outcomes that were joined leave, for states whose threads end. It is for the threads of one core.
 #[derive(Drop)]
 pub struct Spares<'p> {
     most: usize,
     states: Vec<Box<State<'p>>>,
+    contents: Vec<Box<Contents>>,
 }
 
 impl<'p> Model for Spares<'p> {
@@ -27,6 +32,7 @@ impl<'p> Spares<'p> {
         Spares {
             most: MOST,
             states: Vec::new(alloc),
+            contents: Vec::new(alloc),
         }
     }
 
@@ -35,6 +41,7 @@ impl<'p> Spares<'p> {
         Spares {
             most: 0,
             states: Vec::new(alloc),
+            contents: Vec::new(alloc),
         }
     }
 
@@ -46,7 +53,37 @@ impl<'p> Spares<'p> {
     ) -> Result<Box<State<'p>>, AllocError> {
         match self.states.pop() {
             Some(state) => Ok(state),
-            None => Ok(Box::new(alloc, State::vacant(alloc, program))?),
+            None => self.make(alloc, program),
+        }
+    }
+
+    /// A new state.
+    #[cold]
+    #[inline(never)]
+    fn make(&mut self, alloc: Global, program: &'p Program) -> Result<Box<State<'p>>, AllocError> {
+        let contents = if self.contents.len() > MANY {
+            self.contents.pop()
+        } else {
+            None
+        };
+        let contents = match contents {
+            Some(contents) => contents,
+            None => Box::new(alloc, Contents::vacant(alloc))?,
+        };
+        Ok(Box::new(alloc, State::vacant(alloc, program, contents))?)
+    }
+
+    /// What an outcome that was joined has left, if there is some.
+    #[inline(always)]
+    pub(crate) fn take_contents(&mut self) -> Option<Box<Contents>> {
+        self.contents.pop()
+    }
+
+    /// Keeps what an outcome that was joined leaves, unless there is enough.
+    #[inline(always)]
+    pub(crate) fn keep_contents(&mut self, contents: Box<Contents>) {
+        if self.contents.len() < self.most {
+            let _ = self.contents.push(contents);
         }
     }
 

@@ -1,4 +1,5 @@
 //! What a thread is between two steps.
+use crate::contents::Contents;
 use crate::frame::{Control, Frame};
 use crate::level::{Level, Parent};
 use crate::line::{Label, Ran, ThreadLine};
@@ -19,11 +20,16 @@ pub struct Own {
     pub label: Label,
     /// For each lock how often it held it, modulo 2^64.
     pub holds: Vec<u64>,
+    /// What the thread brings is written here once it has ended.
+    pub room: Box<Contents>,
 }
 
 impl Own {
-    /// That of no thread. It allocates nothing.
-    fn vacant(alloc: Global) -> Own {
+    ghost use Rattle.std.specs.Prelude.{◌≡◌};
+    ghost use Rattle.arachne_machine.specs.Strands.{own_line};
+
+    /// That of no thread.
+    fn vacant(alloc: Global, room: Box<Contents>) -> Own {
         Own {
             name: Name::root(alloc),
             label: Label {
@@ -31,7 +37,50 @@ impl Own {
                 ran: Ran::Slot,
             },
             holds: Vec::new(alloc),
+            room,
         }
+    }
+
+    /// Becomes that of a thread that begins.
+    #[inline(always)]
+    fn begin(&mut self, name: Name, label: Label, holds: Vec<u64>)
+        ensures name { self.new.name ≡ name }
+        ensures label { self.new.label ≡ label }
+        ensures holds { self.new.holds ≡ holds }
+    {
+        self.name = name;
+        self.label = label;
+        self.holds = holds;
+    }
+
+    /// The thread's line.
+    #[inline(always)]
+    pub fn take_line(&mut self, alloc: Global) -> ThreadLine
+        ensures line { result ≡ own_line self.old }
+        ensures label { self.new.label ≡ self.old.label }
+    {
+        ThreadLine {
+            name: replace(&mut self.name, Name::root(alloc)),
+            tag: self.label.tag,
+            holds: Sequence::from(replace(&mut self.holds, Vec::new(alloc))),
+            ran: self.label.ran,
+        }
+    }
+
+    /// Takes back its line, but for where it says that the thread ran.
+    pub fn put_back(&mut self, line: ThreadLine)
+        ensures name { self.new.name ≡ line.name }
+        ensures holds { self.new.holds.items ≡ line.holds }
+        ensures label { self.new.label ≡ self.old.label }
+    {
+        let ThreadLine {
+            name,
+            tag: _,
+            holds,
+            ran: _,
+        } = line;
+        self.name = name;
+        self.holds = holds.into_vec();
     }
 }
 
@@ -106,20 +155,20 @@ impl<'p> State<'p> {
         };
         let holds = zeros(alloc, program.locks)?;
         let sums = zeros(alloc, program.ledgers)?;
-        let own = Own { name, label, holds };
         let mut state = spares.take(alloc, program)?;
-        state.renew(program, own, sums, control, environment)?;
+        state.own.begin(name, label, holds);
+        state.renew(program, sums, control, environment)?;
         Ok(state)
     }
 
     /// A thread of the program that does nothing.
     #[cold]
     #[inline(never)]
-    pub fn vacant(alloc: Global, program: &'p Program) -> State<'p> {
+    pub fn vacant(alloc: Global, program: &'p Program, room: Box<Contents>) -> State<'p> {
         State {
             program,
             alloc,
-            own: Own::vacant(alloc),
+            own: Own::vacant(alloc, room),
             lines: Lines::new(alloc),
             sums: Vec::new(alloc),
             parents: Vec::new(alloc),
@@ -135,12 +184,12 @@ impl<'p> State<'p> {
     fn renew(
         &mut self,
         program: &'p Program,
-        own: Own,
         sums: Vec<u64>,
         control: Control<'p>,
         environment: &[u64],
     ) -> Result<(), AllocError>
-        ensures { OnOk result (IsRenewed program.entry own sums.items control.entry environment.now self.new) }
+        ensures renewed { OnOk result (IsRenewed program.entry self.new.own sums.items control.entry environment.now self.new) }
+        ensures own { self.new.own ≡ self.old.own }
     {
         self.environment.clear();
         self.environment.try_reserve(environment.len() + 3)?;
@@ -149,7 +198,6 @@ impl<'p> State<'p> {
         self.parents.clear();
         self.lines = Lines::new(self.alloc);
         self.program = program;
-        self.own = own;
         self.sums = sums;
         self.level = Level::outermost();
         self.control = control;
@@ -329,9 +377,9 @@ impl<'p> State<'p> {
         self.lines.at(self.level.place).tag
     }
 
-    /// The outcome of a thread that has ended.
+    /// The outcome of a thread that has ended, in the box that the thread has for it. The spare box is there from now on.
     #[inline(always)]
-    pub fn finish(&mut self) -> Outcome<'p>
+    pub fn finish(&mut self, spare: Box<Contents>) -> Outcome<'p>
         requires ended { pending_of self.old.control ≡ Some pause.Ended }
         requires alone { self.old.parents.items ≡ [] }
         requires sound { IsSoundState self.old }
@@ -341,47 +389,57 @@ impl<'p> State<'p> {
         ensures lines { result.lines ≡ own_line self.old.own ∷ self.old.lines }
     {
         let value = self.value();
-        Outcome {
-            program: self.program,
+        let mut contents = replace(&mut self.own.room, spare);
+        *contents = Contents {
             value,
             sums: replace(&mut self.sums, Vec::new(self.alloc)),
-            own: self.take_line(),
+            own: self.own.take_line(self.alloc),
             below: replace(&mut self.lines, Lines::new(self.alloc)),
-        }
-    }
-
-    /// The own line of the outermost thread.
-    #[inline(always)]
-    pub fn take_line(&mut self) -> ThreadLine
-        ensures line { result ≡ own_line self.old.own }
-        ensures others { self.new ≡ record self.old { own = self.new.own } }
-    {
-        let vacant = Own::vacant(self.alloc);
-        let Own { name, label, holds } = replace(&mut self.own, vacant);
-        ThreadLine {
-            name,
-            tag: label.tag,
-            holds: Sequence::from(holds),
-            ran: label.ran,
-        }
-    }
-
-    /// Takes back the own line.
-    pub fn put_back_line(&mut self, line: ThreadLine)
-        ensures line { own_line self.new.own ≡ line }
-        ensures others { self.new ≡ record self.old { own = self.new.own } }
-    {
-        let ThreadLine {
-            name,
-            tag,
-            holds,
-            ran,
-        } = line;
-        self.own = Own {
-            name,
-            label: Label { tag, ran },
-            holds: holds.into_vec(),
         };
+        Outcome {
+            program: self.program,
+            contents,
+        }
+    }
+
+    /// The same, where there is no spare box, so that no thread can begin in this state.
+    #[inline(never)]
+    pub fn finish_last(self) -> Outcome<'p>
+        requires ended { pending_of self.control ≡ Some pause.Ended }
+        requires alone { self.parents.items ≡ [] }
+        requires sound { IsSoundState self }
+        ensures program { result.program ≡ self.entry.program.now }
+        ensures name { result.name ≡ self.entry.own.name }
+        ensures sums { result.sums ≡ self.entry.sums.items }
+        ensures lines { result.lines ≡ own_line self.entry.own ∷ self.entry.lines }
+    {
+        let value = self.value();
+        let State {
+            program,
+            own,
+            lines,
+            sums,
+            ..
+        } = self;
+        let Own {
+            name,
+            label,
+            holds,
+            room,
+        } = own;
+        let mut contents = room;
+        *contents = Contents {
+            value,
+            sums,
+            own: ThreadLine {
+                name,
+                tag: label.tag,
+                holds: Sequence::from(holds),
+                ran: label.ran,
+            },
+            below: lines,
+        };
+        Outcome { program, contents }
     }
 
     /// The value of a thread that has ended.

@@ -277,8 +277,30 @@ impl<'p> Thread<'p> {
         ensures err { OnErr result (self.new ≡ self.old) }
         ensures handed_back { IfErr result (λ e. handed_back e ≡ outcome.entry) }
     {
-        let _ = &outcome.value;
-        self.state.join(outcome)
+        let mut spares = Spares::none(self.state.alloc);
+        self.joined_into(outcome, &mut spares)
+    }
+
+    /// The same. What is no longer needed of the outcome is left to threads that begin.
+    pub fn joined_into(
+        &mut self,
+        outcome: Outcome<'p>,
+        spares: &mut Spares<'p>,
+    ) -> Result<(), NotJoined<'p>>
+        requires pending { pending_in self.old ≡ Some pause.Joins }
+        requires program { source_of outcome.program ≡ source_of (whole self.old).program }
+        ensures whole { SameWhole self.old self.new }
+        ensures ok { OnOk result (Joined self.old.running outcome.entry self.new.running) }
+        ensures sums { OnOk result (self.new.sums ≡ added self.old.sums outcome.entry.sums) }
+        ensures others { self.new ≡ record self.old { running = self.new.running; sums = self.new.sums } }
+        ensures pending { OnOk result (pending_in self.new ≡ None) }
+        ensures work { work_in self.new ≡ work_in self.old }
+        ensures foreign { IsForeign result ↔ (awaited self.old.running ≢ Some outcome.entry.name) }
+        ensures err { OnErr result (self.new ≡ self.old) }
+        ensures handed_back { IfErr result (λ e. handed_back e ≡ outcome.entry) }
+    {
+        let _ = &outcome.contents;
+        self.state.join(outcome, spares)
     }
 
     /// The outcome of a thread that has ended. It takes no memory.
@@ -302,7 +324,10 @@ impl<'p> Thread<'p> {
         ensures lines { result.lines ≡ own_line_of (whole self.entry) ∷ (whole self.entry).below }
     {
         let mut state = self.state;
-        let outcome = state.finish();
+        let Some(spare) = spares.take_contents() else {
+            return Box::into_inner(state).finish_last();
+        };
+        let outcome = state.finish(spare);
         spares.keep(state);
         outcome
     }
