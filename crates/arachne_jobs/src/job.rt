@@ -8,10 +8,10 @@ ghost use Rattle.arachne_machine.specs.Suspended.{awaited};
 ghost use Rattle.arachne_machine.specs.declared.pause.Pending.TheVariants as pause;
 ghost use Rattle.arachne_jobs.specs.Threads.{IsForking, IsGoing, IsAwaiting, name_of, pause_of, program_of, running_tag_of, tag_of};
 ghost use Rattle.arachne_jobs.specs.Cells.{IsFoundOf, IsFor, IsOf};
-ghost use Rattle.arachne_jobs.specs.Ends.{IsLinked};
+ghost use Rattle.arachne_jobs.specs.Ends.{IsEnd, IsWaitEnd};
 ghost use Rattle.arachne_jobs.specs.Slices.{IsLeft, UsesSteps};
 
-use crate::ends::Link;
+use crate::ends::{End, WaitEnd};
 use crate::fault::JobFault;
 use crate::left::{Found, Waiting};
 use crate::openings::{Asked, Openings};
@@ -24,26 +24,30 @@ use crate::wanted::{OutcomeReceiver, Wanted};
 use arachne_contexts::Tagged;
 use arachne_core::{Rest, ThreadId};
 use arachne_lang::{Name, Program};
-use arachne_machine::{Pause, Pending, Thread};
+use arachne_machine::{Contents, Pause, Pending, Thread};
 use std::alloc::{AllocError, Global};
 use std::marker::Model;
 use std::snapshot::Snapshot;
 
-/// A thread of the program, with its links to the cells of outcomes: the first is the one at which it leaves its own,
-/// and the others await those of the children that it has forked and not joined, the newest last. The id is that under
-/// which its parent runs.
+/// A thread of the program, with its ends of the cells of outcomes: the first is the one at which it leaves its own,
+/// and the others await those of the children that it has forked and not joined, the newest last.
 ///
-/// Contracts see the thread and that id.
+/// Contracts see the thread, and the id under which its parent runs.
 #[derive(Drop)]
 pub struct Job<'p> {
     thread: Thread<'p>,
-    ties: Box<Ties<'p>>,
+    /// What ties it to others, where no lifetime is.
+    ties: Box<Ties>,
+    /// Its outcome is written here.
+    contents: Box<Contents>,
+    /// The cells in which threads wait or have waited, one for each of its ends that says so, in their order.
+    waits: Vec<WaitEnd<'p>>,
 }
 
 impl<'p> Model for Job<'p> {
     ghost use Rattle.std.specs.Prelude.{All};
     ghost use Rattle.arachne_jobs.specs.Threads.{Posted, name_of, program_of};
-    ghost use Rattle.arachne_jobs.specs.Ends.{IsLinked};
+    ghost use Rattle.arachne_jobs.specs.Ends.{IsEnd, IsWaitEnd};
 
     ghost Value = { Posted };
 
@@ -54,7 +58,8 @@ impl<'p> Model for Job<'p> {
 
     ghost view = { λ j. record { thread = j.thread; parent = j.ties.value.parent } };
 
-    ghost invariant = { λ j. All (IsLinked (program_of j.thread) (name_of j.thread)) j.ties.value.links.items };
+    ghost invariant = { λ j. All (IsEnd (program_of j.thread) (name_of j.thread)) j.ties.value.ends.items
+        × All (IsWaitEnd (program_of j.thread) (name_of j.thread)) j.waits.items };
 }
 
 impl<'p> Tagged for Job<'p> {
@@ -142,7 +147,7 @@ impl<'p> RunJob for Job<'p> {
         let mut child = child;
         child.set_tag(tag);
         let (job, receiver) = Job::of(alloc, child, Some(me), spares)?;
-        self.expect(Link::Awaits(receiver))?;
+        self.expect(End::Awaits(receiver))?;
         self.thread.forked();
         Ok(job)
     }
@@ -163,7 +168,7 @@ impl<'p> RunJob for Job<'p> {
         }
         match WaitCell::wait(alloc, child, me) {
             Ok((cell, ticket)) => {
-                self.expect(Link::Waits(cell, None))?;
+                self.expect_waiting(cell)?;
                 self.thread.forked();
                 Ok(Some(ticket))
             }
@@ -176,32 +181,51 @@ impl<'p> RunJob for Job<'p> {
 
     fn of_ticket(alloc: Global, ticket: Ticket<'p>, spares: &mut Spares<'p>) -> Option<Job<'p>> {
         let mut ties = spares.ties.take(alloc).ok()?;
-        let (waiting, cell, end) = ticket.take(&ties.links)?;
+        let contents = spares.threads.take_contents().ok()?;
+        let mut waits = Vec::with_capacity(alloc, 1).ok()?;
+        let (waiting, cell, end) = ticket.take(&waits)?;
         let Waiting { mut thread, parent } = waiting;
         thread.set_spilled();
-        ties.links.push_reserved(Link::Waits(cell, Some(end)));
+        ties.ends.push_reserved(End::Waits);
         ties.parent = Some(parent);
-        Some(Job { thread, ties })
+        waits.push_reserved(WaitEnd {
+            cell,
+            end: Some(end),
+        });
+        Some(Job {
+            thread,
+            ties,
+            contents,
+            waits,
+        })
     }
 
     fn leave(self, spares: &mut Spares<'p>) -> Result<Option<ThreadId>, JobFault> {
-        let Job { thread, mut ties } = self;
+        let Job {
+            thread,
+            mut ties,
+            contents,
+            mut waits,
+        } = self;
         if thread.pending() != Some(Pending::Ended) {
             return Err(JobFault::Foreign);
         }
-        let Some(link) = ties.links.pop() else {
+        let Some(end) = ties.ends.pop() else {
             return Err(JobFault::Foreign);
         };
         let parent = ties.parent;
         spares.ties.keep(ties);
-        let outcome = thread.finish_into(&mut spares.threads).detach();
-        match link {
-            Link::Leaves(end) => end.leave(outcome),
-            Link::Waits(cell, end) => match end {
-                Some(end) => cell.leave(end, outcome),
-                None => return Err(JobFault::Foreign),
+        let outcome = thread.finish_into(contents, &mut spares.threads).detach();
+        match end {
+            End::Leaves(end) => end.leave(outcome),
+            End::Waits => match waits.pop() {
+                Some(WaitEnd {
+                    cell,
+                    end: Some(end),
+                }) => cell.leave(end, outcome),
+                _ => return Err(JobFault::Foreign),
             },
-            Link::Awaits(_) => return Err(JobFault::Foreign),
+            End::Awaits(_) => return Err(JobFault::Foreign),
         }
         Ok(parent)
     }
@@ -234,10 +258,17 @@ impl<'p> Job<'p> {
             name: Snapshot::of(thread.name()),
         };
         let mut ties = spares.ties.take(alloc)?;
+        let contents = spares.threads.take_contents()?;
         let (receiver, end) = spares.cells.open(alloc, &wanted)?;
-        ties.links.push_reserved(Link::Leaves(end));
+        ties.ends.push_reserved(End::Leaves(end));
         ties.parent = parent;
-        Ok((Job { thread, ties }, receiver))
+        let job = Job {
+            thread,
+            ties,
+            contents,
+            waits: Vec::new(alloc),
+        };
+        Ok((job, receiver))
     }
 
     /// Goes on for at most as many steps as are left.
@@ -290,11 +321,23 @@ impl<'p> Job<'p> {
     }
 
     /// Has this end of a cell too.
-    fn expect(&mut self, link: Link<'p>) -> Result<(), JobFault>
-        requires { IsLinked (program_of self.old.thread) (name_of self.old.thread) link }
+    fn expect(&mut self, end: End) -> Result<(), JobFault>
+        requires { IsEnd (program_of self.old.thread) (name_of self.old.thread) end }
         ensures { self.new ≡ self.old }
     {
-        match self.ties.links.push(link) {
+        match self.ties.ends.push(end) {
+            Ok(()) => Ok(()),
+            Err(_) => Err(JobFault::Memory),
+        }
+    }
+
+    /// Awaits the outcome of a child that waits in this cell.
+    fn expect_waiting(&mut self, cell: WaitCell<'p>) -> Result<(), JobFault>
+        requires { IsOf (program_of self.old.thread) cell.key }
+        ensures { self.new ≡ self.old }
+    {
+        self.expect(End::Waits)?;
+        match self.waits.push(WaitEnd { cell, end: None }) {
             Ok(()) => Ok(()),
             Err(_) => Err(JobFault::Memory),
         }
@@ -328,36 +371,53 @@ impl<'p> Job<'p> {
         ensures same { self.new ≡ self.old }
         ensures found { IfOk result (IsFoundOf (program_of self.old.thread)) }
     {
-        let Some(link) = self.ties.links.pop() else {
+        let Some(end) = self.ties.ends.pop() else {
             return Err(JobFault::Foreign);
         };
-        match look_at(link, spares) {
-            Ok(found) => Ok(found),
-            Err(link) => {
-                self.ties.links.push_reserved(link);
+        match end {
+            End::Awaits(receiver) => match receiver.fetch() {
+                Ok((outcome, cell)) => {
+                    spares.cells.give(cell);
+                    Ok(Found::Outcome(outcome))
+                }
+                Err(receiver) => {
+                    self.ties.ends.push_reserved(End::Awaits(receiver));
+                    Ok(Found::Nothing)
+                }
+            },
+            End::Waits => {
+                let Some(wait) = self.waits.pop() else {
+                    return Err(JobFault::Foreign);
+                };
+                match look_in(wait) {
+                    Ok(found) => Ok(found),
+                    Err(wait) => {
+                        self.waits.push_reserved(wait);
+                        self.ties.ends.push_reserved(End::Waits);
+                        Ok(Found::Nothing)
+                    }
+                }
+            }
+            end => {
+                self.ties.ends.push_reserved(end);
                 Ok(Found::Nothing)
             }
         }
     }
 }
 
-/// What has come to an end of a cell, which is used up then. Where there is nothing the end comes back.
-fn look_at<'p>(link: Link<'p>, spares: &mut Spares<'p>) -> Result<Found<'p>, Link<'p>>
-    ensures found { IfOk result (λ found. (program : Program) → (name : List ℕ) → IsLinked program name link.entry → IsFoundOf program found) }
-    ensures same { IfErr result (λ back. (program : Program) → (name : List ℕ) → IsLinked program name link.entry → IsLinked program name back) }
+/// What the parent that awaits a child finds in its cell, which is used up then. Where there is nothing the cell comes
+/// back.
+fn look_in<'p>(wait: WaitEnd<'p>) -> Result<Found<'p>, WaitEnd<'p>>
+    ensures found { IfOk result (λ found. (program : Program) → (name : List ℕ) → IsWaitEnd program name wait.entry → IsFoundOf program found) }
+    ensures same { IfErr result (λ back. (program : Program) → (name : List ℕ) → IsWaitEnd program name wait.entry → IsWaitEnd program name back) }
 {
-    match link {
-        Link::Awaits(receiver) => match receiver.fetch() {
-            Ok((outcome, cell)) => {
-                spares.cells.give(cell);
-                Ok(Found::Outcome(outcome))
-            }
-            Err(receiver) => Err(Link::Awaits(receiver)),
-        },
-        Link::Waits(cell, None) => match cell.find() {
-            Ok(found) => Ok(found),
-            Err(_) => Err(Link::Waits(cell, None)),
-        },
-        link => Err(link),
+    let WaitEnd { cell, end } = wait;
+    if end.is_some() {
+        return Err(WaitEnd { cell, end });
+    }
+    match cell.find() {
+        Ok(found) => Ok(found),
+        Err(_) => Err(WaitEnd { cell, end }),
     }
 }

@@ -11,7 +11,7 @@ use std::alloc::Global;
 #[derive(Drop)]
 pub struct Spares<'p> {
     pub(crate) threads: SpareThreads<'p>,
-    pub(crate) ties: SpareTies<'p>,
+    pub(crate) ties: SpareTies,
     pub(crate) cells: SpareCells<DetachedOutcome, Wanted>,
 }
 

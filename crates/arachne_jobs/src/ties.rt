@@ -1,15 +1,15 @@
 //! What ties a job to others, in one box, and what ended jobs leave of it.
 ghost use Rattle.std.specs.Prelude.{◌≡◌, ◌≤◌, ◌+◌, [], IfOk, vec_len, vec_capacity};
 
-use crate::ends::Link;
+use crate::ends::End;
 use arachne_core::ThreadId;
 use std::alloc::{AllocError, Global};
 use std::marker::Model;
 
-/// The ends of cells that a job has, the newest last, and the id under which its parent runs.
+/// The ends of cells that a job has, the newest last, and the id under which its parent runs. No lifetime is in it.
 #[derive(Drop)]
-pub struct Ties<'p> {
-    pub(crate) links: Vec<Link<'p>>,
+pub struct Ties {
+    pub(crate) ends: Vec<End>,
     pub(crate) parent: Option<ThreadId>,
 }
 
@@ -18,19 +18,19 @@ const MOST: usize = 64;
 
 /// The ties of ended jobs, with the room of their lists, for jobs that begin.
 #[derive(Drop)]
-pub struct SpareTies<'p> {
-    ties: Vec<Box<Ties<'p>>>,
+pub struct SpareTies {
+    ties: Vec<Box<Ties>>,
 }
 
-impl<'p> Model for SpareTies<'p> {
+impl Model for SpareTies {
     ghost Value = { Unit {0} };
 
     ghost view = { λ s. tt };
 }
 
-impl<'p> SpareTies<'p> {
+impl SpareTies {
     /// None so far. It allocates nothing.
-    pub(crate) fn new(alloc: Global) -> SpareTies<'p> {
+    pub(crate) fn new(alloc: Global) -> SpareTies {
         SpareTies {
             ties: Vec::new(alloc),
         }
@@ -38,28 +38,28 @@ impl<'p> SpareTies<'p> {
 
     /// Ties to nothing, with room for an end.
     #[inline(always)]
-    pub(crate) fn take(&mut self, alloc: Global) -> Result<Box<Ties<'p>>, AllocError>
-        ensures none { IfOk result (λ ties. ties.value.links.items ≡ []) }
-        ensures room { IfOk result (λ ties. vec_len ties.value.links + 1 ≤ vec_capacity ties.value.links) }
+    pub(crate) fn take(&mut self, alloc: Global) -> Result<Box<Ties>, AllocError>
+        ensures none { IfOk result (λ ties. ties.value.ends.items ≡ []) }
+        ensures room { IfOk result (λ ties. vec_len ties.value.ends + 1 ≤ vec_capacity ties.value.ends) }
     {
         let mut ties = match self.ties.pop() {
             Some(ties) => ties,
             None => Box::new(
                 alloc,
                 Ties {
-                    links: Vec::new(alloc),
+                    ends: Vec::new(alloc),
                     parent: None,
                 },
             )?,
         };
-        ties.links.clear();
-        ties.links.try_reserve(2)?;
+        ties.ends.clear();
+        ties.ends.try_reserve(2)?;
         Ok(ties)
     }
 
     /// Keeps the ties of an ended job, unless there are enough.
     #[inline(always)]
-    pub(crate) fn keep(&mut self, ties: Box<Ties<'p>>) {
+    pub(crate) fn keep(&mut self, ties: Box<Ties>) {
         if self.ties.len() < MOST {
             let _ = self.ties.push(ties);
         }

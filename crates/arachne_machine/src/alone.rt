@@ -80,7 +80,8 @@ fn take_turn<'p>(
             Ok(())
         }
         Turn::Ends => {
-            outcomes.push(thread.finish_into(spares))?;
+            let contents = spares.take_contents()?;
+            outcomes.push(thread.finish_into(contents, spares))?;
             Ok(())
         }
     }

@@ -8,11 +8,8 @@ use std::marker::Model;
 /// How many states are kept at most.
 const MOST: usize = 64;
 
-/// A new state takes a box of those only where there are more: each thread that ends wants one.
-const MANY: usize = 32;
-
 /// The memory that ended threads leave for those that begin: their states, with the room of their environments and
-/// frames, and what outcomes that were joined leave, for states whose threads end. It is for the threads of one core.
+/// frames, and the boxes of outcomes that were joined. It is for the threads of one core.
 #[derive(Drop)]
 pub struct Spares<'p> {
     most: usize,
@@ -53,30 +50,17 @@ impl<'p> Spares<'p> {
     ) -> Result<Box<State<'p>>, AllocError> {
         match self.states.pop() {
             Some(state) => Ok(state),
-            None => self.make(alloc, program),
+            None => Ok(Box::new(alloc, State::vacant(alloc, program))?),
         }
     }
 
-    /// A new state.
-    #[cold]
-    #[inline(never)]
-    fn make(&mut self, alloc: Global, program: &'p Program) -> Result<Box<State<'p>>, AllocError> {
-        let contents = if self.contents.len() > MANY {
-            self.contents.pop()
-        } else {
-            None
-        };
-        let contents = match contents {
-            Some(contents) => contents,
-            None => Box::new(alloc, Contents::vacant(alloc))?,
-        };
-        Ok(Box::new(alloc, State::vacant(alloc, program, contents))?)
-    }
-
-    /// What an outcome that was joined has left, if there is some.
+    /// The box of an outcome that was joined, or a new one where there is none.
     #[inline(always)]
-    pub(crate) fn take_contents(&mut self) -> Option<Box<Contents>> {
-        self.contents.pop()
+    pub fn take_contents(&mut self) -> Result<Box<Contents>, AllocError> {
+        match self.contents.pop() {
+            Some(contents) => Ok(contents),
+            None => Contents::new(*self.contents.allocator()),
+        }
     }
 
     /// Keeps what an outcome that was joined leaves, unless there is enough.

@@ -20,16 +20,14 @@ pub struct Own {
     pub label: Label,
     /// For each lock how often it held it, modulo 2^64.
     pub holds: Vec<u64>,
-    /// What the thread brings is written here once it has ended.
-    pub room: Box<Contents>,
 }
 
 impl Own {
     ghost use Rattle.std.specs.Prelude.{◌≡◌};
     ghost use Rattle.arachne_machine.specs.Strands.{own_line};
 
-    /// That of no thread.
-    fn vacant(alloc: Global, room: Box<Contents>) -> Own {
+    /// That of no thread. It allocates nothing.
+    fn vacant(alloc: Global) -> Own {
         Own {
             name: Name::root(alloc),
             label: Label {
@@ -37,20 +35,7 @@ impl Own {
                 ran: Ran::Slot,
             },
             holds: Vec::new(alloc),
-            room,
         }
-    }
-
-    /// Becomes that of a thread that begins.
-    #[inline(always)]
-    fn begin(&mut self, name: Name, label: Label, holds: Vec<u64>)
-        ensures name { self.new.name ≡ name }
-        ensures label { self.new.label ≡ label }
-        ensures holds { self.new.holds ≡ holds }
-    {
-        self.name = name;
-        self.label = label;
-        self.holds = holds;
     }
 
     /// The thread's line.
@@ -155,20 +140,20 @@ impl<'p> State<'p> {
         };
         let holds = zeros(alloc, program.locks)?;
         let sums = zeros(alloc, program.ledgers)?;
+        let own = Own { name, label, holds };
         let mut state = spares.take(alloc, program)?;
-        state.own.begin(name, label, holds);
-        state.renew(program, sums, control, environment)?;
+        state.renew(program, own, sums, control, environment)?;
         Ok(state)
     }
 
     /// A thread of the program that does nothing.
     #[cold]
     #[inline(never)]
-    pub fn vacant(alloc: Global, program: &'p Program, room: Box<Contents>) -> State<'p> {
+    pub fn vacant(alloc: Global, program: &'p Program) -> State<'p> {
         State {
             program,
             alloc,
-            own: Own::vacant(alloc, room),
+            own: Own::vacant(alloc),
             lines: Lines::new(alloc),
             sums: Vec::new(alloc),
             parents: Vec::new(alloc),
@@ -184,12 +169,12 @@ impl<'p> State<'p> {
     fn renew(
         &mut self,
         program: &'p Program,
+        own: Own,
         sums: Vec<u64>,
         control: Control<'p>,
         environment: &[u64],
     ) -> Result<(), AllocError>
-        ensures renewed { OnOk result (IsRenewed program.entry self.new.own sums.items control.entry environment.now self.new) }
-        ensures own { self.new.own ≡ self.old.own }
+        ensures { OnOk result (IsRenewed program.entry own sums.items control.entry environment.now self.new) }
     {
         self.environment.clear();
         self.environment.try_reserve(environment.len() + 3)?;
@@ -198,6 +183,7 @@ impl<'p> State<'p> {
         self.parents.clear();
         self.lines = Lines::new(self.alloc);
         self.program = program;
+        self.own = own;
         self.sums = sums;
         self.level = Level::outermost();
         self.control = control;
@@ -377,9 +363,9 @@ impl<'p> State<'p> {
         self.lines.at(self.level.place).tag
     }
 
-    /// The outcome of a thread that has ended, in the box that the thread has for it. The spare box is there from now on.
+    /// The outcome of a thread that has ended, in this box.
     #[inline(always)]
-    pub fn finish(&mut self, spare: Box<Contents>) -> Outcome<'p>
+    pub fn finish(&mut self, contents: Box<Contents>) -> Outcome<'p>
         requires ended { pending_of self.old.control ≡ Some pause.Ended }
         requires alone { self.old.parents.items ≡ [] }
         requires sound { IsSoundState self.old }
@@ -389,7 +375,7 @@ impl<'p> State<'p> {
         ensures lines { result.lines ≡ own_line self.old.own ∷ self.old.lines }
     {
         let value = self.value();
-        let mut contents = replace(&mut self.own.room, spare);
+        let mut contents = contents;
         *contents = Contents {
             value,
             sums: replace(&mut self.sums, Vec::new(self.alloc)),
@@ -400,46 +386,6 @@ impl<'p> State<'p> {
             program: self.program,
             contents,
         }
-    }
-
-    /// The same, where there is no spare box, so that no thread can begin in this state.
-    #[inline(never)]
-    pub fn finish_last(self) -> Outcome<'p>
-        requires ended { pending_of self.control ≡ Some pause.Ended }
-        requires alone { self.parents.items ≡ [] }
-        requires sound { IsSoundState self }
-        ensures program { result.program ≡ self.entry.program.now }
-        ensures name { result.name ≡ self.entry.own.name }
-        ensures sums { result.sums ≡ self.entry.sums.items }
-        ensures lines { result.lines ≡ own_line self.entry.own ∷ self.entry.lines }
-    {
-        let value = self.value();
-        let State {
-            program,
-            own,
-            lines,
-            sums,
-            ..
-        } = self;
-        let Own {
-            name,
-            label,
-            holds,
-            room,
-        } = own;
-        let mut contents = room;
-        *contents = Contents {
-            value,
-            sums,
-            own: ThreadLine {
-                name,
-                tag: label.tag,
-                holds: Sequence::from(holds),
-                ran: label.ran,
-            },
-            below: lines,
-        };
-        Outcome { program, contents }
     }
 
     /// The value of a thread that has ended.

@@ -12,6 +12,7 @@ ghost use Rattle.arachne_lang.specs.Checked.{IsChecked};
 ghost use Rattle.arachne_lang.specs.Program.{source_of};
 ghost use Rattle.arachne_machine.specs.declared.pause.Pending.TheVariants as pause;
 
+use crate::contents::Contents;
 use crate::frame::Control;
 use crate::line::Ran;
 use crate::outcome::Outcome;
@@ -303,8 +304,8 @@ impl<'p> Thread<'p> {
         self.state.join(outcome, spares)
     }
 
-    /// The outcome of a thread that has ended. It takes no memory.
-    pub fn finish(self) -> Outcome<'p>
+    /// The outcome of a thread that has ended, in this box. It takes no memory.
+    pub fn finish(self, contents: Box<Contents>) -> Outcome<'p>
         requires { pending_in self ≡ Some pause.Ended }
         ensures program { result.program ≡ (whole self.entry).program }
         ensures name { result.name ≡ (whole self.entry).name }
@@ -312,11 +313,11 @@ impl<'p> Thread<'p> {
         ensures lines { result.lines ≡ own_line_of (whole self.entry) ∷ (whole self.entry).below }
     {
         let mut spares = Spares::none(self.state.alloc);
-        self.finish_into(&mut spares)
+        self.finish_into(contents, &mut spares)
     }
 
     /// The same. What the thread no longer needs is left to those that begin.
-    pub fn finish_into(self, spares: &mut Spares<'p>) -> Outcome<'p>
+    pub fn finish_into(self, contents: Box<Contents>, spares: &mut Spares<'p>) -> Outcome<'p>
         requires { pending_in self ≡ Some pause.Ended }
         ensures program { result.program ≡ (whole self.entry).program }
         ensures name { result.name ≡ (whole self.entry).name }
@@ -324,10 +325,7 @@ impl<'p> Thread<'p> {
         ensures lines { result.lines ≡ own_line_of (whole self.entry) ∷ (whole self.entry).below }
     {
         let mut state = self.state;
-        let Some(spare) = spares.take_contents() else {
-            return Box::into_inner(state).finish_last();
-        };
-        let outcome = state.finish(spare);
+        let outcome = state.finish(contents);
         spares.keep(state);
         outcome
     }

@@ -1,8 +1,8 @@
 use Rattle.std.proofs.Common.{rules, refl}
 use Rattle.arachne_machine.proofs.state.State.renew.Goals as goal
 
-pub returns-clause-renewed : goal.returns-clause-renewed
-returns-clause-renewed c = record {
+pub returns : goal.returns
+returns c = record {
   program_is = refl;
   own_is = refl;
   lines = c.new.ensures;
