@@ -1,5 +1,5 @@
 -- What the ends of a job are for.
-use Rattle.std.specs.Prelude.{◌≡◌, ℕ, List, None, IfSome}
+use Rattle.std.specs.Prelude.{◌≡◌, ℕ, List, MatchOption}
 use Rattle.arachne_lang.specs.declared.program.Program.{Program}
 use Rattle.arachne_jobs.specs.Cells.{IsOf}
 use Rattle.arachne_jobs.specs.declared.wanted.Wanted.{Wanted}
@@ -21,4 +21,4 @@ IsEnd program name at.Waits = Unit {0}
 -- the same of a cell in which a thread waits or has waited
 abbrev pub IsWaitEnd : Program → List ℕ → WaitEnd → Type 0
 IsWaitEnd program name w =
-    IfSome w.end (λ end. IsNamed program name w.cell.key × (end ≡ w.cell.table)) × (w.end ≡ None → IsOf program w.cell.key)
+    MatchOption w.end (IsOf program w.cell.key) (λ end. IsNamed program name w.cell.key × (end ≡ w.cell.table))

@@ -413,11 +413,14 @@ fn look_in<'p>(wait: WaitEnd<'p>) -> Result<Found<'p>, WaitEnd<'p>>
     ensures same { IfErr result (λ back. (program : Program) → (name : List ℕ) → IsWaitEnd program name wait.entry → IsWaitEnd program name back) }
 {
     let WaitEnd { cell, end } = wait;
-    if end.is_some() {
-        return Err(WaitEnd { cell, end });
-    }
-    match cell.find() {
-        Ok(found) => Ok(found),
-        Err(_) => Err(WaitEnd { cell, end }),
+    match end {
+        Some(end) => Err(WaitEnd {
+            cell,
+            end: Some(end),
+        }),
+        None => match cell.find() {
+            Ok(found) => Ok(found),
+            Err(_) => Err(WaitEnd { cell, end: None }),
+        },
     }
 }
