@@ -218,13 +218,16 @@ impl<'p> RunJob for Job<'p> {
         let outcome = thread.finish_into(contents, &mut spares.threads).detach();
         match end {
             End::Leaves(end) => end.leave(outcome),
-            End::Waits => match waits.pop() {
-                Some(WaitEnd {
-                    cell,
-                    end: Some(end),
-                }) => cell.leave(end, outcome),
-                _ => return Err(JobFault::Foreign),
-            },
+            End::Waits => {
+                let Some(wait) = waits.pop() else {
+                    return Err(JobFault::Foreign);
+                };
+                let WaitEnd { cell, end } = wait;
+                let Some(end) = end else {
+                    return Err(JobFault::Foreign);
+                };
+                cell.leave(end, outcome);
+            }
             End::Awaits(_) => return Err(JobFault::Foreign),
         }
         Ok(parent)
