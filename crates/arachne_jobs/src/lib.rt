@@ -14,6 +14,7 @@ mod room;
 mod slice;
 mod spares;
 mod tags;
+mod ties;
 mod waiting;
 mod wanted;
 

@@ -6,7 +6,7 @@ ghost use Rattle.arachne_join.specs.declared.view.Role.TheVariants.{Saw};
 ghost use Rattle.arachne_jobs.specs.Cells.{HasNotBegun, IsFor, IsFoundFor, IsWanted};
 ghost use Rattle.arachne_jobs.specs.Threads.{tag_of};
 
-use crate::ends::Link;
+use crate::ends::WaitEnd;
 use crate::left::{Found, Left, Waiting};
 use crate::slice::RunTicket;
 use crate::wanted::Wanted;
@@ -132,16 +132,16 @@ impl<'p> RunTicket for Ticket<'p> {
 
 impl<'p> Ticket<'p> {
     /// The child, if it waits still, with its cell and the end with which it leaves its outcome there. It is taken only
-    /// where there is room in the list of its job's ends, so that no want of memory comes between.
+    /// where there is room in the list of its job's cells, so that no want of memory comes between.
     pub(crate) fn take(
         self,
-        links: &Vec<Link<'p>>,
+        waits: &Vec<WaitEnd<'p>>,
     ) -> Option<(Waiting<'p>, WaitCell<'p>, SendingEnd<Left<'p>, Wanted>)>
-        requires { vec_len links.now + 1 ≤ vec_capacity links.now }
+        requires { vec_len waits.now + 1 ≤ vec_capacity waits.now }
         ensures child { IfSome result (λ taken. IsFor taken.0.thread taken.1.key × HasNotBegun taken.0.thread) }
         ensures end { IfSome result (λ taken. taken.2 ≡ taken.1.table) }
     {
-        let _ = links;
+        let _ = waits;
         let Ticket { cell, tag: _ } = self;
         match cell.take_back() {
             Ok((left, end)) => match left {

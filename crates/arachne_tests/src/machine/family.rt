@@ -7,7 +7,7 @@ ghost use Rattle.arachne_machine.specs.Nested.{IsChildOf, pending_in};
 use super::shortage::Memory;
 use arachne_lang::{Class, Program};
 use arachne_machine::{
-    NotJoined, NotPlaced, Outcome, OutcomeParts, Pause, Pending, Placing, Spares, Thread,
+    Contents, NotJoined, NotPlaced, Outcome, OutcomeParts, Pause, Pending, Placing, Spares, Thread,
 };
 use std::alloc::Global;
 
@@ -315,7 +315,10 @@ fn end(family: &mut Family) -> bool {
     let Some(Pending::Ended) = thread.pending() else {
         return lose_thread(thread);
     };
-    family.outcomes.push(thread.finish()).is_ok()
+    let Ok(contents) = Contents::new(*family.outcomes.allocator()) else {
+        return false;
+    };
+    family.outcomes.push(thread.finish(contents)).is_ok()
 }
 
 /// Makes one call of the last thread.
