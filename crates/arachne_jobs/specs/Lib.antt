@@ -5,3 +5,4 @@ pub mod Slices
 pub mod Classes
 pub mod Places
 pub mod Faults
+pub mod Dues

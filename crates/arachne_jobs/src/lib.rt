@@ -2,6 +2,7 @@
 #![tactic(auto)]
 
 mod classes;
+mod due;
 mod ends;
 mod fault;
 mod job;
@@ -17,6 +18,7 @@ mod waiting;
 mod wanted;
 
 pub use classes::has_exclusive;
+pub use due::Due;
 pub use fault::JobFault;
 pub use job::Job;
 pub use openings::Openings;

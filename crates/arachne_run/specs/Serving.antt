@@ -1,10 +1,12 @@
 -- What a thread asks for, what may come of it, and where it stops.
-use Rattle.std.specs.Prelude.{◌≡◌, ℕ, Option, None, Some}
+use Rattle.std.specs.Prelude.{◌≡◌, ◌≢◌, ℕ, List, Option, None, Some}
 use Rattle.arachne_core.specs.declared.thread_id.ThreadId.{ThreadId}
 use Rattle.arachne_machine.specs.declared.pause.Pending.{Pending}
 use Rattle.arachne_machine.specs.declared.pause.Pending.TheVariants as pause
 use Rattle.arachne_workers.specs.declared.desk.Stop.{Stop}
 use Rattle.arachne_workers.specs.declared.desk.Stop.TheVariants as stop
+use Rattle.arachne_jobs.specs.declared.due.Due.{Due}
+use Rattle.arachne_ledger.specs.Sums.{raised}
 use Rattle.arachne_sleep.specs.declared.answer.Pass.{Pass}
 use Rattle.arachne_sleep.specs.declared.who.Who.{Who}
 use Rattle.arachne_run.specs.declared.access.Want.{Want}
@@ -34,6 +36,11 @@ IsServed (Tallies ledger amount) who (Waits awaited) = ⊥
 IsServed (Tallies ledger amount) who (Holds granted) = ⊥
 IsServed (Tallies ledger amount) who (Freed next) = ⊥
 IsServed (Tallies ledger amount) who Added = Unit {0}
+
+-- A share has got what was due, once: where something was, its sum for that ledger is raised by it.
+pub record IsSettled (due : Due) (old new : List ℕ) : Type 0 where
+  pub none : due.amount ≡ 0 → new ≡ old
+  pub some : due.amount ≢ 0 → new ≡ raised old due.ledger due.amount
 
 -- this is what a thread with this pause asks for
 abbrev pub IsWantOf : Want → Option Pending → Type 0

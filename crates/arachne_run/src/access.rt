@@ -4,7 +4,7 @@ ghost use Rattle.arachne_ledger.specs.Sums.{raised};
 ghost use Rattle.arachne_ledger.specs.Views.{IsShareOf};
 ghost use Rattle.arachne_sleep.specs.Calls.{FreeAnswer};
 ghost use Rattle.arachne_sleep.specs.SleepLocks.{AreSeatsOf, ChangesAt};
-ghost use Rattle.arachne_run.specs.Serving.{IsPassFor, IsServed, IsWantOf, StopsAt, id_of};
+ghost use Rattle.arachne_run.specs.Serving.{IsPassFor, IsServed, IsSettled, IsWantOf, StopsAt, id_of};
 ghost use Rattle.arachne_run.specs.Tokens.{AreHoldingsOf};
 ghost use Rattle.arachne_run.specs.declared.granted.Got.TheVariants as got;
 ghost use Rattle.arachne_run.specs.declared.granted.Granted.{Granted};
@@ -14,7 +14,7 @@ use crate::granted::{self, Got, Granted};
 use crate::resources::{Holdings, Resources};
 use arachne_arbiter::Pace;
 use arachne_core::ThreadId;
-use arachne_jobs::RunThread;
+use arachne_jobs::{Due, RunThread};
 use arachne_ledger::{Ledgers, Share};
 use arachne_sleep::{Freed, LockSeats, NotHolder, SleepLocks, Tried, Who};
 use arachne_workers::{Stop, stand_by};
@@ -256,6 +256,15 @@ impl<'a> Access<'a> {
         )
     }
 
+    /// Adds what is due to its ledger. Nothing is due then.
+    #[inline(always)]
+    pub(crate) fn settle(&mut self, due: &mut Due) -> Result<(), WorkerFault>
+        ensures same { self.new ≡ self.old }
+        ensures settled { OnOk result (due.new.amount ≡ 0) }
+    {
+        settle_at(&self.resources.ledgers, &mut self.holdings.share, due)
+    }
+
     /// Adds to a ledger. In a checked program a pause names a ledger that is there.
     pub(crate) fn add(&mut self, ledger: u64, amount: u64) -> Result<(), WorkerFault>
         ensures { self.new ≡ self.old }
@@ -300,6 +309,22 @@ fn add_to(ledgers: &Ledgers, share: &mut Share, ledger: u64, amount: u64) -> Res
         return Err(WorkerFault::Foreign);
     }
     ledgers.add(share, ledger as usize, amount);
+    Ok(())
+}
+
+/// Adds what is due, if that is anything, to the share's sum for its ledger. Nothing is due then.
+#[inline(always)]
+fn settle_at(ledgers: &Ledgers, share: &mut Share, due: &mut Due) -> Result<(), WorkerFault>
+    requires { IsShareOf ledgers.now share.old }
+    ensures own { IsShareOf ledgers.now share.new }
+    ensures added { OnOk result (IsSettled due.old share.old.sums share.new.sums) }
+    ensures settled { OnOk result (due.new.amount ≡ 0) }
+{
+    if due.amount == 0 {
+        return Ok(());
+    }
+    add_to(ledgers, share, due.ledger, due.amount)?;
+    due.amount = 0;
     Ok(())
 }
 
