@@ -7,6 +7,8 @@ mod board;
 #[cfg(test)]
 mod crew;
 #[cfg(test)]
+mod hand;
+#[cfg(test)]
 mod orders;
 #[cfg(test)]
 mod rounds;

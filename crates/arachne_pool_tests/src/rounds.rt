@@ -1,16 +1,16 @@
 //! What is done with a pool by one worker, act by act, and what is seen of it.
-ghost use Rattle.std.specs.Prelude.{◌≡◌, ◌<◌, ◌≤◌, IfSome};
-ghost use Rattle.arachne_core.specs.declared.layout.TheConstants.{CORES, SLOTS};
+ghost use Rattle.std.specs.Prelude.{◌≡◌, IfSome};
 ghost use Rattle.arachne_pool.specs.Workers.{IsWorkerOf};
 
 use crate::board::Board;
 use crate::crew::Share;
+use crate::hand::{Comes, Hand, On, Seated, Seen, Told, Wakes};
 use crate::orders::{Order, orders_of};
 use crate::spells::Spell;
 use crate::tasks::{LEAF, Sort, Task};
-use arachne_contexts::{Contexts, Woken};
-use arachne_core::{CORES, OccWord, SLOTS, ThreadId};
-use arachne_pool::{Left, Pool, PoolFault, Refusal, Refused, Spawned, Worker};
+use arachne_contexts::Contexts;
+use arachne_core::{CORES, SLOTS, ThreadId};
+use arachne_pool::{Left, Pool, Spawned, Worker};
 use arachne_shortage::Hoard;
 use std::alloc::Global;
 use std::sync::{Arc, Wait};
@@ -69,41 +69,6 @@ pub(crate) enum Act {
     Stops,
 }
 
-/// How and where a job is spawned.
-#[derive(Clone, Copy)]
-pub(crate) enum On {
-    /// On any core, by a spawn after which a worker may keep it.
-    AnyKept,
-    /// On any core.
-    Any,
-    /// The same, with no handle.
-    AnyDetached,
-    /// On this one.
-    Core(u8),
-}
-
-/// What comes of that.
-#[derive(Clone, Copy, PartialEq)]
-pub(crate) enum Comes {
-    /// It is spawned.
-    Begins,
-    /// So many cores were seen full, or one job's alone, and so many closed.
-    NoPlace(u8, u8),
-    NoMemory,
-    NoSeat,
-}
-
-/// What comes of a wake.
-#[derive(Clone, Copy, PartialEq)]
-pub(crate) enum Wakes {
-    /// The job slept.
-    It,
-    /// It was awake.
-    Awake,
-    /// There is no such job.
-    Nobody,
-}
-
 /// How a core is.
 #[derive(Clone, Copy, PartialEq)]
 pub(crate) enum Is {
@@ -130,40 +95,42 @@ pub(crate) struct Row {
     pub(crate) alive: usize,
 }
 
-/// A row's pool and its worker, which has done the row's first acts. None where one doesn't come out as it says.
+/// A row's board, pool and worker, which has done the row's first acts. None where one doesn't come out as it says.
 pub(crate) fn begin<C: Contexts<Spawned<Task>> + Drop, R: Wait + Clock>(
     rt: &R,
     alloc: Global,
-    board: &Arc<Board>,
     row: &Row,
-) -> Option<(Pool<C>, Worker<C::Seat, Task>)>
-    ensures { IfSome result (λ made. IsWorkerOf C.sits C.idle made.0.table made.0.cores made.1) }
+) -> Option<(Arc<Board>, Pool<C>, Worker<C::Seat, Task>)>
+    ensures { IfSome result (λ made. IsWorkerOf C.sits C.idle made.1.table made.1.cores made.2) }
 {
     let Row { cores, slots, .. } = *row;
     if cores < 1 || cores > CORES || slots < 1 || slots > SLOTS {
         return None;
     }
+    let board = Board::new(alloc)?;
     let orders = orders_of(alloc, row.orders, cores)?;
     let (pool, worker) = Pool::<C>::new::<Task>(alloc, cores, slots, orders).ok()?;
-    match all_hold::<C, R>(rt, alloc, &pool, board, worker, row.acts) {
-        Some(worker) => Some((pool, worker)),
+    match all_hold::<C, R>(rt, &pool, &board, worker, row.acts) {
+        Some(worker) => Some((board, pool, worker)),
         None => None,
     }
 }
 
-/// Whether the acts that come last do too once both kernel threads have worked, and so many jobs are left.
+/// Whether both kernel threads have worked, the acts that come last do too, and so many jobs are left.
 pub(crate) fn end<C: Contexts<Spawned<Task>> + Drop, R: Wait + Clock>(
     rt: &R,
     alloc: Global,
     board: &Arc<Board>,
     pool: Pool<C>,
-    share: Share<C::Seat>,
+    share: Option<Share<C::Seat>>,
     row: &Row,
 ) -> bool
-    requires { IsWorkerOf C.sits C.idle pool.table pool.cores share.worker }
+    requires { IfSome share (λ share. IsWorkerOf C.sits C.idle pool.table pool.cores share.worker) }
 {
-    let Share { worker, busy } = share;
-    let Some(worker) = all_hold::<C, R>(rt, alloc, &pool, board, worker, row.then) else {
+    let Some(Share { worker, busy }) = share else {
+        return false;
+    };
+    let Some(worker) = all_hold::<C, R>(rt, &pool, board, worker, row.then) else {
         return false;
     };
     let Ok(left) = pool.close(rt, alloc, worker) else {
@@ -202,7 +169,6 @@ fn count_in(job: Spawned<Task>) -> usize {
 /// The worker, where each act comes out as it says. A waker has a part of its seat meanwhile.
 fn all_hold<C: Contexts<Spawned<Task>>, R: Wait + Clock>(
     rt: &R,
-    alloc: Global,
     pool: &Pool<C>,
     board: &Arc<Board>,
     worker: Worker<C::Seat, Task>,
@@ -211,119 +177,92 @@ fn all_hold<C: Contexts<Spawned<Task>>, R: Wait + Clock>(
     requires { IsWorkerOf C.sits C.idle pool.now.table pool.now.cores worker }
     ensures { IfSome result (IsWorkerOf C.sits C.idle pool.now.table pool.now.cores) }
 {
-    let (mut worker, waker) = pool.split_waker(rt, worker);
-    let mut waker = waker?;
+    let mut seated = Seated::new(rt, pool, board, worker)?;
+    if !each_holds(&mut seated, board, acts) {
+        return None;
+    }
+    Some(seated.into_worker())
+}
+
+/// Whether each act comes out as it says.
+fn each_holds<D: Hand>(hand: &mut D, board: &Board, acts: &[Act]) -> bool
+    ensures { hand.new ≡ hand.old }
+{
     let mut hoard: Option<Hoard> = None;
     for act in acts {
         let holds = match *act {
-            Act::Wakes(context, generation, wakes) => {
-                let id = ThreadId {
-                    context,
-                    generation,
-                };
-                wakes_of(pool.wake::<R, Task>(rt, &mut waker, id).woken()) == wakes
-            }
             Act::Hoards => {
-                hoard = Hoard::take(alloc).ok();
+                hoard = Hoard::take(board.alloc).ok();
                 hoard.is_some()
             }
             Act::Frees => {
                 hoard = None;
                 true
             }
-            act => holds::<C, R>(rt, alloc, pool, board, &mut worker, act),
+            act => holds(hand, board, act),
         };
         if !holds {
-            return None;
+            return false;
         }
     }
-    Some(pool.join_waker(rt, worker, waker))
+    true
 }
 
-/// What came of a wake.
-fn wakes_of(woken: Woken) -> Wakes {
-    match woken {
-        Woken::Woken => Wakes::It,
-        Woken::Already(_) => Wakes::Awake,
-        Woken::Gone | Woken::Lost(_) => Wakes::Nobody,
-    }
-}
-
-/// Whether an act of one worker comes out as it says.
-fn holds<C: Contexts<Spawned<Task>>, R: Wait + Clock>(
-    rt: &R,
-    alloc: Global,
-    pool: &Pool<C>,
-    board: &Arc<Board>,
-    worker: &mut Worker<C::Seat, Task>,
-    act: Act,
-) -> bool
-    requires worker { IsWorkerOf C.sits C.idle pool.now.table pool.now.cores worker.old }
-    ensures worker { IsWorkerOf C.sits C.idle pool.now.table pool.now.cores worker.new }
+/// Whether an act comes out as it says.
+fn holds<D: Hand>(hand: &mut D, board: &Board, act: Act) -> bool
+    ensures { hand.new ≡ hand.old }
 {
     match act {
-        Act::Spawns(sort) => match Task::new(sort, board) {
-            Some(task) => pool.spawn(rt, worker, task).is_ok(),
-            None => false,
-        },
-        Act::SpawnsMany(jobs, sort) => spawns_many::<C, R>(rt, pool, board, worker, jobs, sort),
-        Act::Turns(core, finds) if core < pool.cores => pool.turn(rt, worker, core) == Ok(finds),
-        Act::Works(core) if core < pool.cores => pool.work(rt, worker, core).is_ok(),
-        Act::Joins(sort, wanted) if pool.cores > 0 => {
-            joins::<C, R>(rt, pool, board, worker, sort, wanted)
+        Act::Spawns(sort) => spawns_many(hand, 1, sort),
+        Act::SpawnsMany(jobs, sort) => spawns_many(hand, jobs, sort),
+        Act::Turns(core, finds) => hand.turn(core) == Some(finds),
+        Act::Works(core) => hand.work(core),
+        Act::Joins(sort, wanted) => hand.joins(sort, wanted),
+        Act::Tries(on, sort, comes) => hand.tried(on, sort) == Some(comes),
+        Act::Wakes(context, generation, wakes) => {
+            let id = ThreadId {
+                context,
+                generation,
+            };
+            hand.wake(id) == wakes
         }
-        Act::Tries(on, sort, comes) => {
-            tried::<C, R>(rt, pool, board, worker, on, sort) == Some(comes)
-        }
-        Act::EndsInNeed(sort) if pool.cores > 0 => {
-            ends_in_need::<C, R>(rt, alloc, pool, board, worker, sort)
-        }
-        Act::Orders(orders) => match orders_of(alloc, orders, pool.cores) {
-            Some(orders) => pool.order(rt, worker, orders).is_ok(),
-            None => false,
-        },
-        Act::Counts(count) => worker.tally().spawned == count,
-        Act::Fills => fills::<C, R>(rt, pool, board, worker),
-        act => is_so::<C, R>(rt, pool, board, act),
+        Act::EndsInNeed(sort) => ends_in_need(hand, board, sort),
+        Act::Orders(orders) => hand.order(orders),
+        Act::Fills => fills(hand),
+        act => is_so(hand, board, act),
     }
 }
 
-/// Whether an act without a worker comes out as it says.
-fn is_so<C: Contexts<Spawned<Task>>, R: Wait>(
-    rt: &R,
-    pool: &Pool<C>,
-    board: &Board,
-    act: Act,
-) -> bool {
+/// Whether an act that does nothing with a worker comes out as it says.
+fn is_so<D: Hand>(hand: &D, board: &Board, act: Act) -> bool {
     match act {
-        Act::Has(core, taken, is) if core < pool.cores => {
-            match OccWord::from_word(pool.table.glance(rt, core)) {
-                Some(now) => {
-                    now.count() == taken
-                        && now.is_closed() == (is == Is::Closed)
-                        && now.is_exclusive() == (is == Is::Alone)
-                }
-                None => false,
+        Act::Has(core, taken, is) => match hand.word(core) {
+            Some(now) => {
+                now.count() == taken
+                    && now.is_closed() == (is == Is::Closed)
+                    && now.is_exclusive() == (is == Is::Alone)
             }
-        }
-        Act::Lives(count) => pool.live() == count,
+            None => false,
+        },
+        Act::Lives(count) => hand.look(0).live == count,
+        Act::Counts(count) => hand.look(0).spawned == count,
         Act::Did(core, slices, steps, wakes, rests) => {
-            let done = pool.statistics(core);
+            let done = hand.look(core).done;
             (done.slices, done.steps) == (slices, steps)
                 && (done.wakes, done.rests) == (wakes, rests)
         }
-        Act::Overslept(most) => overslept(pool) <= most,
+        Act::Overslept(most) => overslept(hand) <= most,
         Act::Answers => {
             board.answer();
             true
         }
         Act::Answered(count) => board.answers() == count,
         Act::KeepsOpen => {
-            pool.keep_open();
+            hand.tell(Told::KeepOpen);
             true
         }
         Act::Stops => {
-            pool.stop();
+            hand.tell(Told::Stop);
             true
         }
         _ => false,
@@ -331,51 +270,20 @@ fn is_so<C: Contexts<Spawned<Task>>, R: Wait>(
 }
 
 /// How often kernel threads have slept their time out, though something was there for them.
-fn overslept<C: Contexts<Spawned<Task>>>(pool: &Pool<C>) -> u64 {
+fn overslept<D: Hand>(hand: &D) -> u64 {
     let mut sum: u64 = 0;
-    for core in 0..pool.cores {
-        sum = sum.saturating_add(pool.statistics(core).overslept);
+    for core in 0..hand.look(0).cores {
+        sum = sum.saturating_add(hand.look(core).done.overslept);
     }
     sum
 }
 
-/// What comes of a spawn, on a core that there is.
-fn tried<C: Contexts<Spawned<Task>>, R: Wait>(
-    rt: &R,
-    pool: &Pool<C>,
-    board: &Arc<Board>,
-    worker: &mut Worker<C::Seat, Task>,
-    on: On,
-    sort: Sort,
-) -> Option<Comes>
-    requires worker { IsWorkerOf C.sits C.idle pool.now.table pool.now.cores worker.old }
-    ensures worker { IsWorkerOf C.sits C.idle pool.now.table pool.now.cores worker.new }
-{
-    let task = Task::new(sort, board)?;
-    let refused = match on {
-        On::AnyKept => pool.spawn(rt, worker, task).err(),
-        On::Any => pool.try_spawn(rt, worker, task).err(),
-        On::AnyDetached => pool.spawn_detached(rt, worker, task).err(),
-        On::Core(core) if core < pool.cores => pool.try_spawn_on(rt, worker, core, task).err(),
-        On::Core(_) => return None,
-    };
-    Some(comes_of(refused))
-}
-
 /// Spawns so many jobs. Whether each was spawned.
-fn spawns_many<C: Contexts<Spawned<Task>>, R: Wait>(
-    rt: &R,
-    pool: &Pool<C>,
-    board: &Arc<Board>,
-    worker: &mut Worker<C::Seat, Task>,
-    jobs: u32,
-    sort: Sort,
-) -> bool
-    requires worker { IsWorkerOf C.sits C.idle pool.now.table pool.now.cores worker.old }
-    ensures worker { IsWorkerOf C.sits C.idle pool.now.table pool.now.cores worker.new }
+fn spawns_many<D: Hand>(hand: &mut D, jobs: u32, sort: Sort) -> bool
+    ensures { hand.new ≡ hand.old }
 {
     for _ in 0..jobs {
-        if tried::<C, R>(rt, pool, board, worker, On::AnyKept, sort) != Some(Comes::Begins) {
+        if hand.tried(On::AnyKept, sort) != Some(Comes::Begins) {
             return false;
         }
     }
@@ -384,49 +292,30 @@ fn spawns_many<C: Contexts<Spawned<Task>>, R: Wait>(
 
 /// Spawns jobs that no worker keeps until half of the places are taken, and then on each core until it is full. Whether
 /// each was spawned as long as there was a place.
-fn fills<C: Contexts<Spawned<Task>>, R: Wait>(
-    rt: &R,
-    pool: &Pool<C>,
-    board: &Arc<Board>,
-    worker: &mut Worker<C::Seat, Task>,
-) -> bool
-    requires worker { IsWorkerOf C.sits C.idle pool.now.table pool.now.cores worker.old }
-    ensures worker { IsWorkerOf C.sits C.idle pool.now.table pool.now.cores worker.new }
+fn fills<D: Hand>(hand: &mut D) -> bool
+    ensures { hand.new ≡ hand.old }
 {
-    let places = u64::from(pool.cores) * u64::from(pool.slots);
+    let Seen { cores, slots, .. } = hand.look(0);
+    let places = u64::from(cores) * u64::from(slots);
     for nth in 0..places / 2 + places % 2 {
-        let on = match nth % 3 {
-            0 => On::AnyKept,
-            1 => On::Any,
-            _ => On::AnyDetached,
-        };
-        if tried::<C, R>(rt, pool, board, worker, on, LEAF) != Some(Comes::Begins) {
+        if hand.tried(On::each_way(nth), LEAF) != Some(Comes::Begins) {
             return false;
         }
     }
-    for core in 0..pool.cores {
-        if fills_core::<C, R>(rt, pool, board, worker, core) != Some(Comes::NoPlace(1, 0)) {
+    for core in 0..cores {
+        if fills_core(hand, core, slots) != Some(Comes::NoPlace(1, 0)) {
             return false;
         }
     }
-    worker.tally().spawned == places
-        && tried::<C, R>(rt, pool, board, worker, On::Any, LEAF)
-            == Some(Comes::NoPlace(pool.cores, 0))
+    hand.look(0).spawned == places && hand.tried(On::Any, LEAF) == Some(Comes::NoPlace(cores, 0))
 }
 
-/// Spawns jobs on a core until one is not spawned. What comes of that.
-fn fills_core<C: Contexts<Spawned<Task>>, R: Wait>(
-    rt: &R,
-    pool: &Pool<C>,
-    board: &Arc<Board>,
-    worker: &mut Worker<C::Seat, Task>,
-    core: u8,
-) -> Option<Comes>
-    requires worker { IsWorkerOf C.sits C.idle pool.now.table pool.now.cores worker.old }
-    ensures worker { IsWorkerOf C.sits C.idle pool.now.table pool.now.cores worker.new }
+/// Spawns jobs on a core of so many places until one is not spawned. What comes of that.
+fn fills_core<D: Hand>(hand: &mut D, core: u8, slots: u8) -> Option<Comes>
+    ensures { hand.new ≡ hand.old }
 {
-    for _ in 0..=pool.slots {
-        let comes = tried::<C, R>(rt, pool, board, worker, On::Core(core), LEAF)?;
+    for _ in 0..=slots {
+        let comes = hand.tried(On::Core(core), LEAF)?;
         if comes != Comes::Begins {
             return Some(comes);
         }
@@ -434,83 +323,43 @@ fn fills_core<C: Contexts<Spawned<Task>>, R: Wait>(
     None
 }
 
-/// Why a job came back, if it did.
-fn comes_of(refused: Option<Refused<Task>>) -> Comes {
-    match refused {
-        None => Comes::Begins,
-        Some(Refused { why, .. }) => match why {
-            Refusal::NoPlace(seen) => Comes::NoPlace(seen.full(), seen.closed()),
-            Refusal::Memory => Comes::NoMemory,
-            Refusal::NoSeat => Comes::NoSeat,
-        },
-    }
-}
-
-/// Spawns a job and joins it on core 0. Whether it gives this, or nothing where the pool is stopped.
-fn joins<C: Contexts<Spawned<Task>>, R: Wait + Clock>(
-    rt: &R,
-    pool: &Pool<C>,
-    board: &Arc<Board>,
-    worker: &mut Worker<C::Seat, Task>,
-    sort: Sort,
-    wanted: Option<u64>,
-) -> bool
-    requires worker { IsWorkerOf C.sits C.idle pool.now.table pool.now.cores worker.old }
-    requires core { 0 < pool.now.cores }
-    ensures worker { IsWorkerOf C.sits C.idle pool.now.table pool.now.cores worker.new }
-{
-    let Some(task) = Task::new(sort, board) else {
-        return false;
-    };
-    let Ok(handle) = pool.spawn(rt, worker, task) else {
-        return false;
-    };
-    match pool.join(rt, worker, 0, handle) {
-        Ok(counted) => wanted == Some(counted),
-        Err((fault, _)) => wanted.is_none() && fault == PoolFault::Stopped,
-    }
-}
-
 /// Spawns a job where memory is used up, and works on core 0 until all have ended. What is refused is tried again with
 /// a little more. Whether a spawn was refused, and more than 20 rounds were.
-fn ends_in_need<C: Contexts<Spawned<Task>>, R: Wait + Clock>(
-    rt: &R,
-    alloc: Global,
-    pool: &Pool<C>,
-    board: &Arc<Board>,
-    worker: &mut Worker<C::Seat, Task>,
-    sort: Sort,
-) -> bool
-    requires worker { IsWorkerOf C.sits C.idle pool.now.table pool.now.cores worker.old }
-    requires core { 0 < pool.now.cores }
-    ensures worker { IsWorkerOf C.sits C.idle pool.now.table pool.now.cores worker.new }
+fn ends_in_need<D: Hand>(hand: &mut D, board: &Board, sort: Sort) -> bool
+    ensures { hand.new ≡ hand.old }
 {
-    let Ok(mut hoard) = Hoard::take(alloc) else {
+    let Ok(mut hoard) = Hoard::take(board.alloc) else {
         return false;
     };
     let mut is_spawned = false;
     let (mut spawns, mut rounds) = (0u32, 0u32);
     for _ in 0..TRIES {
-        if is_spawned && pool.live() == 0 {
+        if is_spawned && hand.look(0).live == 0 {
             break;
         }
-        let is_done = if is_spawned {
-            let turned = pool.turn(rt, worker, 0).is_ok();
-            rounds = rounds.saturating_add(u32::from(!turned));
-            turned
+        let is_done = goes_on(hand, sort, is_spawned);
+        let refused = u32::from(!is_done);
+        if is_spawned {
+            rounds = rounds.saturating_add(refused);
         } else {
-            is_spawned = match Task::new(sort, board) {
-                Some(task) => pool.spawn(rt, worker, task).is_ok(),
-                None => false,
-            };
-            spawns = spawns.saturating_add(u32::from(!is_spawned));
-            is_spawned
-        };
+            spawns = spawns.saturating_add(refused);
+            is_spawned = is_done;
+        }
         if !is_done {
             hoard.give_back(FEW);
         } else if hoard.take_again().is_err() {
             break;
         }
     }
-    is_spawned && pool.live() == 0 && spawns > 0 && rounds > 20
+    is_spawned && hand.look(0).live == 0 && spawns > 0 && rounds > 20
+}
+
+/// A round on core 0 where a job was spawned; else it is now. Whether nothing was refused.
+fn goes_on<D: Hand>(hand: &mut D, sort: Sort, is_spawned: bool) -> bool
+    ensures { hand.new ≡ hand.old }
+{
+    if is_spawned {
+        return hand.turn(0).is_some();
+    }
+    hand.tried(On::AnyKept, sort) == Some(Comes::Begins)
 }

@@ -1,5 +1,4 @@
 //! Rows of acts, over the table on words.
-use crate::board::Board;
 use crate::crew::{Crew, Share};
 use crate::orders::{GRANT, Order, RELEASE};
 use crate::rounds::{Act, Is, Row, begin, end};
@@ -526,10 +525,7 @@ const ROWS: &[Row] = &[
 
 /// Whether a row comes out as it says.
 pub(crate) fn holds<R: Threads + Wait + Clock + Sync>(rt: &R, alloc: Global, row: &Row) -> bool {
-    let Some(board) = Board::new(alloc) else {
-        return false;
-    };
-    let Some((pool, worker)) = begin::<Table, R>(rt, alloc, &board, row) else {
+    let Some((board, pool, worker)) = begin::<Table, R>(rt, alloc, row) else {
         return false;
     };
     let crew = Crew {
@@ -537,10 +533,8 @@ pub(crate) fn holds<R: Threads + Wait + Clock + Sync>(rt: &R, alloc: Global, row
         board: &board,
         spells: row.spells,
     };
-    match work_together(rt, alloc, &crew, Share { worker, busy: 0 }) {
-        Some(share) => end::<Table, R>(rt, alloc, &board, pool, share, row),
-        None => false,
-    }
+    let share = work_together(rt, alloc, &crew, Share { worker, busy: 0 });
+    end::<Table, R>(rt, alloc, &board, pool, share, row)
 }
 
 #[test]

@@ -1,10 +1,11 @@
 //! What a kernel thread of a row does.
-ghost use Rattle.std.specs.Prelude.{◌≡◌, ◌<◌, IfSome};
+ghost use Rattle.std.specs.Prelude.{◌≡◌, IfSome};
 ghost use Rattle.arachne_pool.specs.Workers.{IsWorkerOf};
 
 use crate::board::Board;
+use crate::hand::{Comes, Hand, On, Seated, Told};
 use crate::tasks::{LEAF, Sort, Task};
-use arachne_contexts::{Contexts, Seats};
+use arachne_contexts::Contexts;
 use arachne_pool::{Pool, Spawned, Worker};
 use std::sync::atomic::{AtomicU64, Ordering};
 use std::sync::{Arc, Wait};
@@ -48,6 +49,19 @@ pub(crate) enum Until {
     NoneLives,
 }
 
+/// What a kernel thread waits for.
+#[derive(Clone, Copy)]
+enum Awaited<'c> {
+    /// A count of the board is over this.
+    More(&'c AtomicU64, u32),
+    /// So many jobs live at most.
+    Ends(u64),
+    /// The kernel thread of this core has found nothing more often than this.
+    Rest(u8, u64),
+    /// The kernel thread of this core sleeps.
+    Sleep(u8),
+}
+
 /// Does this as the kernel thread of a core, which may be none of the pool's. The worker, if it has its seat still.
 pub(crate) fn work<C: Contexts<Spawned<Task>>, R: Wait + Clock>(
     rt: &R,
@@ -60,244 +74,176 @@ pub(crate) fn work<C: Contexts<Spawned<Task>>, R: Wait + Clock>(
     requires { IsWorkerOf C.sits C.idle pool.now.table pool.now.cores worker }
     ensures { IfSome result (IsWorkerOf C.sits C.idle pool.now.table pool.now.cores) }
 {
-    let mut worker = worker;
+    let mut seated = Seated::new(rt, pool, board, worker)?;
+    does(rt, &mut seated, board, core, spell);
+    Some(seated.into_worker())
+}
+
+/// The same by a hand.
+fn does<R: Wait, D: Hand>(rt: &R, hand: &mut D, board: &Board, core: u8, spell: Spell)
+    ensures { hand.new ≡ hand.old }
+{
+    let cores = hand.look(0).cores;
     match spell {
         Spell::Not => {}
-        Spell::ToTheEnd if core < pool.cores => {
-            let _ = pool.work(rt, &mut worker, core);
+        Spell::ToTheEnd if core < cores => {
+            hand.work(core);
         }
-        Spell::ToTheStop if core < pool.cores => {
-            to_the_stop::<C, R>(rt, pool, board, &mut worker, core);
+        Spell::ToTheStop if core < cores => to_the_stop(rt, hand, board, core),
+        Spell::Rounds(rounds) if core < cores => turns(hand, core, rounds),
+        Spell::Spawns(jobs) => spawns(hand, jobs),
+        Spell::Feeds(jobs) if cores > 1 => feeds(rt, hand, jobs),
+        Spell::Finishes(times) if cores > 1 => finishes(rt, hand, board, times),
+        Spell::Wakes(times, sleeps) => wakes(rt, hand, board, times, sleeps),
+        Spell::Polls(times, sort, until) if cores > 1 => {
+            polls(rt, hand, board, times, sort, until);
         }
-        Spell::Rounds(rounds) if core < pool.cores => {
-            turns::<C, R>(rt, pool, &mut worker, core, rounds);
-        }
-        Spell::Spawns(jobs) => spawns::<C, R>(rt, pool, board, &mut worker, jobs),
-        Spell::Feeds(jobs) if pool.cores > 1 => {
-            feeds::<C, R>(rt, pool, board, &mut worker, jobs);
-        }
-        Spell::Finishes(times) if pool.cores > 1 => finishes::<C, R>(rt, pool, board, times),
-        Spell::Wakes(times, sleeps) => {
-            return wakes::<C, R>(rt, pool, board, worker, times, sleeps);
-        }
-        Spell::Polls(times, sort, until) if pool.cores > 1 => {
-            polls::<C, R>(rt, pool, board, &mut worker, times, sort, until);
-        }
-        _ => pool.stop(),
+        _ => hand.tell(Told::Stop),
     }
-    Some(worker)
 }
 
 /// `Spell::ToTheStop`, with a wait before each time.
-fn to_the_stop<C: Contexts<Spawned<Task>>, R: Wait + Clock>(
-    rt: &R,
-    pool: &Pool<C>,
-    board: &Board,
-    worker: &mut Worker<C::Seat, Task>,
-    core: u8,
-)
-    requires worker { IsWorkerOf C.sits C.idle pool.now.table pool.now.cores worker.old }
-    requires core { core < pool.now.cores }
-    ensures worker { IsWorkerOf C.sits C.idle pool.now.table pool.now.cores worker.new }
+fn to_the_stop<R: Wait, D: Hand>(rt: &R, hand: &mut D, board: &Board, core: u8)
+    ensures { hand.new ≡ hand.old }
 {
     let mut turns: u64 = 0;
     for _ in rt.forever() {
-        if pool.is_stopped() {
+        if hand.look(0).is_stopped {
             return;
         }
         board.await_turn(rt, turns);
         turns = board.turns();
-        let _ = pool.work(rt, worker, core);
+        hand.work(core);
         board.comes_back();
     }
 }
 
 /// `Spell::Rounds`.
-fn turns<C: Contexts<Spawned<Task>>, R: Wait + Clock>(
-    rt: &R,
-    pool: &Pool<C>,
-    worker: &mut Worker<C::Seat, Task>,
-    core: u8,
-    rounds: u32,
-)
-    requires worker { IsWorkerOf C.sits C.idle pool.now.table pool.now.cores worker.old }
-    requires core { core < pool.now.cores }
-    ensures worker { IsWorkerOf C.sits C.idle pool.now.table pool.now.cores worker.new }
+fn turns<D: Hand>(hand: &mut D, core: u8, rounds: u32)
+    ensures { hand.new ≡ hand.old }
 {
     for _ in 0..rounds {
-        let _ = pool.turn(rt, worker, core);
+        hand.turn(core);
     }
-    pool.stop();
+    hand.tell(Told::Stop);
 }
 
 /// `Spell::Spawns`.
-fn spawns<C: Contexts<Spawned<Task>>, R: Wait>(
-    rt: &R,
-    pool: &Pool<C>,
-    board: &Arc<Board>,
-    worker: &mut Worker<C::Seat, Task>,
-    jobs: u32,
-)
-    requires worker { IsWorkerOf C.sits C.idle pool.now.table pool.now.cores worker.old }
-    ensures worker { IsWorkerOf C.sits C.idle pool.now.table pool.now.cores worker.new }
+fn spawns<D: Hand>(hand: &mut D, jobs: u32)
+    ensures { hand.new ≡ hand.old }
 {
     for _ in 0..jobs {
-        if let Some(task) = Task::new(LEAF, board) {
-            let _ = pool.spawn(rt, worker, task);
-        }
+        hand.tried(On::AnyKept, LEAF);
     }
 }
 
 /// `Spell::Feeds`: the leaves are spawned in the three ways in turn that name no core.
-fn feeds<C: Contexts<Spawned<Task>>, R: Wait + Clock>(
-    rt: &R,
-    pool: &Pool<C>,
-    board: &Arc<Board>,
-    worker: &mut Worker<C::Seat, Task>,
-    jobs: u32,
-)
-    requires worker { IsWorkerOf C.sits C.idle pool.now.table pool.now.cores worker.old }
-    requires core { 1 < pool.now.cores }
-    ensures worker { IsWorkerOf C.sits C.idle pool.now.table pool.now.cores worker.new }
+fn feeds<R: Wait, D: Hand>(rt: &R, hand: &mut D, jobs: u32)
+    ensures { hand.new ≡ hand.old }
 {
     for job in 0..jobs {
-        let Some(task) = Task::new(LEAF, board) else {
-            return;
-        };
-        await_sleep(rt, pool, 1);
-        let is_begun = match job % 3 {
-            0 => pool.spawn(rt, worker, task).is_ok(),
-            1 => pool.try_spawn(rt, worker, task).is_ok(),
-            _ => pool.spawn_detached(rt, worker, task).is_ok(),
-        };
-        if !is_begun {
-            pool.stop();
+        wait(rt, hand, Awaited::Sleep(1));
+        if hand.tried(On::each_way(u64::from(job)), LEAF) != Some(Comes::Begins) {
+            hand.tell(Told::Stop);
         }
-        await_ends(rt, pool, 1);
+        wait(rt, hand, Awaited::Ends(1));
     }
-    pool.finish();
-    let _ = pool.work(rt, worker, 0);
+    hand.tell(Told::Finish);
+    hand.work(0);
 }
 
 /// `Spell::Finishes`.
-fn finishes<C: Seats, R: Wait>(rt: &R, pool: &Pool<C>, board: &Board, times: u32) {
+fn finishes<R: Wait, D: Hand>(rt: &R, hand: &D, board: &Board, times: u32) {
     for time in 0..times {
-        let rests = pool.statistics(1).rests;
-        pool.keep_open();
+        let rests = hand.look(1).done.rests;
+        hand.tell(Told::KeepOpen);
         board.pass_turn();
-        await_rest(rt, pool, 1, rests);
-        await_sleep(rt, pool, 1);
-        pool.finish();
-        await_more(rt, pool, &board.returns, time);
+        wait(rt, hand, Awaited::Rest(1, rests));
+        wait(rt, hand, Awaited::Sleep(1));
+        hand.tell(Told::Finish);
+        wait(rt, hand, Awaited::More(&board.returns, time));
     }
-    pool.stop();
+    hand.tell(Told::Stop);
     board.pass_turn();
 }
 
 /// `Spell::Wakes`.
-fn wakes<C: Contexts<Spawned<Task>>, R: Wait + Clock>(
-    rt: &R,
-    pool: &Pool<C>,
-    board: &Board,
-    worker: Worker<C::Seat, Task>,
-    times: u32,
-    sleeps: bool,
-) -> Option<Worker<C::Seat, Task>>
-    requires { IsWorkerOf C.sits C.idle pool.now.table pool.now.cores worker }
-    ensures { IfSome result (IsWorkerOf C.sits C.idle pool.now.table pool.now.cores) }
+fn wakes<R: Wait, D: Hand>(rt: &R, hand: &mut D, board: &Board, times: u32, sleeps: bool)
+    ensures { hand.new ≡ hand.old }
 {
-    let (worker, waker) = pool.split_waker(rt, worker);
-    let mut waker = waker?;
     for time in 0..times {
-        await_more(rt, pool, &board.sleeps, time);
+        wait(rt, hand, Awaited::More(&board.sleeps, time));
         if sleeps {
-            await_sleep(rt, pool, 1);
+            wait(rt, hand, Awaited::Sleep(1));
         }
         board.answer();
-        let _ = pool.wake::<R, Task>(rt, &mut waker, board.id());
+        hand.wake(board.id());
     }
-    Some(pool.join_waker(rt, worker, waker))
 }
 
 /// `Spell::Polls`.
-fn polls<C: Contexts<Spawned<Task>>, R: Wait + Clock>(
+fn polls<R: Wait, D: Hand>(
     rt: &R,
-    pool: &Pool<C>,
-    board: &Arc<Board>,
-    worker: &mut Worker<C::Seat, Task>,
+    hand: &mut D,
+    board: &Board,
     times: u32,
     sort: Sort,
     until: Until,
 )
-    requires worker { IsWorkerOf C.sits C.idle pool.now.table pool.now.cores worker.old }
-    requires core { 1 < pool.now.cores }
-    ensures worker { IsWorkerOf C.sits C.idle pool.now.table pool.now.cores worker.new }
+    ensures { hand.new ≡ hand.old }
 {
     for time in 0..times {
-        let Some(task) = Task::new(sort, board) else {
-            break;
-        };
-        let Ok((handle, _)) = pool.try_spawn_on(rt, worker, 1, task) else {
+        let Some(handle) = hand.spawn_on(1, sort) else {
             break;
         };
         board.pass_turn();
-        await_more(rt, pool, &board.begun, time);
-        match until {
-            Until::WorkReturns => {
-                let _ = pool.work(rt, worker, 0);
-            }
-            Until::NoneLives => await_ends(rt, pool, 0),
-        }
+        wait(rt, hand, Awaited::More(&board.begun, time));
+        none_lives(rt, hand, until);
         if handle.poll().is_ok() {
             board.answer();
         }
     }
-    pool.stop();
+    hand.tell(Told::Stop);
     board.pass_turn();
 }
 
-/// Waits until a count of the board is over this, or the pool is stopped.
-fn await_more<C: Seats, R: Wait>(rt: &R, pool: &Pool<C>, count: &AtomicU64, than: u32) {
+/// Waits so until no job lives.
+fn none_lives<R: Wait, D: Hand>(rt: &R, hand: &mut D, until: Until)
+    ensures { hand.new ≡ hand.old }
+{
+    match until {
+        Until::WorkReturns => {
+            hand.work(0);
+        }
+        Until::NoneLives => wait(rt, hand, Awaited::Ends(0)),
+    }
+}
+
+/// Waits until this has come, or the pool is stopped.
+fn wait<R: Wait, D: Hand>(rt: &R, hand: &D, what: Awaited<'_>) {
     let mut looks: u32 = 0;
     for _ in rt.forever() {
-        if count.load(Ordering::SeqCst) > u64::from(than) || pool.is_stopped() {
+        if has_come(hand, what) {
             return;
         }
         looks = look_again(looks);
     }
 }
 
-/// Waits until so many jobs live at most, or the pool is stopped.
-fn await_ends<C: Seats, R: Wait>(rt: &R, pool: &Pool<C>, most: u64) {
-    let mut looks: u32 = 0;
-    for _ in rt.forever() {
-        if pool.live() <= most || pool.is_stopped() {
-            return;
-        }
-        looks = look_again(looks);
-    }
-}
-
-/// Waits until the kernel thread of a core has found nothing more often than this, or the pool is stopped.
-fn await_rest<C: Seats, R: Wait>(rt: &R, pool: &Pool<C>, core: u8, than: u64) {
-    let mut looks: u32 = 0;
-    for _ in rt.forever() {
-        if pool.statistics(core).rests > than || pool.is_stopped() {
-            return;
-        }
-        looks = look_again(looks);
-    }
-}
-
-/// Waits until the kernel thread of a core sleeps, or the pool is stopped.
-fn await_sleep<C: Seats, R: Wait>(rt: &R, pool: &Pool<C>, core: u8) {
-    let mut looks: u32 = 0;
-    for _ in rt.forever() {
-        if pool.is_asleep(core) || pool.is_stopped() {
-            return;
-        }
-        looks = look_again(looks);
-    }
+/// Whether this has come, or the pool is stopped.
+fn has_come<D: Hand>(hand: &D, what: Awaited<'_>) -> bool {
+    let core = match what {
+        Awaited::Rest(core, _) | Awaited::Sleep(core) => core,
+        Awaited::More(..) | Awaited::Ends(_) => 0,
+    };
+    let now = hand.look(core);
+    let has_come = match what {
+        Awaited::More(count, than) => count.load(Ordering::SeqCst) > u64::from(than),
+        Awaited::Ends(most) => now.live <= most,
+        Awaited::Rest(_, than) => now.done.rests > than,
+        Awaited::Sleep(_) => now.is_asleep,
+    };
+    has_come || now.is_stopped
 }
 
 /// Another look is taken, at once for a while, and then after others had the processor. How many there were.

@@ -39,15 +39,16 @@ struct Numbers {
 
 fn arguments(rt: &HostRuntime) -> Result<Numbers> {
     let words: Vec<String> = env::args(rt)?.collect(rt.alloc())?;
-    let mut numbers = words
-        .iter()
-        .skip(1)
-        .map(|word| word.as_str().parse::<u64>().ok());
     Ok(Numbers {
-        cores: numbers.next().flatten(),
-        interval: numbers.next().flatten(),
-        patience: numbers.next().flatten(),
+        cores: number_at(&words, 1),
+        interval: number_at(&words, 2),
+        patience: number_at(&words, 3),
     })
+}
+
+/// The word at this place, where it is a number.
+fn number_at(words: &[String], place: usize) -> Option<u64> {
+    words.get(place)?.as_str().parse().ok()
 }
 
 /// The list of requests, which is the input.

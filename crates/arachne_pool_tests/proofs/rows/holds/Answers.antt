@@ -8,10 +8,10 @@ use Rattle.arachne_pool_tests.proofs.tasks.Task.TheSendSync as task
 use Rattle.arachne_pool_tests.proofs.rows.holds.Goals as goal
 
 -- what a kernel thread has may cross, and it may look at what all have in common
-pub work_together-requires-send-S : goal.work_together-requires-send-S
-work_together-requires-send-S g c κs within =
+pub work_together-share-requires-send-S : goal.work_together-share-requires-send-S
+work_together-share-requires-send-S g c κs within =
     search (sendable, std.crosses, worker_send, seat.the_send, spawned_send, task.the_send) depth 40
 
-pub work_together-requires-sync-W : goal.work_together-requires-sync-W
-work_together-requires-sync-W g c κs within =
+pub work_together-share-requires-sync-W : goal.work_together-share-requires-sync-W
+work_together-share-requires-sync-W g c κs within =
     search (sendable, std.crosses, crew.the_sync, table.the_sync, spawned_send, task.the_send) depth 40

@@ -1,6 +1,6 @@
-use Rattle.arachne_pool.specs.Workers.{IsIdleAt}
+use Rattle.std.proofs.Common.{◌≡◌}
 use Rattle.arachne_pool_tests.proofs.spells.wakes.Given as goal
 
--- between two wakes the waker is the pool's
+-- it is the hand of a worker of the same pool
 abbrev pub invariant-loop-time : goal.invariant-loop-time
-invariant-loop-time g l = IsIdleAt g.C.Seats.sits g.C.Seats.idle l.pool.table l.waker
+invariant-loop-time g l = l.hand ≡ l.initial.hand
