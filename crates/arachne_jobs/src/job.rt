@@ -17,9 +17,10 @@ use crate::left::{Found, Waiting};
 use crate::openings::{Asked, Openings};
 use crate::refusal::{Refusal, push};
 use crate::room::Room;
-use crate::slice::{JobOf, RunJob, RunThread, Slice, Unended};
+use crate::slice::{JobOf, RunJob, RunThread, Slice};
 use crate::spares::Spares;
 use crate::ties::Ties;
+use crate::unended::{Unended, look_at, look_in};
 use crate::waiting::{Ticket, WaitCell};
 use crate::wanted::{OutcomeReceiver, Wanted};
 use arachne_contexts::Tagged;
@@ -167,6 +168,10 @@ impl<'p> RunJob for Job<'p> {
             self.place(child)?;
             return Ok(None);
         }
+        if self.reserve_wait().is_err() {
+            self.place(child)?;
+            return Ok(None);
+        }
         match WaitCell::wait(alloc, child, me) {
             Ok((cell, ticket)) => {
                 self.expect_waiting(cell)?;
@@ -181,10 +186,14 @@ impl<'p> RunJob for Job<'p> {
     }
 
     fn of_ticket(alloc: Global, ticket: Ticket<'p>, spares: &mut Spares<'p>) -> Option<Job<'p>> {
-        let mut ties = spares.ties.take(alloc).ok()?;
-        let contents = spares.threads.take_contents().ok()?;
         let mut waits = Vec::with_capacity(alloc, 1).ok()?;
-        let (waiting, cell, end) = ticket.take(&waits)?;
+        let mut ties = spares.ties.take(alloc, None).ok()?;
+        let contents = spares.threads.take_contents().ok()?;
+        let Some((waiting, cell, end)) = ticket.take(&waits) else {
+            spares.ties.keep(ties);
+            spares.threads.keep_contents(contents);
+            return None;
+        };
         let Waiting { mut thread, parent } = waiting;
         thread.set_spilled();
         ties.ends.push_reserved(End::Waits);
@@ -261,11 +270,10 @@ impl<'p> Job<'p> {
             program: Snapshot::of(thread.program()),
             name: Snapshot::of(thread.name()),
         };
-        let mut ties = spares.ties.take(alloc)?;
+        let mut ties = spares.ties.take(alloc, parent)?;
         let contents = spares.threads.take_contents()?;
         let (receiver, end) = spares.cells.open(alloc, &wanted)?;
         ties.ends.push_reserved(End::Leaves(end));
-        ties.parent = parent;
         let job = Job {
             thread,
             ties,
@@ -329,6 +337,15 @@ impl<'p> Job<'p> {
         push(&mut self.ties.ends, end)
     }
 
+    /// Makes room for the cell of a child that waits, so that none is lost for want of memory once it waits.
+    fn reserve_wait(&mut self) -> Result<(), AllocError>
+        ensures { self.new ≡ self.old }
+    {
+        self.ties.ends.try_reserve(1)?;
+        self.waits.try_reserve(1)?;
+        Ok(())
+    }
+
     /// Awaits the outcome of a child that waits in this cell.
     fn expect_waiting(&mut self, cell: WaitCell<'p>) -> Result<(), Refusal>
         requires { IsOf (program_of self.old.thread) cell.key }
@@ -370,52 +387,28 @@ impl<'p> Job<'p> {
             return Err(JobFault::Foreign);
         };
         match end {
-            End::Awaits(receiver) => match receiver.fetch() {
+            End::Awaits(receiver) => match look_at(receiver) {
                 Ok((outcome, cell)) => {
                     spares.cells.give(cell);
                     Ok(Found::Outcome(outcome))
                 }
-                Err(receiver) => {
+                Err((receiver, unended)) => {
                     self.ties.ends.push_reserved(End::Awaits(receiver));
-                    Ok(Found::Nothing(Unended { looked: () }))
+                    Ok(Found::Nothing(unended))
                 }
             },
-            End::Waits => {
-                let Some(wait) = self.waits.pop() else {
-                    return Err(JobFault::Foreign);
-                };
-                match look_in(wait) {
+            End::Waits => match self.waits.pop() {
+                Some(WaitEnd { cell, end: None }) => match look_in(cell) {
                     Ok(found) => Ok(found),
-                    Err(wait) => {
-                        self.waits.push_reserved(wait);
+                    Err((cell, unended)) => {
+                        self.waits.push_reserved(WaitEnd { cell, end: None });
                         self.ties.ends.push_reserved(End::Waits);
-                        Ok(Found::Nothing(Unended { looked: () }))
+                        Ok(Found::Nothing(unended))
                     }
-                }
-            }
-            end => {
-                self.ties.ends.push_reserved(end);
-                Ok(Found::Nothing(Unended { looked: () }))
-            }
+                },
+                _ => Err(JobFault::Foreign),
+            },
+            End::Leaves(_) => Err(JobFault::Foreign),
         }
-    }
-}
-
-/// What the parent that awaits a child finds in its cell, which is used up then. Where there is nothing the cell comes
-/// back.
-fn look_in<'p>(wait: WaitEnd<'p>) -> Result<Found<'p>, WaitEnd<'p>>
-    ensures found { IfOk result (λ found. (program : Program) → (name : List ℕ) → IsWaitEnd program name wait.entry → IsFoundOf program found) }
-    ensures same { IfErr result (λ back. (program : Program) → (name : List ℕ) → IsWaitEnd program name wait.entry → IsWaitEnd program name back) }
-{
-    let WaitEnd { cell, end } = wait;
-    match end {
-        Some(end) => Err(WaitEnd {
-            cell,
-            end: Some(end),
-        }),
-        None => match cell.find() {
-            Ok(found) => Ok(found),
-            Err(_) => Err(WaitEnd { cell, end: None }),
-        },
     }
 }

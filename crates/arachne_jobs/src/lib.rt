@@ -15,6 +15,7 @@ mod slice;
 mod spares;
 mod tags;
 mod ties;
+mod unended;
 mod waiting;
 mod wanted;
 
@@ -25,8 +26,9 @@ pub use openings::Openings;
 pub use places::{PlaceLeft, claim_again, finish, give_back};
 pub use queued::{NoRoom, TicketPut, TicketTaken, drop_stale, next_ticket, put_ticket};
 pub use room::Room;
-pub use slice::{JobOf, RunJob, RunSpares, RunThread, RunTicket, Slice, Unended};
+pub use slice::{JobOf, RunJob, RunSpares, RunThread, RunTicket, Slice};
 pub use spares::Spares;
 pub use tags::{BLOCK, Tags};
+pub use unended::Unended;
 pub use waiting::Ticket;
 pub use wanted::{OutcomeReceiver, OutcomeSender, Wanted};

@@ -10,8 +10,8 @@ use arachne_spill::{CAPACITY, SpillPass, SpillQueue};
 use std::snapshot::Snapshot;
 use std::sync::Wait;
 
-/// A child's ticket was put into the queue, and is to be counted. It can't be dropped. [`put_ticket`] alone gives it, and
-/// [`Room::child_waits`](crate::Room::child_waits) takes it.
+/// A child's ticket was put into the queue, and is to be counted. It can't be dropped. [`put_ticket`] alone gives it,
+/// and [`Room::child_waits`](crate::Room::child_waits) takes it.
 pub struct TicketPut {
     uncounted: (),
 }
@@ -28,8 +28,8 @@ pub struct NoRoom {
     seen: (),
 }
 
-/// The child of the ticket with this tag waited no longer, and the ticket is dropped. [`if_live`] alone gives it. It can't
-/// be dropped.
+/// The child of the ticket with this tag waited no longer, and the ticket is dropped. [`if_live`] alone gives it. It
+/// can't be dropped.
 pub(crate) struct Gone {
     tag: Snapshot<u64>,
 }

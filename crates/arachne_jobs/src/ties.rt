@@ -36,10 +36,15 @@ impl SpareTies {
         }
     }
 
-    /// Ties to nothing, with room for an end.
+    /// Ties to this parent and to no cell, with room for an end.
     #[inline(always)]
-    pub(crate) fn take(&mut self, alloc: Global) -> Result<Box<Ties>, AllocError>
+    pub(crate) fn take(
+        &mut self,
+        alloc: Global,
+        parent: Option<ThreadId>,
+    ) -> Result<Box<Ties>, AllocError>
         ensures none { IfOk result (λ ties. ties.value.ends.items ≡ []) }
+        ensures parent { IfOk result (λ ties. ties.value.parent ≡ parent) }
         ensures room { IfOk result (λ ties. vec_len ties.value.ends + 1 ≤ vec_capacity ties.value.ends) }
     {
         let mut ties = match self.ties.pop() {
@@ -54,6 +59,7 @@ impl SpareTies {
         };
         ties.ends.clear();
         ties.ends.try_reserve(2)?;
+        ties.parent = parent;
         Ok(ties)
     }
 

@@ -87,8 +87,8 @@ impl<'p> WaitCell<'p> {
         Ok((WaitCell { cell }, Ticket { cell: ticket, tag }))
     }
 
-    /// What the parent that awaits the child finds. Where there is nothing, the cell was seen in a state in which no child
-    /// waited.
+    /// What the parent that awaits the child finds. Where there is nothing, the cell was seen in a state in which no
+    /// child waited.
     pub(crate) fn find(&self) -> Result<Found<'p>, Missed<Wanted>>
         ensures found { IfOk result (IsFoundFor self.now.key) }
         ensures missed { IfErr result (λ missed. (missed.state ≢ CellState.Waiting) × (missed.receipt ≡ shown self.now.table (Saw missed.state))) }

@@ -118,7 +118,8 @@ impl Lines {
         }
         self.last.try_reserve(below.last.len() + 1)?;
         self.last.push_reserved(own.take(alloc));
-        let _ = self.last.append(&mut below.last);
+        let mut last = replace(&mut below.last, Vec::new(alloc));
+        let _ = self.last.append(&mut last);
         Ok(())
     }
 

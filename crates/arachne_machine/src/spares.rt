@@ -63,9 +63,9 @@ impl<'p> Spares<'p> {
         }
     }
 
-    /// Keeps what an outcome that was joined leaves, unless there is enough.
+    /// Keeps what an outcome that was joined leaves, or a box that was taken for nothing, unless there is enough.
     #[inline(always)]
-    pub(crate) fn keep_contents(&mut self, contents: Box<Contents>) {
+    pub fn keep_contents(&mut self, contents: Box<Contents>) {
         if self.contents.len() < self.most {
             let _ = self.contents.push(contents);
         }

@@ -300,6 +300,7 @@ impl<'p> Thread<'p> {
         ensures err { OnErr result (self.new ≡ self.old) }
         ensures handed_back { IfErr result (λ e. handed_back e ≡ outcome.entry) }
     {
+        // The box is looked at so that the proof sees what it points to.
         let _ = &outcome.contents;
         self.state.join(outcome, spares)
     }
