@@ -1,9 +1,10 @@
 //! What is looked at once a run is over.
-ghost use Rattle.std.specs.Prelude.{◌≡◌, ℕ, ◌<◌, ◌≤◌, false, true, Contains, IfNone, IfOk, IfSome, Ok, OnOk, List, length, map, slice_index, slice_index_or};
+ghost use Rattle.std.specs.Prelude.{◌≡◌, ◌⊎◌, ℕ, ◌<◌, ◌≤◌, false, true, Contains, IfErr, IfNone, IfOk, IfSome, Ok, OnOk, List, length, map, slice_index, slice_index_or};
 ghost use Rattle.arachne_sleep.specs.declared.event.LockEvent.TheVariants.{Grant};
 ghost use Rattle.arachne_sleep.specs.declared.who.Who.{Who};
 ghost use Rattle.arachne_run.specs.Distinct.{AreDistinct, AreMarksOf, HasClash};
 ghost use Rattle.arachne_run.specs.Histories.{GrantsAreHolds, IsGrantedAsHeld, grants_to};
+ghost use Rattle.arachne_run.specs.declared.fault.WorkerFault.TheVariants.{Memory, Threads};
 
 use crate::fault::WorkerFault;
 use arachne_machine::ThreadLine;
@@ -18,6 +19,7 @@ pub(crate) fn audit(
 ) -> Result<(), WorkerFault>
     ensures distinct { OnOk result (AreDistinct (map (λ line. line.tag) threads.now)) }
     ensures grants { OnOk result (GrantsAreHolds threads.now (map (λ history. history.items) histories.now)) }
+    ensures fault { IfErr result (λ fault. (fault ≡ Memory) ⊎ (fault ≡ Threads)) }
 {
     let Some(marks) = marks_of(alloc, threads)? else {
         return Err(WorkerFault::Threads);

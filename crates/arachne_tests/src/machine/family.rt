@@ -307,16 +307,17 @@ fn await_child(family: &mut Family, round: &mut Round) -> bool {
     begin(thread, children, round)
 }
 
-/// The outcome of the last thread, which has ended.
-fn end(family: &mut Family) -> bool {
+/// The outcome of the last thread, which has ended. Where memory is refused it stays, and its end is asked for again.
+fn end(family: &mut Family, round: &mut Round) -> bool {
+    let Ok(contents) = Contents::new(*family.outcomes.allocator()) else {
+        round.memory.spare();
+        return true;
+    };
     let Some(thread) = family.threads.pop() else {
         return false;
     };
     let Some(Pending::Ended) = thread.pending() else {
         return lose_thread(thread);
-    };
-    let Ok(contents) = Contents::new(*family.outcomes.allocator()) else {
-        return false;
     };
     family.outcomes.push(thread.finish(contents)).is_ok()
 }
@@ -340,7 +341,7 @@ fn step(alloc: Global, family: &mut Family, round: &mut Round) -> bool {
         }
         None => go_on_apart(alloc, thread, children, round),
         Some(Pending::Joins) => await_child(family, round),
-        Some(Pending::Ended) => end(family),
+        Some(Pending::Ended) => end(family, round),
         _ => {
             answer(thread);
             true
