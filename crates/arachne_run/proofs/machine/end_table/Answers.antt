@@ -7,7 +7,7 @@ first-of : {X : Type 0} → (items : List X) → (items ≡ [] → ⊥) → (x :
 first-of [] some = absurd (some refl)
 first-of (x ∷ xs) some = (x, xs, refl)
 
-pub returns-clause-left : goal.returns-else-is_empty-clause-left
+pub returns-clause-left : goal.returns-clause-left
 returns-clause-left g c = λ _.
     let some : c.in-Ok.rest.items ≡ [] → ⊥ =
     λ e. eqb-false (vec_len c.in-Ok.rest) 0 (sym c.is_empty.ensures ∙ c.if-is_empty.false) (omega (arith, ap length e, c.in-Ok.rest.ok.0)) in
