@@ -15,7 +15,7 @@ use crate::ends::{End, WaitEnd};
 use crate::fault::JobFault;
 use crate::left::{Found, Waiting};
 use crate::openings::{Asked, Openings};
-use crate::refusal::{Refusal, push};
+use crate::refusal::{Refusal, Unreserved, push, reserve_both};
 use crate::room::Room;
 use crate::slice::{JobOf, RunJob, RunThread, Slice};
 use crate::spares::Spares;
@@ -189,7 +189,7 @@ impl<'p> RunJob for Job<'p> {
         let mut waits = Vec::with_capacity(alloc, 1).ok()?;
         let mut ties = spares.ties.take(alloc, None).ok()?;
         let contents = spares.threads.take_contents().ok()?;
-        let Some((waiting, cell, end)) = ticket.take(&waits) else {
+        let Some((waiting, cell, end)) = ticket.take(&waits, &ties, &contents) else {
             spares.ties.keep(ties);
             spares.threads.keep_contents(contents);
             return None;
@@ -338,12 +338,10 @@ impl<'p> Job<'p> {
     }
 
     /// Makes room for the cell of a child that waits, so that none is lost for want of memory once it waits.
-    fn reserve_wait(&mut self) -> Result<(), AllocError>
+    fn reserve_wait(&mut self) -> Result<(), Unreserved>
         ensures { self.new ≡ self.old }
     {
-        self.ties.ends.try_reserve(1)?;
-        self.waits.try_reserve(1)?;
-        Ok(())
+        reserve_both(&mut self.ties.ends, &mut self.waits)
     }
 
     /// Awaits the outcome of a child that waits in this cell.

@@ -24,7 +24,9 @@ pub use fault::JobFault;
 pub use job::Job;
 pub use openings::Openings;
 pub use places::{PlaceLeft, claim_again, finish, give_back};
-pub use queued::{NoRoom, TicketPut, TicketTaken, drop_stale, next_ticket, put_ticket};
+pub use queued::{
+    NoRoom, RoomMade, TicketPut, TicketTaken, has_room, make_room, next_ticket, put_ticket,
+};
 pub use room::Room;
 pub use slice::{JobOf, RunJob, RunSpares, RunThread, RunTicket, Slice};
 pub use spares::Spares;

@@ -23,9 +23,13 @@ pub struct SpareTies {
 }
 
 impl Model for SpareTies {
+    ghost use Rattle.std.specs.Prelude.{◌≤◌, vec_len};
+
     ghost Value = { Unit {0} };
 
     ghost view = { λ s. tt };
+
+    ghost invariant = { λ s. vec_len s.ties ≤ 64 };
 }
 
 impl SpareTies {

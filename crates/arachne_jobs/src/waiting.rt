@@ -9,11 +9,12 @@ ghost use Rattle.arachne_jobs.specs.Threads.{tag_of};
 use crate::ends::WaitEnd;
 use crate::left::{Found, Left, Waiting};
 use crate::slice::RunTicket;
+use crate::ties::Ties;
 use crate::wanted::Wanted;
 use arachne_contexts::Tagged;
 use arachne_core::ThreadId;
 use arachne_join::{CellState, JoinCell, Missed, SendingEnd};
-use arachne_machine::{DetachedOutcome, Thread};
+use arachne_machine::{Contents, DetachedOutcome, Thread};
 use std::alloc::{AllocError, Global};
 use std::marker::Model;
 use std::snapshot::Snapshot;
@@ -132,16 +133,22 @@ impl<'p> RunTicket for Ticket<'p> {
 
 impl<'p> Ticket<'p> {
     /// The child, if it waits still, with its cell and the end with which it leaves its outcome there. It is taken only
-    /// where there is room in the list of its job's cells, so that no want of memory comes between.
+    /// where all that its job takes memory for is there: room in the list of its cells, ties with room for an end, and
+    /// the box of its outcome.
     pub(crate) fn take(
         self,
         waits: &Vec<WaitEnd<'p>>,
+        ties: &Box<Ties>,
+        contents: &Box<Contents>,
     ) -> Option<(Waiting<'p>, WaitCell<'p>, SendingEnd<Left<'p>, Wanted>)>
-        requires { vec_len waits.now + 1 ≤ vec_capacity waits.now }
+        requires waits { vec_len waits.now + 1 ≤ vec_capacity waits.now }
+        requires ties { vec_len ties.now.value.ends + 1 ≤ vec_capacity ties.now.value.ends }
         ensures child { IfSome result (λ taken. IsFor taken.0.thread taken.1.key × HasNotBegun taken.0.thread) }
         ensures end { IfSome result (λ taken. taken.2 ≡ taken.1.table) }
     {
         let _ = waits;
+        let _ = ties;
+        let _ = contents;
         let Ticket { cell, tag: _ } = self;
         match cell.take_back() {
             Ok((left, end)) => match left {

@@ -14,7 +14,9 @@ use crate::machine::Machine;
 use arachne_arbiter::Pace;
 use arachne_contexts::{Contexts, Held, Identified, Placed};
 use arachne_core::ThreadId;
-use arachne_jobs::{Openings, PlaceLeft, RunJob, Slice, drop_stale, give_back, put_ticket};
+use arachne_jobs::{
+    Openings, PlaceLeft, RunJob, Slice, give_back, has_room, make_room, put_ticket,
+};
 use arachne_lang::Class;
 use arachne_spill::SpillPass;
 use arachne_workers::{Post, Stop};
@@ -131,10 +133,9 @@ fn answer_fork<H: Wait, T: RunJob, C: Contexts<T>, R: Rng>(
             Err(_) => Err(WorkerFault::Token),
         };
     }
-    if forks.openings.is_large && class == Class::Normal {
-        drop_stale(rt, &machine.tickets, room, pass);
-    }
-    let waits = may_wait(class, machine.tickets.is_full(rt, pass));
+    let is_wanted = forks.openings.is_large && class == Class::Normal;
+    let made = make_room(rt, &machine.tickets, room, pass, is_wanted);
+    let waits = may_wait(class, has_room(rt, &machine.tickets, pass, made));
     if let Some(ticket) = held.value.put_aside(alloc, me, child, tag, waits)? {
         // Where the queue was filled meanwhile, the child waits without a ticket, for its parent.
         if let Ok(put) = put_ticket(rt, &machine.tickets, pass, ticket) {
@@ -145,12 +146,12 @@ fn answer_fork<H: Wait, T: RunJob, C: Contexts<T>, R: Rng>(
     Ok(Stop::Goes)
 }
 
-/// Whether a child for which no place was found waits for one, by its class and whether the queue is full: one that is to
-/// have a core for itself never does.
-fn may_wait(class: Class, is_full: bool) -> bool
-    ensures { IsTrue result ↔ (class ≡ Class.Normal) × (is_full ≡ false) }
+/// Whether a child for which no place was found waits for one, by its class and whether the queue has room: one that is
+/// to have a core for itself never does.
+fn may_wait(class: Class, has_room: bool) -> bool
+    ensures { IsTrue result ↔ (class ≡ Class.Normal) × IsTrue has_room }
 {
-    class == Class::Normal && !is_full
+    class == Class::Normal && has_room
 }
 
 /// Gives back a place at which nothing was posted. It is to be counted then.
