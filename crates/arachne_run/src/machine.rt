@@ -13,7 +13,7 @@ ghost use Rattle.arachne_weights.specs.Weight.{whole};
 ghost use Rattle.arachne_run.specs.declared.fault.WorkerFault.TheVariants.{Memory, Token};
 ghost use Rattle.arachne_run.specs.Tokens.{AreAllBack, AreHoldingsOf, AreIdle, IsAnyLeft, IsSetUp};
 
-use crate::both::both;
+use crate::both::{both, first_of};
 use crate::fault::WorkerFault;
 use crate::resources::{Holdings, Remains, Resources};
 use crate::shared::Shared;
@@ -143,12 +143,7 @@ impl<C: Seats + Drop, K: Tagged + Drop> Machine<C, K> {
             table,
             ..
         } = self;
-        if let Some(fault) = shared.into_first_fault() {
-            return Err(fault);
-        }
-        let Some(tokens) = tokens else {
-            return Err(WorkerFault::Token);
-        };
+        let tokens = first_of(shared.into_first_fault(), tokens)?;
         let Tokens {
             seat,
             pass,
